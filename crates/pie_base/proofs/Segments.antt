@@ -1,0 +1,28 @@
+-- The first segment by the place of the first slash.
+use Rattle.std.proofs.Common.{◌≡◌, ◌<◌, ◌≤◌, ℕ, Bool, true, false, not, cond, ltb, List, length, take, refl, sym, ap, ◌∙◌, arith}
+use Rattle.std.specs.Prelude.{Option, Some, None, nat_lt}
+use Rattle.std.specs.List.{position, position_or_len, before_first}
+use Rattle.std.proofs.Math.Seq.{take-length}
+use Rattle.std.proofs.lemmas.List.Sums.{prefix_len-le-length}
+use borrow.Author.Tests.{ltb-false}
+use Rattle.pie_base.specs.Path.{is_slash, first_segment}
+
+some_is : (b : Bool) (n i : ℕ) → cond b (Some n) None ≡ Some i → n ≡ i
+some_is true n i h = cc
+some_is false n i h = cc
+
+none_is : (b : Bool) (n : ℕ) → cond b (Some n) None ≡ None → b ≡ false
+none_is true n h = cc
+none_is false n h = refl
+
+pub before_first_at : (xs : List ℕ) (i : ℕ) → position is_slash xs ≡ Some i → take i xs ≡ first_segment xs
+before_first_at xs i h = ap (λ n. take n xs) (sym (some_is (nat_lt (position_or_len is_slash xs) (length xs)) (position_or_len is_slash xs) i h))
+
+full : (n : ℕ) (xs : List ℕ) → n ≤ length xs → nat_lt n (length xs) ≡ false → xs ≡ take n xs
+full n xs le h =
+    let e : n ≡ length xs = omega (arith, ltb-false n (length xs) h) in
+    sym (ap (λ k. take k xs) e ∙ take-length xs)
+
+pub before_first_none : (xs : List ℕ) → position is_slash xs ≡ None → xs ≡ first_segment xs
+before_first_none xs h = full (position_or_len is_slash xs) xs (prefix_len-le-length (λ x. not (is_slash x)) xs)
+    (none_is (nat_lt (position_or_len is_slash xs) (length xs)) (position_or_len is_slash xs) h)

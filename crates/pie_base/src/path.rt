@@ -1,0 +1,201 @@
+//! A path of the project directory: segments parted by `/`.
+ghost use Rattle.std.specs.Prelude.{◌≡◌, ◌==◌, IfOk, IsTrue};
+ghost use Rattle.std.specs.List.{list_all, list_any, position};
+ghost use Rattle.std.specs.Cmp.Lexicographic.{slice_cmp};
+ghost use Rattle.std.specs.Ordering.{nat_cmp, as_partial_cmp};
+ghost use Rattle.std.specs.Cmp.{partial_order_from_own_ties};
+ghost use Rattle.std.specs.Cmp.Rules.{comparing};
+ghost use Rattle.std.proofs.Common.{rules};
+ghost use lib.Pointwise.{pointwise};
+ghost use Rattle.pie_base.specs.Path.{is_slash, is_control, segments, is_segment, is_path, has_parent, first_segment, is_out, is_under_store, Reads};
+
+use crate::{MAX_PATH_BYTES, OutOfMemory};
+use std::alloc::{AllocError, AllocFailed, Global};
+use std::cmp::Ordering;
+use std::marker::Model;
+use std::rc::Rc;
+
+/// Why a text is no path, in the order in which it is tested.
+#[derive(Clone, Copy, Debug, PartialEq, Eq)]
+pub enum PathError {
+    /// The text is empty.
+    Empty,
+    /// The text has more than 255 bytes.
+    TooLong,
+    /// A segment is empty, `.` or `..`, or holds a control character.
+    BadSegment,
+    OutOfMemory,
+}
+
+impl From<AllocError> for PathError {
+    ghost use Rattle.pie_base.specs.declared.path.PathError.TheVariants.{OutOfMemory};
+
+    ghost from_gives = { λ _ e. e ≡ OutOfMemory };
+
+    fn from(_: AllocError) -> Self {
+        PathError::OutOfMemory
+    }
+}
+
+impl<T: Drop> From<AllocFailed<T>> for PathError {
+    ghost use Rattle.pie_base.specs.declared.path.PathError.TheVariants.{OutOfMemory};
+
+    ghost from_gives = { λ _ e. e ≡ OutOfMemory };
+
+    fn from(_: AllocFailed<T>) -> Self {
+        PathError::OutOfMemory
+    }
+}
+
+/// A path. Contracts see the list of its bytes. A copy shares the contents.
+/// Rule: docs/BUILDING.md, "Paths".
+#[derive(Drop)]
+pub struct Path {
+    text: Rc<String>,
+}
+
+impl Model for Path {
+    ghost use Rattle.std.specs.Prelude.{List, ℕ, IsTrue, string_bytes};
+    ghost use Rattle.pie_base.specs.Path.{is_path};
+
+    ghost Value = { List ℕ };
+
+    ghost view = { λ p. string_bytes p.text.value };
+
+    ghost invariant = { λ p. IsTrue (is_path (string_bytes p.text.value)) };
+}
+
+impl Path {
+    /// The path that this text spells.
+    pub fn read(alloc: Global, text: &str) -> Result<Path, PathError>
+        ensures { Reads result text.now }
+    {
+        if text.is_empty() {
+            return Err(PathError::Empty);
+        }
+        if text.len() > MAX_PATH_BYTES {
+            return Err(PathError::TooLong);
+        }
+        if !all_segments(text.as_bytes()) {
+            return Err(PathError::BadSegment);
+        }
+        let text = String::from_str(alloc, text)?;
+        let text = Rc::new(alloc, text)?;
+        Ok(Path { text })
+    }
+
+    /// An equal path, which shares the contents.
+    pub fn copy(&self) -> Result<Path, OutOfMemory>
+        ensures { IfOk result (λ copy. copy ≡ self.now) }
+    {
+        let text = self.text.clone()?;
+        Ok(Path { text })
+    }
+
+    pub fn as_str(&self) -> &str
+        ensures text { result.now ≡ self.now }
+        ensures path { IsTrue (is_path self.now) }
+    {
+        self.text.as_str()
+    }
+
+    /// Whether the first segment is `out` and there are at least two.
+    pub fn under_out(&self) -> bool
+        ensures { result ≡ is_out self.now }
+    {
+        let text = self.text.as_bytes();
+        first_of(text) == b"out".as_slice() && has_slash(text)
+    }
+
+    /// Whether the first segment is `.pie`.
+    pub fn under_store(&self) -> bool
+        ensures { result ≡ is_under_store self.now }
+    {
+        first_of(self.text.as_bytes()) == b".pie".as_slice()
+    }
+}
+
+impl PartialEq for Path {
+    ghost eq = { pointwise ◌==◌ };
+
+    ghost laws = { Prim.search (comparing, rules) };
+
+    fn eq(&self, other: &Path) -> bool {
+        self.text.as_bytes() == other.text.as_bytes()
+    }
+}
+
+impl Eq for Path {
+    ghost laws = { Prim.search (comparing, rules) };
+}
+
+impl PartialOrd for Path {
+    ghost partial_cmp = { as_partial_cmp (slice_cmp nat_cmp) };
+
+    ghost laws = { partial_order_from_own_ties (Prim.search (comparing, rules)) (Prim.search (comparing, rules)) };
+
+    fn partial_cmp(&self, other: &Path) -> Option<Ordering> {
+        Some(self.cmp(other))
+    }
+}
+
+/// By bytes.
+impl Ord for Path {
+    ghost cmp = { slice_cmp nat_cmp };
+
+    ghost total = { Prim.search (comparing, rules) };
+
+    ghost matches_partial_cmp = { Prim.search (comparing, rules) };
+
+    ghost matches_eq = { Prim.search (comparing, rules) };
+
+    fn cmp(&self, other: &Path) -> Ordering {
+        self.text.as_bytes().cmp(other.text.as_bytes())
+    }
+}
+
+// Whether each segment of the text is one of a path.
+fn all_segments(text: &[u8]) -> bool
+    ensures { result ≡ list_all is_segment (segments text.now) }
+{
+    text.split(|b| *b == b'/').all(|s| segment_is_good(s))
+}
+
+fn segment_is_good(segment: &[u8]) -> bool
+    ensures { result ≡ is_segment segment.now }
+{
+    !segment.is_empty()
+        && segment != b".".as_slice()
+        && segment != b"..".as_slice()
+        && !has_control(segment)
+}
+
+fn has_control(segment: &[u8]) -> bool
+    ensures { result ≡ list_any is_control segment.now }
+{
+    segment.iter().any(|b| *b < 32 || *b == 127)
+}
+
+fn has_slash(path: &[u8]) -> bool
+    ensures { result ≡ has_parent path.now }
+{
+    path.iter().any(|b| *b == b'/')
+}
+
+// Where the first slash stands, in bytes from 0.
+fn slash_at(path: &[u8]) -> Option<usize>
+    ensures { result ≡ position is_slash path.now }
+{
+    path.iter().position(|b| *b == b'/')
+}
+
+// The first segment of a path.
+#[tactic(auto, using(crate::proofs::Segments::before_first_at, crate::proofs::Segments::before_first_none))]
+fn first_of(path: &[u8]) -> &[u8]
+    ensures { result.now ≡ first_segment path.now }
+{
+    match slash_at(path) {
+        Some(end) => &path[..end],
+        None => path,
+    }
+}
