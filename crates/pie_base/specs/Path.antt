@@ -1,6 +1,7 @@
 -- What a path is, and of which kind, said of the bytes of a text.
-use Rattle.std.specs.Prelude.{◌≡◌, ℕ, ◌-◌, Bool, true, false, not, ◌&&◌, ◌||◌, cond, nat_lt, ◌==◌, List, [], ◌∷◌, length, Option, Some, None, Result, Ok, Err, codes, take}
-use Rattle.std.specs.List.{list_all, list_any, before_first, before_last, slice_split}
+use Rattle.std.specs.Prelude.{◌≡◌, ℕ, Bool, true, false, not, ◌&&◌, ◌||◌, cond, nat_lt, ◌==◌, List, [], ◌∷◌, ◌++◌, length, take, slice_index, ◌<◌, ◌≤◌, Option, Some, None, is_some, Result, Ok, Err, codes}
+use Rattle.std.specs.Option.{option_map, option_map_or}
+use Rattle.std.specs.List.{list_all, list_any, before_first, slice_split}
 use lib.Pointwise.{pointwise}
 use Rattle.pie_base.specs.declared.path.PathError.{PathError}
 use Rattle.pie_base.specs.declared.path.PathError.TheVariants.{Empty, TooLong, BadSegment, OutOfMemory}
@@ -71,4 +72,32 @@ is_source path = not (is_out path) && not (is_kept path)
 
 -- a path without its last segment, or none where it has one segment
 abbrev pub parent_of : List ℕ → Option (List ℕ)
-parent_of path = cond (has_parent path) (Some (before_last is_slash path)) None
+parent_of [] = None
+parent_of (b ∷ path) = option_map_or (λ front. Some (b ∷ front)) (parent_of path) (cond (is_slash b) (Some []) None)
+
+-- what stands after a directory and a slash in a path below it
+abbrev pub rest_below : List ℕ → List ℕ → Option (List ℕ)
+rest_below [] [] = None
+rest_below [] (b ∷ path) = cond (is_slash b) (Some path) None
+rest_below (d ∷ dir) [] = None
+rest_below (d ∷ dir) (b ∷ path) = cond (d == b) (rest_below dir path) None
+
+-- a path lies below a directory
+abbrev pub is_below : List ℕ → List ℕ → Bool
+is_below dir path = is_some (rest_below dir path)
+
+-- the entry of a directory at which or below which a path lies, or none where it isn't below the directory
+abbrev pub entry_on_way : List ℕ → List ℕ → Option (List ℕ)
+entry_on_way dir path = option_map (λ rest. dir ++ 47 ∷ first_segment rest) (rest_below dir path)
+
+-- a slash stands at this place, and what stands before it is the parent
+pub record EndsParent (path : List ℕ) (end : ℕ) : Type 0 where
+  pub inside : end < length path
+  pub slash : slice_index path end ≡ 47
+  pub parent : parent_of path ≡ Some (take end path)
+
+-- so many bytes of a path below a directory spell the entry on the way, and a slash or nothing follows
+pub record EndsEntry (dir path : List ℕ) (end : ℕ) : Type 0 where
+  pub inside : end ≤ length path
+  pub slash : end < length path → slice_index path end ≡ 47
+  pub entry : entry_on_way dir path ≡ Some (take end path)

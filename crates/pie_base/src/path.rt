@@ -1,5 +1,6 @@
 //! A path of the project directory: segments parted by `/`.
-ghost use Rattle.std.specs.Prelude.{◌≡◌, ◌==◌, IfOk, IsTrue};
+ghost use Rattle.std.specs.Prelude.{◌≡◌, ◌==◌, ◌<◌, ◌≤◌, IfOk, IsTrue, MatchOption, None, length, take, slice_index};
+ghost use Rattle.std.specs.Option.{option_copied};
 ghost use Rattle.std.specs.List.{list_all, list_any, position};
 ghost use Rattle.std.specs.Cmp.Lexicographic.{slice_cmp};
 ghost use Rattle.std.specs.Ordering.{nat_cmp, as_partial_cmp};
@@ -7,7 +8,7 @@ ghost use Rattle.std.specs.Cmp.{partial_order_from_own_ties};
 ghost use Rattle.std.specs.Cmp.Rules.{comparing};
 ghost use Rattle.std.proofs.Common.{rules};
 ghost use lib.Pointwise.{pointwise};
-ghost use Rattle.pie_base.specs.Path.{is_slash, is_control, segments, is_segment, is_path, has_parent, first_segment, is_out, is_under_store, Reads};
+ghost use Rattle.pie_base.specs.Path.{is_slash, is_control, segments, is_segment, is_path, has_parent, first_segment, is_out, is_under_store, is_below, parent_of, rest_below as specs_rest_below, entry_on_way, EndsParent, EndsEntry, Reads};
 
 use crate::{MAX_PATH_BYTES, OutOfMemory};
 use std::alloc::{AllocError, AllocFailed, Global};
@@ -113,6 +114,59 @@ impl Path {
     {
         first_of(self.text.as_bytes()) == b".pie".as_slice()
     }
+
+    /// Whether the path lies below this directory, at any depth.
+    pub fn is_below(&self, dir: &Path) -> bool
+        ensures { result ≡ is_below dir.now self.now }
+    {
+        rest_below(dir.text.as_bytes(), self.text.as_bytes()).is_some()
+    }
+
+    /// The path without its last segment, or `None` where it has one segment.
+    pub fn parent(&self, alloc: Global) -> Result<Option<Path>, OutOfMemory>
+        ensures { IfOk result (λ parent. parent ≡ parent_of self.now) }
+    {
+        match last_slash(self.text.as_bytes()) {
+            Some(end) => Ok(Some(self.front(alloc, end)?)),
+            None => Ok(None),
+        }
+    }
+
+    /// The entry of a directory at which or below which the path lies, as `src/a` of `src` for
+    /// `src/a/b`, or `None` where it isn't below the directory.
+    pub fn entry_of(&self, alloc: Global, dir: &Path) -> Result<Option<Path>, OutOfMemory>
+        ensures { IfOk result (λ entry. entry ≡ entry_on_way dir.now self.now) }
+    {
+        match entry_end(dir.text.as_bytes(), self.text.as_bytes()) {
+            Some(end) => Ok(Some(self.up_to(alloc, end)?)),
+            None => Ok(None),
+        }
+    }
+
+    // The path before the slash at this place, in bytes from 0, or all of it at its end.
+    fn up_to(&self, alloc: Global, end: usize) -> Result<Path, OutOfMemory>
+        requires inside { end ≤ length self.now }
+        requires slash { end < length self.now → slice_index self.now end ≡ 47 }
+        ensures { IfOk result (λ front. front ≡ take end self.now) }
+    {
+        if end < self.text.len() {
+            self.front(alloc, end)
+        } else {
+            self.copy()
+        }
+    }
+
+    // The path before the slash at this place, in bytes from 0.
+    fn front(&self, alloc: Global, end: usize) -> Result<Path, OutOfMemory>
+        requires inside { end < length self.now }
+        requires slash { slice_index self.now end ≡ 47 }
+        ensures { IfOk result (λ front. front ≡ take end self.now) }
+    {
+        let text = self.text.as_str();
+        let text = String::from_str(alloc, &text[..end])?;
+        let text = Rc::new(alloc, text)?;
+        Ok(Path { text })
+    }
 }
 
 impl PartialEq for Path {
@@ -197,5 +251,51 @@ fn first_of(path: &[u8]) -> &[u8]
     match slash_at(path) {
         Some(end) => &path[..end],
         None => path,
+    }
+}
+
+// Where the last slash stands, in bytes from 0.
+fn last_slash(path: &[u8]) -> Option<usize>
+    ensures { MatchOption result (parent_of path.now ≡ None) (λ end. EndsParent path.now end) }
+{
+    let mut end = path.len();
+    while end > 0 {
+        end -= 1;
+        if path[end] == b'/' {
+            return Some(end);
+        }
+    }
+    None
+}
+
+// How many bytes of a path below the directory spell the entry on the way.
+fn entry_end(dir: &[u8], path: &[u8]) -> Option<usize>
+    ensures { MatchOption result (entry_on_way dir.now path.now ≡ None) (λ end. EndsEntry dir.now path.now end) }
+{
+    let rest = rest_below(dir, path)?;
+    match slash_at(rest) {
+        Some(end) => Some(dir.len() + 1 + end),
+        None => Some(path.len()),
+    }
+}
+
+// What stands after the directory and a slash.
+fn rest_below<'a>(dir: &[u8], path: &'a [u8]) -> Option<&'a [u8]>
+    ensures { option_copied result ≡ specs_rest_below dir.now path.now }
+{
+    let mut dir = dir;
+    let mut path = path;
+    while let [first, others @ ..] = dir {
+        match path {
+            [b, rest @ ..] if *b == *first => {
+                dir = others;
+                path = rest;
+            }
+            _ => return None,
+        }
+    }
+    match path {
+        [b'/', rest @ ..] => Some(rest),
+        _ => None,
     }
 }
