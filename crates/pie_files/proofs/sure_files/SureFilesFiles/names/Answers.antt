@@ -1,0 +1,7 @@
+use Rattle.std.proofs.Common.{ap, refl}
+use Rattle.pie_files.specs.declared.files.Call.TheVariants.{Names}
+use Rattle.pie_files.proofs.Asked.{sure_called}
+use Rattle.pie_files.proofs.sure_files.SureFilesFiles.names.Goals as goal
+
+pub returns-clause-called : goal.returns-clause-called
+returns-clause-called c = sure_called _ _ _ _ _ (ap Names c.in_ok-copy.ensures) c.in_ok-note.ensures.noted
