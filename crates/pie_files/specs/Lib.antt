@@ -3,6 +3,8 @@ pub mod Directory
 pub mod Failures
 pub mod Faults
 pub mod Held
+pub mod MemFiles
+pub mod MemStreams
 pub mod Memory
 pub mod Streams
 pub mod SureFiles
