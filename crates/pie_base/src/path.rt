@@ -8,7 +8,7 @@ ghost use Rattle.std.specs.Cmp.{partial_order_from_own_ties};
 ghost use Rattle.std.specs.Cmp.Rules.{comparing};
 ghost use Rattle.std.proofs.Common.{rules};
 ghost use lib.Pointwise.{pointwise};
-ghost use Rattle.pie_base.specs.Path.{is_slash, is_control, segments, is_segment, is_path, has_parent, first_segment, is_out, is_under_store, is_below, parent_of, rest_below as specs_rest_below, entry_on_way, EndsParent, EndsEntry, Reads};
+ghost use Rattle.pie_base.specs.Path.{is_slash, is_control, segments, is_segment, is_path, has_parent, first_segment, is_out, is_under_store, is_kept, is_project_file as specs_is_project_file, is_source, is_below, parent_of, rest_below as specs_rest_below, entry_on_way, EndsParent, EndsEntry, Reads};
 
 use crate::{MAX_PATH_BYTES, OutOfMemory};
 use std::alloc::{AllocError, AllocFailed, Global};
@@ -113,6 +113,21 @@ impl Path {
         ensures { result ≡ is_under_store self.now }
     {
         first_of(self.text.as_bytes()) == b".pie".as_slice()
+    }
+
+    /// Whether the path is neither out nor kept: the file of a source.
+    pub fn is_source(&self) -> bool
+        ensures { result ≡ is_source self.now }
+    {
+        !self.under_out() && !self.is_kept()
+    }
+
+    // Whether the path is `out` alone, or the first segment is `.pie` or a project file.
+    fn is_kept(&self) -> bool
+        ensures { result ≡ is_kept self.now }
+    {
+        let text = self.text.as_bytes();
+        text == b"out".as_slice() || self.under_store() || is_project_file(text)
     }
 
     /// Whether the path lies below this directory, at any depth.
@@ -241,6 +256,13 @@ fn slash_at(path: &[u8]) -> Option<usize>
     ensures { result ≡ position is_slash path.now }
 {
     path.iter().position(|b| *b == b'/')
+}
+
+// Whether the first segment is that of a file that describes the project.
+fn is_project_file(path: &[u8]) -> bool
+    ensures { result ≡ specs_is_project_file path.now }
+{
+    first_of(path) == b"pie.pipeline".as_slice() || first_of(path) == b"pie.roots".as_slice()
 }
 
 // The first segment of a path.

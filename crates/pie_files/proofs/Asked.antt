@@ -25,5 +25,6 @@ pub sure_called : {T : Type 0} (kind : Call → Type 0) (call : Call) (old new :
 sure_called kind call old new value is noted = record {
     noted = (call, is, ap Some noted);
     later = omega arith;
+    steady = refl;
     cause = λ h. cc
   }

@@ -1,5 +1,5 @@
 -- What each call on the files says of the list of calls and of the count of faults.
-use Rattle.std.specs.Prelude.{◌≡◌, ◌⊎◌, ◌≤◌, ℕ, List, [], ◌∷◌, ◌++◌, Option, None, Some, Result, Ok, Err, IfSome, IsErrOf}
+use Rattle.std.specs.Prelude.{◌≡◌, ◌⊎◌, ◌≤◌, ℕ, List, [], ◌∷◌, ◌++◌, Option, None, Some, Result, Ok, Err, IfSome, OnOk, IsErrOf}
 use Rattle.pie_files.specs.declared.files.Call.{Call}
 use Rattle.pie_files.specs.declared.files.Call.TheVariants.{Write}
 use Rattle.pie_files.specs.declared.files.FilesError.{FilesError}
@@ -22,10 +22,11 @@ abbrev pub IsWrite : {T : Type 0} → List ℕ → Result T FilesError → Call 
 IsWrite path (Ok value) call = (mark : ℕ) × (call ≡ Write path (Some mark))
 IsWrite path (Err e) call = call ≡ Write path None
 
--- what every call says: it is noted, the count of faults doesn't fall, and a failure has raised it
+-- what every call says: it is noted, and the count of faults tells exactly whether it failed
 pub record Called {S T : Type 0} (asked : S → Option (List Call)) (faults : S → ℕ) (kind : Call → Type 0) (old new : S) (result : Result T FilesError) : Type 0 where
   pub noted : NotesUnlessMemory result kind (asked old) (asked new)
   pub later : faults old ≤ faults new
+  pub steady : OnOk result (faults new ≡ faults old)
   pub cause : IsErrOf result Failed → Rose (faults old) (faults new)
 
 -- what a write that succeeded leaves: the file with these bytes and some mark, and the same mark in the list of calls

@@ -1,10 +1,11 @@
 -- What a call on an input or an output says.
-use Rattle.std.specs.Prelude.{◌≡◌, ◌≤◌, ◌<◌, ℕ, List, [], ◌++◌, length, take, drop, Option, Some, Result, IsErrOf}
+use Rattle.std.specs.Prelude.{◌≡◌, ◌≤◌, ◌<◌, ℕ, List, [], ◌++◌, length, take, drop, Option, Some, Result, OnOk, IsErrOf}
 use Rattle.pie_files.specs.Faults.{Rose}
 
--- the count of faults doesn't fall, and this failure has raised it
+-- the count of faults tells exactly whether the call failed
 pub record Counted {S T E : Type 0} (faults : S → ℕ) (failed : E) (old new : S) (result : Result T E) : Type 0 where
   pub later : faults old ≤ faults new
+  pub steady : OnOk result (faults new ≡ faults old)
   pub cause : IsErrOf result failed → Rose (faults old) (faults new)
 
 -- n bytes were taken off the front of what was left and put at the front of the slice; none of a slice with room only where nothing was left

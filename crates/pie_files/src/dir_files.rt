@@ -1,5 +1,5 @@
 //! The files of a real directory: the trusted edge.
-ghost use Rattle.std.specs.Prelude.{◌≡◌, ◌≤◌, IsErrOf};
+ghost use Rattle.std.specs.Prelude.{◌≡◌, ◌≤◌, OnOk, IsErrOf};
 ghost use Rattle.pie_files.specs.Faults.{Rose};
 
 use crate::disk::Disk;
@@ -44,6 +44,7 @@ impl DirFiles {
     fn counted<T: Drop>(&mut self, answer: Result<T, FilesError>) -> Result<T, FilesError>
         ensures answer { result ≡ answer }
         ensures later { self.old.faults ≤ self.new.faults }
+        ensures steady { OnOk answer (self.new.faults ≡ self.old.faults) }
         ensures cause { IsErrOf answer FilesError.Failed → Rose self.old.faults self.new.faults }
     {
         if let Err(FilesError::Failed) = answer {
