@@ -85,6 +85,16 @@ impl Path {
         Ok(Path { text })
     }
 
+    /// The path that a text spells which is known to be one.
+    pub fn known(alloc: Global, text: &str) -> Result<Path, OutOfMemory>
+        requires { IsTrue (is_path text.now) }
+        ensures { IfOk result (λ path. path ≡ text.now) }
+    {
+        let text = String::from_str(alloc, text)?;
+        let text = Rc::new(alloc, text)?;
+        Ok(Path { text })
+    }
+
     /// An equal path, which shares the contents.
     pub fn copy(&self) -> Result<Path, OutOfMemory>
         ensures { IfOk result (λ copy. copy ≡ self.now) }
