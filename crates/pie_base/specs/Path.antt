@@ -46,14 +46,6 @@ is_path text = not (length text == 0) && not (nat_lt 255 (length text)) && list_
 abbrev pub first_segment : List ℕ → List ℕ
 first_segment path = before_first is_slash path
 
--- a path with two segments or more
-abbrev pub has_parent : List ℕ → Bool
-has_parent path = list_any is_slash path
-
--- out: the first segment is `out`, and there are at least two
-abbrev pub is_out : List ℕ → Bool
-is_out path = same_text (first_segment path) (codes "out") && has_parent path
-
 -- the first segment is `.pie`
 abbrev pub is_under_store : List ℕ → Bool
 is_under_store path = same_text (first_segment path) (codes ".pie")
@@ -61,14 +53,6 @@ is_under_store path = same_text (first_segment path) (codes ".pie")
 -- the first segment is that of a file that describes the project
 abbrev pub is_project_file : List ℕ → Bool
 is_project_file path = same_text (first_segment path) (codes "pie.pipeline") || same_text (first_segment path) (codes "pie.roots")
-
--- kept: `out` alone, or the first segment is `.pie`, `pie.pipeline` or `pie.roots`
-abbrev pub is_kept : List ℕ → Bool
-is_kept path = same_text path (codes "out") || is_under_store path || is_project_file path
-
--- source: neither out nor kept
-abbrev pub is_source : List ℕ → Bool
-is_source path = not (is_out path) && not (is_kept path)
 
 -- a path without its last segment, or none where it has one segment
 abbrev pub parent_of : List ℕ → Option (List ℕ)
@@ -85,6 +69,18 @@ rest_below (d ∷ dir) (b ∷ path) = cond (d == b) (rest_below dir path) None
 -- a path lies below a directory
 abbrev pub is_below : List ℕ → List ℕ → Bool
 is_below dir path = is_some (rest_below dir path)
+
+-- out: below the directory `out`, so the first segment is `out` and there are at least two
+abbrev pub is_out : List ℕ → Bool
+is_out path = is_below (codes "out") path
+
+-- kept: `out` alone, or the first segment is `.pie`, `pie.pipeline` or `pie.roots`
+abbrev pub is_kept : List ℕ → Bool
+is_kept path = same_text path (codes "out") || is_under_store path || is_project_file path
+
+-- source: neither out nor kept
+abbrev pub is_source : List ℕ → Bool
+is_source path = not (is_out path) && not (is_kept path)
 
 -- the entry of a directory at which or below which a path lies, or none where it isn't below the directory
 abbrev pub entry_on_way : List ℕ → List ℕ → Option (List ℕ)

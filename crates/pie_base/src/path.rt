@@ -8,7 +8,7 @@ ghost use Rattle.std.specs.Cmp.{partial_order_from_own_ties};
 ghost use Rattle.std.specs.Cmp.Rules.{comparing};
 ghost use Rattle.std.proofs.Common.{rules};
 ghost use lib.Pointwise.{pointwise};
-ghost use Rattle.pie_base.specs.Path.{is_slash, is_control, segments, is_segment, is_path, has_parent, first_segment, is_out, is_under_store, is_kept, is_project_file as specs_is_project_file, is_source, is_below, parent_of, rest_below as specs_rest_below, entry_on_way, EndsParent, EndsEntry, Reads};
+ghost use Rattle.pie_base.specs.Path.{is_slash, is_control, segments, is_segment, is_path, first_segment, is_out, is_under_store, is_kept, is_project_file as specs_is_project_file, is_source, is_below, parent_of, rest_below as specs_rest_below, entry_on_way, EndsParent, EndsEntry, Reads};
 
 use crate::{MAX_PATH_BYTES, OutOfMemory};
 use std::alloc::{AllocError, AllocFailed, Global};
@@ -114,8 +114,7 @@ impl Path {
     pub fn under_out(&self) -> bool
         ensures { result ≡ is_out self.now }
     {
-        let text = self.text.as_bytes();
-        first_of(text) == b"out".as_slice() && has_slash(text)
+        rest_below(b"out", self.text.as_bytes()).is_some()
     }
 
     /// Whether the first segment is `.pie`.
@@ -253,12 +252,6 @@ fn has_control(segment: &[u8]) -> bool
     ensures { result ≡ list_any is_control segment.now }
 {
     segment.iter().any(|b| *b < 32 || *b == 127)
-}
-
-fn has_slash(path: &[u8]) -> bool
-    ensures { result ≡ has_parent path.now }
-{
-    path.iter().any(|b| *b == b'/')
 }
 
 // Where the first slash stands, in bytes from 0.

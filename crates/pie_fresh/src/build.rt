@@ -3,8 +3,9 @@ ghost use Rattle.std.specs.Prelude.{◌≡◌, true, codes, IfSome, IfOk};
 ghost use Rattle.std.specs.Option.{option_map};
 ghost use Rattle.pie_base.specs.Path.{is_path, is_out};
 ghost use Rattle.pie_files.specs.Streams.{Counted};
-ghost use Rattle.pie_fresh.specs.Build.{build_of, plain_build, evaluated, by_program, by_roots, file_bytes, roots_say};
+ghost use Rattle.pie_fresh.specs.Build.{build_of, plain_build, evaluated, by_made, by_program, by_roots, file_bytes, roots_say};
 ghost use Rattle.pie_fresh.specs.Fresh.{WritesOut};
+ghost use Rattle.pie_fresh.specs.Made.{made_of};
 ghost use Rattle.pie_fresh.specs.Tiny.{plain, tiny_of, is_main as spec_is_main};
 
 use crate::made::{Made, join};
@@ -144,8 +145,17 @@ fn evaluate<F: Files>(
     ensures counted { Counted F.faults FilesError.Failed files.old files.new result }
 {
     let Program { target, terms } = program;
-    match join(alloc, files, &terms)? {
-        Made::Text(bytes) => Ok(Outcome::Accepted(target, bytes)),
-        Made::Fault(kind) => Ok(Outcome::Refused(kind)),
+    let made = join(alloc, files, &terms)?;
+    Ok(outcome_of(target, made))
+}
+
+// The outcome of a program that writes what was made at this path.
+fn outcome_of(target: Path, made: Made) -> Outcome
+    ensures outcome { plain_build result ≡ by_made target (made_of made) }
+    ensures out { is_out target ≡ true → WritesOut result }
+{
+    match made {
+        Made::Text(bytes) => Outcome::Accepted(target, bytes),
+        Made::Fault(kind) => Outcome::Refused(kind),
     }
 }
