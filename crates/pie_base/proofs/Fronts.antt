@@ -28,7 +28,7 @@ pub segments_append : (xs ys : List ℕ) → segments (xs ++ 47 ∷ ys) ≡ segm
 segments_append [] ys = refl
 segments_append (x ∷ xs) ys =
     elim (is_slash x) as (λ b. cond b ([] ∷ segments (xs ++ 47 ∷ ys)) (onto_first x (segments (xs ++ 47 ∷ ys)))
-        ≡ cond b ([] ∷ segments xs) (onto_first x (segments xs)) ++ segments ys) [
+    ≡ cond b ([] ∷ segments xs) (onto_first x (segments xs)) ++ segments ys) [
       | true ↦ ap (λ s. [] ∷ s) (segments_append xs ys)
       | false ↦ ap (onto_first x) (segments_append xs ys) ∙ onto_first_append x (segments xs) (segments ys) (some_part xs)
     ]
@@ -64,12 +64,12 @@ front_is_path path end is inside slash =
     let whole : path ≡ take end path ++ (47 ∷ drop (end + 1) path) = cut_at path end inside ∙ ap (λ b. take end path ++ (b ∷ drop (end + 1) path)) slash in
     let split : segments path ≡ segments (take end path) ++ segments (drop (end + 1) path) = ap segments whole ∙ segments_append (take end path) (drop (end + 1) path) in
     let good : list_all is_segment (segments (take end path)) ≡ true =
-          front_passes is_segment (segments (take end path)) (segments (drop (end + 1) path)) (ap (list_all is_segment) (sym split) ∙ outer.1) in
+    front_passes is_segment (segments (take end path)) (segments (drop (end + 1) path)) (ap (list_all is_segment) (sym split) ∙ outer.1) in
     let short : length (take end path) ≤ length path = omega (arith, length-take-le end path (omega arith)) in
     and_from (not (length (take end path) == 0) && not (nat_lt 255 (length (take end path)))) (list_all is_segment (segments (take end path)))
-      (and_from (not (length (take end path) == 0)) (not (nat_lt 255 (length (take end path)))) (not_empty (take end path) good)
-        (no_longer (length (take end path)) (length path) short inner.1))
-      good
+    (and_from (not (length (take end path) == 0)) (not (nat_lt 255 (length (take end path)))) (not_empty (take end path) good)
+    (no_longer (length (take end path)) (length path) short inner.1))
+    good
 
 -- no slash stands behind this place
 pub no_parent : (path : List ℕ) → list_any is_slash path ≡ false → parent_of path ≡ None
@@ -89,7 +89,7 @@ parent_at (b ∷ path) zero inside slash none =
 parent_at (b ∷ path) (suc n) inside slash none =
     let e : suc n + 1 ≡ suc (n + 1) = omega arith in
     ap (λ p. option_map_or (λ front. Some (b ∷ front)) p (cond (is_slash b) (Some []) None))
-      (parent_at path n (omega arith) slash (subst (λ k. list_any is_slash (drop k (b ∷ path)) ≡ false) e none))
+    (parent_at path n (omega arith) slash (subst (λ k. list_any is_slash (drop k (b ∷ path)) ≡ false) e none))
 
 pub ends_parent : (path : List ℕ) (end : ℕ) → end < length path → slice_index path end ≡ 47 → list_any is_slash (drop (end + 1) path) ≡ false → EndsParent path end
 ends_parent path end inside slash none = record { inside = inside; slash = slash; parent = parent_at path end inside slash none }
@@ -131,17 +131,17 @@ entry_ends dir path rest end below at =
     record {
       inside = omega (arith, found.0);
       slash = λ _. ap (λ p. slice_index p (length dir + 1 + end)) whole ∙ ap (slice_index (dir ++ (47 ∷ rest))) e
-        ∙ get_or-append-add dir (47 ∷ rest) (suc end) 0 ∙ found.1;
+          ∙ get_or-append-add dir (47 ∷ rest) (suc end) 0 ∙ found.1;
       entry = ap (option_map (λ r. dir ++ (47 ∷ first_segment r))) below
-        ∙ ap (λ r. Some (dir ++ (47 ∷ r))) (sym (before_first_at rest end at))
-        ∙ ap Some (sym (take-append-add dir (47 ∷ rest) (suc end)) ∙ ap (λ k. take k (dir ++ (47 ∷ rest))) (sym e) ∙ ap (take (length dir + 1 + end)) (sym whole))
+          ∙ ap (λ r. Some (dir ++ (47 ∷ r))) (sym (before_first_at rest end at))
+          ∙ ap Some (sym (take-append-add dir (47 ∷ rest) (suc end)) ∙ ap (λ k. take k (dir ++ (47 ∷ rest))) (sym e) ∙ ap (take (length dir + 1 + end)) (sym whole));
     }
 
 pub entry_all : (dir path rest : List ℕ) → rest_below dir path ≡ Some rest → position is_slash rest ≡ None → EndsEntry dir path (length path)
 entry_all dir path rest below none = record {
-    inside = omega arith;
-    slash = λ less. absurd (omega arith);
-    entry = ap (option_map (λ r. dir ++ (47 ∷ first_segment r))) below
+  inside = omega arith;
+  slash = λ less. absurd (omega arith);
+  entry = ap (option_map (λ r. dir ++ (47 ∷ first_segment r))) below
       ∙ ap (λ r. Some (dir ++ (47 ∷ r))) (sym (before_first_none rest none))
-      ∙ ap Some (sym (below_is dir path rest below) ∙ sym (take-length path))
-  }
+      ∙ ap Some (sym (below_is dir path rest below) ∙ sym (take-length path));
+}

@@ -37,7 +37,7 @@ slash_found xs i h =
           let same : n ≡ i = cc in
           let inside : n < length xs = ltb-true n (length xs) e in
           subst (λ m. (m < length xs) × (slice_index xs m ≡ 47)) same
-            (inside, slash_is (slice_index xs n) (prefix_len_stops (λ x. not (is_slash x)) xs 0 inside))
+          (inside, slash_is (slice_index xs n) (prefix_len_stops (λ x. not (is_slash x)) xs 0 inside))
       | false ↦ λ e k. cc
     ] refl h
   where

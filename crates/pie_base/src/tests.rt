@@ -45,7 +45,10 @@ fn paths_have_kinds_parents_and_entries(rt: HostRuntime) -> Result<(), Fail> {
         let up = path.parent(alloc)?;
         assert!(rt; up.as_ref().map_or("", |p| p.as_str()) == parent, "{text}");
         let on_way = path.entry_of(alloc, &src)?;
-        assert!(rt; on_way.as_ref().map_or("", |p| p.as_str()) == entry, "{text}");
+        assert!(rt;
+            on_way.as_ref().map_or("", |p| p.as_str()) == entry,
+            "{text}"
+        );
     }
     Ok(())
 }

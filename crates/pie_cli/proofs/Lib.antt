@@ -1,1 +1,5 @@
+pub mod Built
+pub mod Others
+pub mod Outside
 pub mod Printing
+pub mod Statuses

@@ -1,5 +1,5 @@
 -- What a build leaves of a directory.
-use Rattle.std.specs.Prelude.{◌≡◌, ℕ, Bool, false, not, List, [], ◌∷◌, Option, Some, IfSome, codes}
+use Rattle.std.specs.Prelude.{◌≡◌, ℕ, Bool, true, false, not, ◌&&◌, List, [], ◌∷◌, Option, Some, IfSome, codes}
 use Rattle.std.specs.List.{filter}
 use Rattle.std.specs.FinMap as fin
 use Rattle.pie_base.specs.Path.{is_out, same_text}
@@ -25,11 +25,20 @@ IsLeft d (accepted path bytes) after = (mark : ℕ) × (after ≡ built_director
 abbrev pub removed_by : Directory → List ℕ → List (List ℕ)
 removed_by d path = filter (λ q. not (same_text q path)) (files_under d (codes "out"))
 
+-- those of these paths that lie under `out/` and are another than this one
+abbrev pub other_paths : List ℕ → List (List ℕ) → List (List ℕ)
+other_paths path there = filter (λ q. is_out q && not (same_text q path)) there
+
 -- the directory after these files are gone
 abbrev pub without_files : Directory → List (List ℕ) → Directory
 without_files d [] = d
 without_files d (path ∷ paths) = without_files (without_file d path) paths
 
 -- where the directory is told, every file that isn't under `out/` is as it was
-abbrev pub KeepsOutside : Option Directory → Option Directory → Type 0
-KeepsOutside before after = IfSome before (λ d. (e : Directory) × (after ≡ Some e) × ((path : List ℕ) → is_out path ≡ false → file_at e path ≡ file_at d path))
+pub record KeepsOutside (before after : Option Directory) : Type 0 where
+  pub kept : IfSome before (λ d. (e : Directory) × (after ≡ Some e) × ((path : List ℕ) → is_out path ≡ false → file_at e path ≡ file_at d path))
+
+-- each of these paths lies under `out/`
+abbrev pub AllOut : List (List ℕ) → Type 0
+AllOut [] = Unit {0}
+AllOut (path ∷ paths) = (is_out path ≡ true) × AllOut paths

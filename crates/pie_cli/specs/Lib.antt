@@ -1,3 +1,4 @@
 pub mod Left
+pub mod Rebuilt
 pub mod Report
 pub mod Run

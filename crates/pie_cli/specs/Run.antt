@@ -43,6 +43,22 @@ Gains before after text = IfSome before (λ bytes. after ≡ Some (bytes ++ text
 abbrev pub GainsFront : Option (List ℕ) → Option (List ℕ) → List ℕ → Type 0
 GainsFront before after text = IfSome before (λ bytes. (n : ℕ) × (after ≡ Some (bytes ++ take n text)))
 
--- a text that `fresh` may print of this directory: its report, or that a call on the files failed
-abbrev pub MayPrint : Directory → List ℕ → Type 0
-MayPrint d text = (text ≡ report_of d (build_of d)) ⊎ (text ≡ files_fault_text)
+-- the output gained the front of a text that `fresh` may print of this directory: its report, or that a call on the files failed
+abbrev pub PrintsFront : Directory → Option (List ℕ) → Option (List ℕ) → Type 0
+PrintsFront d before after = GainsFront before after (report_of d (build_of d)) ⊎ GainsFront before after files_fault_text
+
+-- a status whose text was printed whole
+abbrev pub is_told : Status → Bool
+is_told status.Ok = true
+is_told status.Refused = true
+is_told status.Usage = true
+is_told status.BadInput = true
+is_told status.Pipeline = true
+is_told status.Files = true
+is_told status.Input = true
+is_told status.Output = false
+is_told status.Memory = false
+
+-- a status that says that a text was printed whole is the wanted one, and the output gained the text
+abbrev pub Shows : Option (List ℕ) → Option (List ℕ) → List ℕ → Status → Status → Type 0
+Shows before after text wanted ended = is_told ended ≡ true → (ended ≡ wanted) × Gains before after text

@@ -1,5 +1,11 @@
 //! The program: words in, a report and a status out.
 #![tactic(auto)]
 
+mod commit;
 mod print;
+mod rebuild;
+mod report;
+mod top;
 mod words;
+
+pub use top::run;

@@ -14,7 +14,8 @@ pub(crate) fn print_text<K: Sink>(out: &mut K, text: &[u8]) -> Result<(), SinkEr
 {
     let mut done = 0;
     while done < text.len() {
-        let n = out.put(&text[done..])?;
+        let (_, rest) = text.split_at(done);
+        let n = out.put(rest)?;
         done += n;
     }
     Ok(())

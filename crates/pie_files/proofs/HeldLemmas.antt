@@ -20,7 +20,7 @@ find_among : (path : List ℕ) (entries : List (List ℕ × Found)) → fin.find
 find_among path [] = refl
 find_among path (e ∷ entries) =
     elim (eq_by_cmp (slice_cmp nat_cmp) path e.0) as (λ b. cond b (Some (content_of e.1)) (fin.find (slice_cmp nat_cmp) path (map entry_of entries))
-        ≡ option_map content_of (cond b (Some e.1) (found_at entries path))) [
+    ≡ option_map content_of (cond b (Some e.1) (found_at entries path))) [
       | true ↦ refl
       | false ↦ find_among path entries
     ]

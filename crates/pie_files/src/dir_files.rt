@@ -58,7 +58,9 @@ impl Files for DirFiles {
     ghost use Rattle.std.specs.Prelude.{None};
 
     ghost holds = { λ _. None };
+
     ghost asked = { λ _. None };
+
     ghost faults = { λ s. s.faults };
 
     fn read(&mut self, path: &Path) -> Result<Option<Found>, FilesError> {

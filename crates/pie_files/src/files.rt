@@ -18,6 +18,7 @@ pub enum FilesError {
 
 impl From<OutOfMemory> for FilesError {
     ghost use Rattle.pie_files.specs.declared.files.FilesError.TheVariants.{OutOfMemory};
+
     ghost from_gives = { λ _ e. e ≡ OutOfMemory };
 
     fn from(_: OutOfMemory) -> Self {
@@ -27,6 +28,7 @@ impl From<OutOfMemory> for FilesError {
 
 impl From<AllocError> for FilesError {
     ghost use Rattle.pie_files.specs.declared.files.FilesError.TheVariants.{OutOfMemory};
+
     ghost from_gives = { λ _ e. e ≡ OutOfMemory };
 
     fn from(_: AllocError) -> Self {
@@ -36,6 +38,7 @@ impl From<AllocError> for FilesError {
 
 impl<T: Drop> From<AllocFailed<T>> for FilesError {
     ghost use Rattle.pie_files.specs.declared.files.FilesError.TheVariants.{OutOfMemory};
+
     ghost from_gives = { λ _ e. e ≡ OutOfMemory };
 
     fn from(_: AllocFailed<T>) -> Self {

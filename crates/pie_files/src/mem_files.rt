@@ -61,7 +61,9 @@ impl Files for MemFiles {
     ghost use Rattle.pie_files.specs.MemFiles.{held_in, asked_in, faults_in};
 
     ghost holds = { λ s. Some (held_in s) };
+
     ghost asked = { λ s. Some (asked_in s) };
+
     ghost faults = { faults_in };
 
     fn read(&mut self, path: &Path) -> Result<Option<Found>, FilesError> {

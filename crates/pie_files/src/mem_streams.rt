@@ -45,7 +45,9 @@ impl Source for MemSource {
     ghost use Rattle.pie_files.specs.MemStreams.{left_in, source_faults, SureSource};
 
     ghost left = { λ s. Some (left_in s) };
+
     ghost faults = { source_faults };
+
     ghost sure = { SureSource };
 
     fn take(&mut self, into: &mut [u8]) -> Result<usize, SourceError> {
@@ -102,7 +104,9 @@ impl Sink for MemSink {
     ghost use Rattle.pie_files.specs.MemStreams.{held_at, sink_faults, SureSink};
 
     ghost held = { λ s. Some (held_at s) };
+
     ghost faults = { sink_faults };
+
     ghost sure = { SureSink };
 
     fn put(&mut self, piece: &[u8]) -> Result<usize, SinkError> {

@@ -21,7 +21,9 @@ impl Source for StdSource {
     ghost use Rattle.std.specs.Prelude.{None};
 
     ghost left = { λ _. None };
+
     ghost faults = { λ s. s.faults };
+
     ghost sure = { λ _. ⊥ };
 
     fn take(&mut self, into: &mut [u8]) -> Result<usize, SourceError> {
@@ -52,7 +54,9 @@ impl Sink for StdSink {
     ghost use Rattle.std.specs.Prelude.{None};
 
     ghost held = { λ _. None };
+
     ghost faults = { λ s. s.faults };
+
     ghost sure = { λ _. ⊥ };
 
     fn put(&mut self, piece: &[u8]) -> Result<usize, SinkError> {

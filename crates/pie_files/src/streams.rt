@@ -23,6 +23,7 @@ pub enum SinkError {
 
 impl From<OutOfMemory> for SinkError {
     ghost use Rattle.pie_files.specs.declared.streams.SinkError.TheVariants.{OutOfMemory};
+
     ghost from_gives = { λ _ e. e ≡ OutOfMemory };
 
     fn from(_: OutOfMemory) -> Self {
@@ -32,6 +33,7 @@ impl From<OutOfMemory> for SinkError {
 
 impl From<AllocError> for SinkError {
     ghost use Rattle.pie_files.specs.declared.streams.SinkError.TheVariants.{OutOfMemory};
+
     ghost from_gives = { λ _ e. e ≡ OutOfMemory };
 
     fn from(_: AllocError) -> Self {
@@ -41,6 +43,7 @@ impl From<AllocError> for SinkError {
 
 impl<T: Drop> From<AllocFailed<T>> for SinkError {
     ghost use Rattle.pie_files.specs.declared.streams.SinkError.TheVariants.{OutOfMemory};
+
     ghost from_gives = { λ _ e. e ≡ OutOfMemory };
 
     fn from(_: AllocFailed<T>) -> Self {

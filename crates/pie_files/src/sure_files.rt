@@ -137,7 +137,9 @@ impl Files for SureFiles {
     ghost use Rattle.pie_files.specs.SureFiles.{held_by, asked_by};
 
     ghost holds = { λ s. Some (held_by s) };
+
     ghost asked = { λ s. Some (asked_by s) };
+
     ghost faults = { λ _. 0 };
 
     fn read(&mut self, path: &Path) -> Result<Option<Found>, FilesError> {

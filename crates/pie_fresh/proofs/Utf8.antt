@@ -8,6 +8,6 @@ is_utf8_yes bytes h = is_utf8-from_IsUtf8 bytes h
 
 pub is_utf8_no : (bytes : List ℕ) → ¬ (IsUtf8 bytes) → is_utf8 bytes ≡ false
 is_utf8_no bytes h = elim (is_utf8 bytes) as (λ b. is_utf8 bytes ≡ b → b ≡ false) [
-    | true ↦ λ e. absurd (h (IsUtf8-from_is_utf8 bytes e))
-    | false ↦ λ e. refl
-  ] refl
+  | true ↦ λ e. absurd (h (IsUtf8-from_is_utf8 bytes e))
+  | false ↦ λ e. refl
+] refl

@@ -91,11 +91,7 @@ fn program_of(alloc: Global, pipeline: Vec<u8>) -> Result<Option<Program>, OutOf
 }
 
 // The bytes of a project file, if it is there.
-fn load<F: Files>(
-    alloc: Global,
-    files: &mut F,
-    name: &str,
-) -> Result<Option<Vec<u8>>, FilesError>
+fn load<F: Files>(alloc: Global, files: &mut F, name: &str) -> Result<Option<Vec<u8>>, FilesError>
     requires { is_path name.now ≡ true }
     ensures found { IfSome (F.holds files.old) (λ d. IfOk result (λ bytes. option_map (λ b. b.items) bytes ≡ file_bytes d name.now)) }
     ensures same { F.holds files.new ≡ F.holds files.old }
@@ -133,11 +129,7 @@ fn is_main(text: &[u8]) -> bool
     text == b"main()".as_slice() || text == b"main()\n".as_slice()
 }
 
-fn evaluate<F: Files>(
-    alloc: Global,
-    files: &mut F,
-    program: Program,
-) -> Result<Outcome, FilesError>
+fn evaluate<F: Files>(alloc: Global, files: &mut F, program: Program) -> Result<Outcome, FilesError>
     requires { is_out program.target ≡ true }
     ensures outcome { IfSome (F.holds files.old) (λ d. IfOk result (λ outcome. plain_build outcome ≡ evaluated d (plain program))) }
     ensures out { IfOk result WritesOut }

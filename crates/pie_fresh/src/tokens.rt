@@ -20,7 +20,11 @@ pub(crate) enum Scan {
 pub(crate) fn scan_byte(escaped: bool, b: u8) -> Scan
     ensures { result ≡ spec.scan_of escaped b }
 {
-    if escaped { scan_escaped(b) } else { scan_plain(b) }
+    if escaped {
+        scan_escaped(b)
+    } else {
+        scan_plain(b)
+    }
 }
 
 fn scan_escaped(b: u8) -> Scan
