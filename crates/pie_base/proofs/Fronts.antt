@@ -1,16 +1,16 @@
 -- What stands before a slash of a path is a path, and before the last slash it is the parent.
-use Rattle.std.proofs.Common.{◌≡◌, ℕ, ◌+◌, ◌-◌, ◌<◌, ◌≤◌, Bool, true, false, not, cond, ◌&&◌, ltb, zero, suc, eqb, List, [], ◌∷◌, ◌++◌, length, length-append, get_or, take, drop, refl, sym, ap, ◌∙◌, subst, arith, rules, add-one, nat_lt, ◌==◌}
-use Rattle.std.specs.Prelude.{◌||◌, Option, Some, None, IsTrue, MatchOption, slice_index}
-use Rattle.std.specs.Option.{option_map_or, option_map, option_copied}
-use Rattle.std.specs.List.{list_all, list_any, slice_split, onto_first, position}
+use Rattle.std.proofs.Common.{◌≡◌, ℕ, ◌+◌, ◌<◌, ◌≤◌, Bool, true, false, not, cond, ◌&&◌, zero, suc, List, [], ◌∷◌, ◌++◌, length, length-append, get_or, take, drop, refl, sym, ap, ◌∙◌, subst, arith, add-one, nat_lt, ◌==◌}
+use Rattle.std.specs.Prelude.{◌||◌, Some, None, IsTrue, slice_index}
+use Rattle.std.specs.Option.{option_map_or, option_map}
+use Rattle.std.specs.List.{list_all, list_any, onto_first, position}
 use Rattle.std.proofs.lemmas.Bool.{and_parts, and_from, false≢true}
 use Rattle.std.proofs.lemmas.List.{take-append-drop, length-take-le, get_or-append-add}
 use Rattle.std.proofs.lemmas.List.Splits.{length-slice_split}
 use Rattle.std.proofs.Math.Seq.{drop-cons, take-append-add}
 use Rattle.std.proofs.Math.Seq.{take-length}
-use borrow.Author.Tests.{ltb-false, ltb-true, eqb-true}
+use borrow.Author.Tests.{ltb-true, eqb-true}
 use Rattle.pie_base.proofs.Segments.{before_first_at, before_first_none, slash_found}
-use Rattle.pie_base.specs.Path.{is_slash, is_segment, segments, is_path, parent_of, rest_below, first_segment, entry_on_way, EndsParent, EndsEntry}
+use Rattle.pie_base.specs.Path.{is_slash, is_segment, segments, is_path, parent_of, rest_below, first_segment, EndsParent, EndsEntry}
 
 -- a list with its element at i taken out of the middle
 pub cut_at : (xs : List ℕ) (i : ℕ) → i < length xs → xs ≡ take i xs ++ (slice_index xs i ∷ drop (i + 1) xs)

@@ -1,7 +1,7 @@
 use Rattle.std.proofs.Common.{rules}
 use Rattle.std.proofs.lemmas.Iterator.Search.{all_from_yields_List}
 use Rattle.std.proofs.lemmas.Iterator.Splits.{YieldsList-from_slice_split}
-use Rattle.std.proofs.Common.{rules, tests, arith}
+use Rattle.std.proofs.Common.{rules, tests}
 use Rattle.pie_base.specs.Path.{is_slash, is_segment}
 use Rattle.pie_base.proofs.path.all_segments.Goals as goal
 

@@ -1,7 +1,7 @@
-use Rattle.std.proofs.Common.{arith, ℕ, ◌≡◌, ◌+◌, ◌-◌, false, drop, subst, sym, ◌≤◌}
+use Rattle.std.proofs.Common.{arith, ◌≡◌, ◌+◌, ◌-◌, false, drop, subst}
 use Rattle.std.specs.List.{list_any}
 use Rattle.pie_base.specs.Path.{is_slash}
-use Rattle.pie_base.proofs.Fronts.{ends_parent, none_more, no_parent}
+use Rattle.pie_base.proofs.Fronts.{ends_parent, no_parent}
 use Rattle.pie_base.proofs.path.last_slash.Goals as goal
 
 pub returns-then-path-end-eq47 : goal.returns-then-path-end-eq47

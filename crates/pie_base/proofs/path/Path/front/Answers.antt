@@ -1,6 +1,4 @@
-use Rattle.std.proofs.Common.{arith, rules, ap, ◌∙◌, sym, subst, ◌≡◌, string_bytes, take}
-use Rattle.std.specs.Prelude.{IsTrue}
-use Rattle.pie_base.specs.Path.{is_path}
+use Rattle.std.proofs.Common.{rules, ◌≡◌, string_bytes, take}
 use Rattle.pie_base.proofs.Fronts.{front_is_path}
 use Rattle.pie_base.proofs.path.Path.front.Goals as goal
 
