@@ -19,3 +19,6 @@ pub use mem_streams::{MemSink, MemSource};
 pub use std_streams::{StdSink, StdSource};
 pub use streams::{Sink, SinkError, Source, SourceError};
 pub use sure_files::{Logged, SureFiles};
+
+#[cfg(test)]
+mod tests;

@@ -1,0 +1,137 @@
+//! The objects in memory and the adapters, each once.
+use crate::{
+    Call, DirFiles, Files, FilesError, Found, Logged, MemFiles, MemSink, MemSource, Sink,
+    SinkError, Source, SourceError, StdSink, StdSource, SureFiles,
+};
+use pie_base::Path;
+use std::alloc::Global;
+use std::test::Fail;
+use std::time::{SystemTime, UNIX_EPOCH};
+use std::{env, fs};
+
+fn path(alloc: Global, text: &str) -> Result<Path, Fail> {
+    Ok(Path::read(alloc, text).map_err(|_| "path")?)
+}
+
+fn joined(alloc: Global, paths: &[Path]) -> Result<String, Fail> {
+    let mut text = String::new(alloc);
+    for path in paths {
+        text.push_str(path.as_str())?;
+        text.push_str(" ")?;
+    }
+    Ok(text)
+}
+
+fn is_found(found: &Option<Found>, bytes: &[u8], mark: u64) -> bool {
+    match found {
+        Some(found) => found.bytes.as_slice() == bytes && found.mark == mark,
+        None => false,
+    }
+}
+
+#[test]
+fn files_in_memory_hold_list_and_log(rt: HostRuntime) -> Result<(), Fail> {
+    let alloc = rt.alloc();
+    let mut files = SureFiles::new(alloc);
+    files.put(&path(alloc, "src/b/c")?, b"x", 70)?;
+    files.put(&path(alloc, "src/b-d")?, b"y", 71)?;
+    files.write(&path(alloc, "src/a")?, b"z")?;
+    let src = path(alloc, "src")?;
+    assert!(rt; joined(alloc, &files.names(&src)?)?.as_str() == "src/a src/b src/b-d ");
+    assert!(rt; joined(alloc, &files.all_under(&src)?)?.as_str() == "src/a src/b-d src/b/c ");
+    assert!(rt; is_found(&files.read(&path(alloc, "src/b/c")?)?, b"x", 70));
+    assert!(rt; is_found(&files.read(&path(alloc, "src/a")?)?, b"z", 1));
+    files.remove(&path(alloc, "src/a")?)?;
+    files.sync()?;
+    assert!(rt; files.read(&path(alloc, "src/a")?)?.is_none());
+    assert_eq!(rt; files.log().len(), 10);
+    assert!(rt; matches!(files.log().last(), Some(Logged::Asked(Call::Read(_)))));
+    Ok(())
+}
+
+#[test]
+fn a_call_that_is_told_to_fails_and_changes_nothing(rt: HostRuntime) -> Result<(), Fail> {
+    let alloc = rt.alloc();
+    let mut files = MemFiles::new(alloc);
+    let page = path(alloc, "out/page")?;
+    files.fail_at(&[2])?;
+    files.write(&page, b"one")?;
+    assert!(rt; files.write(&page, b"two") == Err(FilesError::Failed));
+    assert!(rt; is_found(&files.read(&page)?, b"one", 1));
+    files.write(&page, b"three")?;
+    assert!(rt; is_found(&files.read(&page)?, b"three", 2));
+    assert_eq!(rt; files.log().len(), 5);
+    Ok(())
+}
+
+#[test]
+fn streams_in_memory_give_and_take_in_order(rt: HostRuntime) -> Result<(), Fail> {
+    let alloc = rt.alloc();
+    let mut input = MemSource::new(alloc, b"abc".to_vec(alloc)?);
+    input.fail_at(alloc, &[2])?;
+    let mut buf = [0u8; 2];
+    assert!(rt; input.take(&mut buf) == Ok(2));
+    assert_eq!(rt; buf, *b"ab");
+    assert!(rt; input.take(&mut buf) == Err(SourceError::Failed));
+    assert!(rt; input.take(&mut buf) == Ok(1));
+    assert!(rt; input.take(&mut buf) == Ok(0));
+    let mut out = MemSink::new(alloc);
+    out.fail_at(alloc, &[2])?;
+    assert!(rt; out.put(b"ab") == Ok(2));
+    assert!(rt; out.put(b"cd") == Err(SinkError::Failed));
+    assert!(rt; out.put(b"ef") == Ok(2));
+    assert!(rt; out.bytes() == b"abef".as_slice());
+    Ok(())
+}
+
+#[test]
+fn the_standard_streams_take_what_is_empty(rt: HostRuntime) {
+    let mut input = StdSource::new(rt);
+    assert!(rt; input.take(&mut []) == Ok(0));
+    let mut out = StdSink::new(rt);
+    assert!(rt; out.put(b"") == Ok(0));
+    assert!(rt; out.put(b"\n") == Ok(1));
+}
+
+// A new directory for a test.
+fn scratch(rt: HostRuntime) -> Result<String, Fail> {
+    let alloc = rt.alloc();
+    let now = SystemTime::now(&rt)?;
+    let since = now.duration_since(UNIX_EPOCH).map_err(|_| "clock")?;
+    let secs = since.as_secs();
+    let nanos = since.subsec_nanos();
+    let top = env::temp_dir(&rt)?;
+    let top = top.as_path().to_str().ok_or("temp")?;
+    let root = format!(in alloc; "{top}/pie_files_{secs}_{nanos}")?;
+    fs::create_dir_all(&rt, root.as_str())?;
+    Ok(root)
+}
+
+#[test]
+fn a_real_directory_reads_as_its_files_with_paths(rt: HostRuntime) -> Result<(), Fail> {
+    let alloc = rt.alloc();
+    let root = scratch(rt)?;
+    let mut files = DirFiles::under(rt, root.as_str())?;
+    let (dir, file, below) = (path(alloc, "a")?, path(alloc, "a/b/c")?, path(alloc, "a/b/c/d")?);
+    files.write(&file, b"x")?;
+    files.write(&path(alloc, "a/d")?, b"y")?;
+    files.sync()?;
+    // A name that is no segment, and a directory without files.
+    fs::write(&rt, format!(in alloc; "{root}/a/e\tf")?.as_str(), b"z")?;
+    fs::create_dir_all(&rt, format!(in alloc; "{root}/a/g/h")?.as_str())?;
+    assert!(rt; joined(alloc, &files.names(&dir)?)?.as_str() == "a/b a/d ");
+    assert!(rt; joined(alloc, &files.all_under(&dir)?)?.as_str() == "a/b/c a/d ");
+    assert!(rt; files.names(&file)?.is_empty());
+    assert!(rt; files.read(&file)?.is_some_and(|f| f.bytes.as_slice() == b"x".as_slice()));
+    assert!(rt; files.read(&dir)?.is_none());
+    assert!(rt; files.read(&below)?.is_none());
+    assert!(rt; files.write(&below, b"x") == Err(FilesError::Failed));
+    files.remove(&below)?;
+    files.remove(&dir)?;
+    files.remove(&file)?;
+    files.sync()?;
+    assert!(rt; !fs::exists(&rt, format!(in alloc; "{root}/a/b")?.as_str())?);
+    assert!(rt; fs::exists(&rt, format!(in alloc; "{root}/a/d")?.as_str())?);
+    fs::remove_dir_all(&rt, root.as_str())?;
+    Ok(())
+}
