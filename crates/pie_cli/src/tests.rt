@@ -5,7 +5,9 @@ use pie_files::{Files, MemFiles, MemSink, MemSource, SureFiles};
 use std::alloc::Global;
 use std::test::Fail;
 
-const PIPELINE: &str = "func main() -> unit { write(path(\"out/page\"), get(read(path(\"src/page\"))) + \"!\"); }";
+const PIPELINE: &str =
+    "func main() -> unit { write(path(\"out/page\"), get(read(path(\"src/page\"))) + \"!\"); }";
+
 const BUILT: &str = "accepted\nran main()\nwrote out/page\nlive 1\noutput main() = unit\n";
 
 // What a run with these words ends with, and what it prints.
@@ -48,7 +50,11 @@ fn a_first_project_is_built_twice_alike(rt: HostRuntime) -> Result<(), Fail> {
     let alloc = rt.alloc();
     let mut files = project(
         alloc,
-        &[("pie.pipeline", PIPELINE), ("pie.roots", "main()"), ("src/page", "hi")],
+        &[
+            ("pie.pipeline", PIPELINE),
+            ("pie.roots", "main()"),
+            ("src/page", "hi"),
+        ],
     )?;
     for _ in 0..2 {
         let (status, text) = run_words(alloc, &["fresh"], &mut files)?;
@@ -74,11 +80,16 @@ fn a_stray_file_is_removed_and_told(rt: HostRuntime) -> Result<(), Fail> {
     )?;
     let (status, text) = run_words(alloc, &["fresh"], &mut files)?;
     assert_eq!(rt; status, Status::Ok);
-    let wanted = "accepted\nran main()\nwrote out/page\nremoved out/z\nlive 1\noutput main() = unit\n";
+    let wanted =
+        "accepted\nran main()\nwrote out/page\nremoved out/z\nlive 1\noutput main() = unit\n";
     assert!(rt; text.as_str() == wanted, "{text}");
     assert!(rt; holds(alloc, &mut files, "out/page", "!")?);
     assert!(rt; holds(alloc, &mut files, "outer", "stays")?);
-    assert!(rt; files.read(&path(alloc, "out/z")?).is_ok_and(|f| f.is_none()));
+    assert!(rt;
+        files
+            .read(&path(alloc, "out/z")?)
+            .is_ok_and(|f| f.is_none())
+    );
     Ok(())
 }
 
@@ -86,16 +97,42 @@ fn a_stray_file_is_removed_and_told(rt: HostRuntime) -> Result<(), Fail> {
 fn each_refusal_is_told_and_changes_nothing(rt: HostRuntime) -> Result<(), Fail> {
     let alloc = rt.alloc();
     let refused = "refused fault main(): Null\nran main()\n";
-    let spaced = "func main ( ) -> unit { // a comment\n write ( path ( \"out/p\" ) , \"a\\\"\" + \"\\n\" ) ; }";
+    let spaced =
+        "func main ( ) -> unit { // a comment\n write ( path ( \"out/p\" ) , \"a\\\"\" + \"\\n\" ) ; }";
     let cases = [
         ("", "main()", Status::Pipeline, "not yet\n"),
         (PIPELINE, "main()\n\n", Status::Pipeline, "not yet\n"),
         (PIPELINE, "main()", Status::Refused, refused),
-        ("func main() -> unit { write(path(\"src/p\"), \"\"); }", "main()", Status::Pipeline, "not yet\n"),
-        ("func main() -> unit { write(path(\"out/p\"), get(read(path(\"out/q\")))); }", "main()", Status::Pipeline, "not yet\n"),
-        ("func main() -> unit { write(path(\"out/p\"), \"\"); } x", "main()", Status::Pipeline, "not yet\n"),
-        ("funcmain() -> unit { write(path(\"out/p\"), \"\"); }", "main()", Status::Pipeline, "not yet\n"),
-        (spaced, "main()", Status::Ok, "accepted\nran main()\nwrote out/p\nlive 1\noutput main() = unit\n"),
+        (
+            "func main() -> unit { write(path(\"src/p\"), \"\"); }",
+            "main()",
+            Status::Pipeline,
+            "not yet\n",
+        ),
+        (
+            "func main() -> unit { write(path(\"out/p\"), get(read(path(\"out/q\")))); }",
+            "main()",
+            Status::Pipeline,
+            "not yet\n",
+        ),
+        (
+            "func main() -> unit { write(path(\"out/p\"), \"\"); } x",
+            "main()",
+            Status::Pipeline,
+            "not yet\n",
+        ),
+        (
+            "funcmain() -> unit { write(path(\"out/p\"), \"\"); }",
+            "main()",
+            Status::Pipeline,
+            "not yet\n",
+        ),
+        (
+            spaced,
+            "main()",
+            Status::Ok,
+            "accepted\nran main()\nwrote out/p\nlive 1\noutput main() = unit\n",
+        ),
     ];
     for (pipeline, roots, wanted, printed) in cases {
         let mut files = project(alloc, &[("pie.pipeline", pipeline), ("pie.roots", roots)])?;
@@ -113,8 +150,13 @@ fn each_refusal_is_told_and_changes_nothing(rt: HostRuntime) -> Result<(), Fail>
 #[test]
 fn other_words_print_the_usage_line(rt: HostRuntime) -> Result<(), Fail> {
     let alloc = rt.alloc();
-    let usage = "usage: pie check, fresh [--json], build [--json], replay [--json], demo SEED SIZE, topdown [--json], scan, auto, cached\n";
-    let cases = [["frob", "x"].as_slice(), ["fresh", "fresh"].as_slice(), [].as_slice()];
+    let usage =
+        "usage: pie check, fresh [--json], build [--json], replay [--json], demo SEED SIZE, topdown [--json], scan, auto, cached\n";
+    let cases = [
+        ["frob", "x"].as_slice(),
+        ["fresh", "fresh"].as_slice(),
+        [].as_slice(),
+    ];
     for words in cases {
         let mut files = SureFiles::new(alloc);
         let (status, text) = run_words(alloc, words, &mut files)?;
@@ -138,7 +180,10 @@ fn each_call_on_the_files_that_fails_ends_the_run(rt: HostRuntime) -> Result<(),
         let (status, text) = run_words(alloc, &["fresh"], &mut files)?;
         let wanted = if call < 8 { Status::Files } else { Status::Ok };
         assert!(rt; status == wanted, "call {call}");
-        assert!(rt; (text.as_str() == "files fault\n") == (call < 8), "call {call}: {text}");
+        assert!(rt;
+            (text.as_str() == "files fault\n") == (call < 8),
+            "call {call}: {text}"
+        );
         files.fail_at(&[])?;
         assert!(rt; holds(alloc, &mut files, "src/page", "hi")?);
     }
@@ -150,7 +195,11 @@ fn an_output_that_fails_ends_with_its_status(rt: HostRuntime) -> Result<(), Fail
     let alloc = rt.alloc();
     let mut files = project(
         alloc,
-        &[("pie.pipeline", PIPELINE), ("pie.roots", "main()"), ("src/page", "hi")],
+        &[
+            ("pie.pipeline", PIPELINE),
+            ("pie.roots", "main()"),
+            ("src/page", "hi"),
+        ],
     )?;
     let mut input = MemSource::new(alloc, Vec::new(alloc));
     let mut out = MemSink::new(alloc);

@@ -112,7 +112,11 @@ fn a_real_directory_reads_as_its_files_with_paths(rt: HostRuntime) -> Result<(),
     let alloc = rt.alloc();
     let root = scratch(rt)?;
     let mut files = DirFiles::under(rt, root.as_str())?;
-    let (dir, file, below) = (path(alloc, "a")?, path(alloc, "a/b/c")?, path(alloc, "a/b/c/d")?);
+    let (dir, file, below) = (
+        path(alloc, "a")?,
+        path(alloc, "a/b/c")?,
+        path(alloc, "a/b/c/d")?,
+    );
     files.write(&file, b"x")?;
     files.write(&path(alloc, "a/d")?, b"y")?;
     files.sync()?;
@@ -122,7 +126,11 @@ fn a_real_directory_reads_as_its_files_with_paths(rt: HostRuntime) -> Result<(),
     assert!(rt; joined(alloc, &files.names(&dir)?)?.as_str() == "a/b a/d ");
     assert!(rt; joined(alloc, &files.all_under(&dir)?)?.as_str() == "a/b/c a/d ");
     assert!(rt; files.names(&file)?.is_empty());
-    assert!(rt; files.read(&file)?.is_some_and(|f| f.bytes.as_slice() == b"x".as_slice()));
+    assert!(rt;
+        files
+            .read(&file)?
+            .is_some_and(|f| f.bytes.as_slice() == b"x".as_slice())
+    );
     assert!(rt; files.read(&dir)?.is_none());
     assert!(rt; files.read(&below)?.is_none());
     assert!(rt; files.write(&below, b"x") == Err(FilesError::Failed));
