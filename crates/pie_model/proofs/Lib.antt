@@ -1,0 +1,4 @@
+pub mod Basics
+pub mod MovedLemmas
+pub mod Kids
+pub mod Rooms

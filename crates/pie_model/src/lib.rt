@@ -1,0 +1,2 @@
+//! The model of building, and the laws under incremental builds.
+#![tactic(auto)]
