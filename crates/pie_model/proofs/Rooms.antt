@@ -115,15 +115,15 @@ few_levels (suc n) w P above t h xs f =
 pub many_deep : (n : ℕ) (w : World) (P : Project) (above : List Task) (t : Task) → outcome_of (evaluation_with n w P above t) ≡ Many
     → suc n ≤ levels (evaluation_with n w P above t)
 many_deep zero w P above t h = omega arith
-many_deep (suc n) w P above t h = up _ _ (levels_stop (suc n) Many (trace_of (evaluation_with (suc n) w P above t)) kids stops)
+many_deep (suc n) w P above t h =
+    up _ _ (levels_stop (suc n) Many (trace_of (evaluation_with (suc n) w P above t))
+      (evaluation_kids n w P above t (λ u m. outcome_of m ≡ Many → suc n ≤ levels m) not_round (λ v. refl) (λ u q. many_deep n w P (t ∷ above) u) (ap not_round h))
+      stops)
   where
     up : (a b : ℕ) → a ≤ b → suc a ≤ suc b
     up a b q = omega arith
     apart : among t above ≡ false
     apart = root_apart (suc n) w P above t (ap not_round h)
-    kids : Kids (λ u m. outcome_of m ≡ Many → suc n ≤ levels m) (trace_of (evaluation_with (suc n) w P above t))
-    kids = evaluation_kids n w P above t (λ u m. outcome_of m ≡ Many → suc n ≤ levels m) not_round (λ v. refl)
-      (λ u q. many_deep n w P (t ∷ above) u) (ap not_round h)
     stops : StopsBy Many (trace_of (evaluation_with (suc n) w P above t))
     stops = subst (λ x. StopsBy Many (trace_of x)) (sym (opened_apart (suc n) w P above t apart))
       (follow_many w P t (evaluation_with n w P (t ∷ above)) w.most_events start
