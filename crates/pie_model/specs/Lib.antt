@@ -6,3 +6,4 @@ pub mod Evaluation
 pub mod Records
 pub mod StampNow
 pub mod Moved
+pub mod Separate

@@ -82,11 +82,17 @@ stamp_now w P by own before (Looked l p) = look_now w P by own before l p (kind_
 stamp_now w P by own before (Listed d) = listing_now w (listing w P d)
 stamp_now w P by own before (Required h u) = outcome_now w h (by.end u)
 
+-- the tasks required before the next query
+abbrev pub asked_before : List Task → Query → List Task
+asked_before before (Looked l p) = before
+asked_before before (Listed d) = before
+asked_before before (Required h u) = before ++ u ∷ []
+
 -- every stamp is the one that its query would get now
 abbrev pub Agrees : World → Project → Teller → List (Path × List ℕ) → List Task → List Observation → Type 0
 Agrees w P by own before [] = Unit {0}
 Agrees w P by own before (o ∷ os) =
-    (stamp_now w P by own before o.query ≡ Some o.stamp) × Agrees w P by own (before ++ task_asked o.query) os
+    (stamp_now w P by own before o.query ≡ Some o.stamp) × Agrees w P by own (asked_before before o.query) os
 
 -- every stamp of a record is the one that its query would get now
 abbrev pub RecordAgrees : World → Project → Teller → Record → Type 0
