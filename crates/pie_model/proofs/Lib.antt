@@ -5,3 +5,5 @@ pub mod Rooms
 pub mod LooksLemmas
 pub mod SecondLemmas
 pub mod SecondLaw
+pub mod Ways
+pub mod Views

@@ -7,3 +7,5 @@ pub mod Records
 pub mod StampNow
 pub mod Moved
 pub mod Separate
+pub mod Present
+pub mod Consistent
