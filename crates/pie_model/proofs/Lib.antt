@@ -7,3 +7,5 @@ pub mod SecondLemmas
 pub mod SecondLaw
 pub mod Ways
 pub mod Views
+pub mod AgreesLemmas
+pub mod SettledLaw
