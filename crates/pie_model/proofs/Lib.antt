@@ -9,3 +9,5 @@ pub mod Ways
 pub mod Views
 pub mod AgreesLemmas
 pub mod SettledLaw
+pub mod ItselfLemmas
+pub mod BeginLemmas

@@ -9,3 +9,4 @@ pub mod Moved
 pub mod Separate
 pub mod Present
 pub mod Consistent
+pub mod Still
