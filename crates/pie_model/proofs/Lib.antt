@@ -11,3 +11,4 @@ pub mod AgreesLemmas
 pub mod SettledLaw
 pub mod ItselfLemmas
 pub mod BeginLemmas
+pub mod RunningLemmas

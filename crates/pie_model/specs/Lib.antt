@@ -10,3 +10,4 @@ pub mod Separate
 pub mod Present
 pub mod Consistent
 pub mod Still
+pub mod Running
