@@ -12,3 +12,4 @@ pub mod SettledLaw
 pub mod ItselfLemmas
 pub mod BeginLemmas
 pub mod RunningLemmas
+pub mod StepsLemmas

@@ -11,3 +11,4 @@ pub mod Present
 pub mod Consistent
 pub mod Still
 pub mod Running
+pub mod Steps
