@@ -10,7 +10,8 @@ use Rattle.pie_model.specs.StampNow.{Told, told_of, Teller, by_evaluation, by_re
 use Rattle.pie_model.specs.Present.{Reaches, WroteByRecords, IsTold}
 use Rattle.pie_model.specs.Consistent.{IsRecorded}
 use Rattle.pie_model.proofs.Basics.{clash, among_here, among_there, among_split, among_either, among_left, among_right}
-use Rattle.pie_model.proofs.Ways.{IsRight}
+use Rattle.pie_model.specs.RecordLaws.{HasItsRecord}
+
 use Rattle.pie_model.proofs.Views.{told_is_seen}
 
 pub asked_either : (u : Task) (before : List Task) (q : Query) → among u (asked_before before q) ≡ true
@@ -40,7 +41,7 @@ module _ (w : World) (P : Project) (one two : Teller) (own : List (Path × List 
 -- what is known of a required task: it has a record, and all that it reaches is right
 pub record IsKnown (w : World) (P : Project) (R : Task → Option Record) (u : Task) : Type 0 where
   pub recorded : IsRecorded R u
-  pub right : (x : Task) → Reaches R u x → IsRight w P R x
+  pub right : (x : Task) → Reaches R u x → HasItsRecord w P R x
 
 module _ (w : World) (P Q : Project) (R : Task → Option Record) (told : List Task → Path → Told)
     (telling : (us : List Task) (p : Path) → ((u : Task) → among u us ≡ true → IsRecorded R u) → IsTold (WroteByRecords R us p) (told us p))

@@ -16,7 +16,8 @@ use Rattle.pie_model.proofs.Kids.{Kids, required_kid, kids_both}
 use Rattle.pie_model.proofs.Rooms.{IsOwn}
 use Rattle.pie_model.proofs.LooksLemmas.{some_same}
 use Rattle.pie_model.proofs.SecondLaw.{done_plain}
-use Rattle.pie_model.proofs.Ways.{IsRight, record_right, needs_right, kids_own}
+use Rattle.pie_model.specs.RecordLaws.{HasItsRecord}
+use Rattle.pie_model.proofs.Ways.{record_right, needs_right, kids_own}
 use Rattle.pie_model.proofs.AgreesLemmas.{IsKnown, agrees_by_records}
 use Rattle.pie_model.proofs.ItselfLemmas.{agrees_itself}
 
@@ -71,7 +72,7 @@ module _ (w : World) (old now : Project) (Met : List ℕ → Type 0) (R : Task �
     (polite : (t : Task) → NeverWritesWhatItSaw (old.next t))
     (was : (t : Task) (r : Record) → R t ≡ Some r → WasDone w old now Met t r)
     (closed : (t : Task) (r : Record) (u : Task) → R t ≡ Some r → among u (needs_of r.observations) ≡ true → IsRecorded R u) where
-  old_right : (t : Task) → IsRecorded R t → IsRight w old R t
+  old_right : (t : Task) → IsRecorded R t → HasItsRecord w old R t
   old_right t h = record {
     is = h.is ∙ ap Some (was t h.kept h.is).was;
     plain = done_plain _ (was t h.kept h.is).done

@@ -13,3 +13,5 @@ pub mod ItselfLemmas
 pub mod BeginLemmas
 pub mod RunningLemmas
 pub mod StepsLemmas
+pub mod PlacedLemmas
+pub mod StackLemmas

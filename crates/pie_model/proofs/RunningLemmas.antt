@@ -188,3 +188,37 @@ module _ (w : World) (P : Project) (room : ℕ) (above : List Task) (t : Task) w
       → outcome_of (evaluation_with (suc room) w P above t) ≡ Cycled (round u (t ∷ above) [])
   ends_in_cycle n g seen k u h i r =
       ap (λ z. z.outcome) (ends_as_required n g seen k u (Cycled (round u (t ∷ above) [])) h (ap outcome_of (opened_among room w P (t ∷ above) u i)) refl r)
+
+  -- ---- what it has entered
+
+  -- the rest of a run that has ended enters nothing more
+  pub enters_ended : (n : ℕ) (g : Progress) (seen : List Observation) (e : Event) (o : Outcome) → P.next t g.answers ≡ e
+      → on_event w P (evaluation_with room w P (t ∷ above)) t g (rest_of_run w P room above t n) e ≡ ends o
+      → IsRunning w P room above t (suc n) g seen → (all : List Task)
+      → entered (evaluation_with (suc room) w P above t) all ≡ entered_all g.kids (enter t all)
+  enters_ended n g seen e o h q r all =
+      (at_event n g seen e h r).enters all ∙ ap (λ T. entered_below T (entered_all g.kids (enter t all))) q
+
+  -- at a require the required task is entered next
+  pub enters_required : (n : ℕ) (g : Progress) (seen : List Observation) (k : How) (u : Task) → P.next t g.answers ≡ Require k u
+      → IsRunning w P room above t (suc n) g seen → (all : List Task)
+      → entered (evaluation_with (suc room) w P above t) all
+        ≡ entered_below (on_outcome k g (evaluation_with room w P (t ∷ above) u) (rest_of_run w P room above t n) (outcome_of (evaluation_with room w P (t ∷ above) u)))
+            (entered (evaluation_with room w P (t ∷ above) u) (entered_all g.kids (enter t all)))
+  enters_required n g seen k u h r all = (at_event n g seen (Require k u) h r).enters all
+
+  enters_nothing : (k : How) (g : Progress) (n : Node) (go : Progress → Trace) (e : Outcome) → is_done e ≡ false → (all : List Task)
+      → entered_below (on_outcome k g n go e) all ≡ all
+  enters_nothing k g n go (Ended v) d all = clash true refl d
+  enters_nothing k g n go (Failed x f) d all = refl
+  enters_nothing k g n go (Cycled ts) d all = refl
+  enters_nothing k g n go Many d all = refl
+
+  pub enters_stopped : (n : ℕ) (g : Progress) (seen : List Observation) (k : How) (u : Task) (e : Outcome) → P.next t g.answers ≡ Require k u
+      → outcome_of (evaluation_with room w P (t ∷ above) u) ≡ e → is_done e ≡ false → IsRunning w P room above t (suc n) g seen → (all : List Task)
+      → entered (evaluation_with (suc room) w P above t) all ≡ entered (evaluation_with room w P (t ∷ above) u) (entered_all g.kids (enter t all))
+  enters_stopped n g seen k u e h q d r all =
+      enters_required n g seen k u h r all
+      ∙ ap (λ o. entered_below (on_outcome k g (evaluation_with room w P (t ∷ above) u) (rest_of_run w P room above t n) o)
+          (entered (evaluation_with room w P (t ∷ above) u) (entered_all g.kids (enter t all)))) q
+      ∙ enters_nothing k g (evaluation_with room w P (t ∷ above) u) (rest_of_run w P room above t n) e d _

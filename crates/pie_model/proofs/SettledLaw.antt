@@ -14,7 +14,8 @@ use Rattle.pie_model.proofs.Basics.{clash}
 use Rattle.pie_model.proofs.Rooms.{Standing, standing, few_levels, not_round, plain_not_round, without, without_less, among_without}
 use Rattle.pie_model.proofs.LooksLemmas.{some_same}
 use Rattle.pie_model.proofs.SecondLaw.{second_law, done_plain}
-use Rattle.pie_model.proofs.Ways.{IsRight, Reached, stands_reached, further}
+use Rattle.pie_model.specs.RecordLaws.{HasItsRecord}
+use Rattle.pie_model.proofs.Ways.{Reached, stands_reached, further}
 use Rattle.pie_model.proofs.AgreesLemmas.{IsKnown, agrees_by_evaluation}
 
 module _ (w : World) (old now : Project) (Met : List ℕ → Type 0) (R : Task → Option Record) (told : List Task → Path → Told)
@@ -32,7 +33,7 @@ module _ (w : World) (old now : Project) (Met : List ℕ → Type 0) (R : Task �
       up a b d p q = omega arith
 
   -- a tree of right records that do not reach a task has fewer levels than there are tasks
-  pub shallow_tree : (t u : Task) → IsRecorded R t → ((x : Task) → Reaches R u x → IsRight w now R x) → (Reaches R u t → ⊥)
+  pub shallow_tree : (t u : Task) → IsRecorded R t → ((x : Task) → Reaches R u x → HasItsRecord w now R x) → (Reaches R u t → ⊥)
       → levels (evaluation w now u) ≤ w.most_tasks - 1
   shallow_tree t u h right apart =
       up _ _ _ _ (few_levels (w.most_tasks - length {A = Task} []) w now [] u (plain_not_round _ (right u here).plain) (without t held) all)
@@ -51,7 +52,7 @@ module _ (w : World) (old now : Project) (Met : List ℕ → Type 0) (R : Task �
 
   module _ (sep : StampsSeparate w old now Met) (differ : ListingsDiffer w) (polite : (t : Task) → NeverWritesWhatItSaw (old.next t)) where
     -- by what is right below
-    stands_now : (t : Task) (r : Record) → R t ≡ Some r → ((u : Task) → among u (needs_of r.observations) ≡ true → (x : Task) → Reaches R u x → IsRight w now R x)
+    stands_now : (t : Task) (r : Record) → R t ≡ Some r → ((u : Task) → among u (needs_of r.observations) ≡ true → (x : Task) → Reaches R u x → HasItsRecord w now R x)
         → IsUpToDate w old now Met R told t r → r ≡ record_of w (evaluation w now t)
     stands_now t r e right (inl h) = h
     stands_now t r e right (inr s) =
@@ -66,7 +67,7 @@ module _ (w : World) (old now : Project) (Met : List ℕ → Type 0) (R : Task �
         below : (a b : ℕ) → a < b → b ≤ a → ⊥
         below a b p q = omega arith
 
-    right_by : (t : Task) (r : Record) → R t ≡ Some r → r ≡ record_of w (evaluation w now t) → IsRight w now R t
+    right_by : (t : Task) (r : Record) → R t ≡ Some r → r ≡ record_of w (evaluation w now t) → HasItsRecord w now R t
     right_by t r e h = record { is = e ∙ ap Some h; plain = ap (λ z. is_plain z.outcome) (sym h) ∙ c.plain t r e }
 
     settled_under : (t u x : Task) (r : Record) → R t ≡ Some r → among u (needs_of r.observations) ≡ true → Reaches R u x → IsSettled R busy t → IsSettled R busy x
@@ -75,7 +76,7 @@ module _ (w : World) (old now : Project) (Met : List ℕ → Type 0) (R : Task �
       free = λ y p. s.free y (along e i (further q p))
     }
 
-    settled_step : (n : ℕ) → ((x : Task) → rank x < n → IsSettled R busy x → IsRight w now R x) → (t : Task) → rank t < suc n → IsSettled R busy t → IsRight w now R t
+    settled_step : (n : ℕ) → ((x : Task) → rank x < n → IsSettled R busy x → HasItsRecord w now R x) → (t : Task) → rank t < suc n → IsSettled R busy t → HasItsRecord w now R t
     settled_step n ih t q s =
         right_by t s.recorded.kept s.recorded.is
           (stands_now t s.recorded.kept s.recorded.is
@@ -86,12 +87,12 @@ module _ (w : World) (old now : Project) (Met : List ℕ → Type 0) (R : Task �
         down : (a b d n : ℕ) → a ≤ b → b < d → d < suc n → a < n
         down a b d n p q r = omega arith
 
-    settled_below : (n : ℕ) (t : Task) → rank t < n → IsSettled R busy t → IsRight w now R t
+    settled_below : (n : ℕ) (t : Task) → rank t < n → IsSettled R busy t → HasItsRecord w now R t
     settled_below zero t q s = absurd (omega arith)
     settled_below (suc n) t q s = settled_step n (settled_below n) t q s
 
     -- a settled task's record is that of its evaluation now
-    pub settled_right : (t : Task) → IsSettled R busy t → IsRight w now R t
+    pub settled_right : (t : Task) → IsSettled R busy t → HasItsRecord w now R t
     settled_right t s = settled_below (suc (rank t)) t (omega arith) s
 
     pub settled_known : (t : Task) → IsSettled R busy t → IsKnown w now R t

@@ -11,7 +11,8 @@ use Rattle.pie_model.specs.Present.{Way, Reaches, WroteByRecords, WroteInTrees, 
 use Rattle.pie_model.proofs.Basics.{clash, cases, among_here, among_there, among_split, same_bytes, bytes_same, among_either, among_left}
 use Rattle.pie_model.proofs.Rooms.{node_alone, all_plain}
 use Rattle.pie_model.proofs.LooksLemmas.{first_write-hashed, some_same}
-use Rattle.pie_model.proofs.Ways.{IsRight, record_right, reached_stands, Reached, stands_reached, task_of-evaluation}
+use Rattle.pie_model.specs.RecordLaws.{HasItsRecord}
+use Rattle.pie_model.proofs.Ways.{record_right, reached_stands, Reached, stands_reached, task_of-evaluation}
 
 -- ---- one meaning is told in one way
 
@@ -261,10 +262,10 @@ module _ (w : World) (P : Project) (p : Path) where
 
 -- ---- the records' writers are the trees' writers
 
-module _ (w : World) (P : Project) (R : Task → Option Record) (us : List Task) (right : (u : Task) → among u us ≡ true → (x : Task) → Reaches R u x → IsRight w P R x) (p : Path) where
+module _ (w : World) (P : Project) (R : Task → Option Record) (us : List Task) (right : (u : Task) → among u us ≡ true → (x : Task) → Reaches R u x → HasItsRecord w P R x) (p : Path) where
   records_trees : (x : Task) (h : List ℕ) → WroteByRecords R us p x h → WroteInTrees w P us p x h
   records_trees x h s =
-      let r : IsRight w P R x = right s.from s.listed x s.reaches in
+      let r : HasItsRecord w P R x = right s.from s.listed x s.reaches in
       record {
         from = s.from; listed = s.listed; found = evaluation w P x;
         stands = reached_stands w P R s.reaches (right s.from s.listed);

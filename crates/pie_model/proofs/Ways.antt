@@ -7,6 +7,7 @@ use Rattle.pie_model.specs.Evaluation.{World, Project, evaluation_with, evaluati
 use Rattle.pie_model.specs.Records.{Record, record_of, needs_of, observations_of}
 use Rattle.pie_model.specs.Present.{Way, Reaches}
 use Rattle.pie_model.specs.Present.Way.{here, along}
+use Rattle.pie_model.specs.RecordLaws.{HasItsRecord}
 use Rattle.pie_model.proofs.Basics.{clash, among_here, among_there}
 use Rattle.pie_model.proofs.Kids.{Kids, required_kid, kids_both, kids_required}
 use Rattle.pie_model.proofs.Rooms.{IsOwn, own_kids}
@@ -36,17 +37,12 @@ stands_itself (node t k) = inl refl
 pub below_in : (m n : Node) → StandsBelow m (trace_of n) → StandsIn m n
 below_in m (node t k) h = inr h
 
--- the task's record is that of its evaluation, which is plain
-pub record IsRight (w : World) (P : Project) (R : Task → Option Record) (x : Task) : Type 0 where
-  pub is : R x ≡ Some (record_of w (evaluation w P x))
-  pub plain : is_plain (outcome_of (evaluation w P x)) ≡ true
-
-pub record_right : (w : World) (P : Project) (R : Task → Option Record) (x : Task) (r : Record) → IsRight w P R x → R x ≡ Some r
+pub record_right : (w : World) (P : Project) (R : Task → Option Record) (x : Task) (r : Record) → HasItsRecord w P R x → R x ≡ Some r
     → r ≡ record_of w (evaluation w P x)
 record_right w P R x r h e = some_same _ _ (sym e ∙ h.is)
 
 -- the required tasks of a right record are those of the evaluation
-pub needs_right : (w : World) (P : Project) (R : Task → Option Record) (x u : Task) (r : Record) → IsRight w P R x → R x ≡ Some r
+pub needs_right : (w : World) (P : Project) (R : Task → Option Record) (x u : Task) (r : Record) → HasItsRecord w P R x → R x ≡ Some r
     → among u (needs_of r.observations) ≡ true → among u (required_by (trace_of (evaluation w P x))) ≡ true
 needs_right w P R x u r h e i =
     subst (λ z. among u z ≡ true) (needs_of-observations w (trace_of (evaluation w P x)))
@@ -61,7 +57,7 @@ kids_own w P x h = own_kids (w.most_tasks - length {A = Task} []) w P [] x (omeg
 
 module _ (w : World) (P : Project) (R : Task → Option Record) where
   -- what the records reach stands in the tree
-  pub reached_stands : {b a : Task} → Reaches R a b → ((x : Task) → Reaches R a x → IsRight w P R x) → StandsIn (evaluation w P b) (evaluation w P a)
+  pub reached_stands : {b a : Task} → Reaches R a b → ((x : Task) → Reaches R a x → HasItsRecord w P R x) → StandsIn (evaluation w P b) (evaluation w P a)
   reached_stands here H = stands_itself (evaluation w P _)
   reached_stands {b} {a} (along {b = c} {r = r} e i q) H =
       required_kid (IsOwn w P) c (trace_of (evaluation w P a)) (kids_own w P a (H a here).plain) (needs_right w P R a c r (H a here) e i)
@@ -82,7 +78,7 @@ module _ (w : World) (P : Project) (R : Task → Option Record) where
   after u v m r e i q = record { way = along e i q.way; own = q.own }
 
   mutual
-    pub stands_reached : (n : Node) (u : Task) (m : Node) → n ≡ evaluation w P u → ((x : Task) → Reaches R u x → IsRight w P R x) → StandsIn m n → Reached u m
+    pub stands_reached : (n : Node) (u : Task) (m : Node) → n ≡ evaluation w P u → ((x : Task) → Reaches R u x → HasItsRecord w P R x) → StandsIn m n → Reached u m
     stands_reached (node t k) u m e H (inl q) = own_reached u m (q ∙ e)
     stands_reached (node t k) u m e H (inr s) =
         below_reached k u m
@@ -90,7 +86,7 @@ module _ (w : World) (P : Project) (R : Task → Option Record) where
           (λ v i. right_needs w P u v (subst (λ z. among v (required_by (trace_of z)) ≡ true) e i)) H s
     pub below_reached : (k : Trace) (u : Task) (m : Node) → Kids (IsOwn w P) k
         → ((v : Task) → among v (required_by k) ≡ true → among v (needs_of (observations_of w (trace_of (evaluation w P u)))) ≡ true)
-        → ((x : Task) → Reaches R u x → IsRight w P R x) → StandsBelow m k → Reached u m
+        → ((x : Task) → Reaches R u x → HasItsRecord w P R x) → StandsBelow m k → Reached u m
     below_reached (ends e) u m q f H s = absurd s
     below_reached (looks l p x k) u m q f H s = below_reached k u m q f H s
     below_reached (lists d es k) u m q f H s = below_reached k u m q f H s

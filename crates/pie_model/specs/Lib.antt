@@ -12,3 +12,6 @@ pub mod Consistent
 pub mod Still
 pub mod Running
 pub mod Steps
+pub mod Stack
+pub mod TreeLaws
+pub mod RecordLaws

@@ -1,6 +1,6 @@
 -- A running task's observations and writes are the first ones of its evaluation.
-use Rattle.std.specs.Prelude.{ℕ, suc, ◌≡◌, ◌++◌, Option, Some, None, List, [], ◌∷◌}
-use Rattle.pie_model.specs.Paths.{Path}
+use Rattle.std.specs.Prelude.{ℕ, suc, ◌≡◌, ◌++◌, false, List, [], ◌∷◌}
+use Rattle.pie_model.specs.Paths.{Path, among}
 use Rattle.pie_model.specs.Tasks.{Task}
 use Rattle.pie_model.specs.Trees.{Node, Trace, outcome_of, end_of, trace_of, writes_of, StandsIn, StandsBelow, entered, entered_below, enter}
 use Rattle.pie_model.specs.Evaluation.{World, Project, Progress, follow, evaluation_with}
@@ -14,6 +14,11 @@ rest_of_run w P room above t n g = follow w P (evaluation_with room w P (t ∷ a
 abbrev pub entered_all : List Node → List Task → List Task
 entered_all [] all = all
 entered_all (n ∷ ns) all = entered_all ns (entered n all)
+
+-- no task stands twice in a list
+abbrev pub IsDistinct : List Task → Type 0
+IsDistinct [] = Unit {0}
+IsDistinct (t ∷ ts) = (among t ts ≡ false) × IsDistinct ts
 
 -- a task that runs below these, with room for so many levels below it, has come this far, with these observations
 pub record IsRunning (w : World) (P : Project) (room : ℕ) (above : List Task) (t : Task) (n : ℕ) (g : Progress) (seen : List Observation) : Type 0 where
