@@ -1,17 +1,15 @@
 -- Stamps by right records are stamps by evaluation.
-use Rattle.std.proofs.Common.{ℕ, ◌≡◌, Bool, true, false, Option, Some, None, List, [], ◌∷◌, ◌++◌, map, ◌⊎◌, inl, inr, sym, ◌∙◌, ap, subst, refl, bytes_eq}
+use Rattle.std.proofs.Common.{ℕ, ◌≡◌, true, Option, List, [], ◌∷◌, ◌⊎◌, inl, inr, sym, ◌∙◌, ap, refl}
 use Rattle.pie_model.specs.Paths.{Path, Kind, Out, Kept, Source, kind_of, among}
-use Rattle.pie_model.specs.Tasks.{Task, Look, How}
-use Rattle.pie_model.specs.Trees.{outcome_of, is_plain}
-use Rattle.pie_model.specs.Seen.{first_write, provided}
-use Rattle.pie_model.specs.Evaluation.{World, Project, evaluation}
-use Rattle.pie_model.specs.Records.{Record, record_of, Stamp, Observation, Query, Looked, Listed, Required, task_asked, needs_of}
-use Rattle.pie_model.specs.StampNow.{Told, told_of, Teller, by_evaluation, by_records, recorded_outcome, told_stamp, own_told, look_now, outcome_now, stamp_now, Agrees, asked_before}
+use Rattle.pie_model.specs.Tasks.{Task, Look}
+use Rattle.pie_model.specs.Seen.{first_write}
+use Rattle.pie_model.specs.Evaluation.{World, Project}
+use Rattle.pie_model.specs.Records.{Record, Observation, Query, Looked, Listed, Required, task_asked, needs_of}
+use Rattle.pie_model.specs.StampNow.{Told, Teller, by_evaluation, by_records, recorded_outcome, told_stamp, own_told, look_now, outcome_now, stamp_now, Agrees, asked_before}
 use Rattle.pie_model.specs.Present.{Reaches, WroteByRecords, IsTold}
 use Rattle.pie_model.specs.Consistent.{IsRecorded}
-use Rattle.pie_model.proofs.Basics.{clash, among_here, among_there, among_split, among_either, among_left, among_right}
+use Rattle.pie_model.proofs.Basics.{among_here, among_either, among_left, among_right}
 use Rattle.pie_model.specs.RecordLaws.{HasItsRecord}
-
 use Rattle.pie_model.proofs.Views.{told_is_seen}
 
 pub asked_either : (u : Task) (before : List Task) (q : Query) → among u (asked_before before q) ≡ true
@@ -23,13 +21,14 @@ asked_either u before (Required r v) h = among_either u before (v ∷ []) h
 -- two tellers by whom each query has one stamp, given what is known of the required tasks
 module _ (w : World) (P : Project) (one two : Teller) (own : List (Path × List ℕ)) (K : Task → Type 0)
     (f : (before : List Task) (q : Query) → ((u : Task) → among u before ≡ true → K u) → ((u : Task) → among u (task_asked q) ≡ true → K u)
-      → stamp_now w P one own before q ≡ stamp_now w P two own before q) where
+    → stamp_now w P one own before q ≡ stamp_now w P two own before q) where
   pub agrees_along : (os : List Observation) (before : List Task) → ((u : Task) → among u before ≡ true → K u) → ((u : Task) → among u (needs_of os) ≡ true → K u)
       → Agrees w P one own before os → Agrees w P two own before os
   agrees_along [] before b n h = tt
-  agrees_along (o ∷ os) before b n h =
-      (sym (f before o.query b (λ u i. n u (among_left u (task_asked o.query) (needs_of os) i))) ∙ h.0,
-        agrees_along os (asked_before before o.query) more (λ u i. n u (among_right u (task_asked o.query) (needs_of os) i)) h.1)
+  agrees_along (o ∷ os) before b n h = (
+    sym (f before o.query b (λ u i. n u (among_left u (task_asked o.query) (needs_of os) i))) ∙ h.0,
+    agrees_along os (asked_before before o.query) more (λ u i. n u (among_right u (task_asked o.query) (needs_of os) i)) h.1,
+  )
     where
       more : (u : Task) → among u (asked_before before o.query) ≡ true → K u
       more u i = by (asked_either u before o.query i)
@@ -50,7 +49,7 @@ module _ (w : World) (P Q : Project) (R : Task → Option Record) (told : List T
       → look_now w Q (by_records R told) own before l p k ≡ look_now w Q (by_evaluation w P) own before l p k
   look_same before l p Out b =
       ap (λ s. told_stamp l (own_told (first_write p own) s))
-        (told_is_seen w P R before (λ u i. (b u i).right) p (told before p) (telling before p (λ u i. (b u i).recorded)))
+      (told_is_seen w P R before (λ u i. (b u i).right) p (told before p) (telling before p (λ u i. (b u i).recorded)))
   look_same before l p Kept b = refl
   look_same before l p Source b = refl
 

@@ -1,5 +1,5 @@
 -- Byte strings among others, and answers of tests.
-use Rattle.std.proofs.Common.{ℕ, ◌≡◌, Bool, true, false, cond, List, [], ◌∷◌, ◌++◌, ◌⊎◌, inl, inr, bytes_eq, sym, ◌∙◌, ap, subst, refl, append_assoc, append-nil}
+use Rattle.std.proofs.Common.{ℕ, ◌≡◌, Bool, true, false, cond, List, [], ◌∷◌, ◌++◌, ◌⊎◌, inl, inr, bytes_eq, sym, ◌∙◌, ap, subst, refl}
 use Rattle.std.proofs.lemmas.Slice.Eq.{bytes_eq-Decides}
 use Rattle.pie_model.specs.Paths.{among}
 
@@ -70,6 +70,7 @@ among_either x (y ∷ ys) zs h = go (among_split x y (ys ++ zs) h) (among_either
     later : (among x ys ≡ true) ⊎ (among x zs ≡ true) → (among x (y ∷ ys) ≡ true) ⊎ (among x zs ≡ true)
     later (inl k) = inl (among_there x y ys k)
     later (inr k) = inr k
+
     go : (x ≡ y) ⊎ (among x (ys ++ zs) ≡ true) → (among x (ys ++ zs) ≡ true → (among x ys ≡ true) ⊎ (among x zs ≡ true))
         → (among x (y ∷ ys) ≡ true) ⊎ (among x zs ≡ true)
     go (inl e) r = inl (front_or x y ys (inl e))

@@ -1,23 +1,22 @@
 -- At the beginning the old records are consistent, but for tasks whose function or source stamps changed.
-use Rattle.std.proofs.Common.{ℕ, zero, suc, max, ◌≤◌, ◌<◌, ◌-◌, ◌≡◌, Bool, true, false, Option, Some, None, List, [], ◌∷◌, ◌++◌, map, length, ◌⊎◌, inl, inr, sym, ◌∙◌, ap, subst, refl, arith}
+use Rattle.std.proofs.Common.{ℕ, suc, ◌≤◌, ◌<◌, ◌≡◌, true, false, Option, Some, List, [], ◌∷◌, length, inr, sym, ◌∙◌, ap, subst, refl, arith}
 use Rattle.pie_model.specs.Paths.{Path, Kind, Out, Kept, Source, kind_of, among}
 use Rattle.pie_model.specs.Tasks.{Task, Look}
-use Rattle.pie_model.specs.Trees.{Node, node, Trace, ends, looks, lists, writes, needs, outcome_of, is_plain, is_done, trace_of, levels, levels_below, required_by}
+use Rattle.pie_model.specs.Trees.{Node, node, Trace, ends, looks, lists, writes, needs, outcome_of, is_plain, trace_of, levels, levels_below, required_by}
 use Rattle.pie_model.specs.Evaluation.{World, Project, evaluation}
-use Rattle.pie_model.specs.Records.{Record, record_of, Observation, Query, Looked, Listed, Required, needs_of, observations_of, look_stamp}
-use Rattle.pie_model.specs.StampNow.{Told, Teller, by_evaluation, by_records, look_now, stamp_now, Agrees, RecordAgrees, asked_before}
-use Rattle.pie_model.specs.Separate.{NeverWritesWhatItSaw, AllMet}
-use Rattle.pie_model.specs.Present.{Way, Reaches, WroteByRecords, IsTold}
+use Rattle.pie_model.specs.Records.{Record, Observation, Query, Looked, Listed, Required, needs_of, look_stamp}
+use Rattle.pie_model.specs.StampNow.{Told, Teller, by_evaluation, look_now, stamp_now, Agrees, RecordAgrees, asked_before}
+use Rattle.pie_model.specs.Separate.{NeverWritesWhatItSaw}
+use Rattle.pie_model.specs.Present.{Reaches, WroteByRecords, IsTold}
 use Rattle.pie_model.specs.Present.Way.{here, along}
-use Rattle.pie_model.specs.Consistent.{IsRecorded, Stands, IsUpToDate, IsConsistent}
-use Rattle.pie_model.specs.Still.{SourceStampStill, SourcesStill}
+use Rattle.pie_model.specs.Consistent.{IsRecorded, IsConsistent}
+use Rattle.pie_model.specs.Still.{SourceStampStill, SourcesStill, WasDone}
 use Rattle.pie_model.proofs.Basics.{clash}
 use Rattle.pie_model.proofs.Kids.{Kids, required_kid, kids_both}
 use Rattle.pie_model.proofs.Rooms.{IsOwn}
-use Rattle.pie_model.proofs.LooksLemmas.{some_same}
 use Rattle.pie_model.proofs.SecondLaw.{done_plain}
 use Rattle.pie_model.specs.RecordLaws.{HasItsRecord}
-use Rattle.pie_model.proofs.Ways.{record_right, needs_right, kids_own}
+use Rattle.pie_model.proofs.Ways.{needs_right, kids_own}
 use Rattle.pie_model.proofs.AgreesLemmas.{IsKnown, agrees_by_records}
 use Rattle.pie_model.proofs.ItselfLemmas.{agrees_itself}
 
@@ -54,19 +53,12 @@ pub required_lower : (w : World) (P : Project) (t u : Task) → is_plain (outcom
     → among u (required_by (trace_of (evaluation w P t))) ≡ true → levels (evaluation w P u) < levels (evaluation w P t)
 required_lower w P t u h i =
     required_kid (λ v n. IsOwn w P v n × (levels n ≤ levels_below (trace_of (evaluation w P t)))) u (trace_of (evaluation w P t))
-      (kids_both (IsOwn w P) (λ v n. levels n ≤ levels_below (trace_of (evaluation w P t))) (trace_of (evaluation w P t)) (kids_own w P t h)
-        (kids_lower (levels_below (trace_of (evaluation w P t))) (trace_of (evaluation w P t)) (omega arith))) i
-      (λ n q f. up _ _ _ (subst (λ z. levels z ≤ levels_below (trace_of (evaluation w P t))) q.0.0 q.1) (levels-node (evaluation w P t)))
+    (kids_both (IsOwn w P) (λ v n. levels n ≤ levels_below (trace_of (evaluation w P t))) (trace_of (evaluation w P t)) (kids_own w P t h)
+    (kids_lower (levels_below (trace_of (evaluation w P t))) (trace_of (evaluation w P t)) (omega arith))) i
+    (λ n q f. up _ _ _ (subst (λ z. levels z ≤ levels_below (trace_of (evaluation w P t))) q.0.0 q.1) (levels-node (evaluation w P t)))
   where
     up : (a b c : ℕ) → a ≤ b → c ≡ suc b → a < c
     up a b c q e = omega arith
-
--- what is known of an old record
-pub record WasDone (w : World) (old now : Project) (Met : List ℕ → Type 0) (t : Task) (r : Record) : Type 0 where
-  pub was : r ≡ record_of w (evaluation w old t)
-  pub done : is_done (outcome_of (evaluation w old t)) ≡ true
-  pub met_then : AllMet w Met (trace_of (evaluation w old t))
-  pub met_now : AllMet w Met (trace_of (evaluation w now t))
 
 module _ (w : World) (old now : Project) (Met : List ℕ → Type 0) (R : Task → Option Record) (told : List Task → Path → Told) (held : List Task)
     (polite : (t : Task) → NeverWritesWhatItSaw (old.next t))
@@ -75,7 +67,7 @@ module _ (w : World) (old now : Project) (Met : List ℕ → Type 0) (R : Task �
   old_right : (t : Task) → IsRecorded R t → HasItsRecord w old R t
   old_right t h = record {
     is = h.is ∙ ap Some (was t h.kept h.is).was;
-    plain = done_plain _ (was t h.kept h.is).done
+    plain = done_plain _ (was t h.kept h.is).done;
   }
 
   old_recorded : {x t : Task} → Reaches R t x → IsRecorded R t → IsRecorded R x
@@ -94,7 +86,7 @@ module _ (w : World) (old now : Project) (Met : List ℕ → Type 0) (R : Task �
     counted = counted;
     closed = closed;
     lower = λ t r u e i.
-      required_lower w old t u (done_plain _ (was t r e).done) (needs_right w old R t u r (old_right t (record { kept = r; is = e })) e i);
+        required_lower w old t u (done_plain _ (was t r e).done) (needs_right w old R t u r (old_right t (record { kept = r; is = e })) e i);
     plain = λ t r e. ap (λ z. is_plain z.outcome) (was t r e).was ∙ done_plain _ (was t r e).done;
     met = λ t r e. (was t r e).met_now;
     telling = telling;
@@ -104,8 +96,8 @@ module _ (w : World) (old now : Project) (Met : List ℕ → Type 0) (R : Task �
       met = (was t r e).met_then;
       meaning = (still t r e b).0;
       agrees = agrees_by_records w old now R told telling r.writes r.observations [] (λ u i. clash false i refl)
-        (λ u i. old_known u (closed t r u e i))
-        (agrees_moves w old now (by_evaluation w old) r.writes r.observations [] (still t r e b).1
-          (subst (RecordAgrees w old (by_evaluation w old)) (sym (was t r e).was) (agrees_itself w old t (polite t) (was t r e).done)))
-    })
+          (λ u i. old_known u (closed t r u e i))
+          (agrees_moves w old now (by_evaluation w old) r.writes r.observations [] (still t r e b).1
+          (subst (RecordAgrees w old (by_evaluation w old)) (sym (was t r e).was) (agrees_itself w old t (polite t) (was t r e).done)));
+    });
   }

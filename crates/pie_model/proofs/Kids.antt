@@ -1,12 +1,12 @@
 -- What holds of every evaluation that a trace requires, and what follows for the whole tree.
-use Rattle.std.proofs.Common.{ℕ, zero, suc, max, ◌≤◌, ◌-◌, ◌≡◌, Bool, true, false, cond, not, Option, Some, None, List, [], ◌∷◌, ◌++◌, length, ◌⊎◌, inl, inr, sym, ◌∙◌, ap, subst, refl, arith}
+use Rattle.std.proofs.Common.{ℕ, zero, suc, ◌≤◌, ◌≡◌, Bool, true, false, Option, Some, None, List, ◌∷◌, ◌⊎◌, inl, inr, sym, ◌∙◌, ap, subst, refl, arith}
 use Rattle.pie_model.specs.Paths.{Path, among}
 use Rattle.pie_model.specs.Tasks.{Task, Value, Look, How, Event, Done, Fail, LookAt, ListOf, Write, Require}
-use Rattle.pie_model.specs.Trees.{Node, node, Trace, ends, looks, lists, writes, needs, Seen, Nothing, Holds, Clashing, Outcome, Ended, Failed, Cycled, Many, outcome_of, end_of, task_of, trace_of, is_plain, HasTask, HasBelow, StandsIn, StandsBelow, levels, levels_below, required_by, entered, entered_below, enter}
+use Rattle.pie_model.specs.Trees.{Node, Trace, ends, looks, lists, writes, needs, Seen, Nothing, Holds, Clashing, Outcome, Ended, Failed, Cycled, Many, outcome_of, end_of, trace_of, HasTask, HasBelow, StandsIn, StandsBelow, levels, levels_below, required_by}
 use Rattle.pie_model.specs.Seen.{visible_at}
-use Rattle.pie_model.specs.Evaluation.{World, Project, Progress, start, listing, on_seen, on_listing, on_outcome, on_event, follow, round, evaluation_with}
-use Rattle.pie_model.proofs.Basics.{clash, cases, among_split, among_here, among_left, among_right, among_there, apart_rest, apart_front, front_or}
-use Rattle.pie_model.proofs.MovedLemmas.{opened_apart, opened_among, rest_of}
+use Rattle.pie_model.specs.Evaluation.{World, Project, Progress, start, listing, on_seen, on_listing, on_outcome, on_event, follow, evaluation_with}
+use Rattle.pie_model.proofs.Basics.{clash, cases, among_split, among_here, among_there}
+use Rattle.pie_model.proofs.MovedLemmas.{opened_apart, opened_among}
 
 -- every evaluation that the trace requires has this
 abbrev pub Kids : (Task → Node → Type 0) → Trace → Type 0
@@ -65,7 +65,7 @@ evaluation_kids n w P above t Q good gv H h = go (cases (among t above))
     go (inl i) = subst (λ x. Kids Q (trace_of x)) (sym (opened_among (suc n) w P above t i)) tt
     go (inr o) = subst (λ x. Kids Q (trace_of x)) (sym (opened_apart (suc n) w P above t o))
         (follow_kids w P t (evaluation_with n w P (t ∷ above)) Q good gv H w.most_events start
-          (sym (ap (λ x. good (outcome_of x)) (opened_apart (suc n) w P above t o)) ∙ h))
+        (sym (ap (λ x. good (outcome_of x)) (opened_apart (suc n) w P above t o)) ∙ h))
 
 pub kids_map : (Q R : Task → Node → Type 0) → ((u : Task) (n : Node) → Q u n → R u n) → (k : Trace) → Kids Q k → Kids R k
 kids_map Q R f (ends e) h = tt

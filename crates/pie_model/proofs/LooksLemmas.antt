@@ -1,14 +1,14 @@
 -- What a look or a listing is stamped with now, and that equal stamps come of equal answers.
-use Rattle.std.proofs.Common.{ℕ, zero, suc, ◌≤◌, leb, ◌≡◌, Bool, true, false, cond, Option, Some, None, option_map, List, [], ◌∷◌, ◌++◌, map, length, ◌⊎◌, inl, inr, sym, ◌∙◌, ap, ap₂, subst, refl, arith, bytes_eq, append_assoc, append-nil}
+use Rattle.std.proofs.Common.{ℕ, zero, suc, leb, ◌≡◌, Bool, true, false, cond, Option, Some, None, option_map, List, [], ◌∷◌, ◌++◌, length, sym, ◌∙◌, ap, ap₂, subst, refl, bytes_eq, append_assoc, append-nil}
 use Rattle.pie_model.specs.Paths.{Path, Kind, Out, Kept, Source, kind_of, among}
-use Rattle.pie_model.specs.Tasks.{Task, Value, Look, Exists, ByHash, ByMark, Digest, How, Whole, Hashed, Ran, Answer, Flag, Contents, HashOf, Output, Succeeded, Event, Done, Fail, LookAt, ListOf, Write, Require}
-use Rattle.pie_model.specs.Trees.{Node, node, Trace, ends, looks, lists, writes, needs, Seen, Nothing, Holds, Clashing, Outcome, Ended, Failed, Cycled, Many, outcome_of, end_of, writes_of}
+use Rattle.pie_model.specs.Tasks.{Task, Value, Look, Exists, ByHash, ByMark, Digest, How, Whole, Hashed, Ran, Answer, HashOf, Output, Event, Done, Fail, LookAt, ListOf, Write, Require}
+use Rattle.pie_model.specs.Trees.{Node, Trace, Seen, Nothing, Holds, Clashing, Outcome, Ended, Failed, Cycled, Many, outcome_of, writes_of}
 use Rattle.pie_model.specs.Seen.{first_write, provided, seen_file, own_first, visible_by, visible_at}
-use Rattle.pie_model.specs.Evaluation.{World, Project, Progress, answered, wrote, required, absent_answer, present_answer, output_answer, within_limit, listing, on_seen, on_listing, on_outcome, on_event, follow, evaluation}
-use Rattle.pie_model.specs.Records.{Stamp, Absent, Present, Hash, Mark, WholeValue, Success, mark_stamp, contents_stamp, look_stamp, listing_stamp, value_stamp, hashed}
-use Rattle.pie_model.specs.StampNow.{Told, Untold, ToldHash, ToldClash, told_of, Teller, hash_stamp, told_stamp, own_told, look_now, listing_now, outcome_now}
-use Rattle.pie_model.specs.Separate.{StampsSeparate, ListingsDiffer, MetSeen, MetListing, MetOutcome, looked_paths, path_looked, NeverWritesWhatItSaw}
-use Rattle.pie_model.proofs.Basics.{clash, cases, among_left, among_right, among_here, same_bytes}
+use Rattle.pie_model.specs.Evaluation.{World, Project, Progress, wrote, absent_answer, present_answer, output_answer, within_limit, listing, on_seen, on_listing, on_outcome, on_event, follow}
+use Rattle.pie_model.specs.Records.{Stamp, Absent, Hash, Mark, WholeValue, mark_stamp, contents_stamp, look_stamp, value_stamp, hashed}
+use Rattle.pie_model.specs.StampNow.{told_of, Teller, hash_stamp, told_stamp, own_told, look_now}
+use Rattle.pie_model.specs.Separate.{StampsSeparate, ListingsDiffer, MetSeen, looked_paths, path_looked, NeverWritesWhatItSaw}
+use Rattle.pie_model.proofs.Basics.{among_left, among_right, among_here, same_bytes}
 
 -- ---- first writes
 
@@ -36,7 +36,7 @@ pub looked_more : (next : List Answer → Event) (fed rest : List Answer) (a : A
 looked_more next fed [] a = append-nil (path_looked (next fed)) ∙ ap (λ z. path_looked (next z)) (sym (append-nil fed))
 looked_more next fed (x ∷ rest) a =
     ap (λ z. path_looked (next fed) ++ z)
-      (looked_more next (fed ++ x ∷ []) rest a ∙ ap (λ z. looked_paths next (fed ++ x ∷ []) rest ++ path_looked (next z)) (append_assoc fed (x ∷ []) rest))
+    (looked_more next (fed ++ x ∷ []) rest a ∙ ap (λ z. looked_paths next (fed ++ x ∷ []) rest ++ path_looked (next z)) (append_assoc fed (x ∷ []) rest))
     ∙ sym (append_assoc (path_looked (next fed)) (looked_paths next (fed ++ x ∷ []) rest) (path_looked (next (fed ++ x ∷ rest))))
 
 pub looked_keeps : (next : List Answer → Event) (p : Path) (answers : List Answer) (a : Answer) → among p (looked_paths next [] answers) ≡ true
@@ -48,8 +48,8 @@ pub looked_now : (next : List Answer → Event) (l : Look) (p : Path) (answers :
     → among p (looked_paths next [] (answers ++ a ∷ [])) ≡ true
 looked_now next l p answers a h =
     subst (λ z. among p z ≡ true) (sym (looked_more next [] answers a))
-      (among_right p (looked_paths next [] answers) (path_looked (next answers))
-        (subst (λ e. among p (path_looked e) ≡ true) (sym h) (among_here p [])))
+    (among_right p (looked_paths next [] answers) (path_looked (next answers))
+    (subst (λ e. among p (path_looked e) ≡ true) (sym h) (among_here p [])))
 
 -- a path that was looked at is not written later
 module _ (w : World) (P : Project) (child : Task → Node) (t : Task) (polite : NeverWritesWhatItSaw (P.next t)) (p : Path) where
@@ -77,6 +77,7 @@ module _ (w : World) (P : Project) (child : Task → Node) (t : Task) (polite : 
       where
         rest : first_write p (writes_of (go (wrote g q b))) ≡ None
         rest = G _ (looked_keeps (P.next t) p g.answers _ h)
+
         by : (x : Bool) → bytes_eq p q ≡ x → cond x (Some b) (first_write p (writes_of (go (wrote g q b)))) ≡ None
         by true i = absurd (polite g.answers p b (e ∙ ap (λ z. Write z b) (sym (same_bytes p q i))) h)
         by false i = rest
@@ -209,7 +210,7 @@ pub listing_is : (w : World) (P : Project) (d : Path) (es : List Path) → listi
     → (P.entries d ≡ es) × (leb (length (w.listing_bytes es)) w.most_bytes ≡ true)
 listing_is w P d es h =
     let r : (P.entries d ≡ es) × (leb (length (w.listing_bytes (P.entries d))) w.most_bytes ≡ true) =
-      within_is (leb (length (w.listing_bytes (P.entries d))) w.most_bytes) (P.entries d) es h in
+    within_is (leb (length (w.listing_bytes (P.entries d))) w.most_bytes) (P.entries d) es h in
     (r.0, subst (λ x. leb (length (w.listing_bytes x)) w.most_bytes ≡ true) r.0 r.1)
 
 -- two listings with one stamp are equal

@@ -1,13 +1,13 @@
 -- A plain tree below other tasks and with other room: the same, or no room, or a cycle through it.
-use Rattle.std.proofs.Common.{ℕ, zero, suc, max, ◌≤◌, ◌-◌, ◌≡◌, Bool, true, false, cond, Option, Some, None, List, [], ◌∷◌, ◌++◌, length, ◌⊎◌, inl, inr, sym, ◌∙◌, ap, subst, subst₂, refl, arith}
+use Rattle.std.proofs.Common.{ℕ, zero, suc, ◌≤◌, ◌≡◌, true, false, cond, Option, Some, None, List, [], ◌∷◌, ◌⊎◌, inl, inr, sym, ◌∙◌, ap, subst, subst₂, refl, arith}
 use Rattle.pie_model.specs.Paths.{Path, among}
-use Rattle.pie_model.specs.Tasks.{Task, Look, How, Budget, Event, Done, Fail, LookAt, ListOf, Write, Require}
+use Rattle.pie_model.specs.Tasks.{Task, Look, How, Event, Done, Fail, LookAt, ListOf, Write, Require}
 use Rattle.pie_model.specs.Trees.{Node, node, Trace, ends, looks, lists, writes, needs, Seen, Nothing, Holds, Clashing, Outcome, Ended, Failed, Cycled, Many, outcome_of, end_of, is_plain, HasTask, HasBelow, levels, levels_below}
 use Rattle.pie_model.specs.Seen.{visible_at}
-use Rattle.pie_model.specs.Evaluation.{World, Project, Progress, start, answered, wrote, required, output_answer, listing, on_seen, on_listing, on_outcome, on_event, follow, round, evaluation_with}
+use Rattle.pie_model.specs.Evaluation.{World, Project, Progress, start, listing, on_seen, on_listing, on_outcome, on_event, follow, round, evaluation_with}
 use Rattle.pie_model.specs.Moved.{Moved}
 use Rattle.pie_model.specs.Moved.Moved.{same as same_tree, no_room as no_room_tree, through as through_tree}
-use Rattle.pie_model.proofs.Basics.{clash, cases, among_split, among_here, apart_rest, apart_front}
+use Rattle.pie_model.proofs.Basics.{clash, cases, among_split, apart_rest, apart_front}
 
 -- as `Moved`, of traces; the task of the cycle does not stand above the old one
 pub data MovedTrace (m : ℕ) (new_above old_above : List Task) (new old : Trace) : Type 0 where
@@ -78,7 +78,7 @@ module _ (w : World) (P : Project) (t : Task) (m : ℕ) (na oa : List Task) (new
         → MovedTrace m na oa (needs h u n (on_outcome h g n new_go (outcome_of n))) (needs h u old (on_outcome h g old old_go (outcome_of old)))
     need_moved h u g n old k (same_node e) =
         subst (λ x. MovedTrace m na oa (needs h u x (on_outcome h g x new_go (outcome_of x))) (needs h u old (on_outcome h g old old_go (outcome_of old)))) (sym e)
-          (outcome_moved h u g old (outcome_of old) k)
+        (outcome_moved h u g old (outcome_of old) k)
     need_moved h u g n old k (no_room_node e f) = no_room (ap (λ x. end_of (on_outcome h g n new_go x)) e) (λ q. f (omega arith))
     need_moved h u g n old k (through_node a ts e i o s) = through a ts (ap (λ x. end_of (on_outcome h g n new_go x)) e) i o (inl s)
 
@@ -134,19 +134,30 @@ plain_apart n w P above t h = go (cases (among t above))
 
 moved_by : (n m : ℕ) (w : World) (P : Project) (na oa : List Task) (t : Task)
     → ((k : ℕ) (u : Task) → is_plain (outcome_of (evaluation_with n w P (t ∷ oa) u)) ≡ true
-        → MovedNode k (t ∷ na) (t ∷ oa) (evaluation_with k w P (t ∷ na) u) (evaluation_with n w P (t ∷ oa) u))
+    → MovedNode k (t ∷ na) (t ∷ oa) (evaluation_with k w P (t ∷ na) u) (evaluation_with n w P (t ∷ oa) u))
     → is_plain (outcome_of (evaluation_with (suc n) w P oa t)) ≡ true → among t oa ≡ false → (among t na ≡ true) ⊎ (among t na ≡ false)
     → MovedNode m na oa (evaluation_with m w P na t) (evaluation_with (suc n) w P oa t)
 moved_by n m w P na oa t rec h o (inl i) = through_node t (round t na []) (ap outcome_of (opened_among m w P na t i)) i o (inl refl)
 moved_by n zero w P na oa t rec h o (inr f) = no_room_node (ap outcome_of (opened_apart zero w P na t f)) (λ q. absurd (omega arith))
 moved_by n (suc m) w P na oa t rec h o (inr f) =
     subst₂ (MovedNode (suc m) na oa) (sym (opened_apart (suc m) w P na t f)) (sym (opened_apart (suc n) w P oa t o))
-      (lifted m t na oa _ _
-        (follow_moved w P t m (t ∷ na) (t ∷ oa) (evaluation_with m w P (t ∷ na)) (evaluation_with n w P (t ∷ oa)) (rec m) w.most_events start
-          (sym (ap (λ x. is_plain (outcome_of x)) (opened_apart (suc n) w P oa t o)) ∙ h)))
+    (lifted m t na oa _ _
+    (follow_moved w P t m (t ∷ na) (t ∷ oa) (evaluation_with m w P (t ∷ na)) (evaluation_with n w P (t ∷ oa)) (rec m) w.most_events start
+    (sym (ap (λ x. is_plain (outcome_of x)) (opened_apart (suc n) w P oa t o)) ∙ h)))
 
 pub moved_with : (n m : ℕ) (w : World) (P : Project) (na oa : List Task) (t : Task) → is_plain (outcome_of (evaluation_with n w P oa t)) ≡ true
     → MovedNode m na oa (evaluation_with m w P na t) (evaluation_with n w P oa t)
 moved_with zero m w P na oa t h = clash false (sym (ap (λ x. is_plain (outcome_of x)) (opened_apart zero w P oa t (plain_apart zero w P oa t h))) ∙ h) refl
 moved_with (suc n) m w P na oa t h =
     moved_by n m w P na oa t (λ k u q. moved_with n k w P (t ∷ na) (t ∷ oa) u q) h (plain_apart (suc n) w P oa t h) (cases (among t na))
+
+-- in the words of the law
+pub moved_law : (old_room new_room : ℕ) (w : World) (P : Project) (old_above new_above : List Task) (t : Task)
+    → is_plain (outcome_of (evaluation_with old_room w P old_above t)) ≡ true
+    → Moved new_room new_above (evaluation_with new_room w P new_above t) (evaluation_with old_room w P old_above t)
+moved_law n m w P oa na t h = go (moved_with n m w P na oa t h)
+  where
+    go : MovedNode m na oa (evaluation_with m w P na t) (evaluation_with n w P oa t) → Moved m na (evaluation_with m w P na t) (evaluation_with n w P oa t)
+    go (same_node e) = same_tree e
+    go (no_room_node e f) = no_room_tree e f
+    go (through_node a ts e i o s) = through_tree a ts e i s

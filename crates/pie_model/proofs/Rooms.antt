@@ -1,12 +1,12 @@
 -- Which tasks stand in a tree, how many levels it has, and that a plain tree is the same wherever it stands.
-use Rattle.std.proofs.Common.{ℕ, zero, suc, max, ◌≤◌, ◌<◌, ◌-◌, ◌≡◌, Bool, true, false, cond, not, Option, Some, None, List, [], ◌∷◌, ◌++◌, length, ◌⊎◌, inl, inr, sym, ◌∙◌, ap, subst, refl, arith, bytes_eq, append-nil, append_assoc}
-use Rattle.pie_model.specs.Paths.{Path, among}
-use Rattle.pie_model.specs.Tasks.{Task, Value}
-use Rattle.pie_model.specs.Trees.{Node, node, Trace, ends, looks, lists, writes, needs, Outcome, Ended, Failed, Cycled, Many, outcome_of, end_of, task_of, trace_of, is_plain, HasTask, HasBelow, StandsIn, StandsBelow, levels, levels_below, required_by, entered, entered_below, enter}
-use Rattle.pie_model.specs.Evaluation.{World, Project, start, follow, round, evaluation_with, evaluation_under, evaluation}
-use Rattle.pie_model.proofs.Basics.{clash, cases, among_split, among_here, among_left, among_right, among_there, apart_rest, apart_front, front_or, bytes_same, same_bytes}
-use Rattle.pie_model.proofs.MovedLemmas.{opened_apart, opened_among, rest_of, plain_apart, MovedNode, same_node, no_room_node, through_node, moved_with}
-use Rattle.pie_model.proofs.Kids.{Kids, evaluation_kids, kids_map, kids_both, kids_have, kids_stand, kids_required, task_below, node_below, levels_kids, follow_many, levels_stop, StopsBy}
+use Rattle.std.proofs.Common.{ℕ, zero, suc, ◌≤◌, ◌<◌, ◌-◌, ◌≡◌, Bool, true, false, cond, List, [], ◌∷◌, ◌++◌, length, ◌⊎◌, inl, inr, sym, ◌∙◌, ap, subst, refl, arith, bytes_eq}
+use Rattle.pie_model.specs.Paths.{among}
+use Rattle.pie_model.specs.Tasks.{Task}
+use Rattle.pie_model.specs.Trees.{Node, node, Trace, ends, looks, lists, writes, needs, Outcome, Ended, Failed, Cycled, Many, outcome_of, task_of, trace_of, is_plain, HasTask, HasBelow, StandsIn, StandsBelow, levels, entered, entered_below, enter}
+use Rattle.pie_model.specs.Evaluation.{World, Project, start, evaluation_with, evaluation}
+use Rattle.pie_model.proofs.Basics.{clash, cases, among_split, among_here, among_left, among_right, among_there, apart_rest, apart_front, front_or, same_bytes}
+use Rattle.pie_model.proofs.MovedLemmas.{opened_apart, opened_among, plain_apart, MovedNode, same_node, no_room_node, through_node, moved_with}
+use Rattle.pie_model.proofs.Kids.{Kids, evaluation_kids, kids_map, kids_both, kids_have, task_below, node_below, levels_kids, follow_many, levels_stop, StopsBy}
 
 -- whether an outcome is no cycle
 abbrev pub not_round : Outcome → Bool
@@ -37,9 +37,9 @@ tasks_apart zero w P above t h x (inr k) = absurd k
 tasks_apart (suc n) w P above t h x (inl e) = subst (λ y. among y above ≡ false) (sym e) (root_apart (suc n) w P above t h)
 tasks_apart (suc n) w P above t h x (inr k) =
     apart_rest x t above (task_below (λ u m. (y : Task) → HasTask y m → among y (t ∷ above) ≡ false) x
-      (trace_of (evaluation_with (suc n) w P above t))
-      (evaluation_kids n w P above t _ not_round (λ v. refl) (λ u q. tasks_apart n w P (t ∷ above) u q) h)
-      (λ u m f i. f x i) k)
+    (trace_of (evaluation_with (suc n) w P above t))
+    (evaluation_kids n w P above t _ not_round (λ v. refl) (λ u q. tasks_apart n w P (t ∷ above) u q) h)
+    (λ u m f i. f x i) k)
 
 -- a plain tree keeps its room
 pub levels_room : (n : ℕ) (w : World) (P : Project) (above : List Task) (t : Task) → is_plain (outcome_of (evaluation_with n w P above t)) ≡ true
@@ -48,7 +48,7 @@ levels_room zero w P above t h =
     clash false (sym (ap (λ x. is_plain (outcome_of x)) (opened_apart zero w P above t (plain_apart zero w P above t h))) ∙ h) refl
 levels_room (suc n) w P above t h =
     up _ _ (levels_kids n (trace_of (evaluation_with (suc n) w P above t))
-      (evaluation_kids n w P above t (λ u m. levels m ≤ n) is_plain (λ v. refl) (λ u q. levels_room n w P (t ∷ above) u q) h))
+    (evaluation_kids n w P above t (λ u m. levels m ≤ n) is_plain (λ v. refl) (λ u q. levels_room n w P (t ∷ above) u q) h))
   where
     up : (a b : ℕ) → a ≤ b → suc a ≤ suc b
     up a b q = omega arith
@@ -96,18 +96,19 @@ few_levels zero w P above t h xs f = up (length (without t xs)) (length xs) (wit
     up a b q = omega arith
 few_levels (suc n) w P above t h xs f =
     up _ _ _ (levels_kids (length (without t xs)) (trace_of (evaluation_with (suc n) w P above t))
-      (kids_map (λ u m. ((x : Task) → HasTask x m → HasBelow x whole) × (((x : Task) → HasTask x m → HasBelow x whole) → levels m ≤ length (without t xs))) _
-        (λ u m q. q.1 q.0) whole
-        (kids_both (λ u m. (x : Task) → HasTask x m → HasBelow x whole) (λ u m. ((x : Task) → HasTask x m → HasBelow x whole) → levels m ≤ length (without t xs)) whole
-          (kids_have whole whole (λ x i. i))
-          (evaluation_kids n w P above t (λ u m. ((x : Task) → HasTask x m → HasBelow x whole) → levels m ≤ length (without t xs)) not_round (λ v. refl)
-            (λ u q inside. few_levels n w P (t ∷ above) u q (without t xs)
-              (λ x i. among_without x t xs (f x (inr (inside x i))) (apart_front x t above (tasks_apart n w P (t ∷ above) u q x i))))
-            h))))
-      (without_less t xs (f t (inl refl)))
+    (kids_map (λ u m. ((x : Task) → HasTask x m → HasBelow x whole) × (((x : Task) → HasTask x m → HasBelow x whole) → levels m ≤ length (without t xs))) _
+    (λ u m q. q.1 q.0) whole
+    (kids_both (λ u m. (x : Task) → HasTask x m → HasBelow x whole) (λ u m. ((x : Task) → HasTask x m → HasBelow x whole) → levels m ≤ length (without t xs)) whole
+    (kids_have whole whole (λ x i. i))
+    (evaluation_kids n w P above t (λ u m. ((x : Task) → HasTask x m → HasBelow x whole) → levels m ≤ length (without t xs)) not_round (λ v. refl)
+    (λ u q inside. few_levels n w P (t ∷ above) u q (without t xs)
+    (λ x i. among_without x t xs (f x (inr (inside x i))) (apart_front x t above (tasks_apart n w P (t ∷ above) u q x i))))
+    h))))
+    (without_less t xs (f t (inl refl)))
   where
     whole : Trace
     whole = trace_of (evaluation_with (suc n) w P above t)
+
     up : (a b c : ℕ) → a ≤ b → b < c → suc a ≤ c
     up a b c q r = omega arith
 
@@ -117,16 +118,18 @@ pub many_deep : (n : ℕ) (w : World) (P : Project) (above : List Task) (t : Tas
 many_deep zero w P above t h = omega arith
 many_deep (suc n) w P above t h =
     up _ _ (levels_stop (suc n) Many (trace_of (evaluation_with (suc n) w P above t))
-      (evaluation_kids n w P above t (λ u m. outcome_of m ≡ Many → suc n ≤ levels m) not_round (λ v. refl) (λ u q. many_deep n w P (t ∷ above) u) (ap not_round h))
-      stops)
+    (evaluation_kids n w P above t (λ u m. outcome_of m ≡ Many → suc n ≤ levels m) not_round (λ v. refl) (λ u q. many_deep n w P (t ∷ above) u) (ap not_round h))
+    stops)
   where
     up : (a b : ℕ) → a ≤ b → suc a ≤ suc b
     up a b q = omega arith
+
     apart : among t above ≡ false
     apart = root_apart (suc n) w P above t (ap not_round h)
+
     stops : StopsBy Many (trace_of (evaluation_with (suc n) w P above t))
     stops = subst (λ x. StopsBy Many (trace_of x)) (sym (opened_apart (suc n) w P above t apart))
-      (follow_many w P t (evaluation_with n w P (t ∷ above)) w.most_events start
+        (follow_many w P t (evaluation_with n w P (t ∷ above)) w.most_events start
         (sym (ap outcome_of (opened_apart (suc n) w P above t apart)) ∙ h))
 
 -- what was entered before stays, and what stands in a tree is entered with it
@@ -150,6 +153,7 @@ enter_known t all h = ap (λ b. cond b all (all ++ t ∷ [])) h
 mutual
   pub entered_keeps : (x : Task) (n : Node) (all : List Task) → among x all ≡ true → among x (entered n all) ≡ true
   entered_keeps x (node t k) all h = below_keeps x k (enter t all) (enter_keeps x t all h)
+
   pub below_keeps : (x : Task) (k : Trace) (all : List Task) → among x all ≡ true → among x (entered_below k all) ≡ true
   below_keeps x (ends e) all h = h
   below_keeps x (looks l p s k) all h = below_keeps x k all h
@@ -161,6 +165,7 @@ mutual
   pub stands_entered : (x : Task) (n : Node) (all : List Task) → HasTask x n → among x (entered n all) ≡ true
   stands_entered x (node t k) all (inl e) = below_keeps x k (enter t all) (subst (λ y. among y (enter t all) ≡ true) (sym e) (enter_has t all))
   stands_entered x (node t k) all (inr h) = stands_below x k (enter t all) h
+
   pub stands_below : (x : Task) (k : Trace) (all : List Task) → HasBelow x k → among x (entered_below k all) ≡ true
   stands_below x (ends e) all h = absurd h
   stands_below x (looks l p s k) all h = stands_below x k all h
@@ -173,6 +178,7 @@ mutual
   pub nothing_new : (n : Node) (all : List Task) → ((x : Task) → HasTask x n → among x all ≡ true) → entered n all ≡ all
   nothing_new (node t k) all f =
       ap (entered_below k) (enter_known t all (f t (inl refl))) ∙ nothing_below k all (λ x i. f x (inr i))
+
   pub nothing_below : (k : Trace) (all : List Task) → ((x : Task) → HasBelow x k → among x all ≡ true) → entered_below k all ≡ all
   nothing_below (ends e) all f = refl
   nothing_below (looks l p s k) all f = nothing_below k all f
@@ -186,7 +192,7 @@ pub many_entered : (n : ℕ) (w : World) (P : Project) (above : List Task) (t : 
     → n < length (entered (evaluation_with n w P above t) all)
 many_entered n w P above t all h =
     over _ _ (many_deep n w P above t h)
-      (few_levels n w P above t (ap not_round h) (entered (evaluation_with n w P above t) all) (λ x i. stands_entered x (evaluation_with n w P above t) all i))
+    (few_levels n w P above t (ap not_round h) (entered (evaluation_with n w P above t) all) (λ x i. stands_entered x (evaluation_with n w P above t) all i))
   where
     over : {c : ℕ} (a b : ℕ) → suc a ≤ b → b ≤ c → a < c
     over a b q r = omega arith
@@ -232,8 +238,8 @@ somewhere (suc n) w P above r m (inl e) =
     record { room = suc n; above = above; fits = omega arith; is = e ∙ ap (evaluation_with (suc n) w P above) (sym (ap task_of e)) }
 somewhere (suc n) w P above r m (inr k) =
     more (node_below (λ u x. StandsIn m x → Somewhere w P n m) m (trace_of (evaluation_with (suc n) w P above r))
-      (evaluation_kids n w P above r (λ u x. StandsIn m x → Somewhere w P n m) (λ e. true) (λ v. refl) (λ u q. somewhere n w P (r ∷ above) u m) refl)
-      (λ u x i f s. f s) k)
+    (evaluation_kids n w P above r (λ u x. StandsIn m x → Somewhere w P n m) (λ e. true) (λ v. refl) (λ u q. somewhere n w P (r ∷ above) u m) refl)
+    (λ u x i f s. f s) k)
   where
     more : Somewhere w P n m → Somewhere w P (suc n) m
     more s = let fact : s.room ≤ n = s.fits in record { room = s.room; above = s.above; fits = omega arith; is = s.is }
@@ -257,8 +263,8 @@ all_plain zero w P above r m h (inr k) = absurd k
 all_plain (suc n) w P above r m h (inl e) = ap (λ x. is_plain (outcome_of x)) e ∙ h
 all_plain (suc n) w P above r m h (inr k) =
     node_below (λ u x. StandsIn m x → is_plain (outcome_of m) ≡ true) m (trace_of (evaluation_with (suc n) w P above r))
-      (evaluation_kids n w P above r (λ u x. StandsIn m x → is_plain (outcome_of m) ≡ true) is_plain (λ v. refl) (λ u q. all_plain n w P (r ∷ above) u m q) h)
-      (λ u x i f s. f s) k
+    (evaluation_kids n w P above r (λ u x. StandsIn m x → is_plain (outcome_of m) ≡ true) is_plain (λ v. refl) (λ u q. all_plain n w P (r ∷ above) u m q) h)
+    (λ u x i f s. f s) k
 
 -- a task that stands in a tree has an evaluation in it
 pub record Standing (x : Task) (n : Node) : Type 0 where
@@ -284,6 +290,7 @@ mutual
   pub standing : (x : Task) (n : Node) → HasTask x n → Standing x n
   standing x (node t k) (inl e) = record { found = node t k; is = sym e; stands = inl refl }
   standing x (node t k) (inr h) = in_node x t k (standing_below x k h)
+
   pub standing_below : (x : Task) (k : Trace) → HasBelow x k → StandingBelow x k
   standing_below x (ends e) h = absurd h
   standing_below x (looks l p s k) h = in_rest x k (looks l p s k) (λ m i. i) (standing_below x k h)
@@ -296,6 +303,7 @@ mutual
   pub has_task : (m n : Node) → StandsIn m n → HasTask (task_of m) n
   has_task m (node t k) (inl e) = inl (ap task_of e)
   has_task m (node t k) (inr h) = inr (has_below m k h)
+
   pub has_below : (m : Node) (k : Trace) → StandsBelow m k → HasBelow (task_of m) k
   has_below m (ends e) h = absurd h
   has_below m (looks l p s k) h = has_below m k h
@@ -313,4 +321,12 @@ pub own_kids : (n : ℕ) (w : World) (P : Project) (above : List Task) (t : Task
 own_kids zero w P above t le h = tt
 own_kids (suc n) w P above t le h =
     evaluation_kids n w P above t (IsOwn w P) is_plain (λ v. refl)
-      (λ u q. (sym (alone n w P (t ∷ above) u (omega arith) q), q)) h
+    (λ u q. (sym (alone n w P (t ∷ above) u (omega arith) q), q)) h
+
+pub root_many : (w : World) (P : Project) (t : Task) (all : List Task) → outcome_of (evaluation w P t) ≡ Many
+    → w.most_tasks < length (entered (evaluation w P t) all)
+root_many w P t all h =
+    up _ _ _ (many_entered (w.most_tasks - length {A = Task} []) w P [] t all h) (room_of_none w)
+  where
+    up : (a b c : ℕ) → a < c → a ≡ b → b < c
+    up a b c p e = omega arith

@@ -1,19 +1,18 @@
 -- The settled law: a recorded task that reaches no busy task has the record of its evaluation now.
-use Rattle.std.proofs.Common.{ℕ, zero, suc, ◌≤◌, ◌<◌, ◌-◌, ◌≡◌, Bool, true, false, Option, Some, None, List, [], ◌∷◌, ◌++◌, map, length, ◌⊎◌, inl, inr, sym, ◌∙◌, ap, subst, refl, arith}
+use Rattle.std.proofs.Common.{ℕ, zero, suc, ◌≤◌, ◌<◌, ◌-◌, ◌≡◌, true, false, Option, Some, List, [], length, inl, inr, sym, ◌∙◌, ap, subst, refl, arith}
 use Rattle.pie_model.specs.Paths.{Path, among}
 use Rattle.pie_model.specs.Tasks.{Task}
-use Rattle.pie_model.specs.Trees.{outcome_of, is_plain, is_done, task_of, trace_of, levels, HasTask, Many, StandsIn}
-use Rattle.pie_model.specs.Evaluation.{World, Project, evaluation_with, evaluation}
-use Rattle.pie_model.specs.Records.{Record, record_of, observations_of, needs_of}
-use Rattle.pie_model.specs.StampNow.{Told, by_evaluation, by_records, RecordAgrees}
-use Rattle.pie_model.specs.Separate.{StampsSeparate, ListingsDiffer, AllMet, NeverWritesWhatItSaw}
-use Rattle.pie_model.specs.Present.{Way, Reaches}
+use Rattle.pie_model.specs.Trees.{is_plain, levels, HasTask}
+use Rattle.pie_model.specs.Evaluation.{World, Project, evaluation}
+use Rattle.pie_model.specs.Records.{Record, record_of, needs_of}
+use Rattle.pie_model.specs.StampNow.{Told, by_evaluation, RecordAgrees}
+use Rattle.pie_model.specs.Separate.{StampsSeparate, ListingsDiffer, NeverWritesWhatItSaw}
+use Rattle.pie_model.specs.Present.{Reaches}
 use Rattle.pie_model.specs.Present.Way.{here, along}
-use Rattle.pie_model.specs.Consistent.{IsRecorded, Stands, IsUpToDate, IsConsistent, IsSettled}
+use Rattle.pie_model.specs.Consistent.{IsRecorded, IsUpToDate, IsConsistent, IsSettled}
 use Rattle.pie_model.proofs.Basics.{clash}
-use Rattle.pie_model.proofs.Rooms.{Standing, standing, few_levels, not_round, plain_not_round, without, without_less, among_without}
-use Rattle.pie_model.proofs.LooksLemmas.{some_same}
-use Rattle.pie_model.proofs.SecondLaw.{second_law, done_plain}
+use Rattle.pie_model.proofs.Rooms.{Standing, standing, few_levels, plain_not_round, without, without_less, among_without}
+use Rattle.pie_model.proofs.SecondLaw.{second_law}
 use Rattle.pie_model.specs.RecordLaws.{HasItsRecord}
 use Rattle.pie_model.proofs.Ways.{Reached, stands_reached, further}
 use Rattle.pie_model.proofs.AgreesLemmas.{IsKnown, agrees_by_evaluation}
@@ -37,10 +36,11 @@ module _ (w : World) (old now : Project) (Met : List ℕ → Type 0) (R : Task �
       → levels (evaluation w now u) ≤ w.most_tasks - 1
   shallow_tree t u h right apart =
       up _ _ _ _ (few_levels (w.most_tasks - length {A = Task} []) w now [] u (plain_not_round _ (right u here).plain) (without t held) all)
-        (without_less t held (c.counted t h.kept h.is)) c.few
+      (without_less t held (c.counted t h.kept h.is)) c.few
     where
       up : (a b d e : ℕ) → a ≤ b → b < d → d ≤ e → a ≤ e - 1
       up a b d e p q r = omega arith
+
       all : (x : Task) → HasTask x (evaluation w now u) → among x (without t held) ≡ true
       all x i = go (standing x (evaluation w now u) i)
         where
@@ -57,12 +57,12 @@ module _ (w : World) (old now : Project) (Met : List ℕ → Type 0) (R : Task �
     stands_now t r e right (inl h) = h
     stands_now t r e right (inr s) =
         s.was ∙ sym (second_law w old now Met sep differ t (w.most_tasks - length {A = Task} []) [] (omega arith) s.meaning (polite t) s.done s.met (c.met t r e)
-          (subst (RecordAgrees w now (by_evaluation w now)) s.was
-            (agrees_by_evaluation w now now R told c.telling r.writes r.observations [] (λ u i. clash false i refl)
-              (λ u i. record { recorded = c.closed t r u e i; right = right u i }) s.agrees))
-          (λ u i done deep many.
-            let j : among u (needs_of r.observations) ≡ true = subst (λ z. among u (needs_of z.observations) ≡ true) (sym s.was) i in
-            deep (shallow_tree t u (record { kept = r; is = e }) (right u j) (λ q. below (rank u) (rank t) (c.lower t r u e j) (reached_rank q)))))
+        (subst (RecordAgrees w now (by_evaluation w now)) s.was
+        (agrees_by_evaluation w now now R told c.telling r.writes r.observations [] (λ u i. clash false i refl)
+        (λ u i. record { recorded = c.closed t r u e i; right = right u i }) s.agrees))
+        (λ u i done deep many.
+        let j : among u (needs_of r.observations) ≡ true = subst (λ z. among u (needs_of z.observations) ≡ true) (sym s.was) i in
+        deep (shallow_tree t u (record { kept = r; is = e }) (right u j) (λ q. below (rank u) (rank t) (c.lower t r u e j) (reached_rank q)))))
       where
         below : (a b : ℕ) → a < b → b ≤ a → ⊥
         below a b p q = omega arith
@@ -73,16 +73,16 @@ module _ (w : World) (old now : Project) (Met : List ℕ → Type 0) (R : Task �
     settled_under : (t u x : Task) (r : Record) → R t ≡ Some r → among u (needs_of r.observations) ≡ true → Reaches R u x → IsSettled R busy t → IsSettled R busy x
     settled_under t u x r e i q s = record {
       recorded = reached_recorded q (c.closed t r u e i);
-      free = λ y p. s.free y (along e i (further q p))
+      free = λ y p. s.free y (along e i (further q p));
     }
 
     settled_step : (n : ℕ) → ((x : Task) → rank x < n → IsSettled R busy x → HasItsRecord w now R x) → (t : Task) → rank t < suc n → IsSettled R busy t → HasItsRecord w now R t
     settled_step n ih t q s =
         right_by t s.recorded.kept s.recorded.is
-          (stands_now t s.recorded.kept s.recorded.is
-            (λ u i x p. ih x (down (rank x) (rank u) (rank t) n (reached_rank p) (c.lower t s.recorded.kept u s.recorded.is i) q)
-              (settled_under t u x s.recorded.kept s.recorded.is i p s))
-            (c.current t s.recorded.kept s.recorded.is (s.free t here)))
+        (stands_now t s.recorded.kept s.recorded.is
+        (λ u i x p. ih x (down (rank x) (rank u) (rank t) n (reached_rank p) (c.lower t s.recorded.kept u s.recorded.is i) q)
+        (settled_under t u x s.recorded.kept s.recorded.is i p s))
+        (c.current t s.recorded.kept s.recorded.is (s.free t here)))
       where
         down : (a b d n : ℕ) → a ≤ b → b < d → d < suc n → a < n
         down a b d n p q r = omega arith
@@ -98,5 +98,5 @@ module _ (w : World) (old now : Project) (Met : List ℕ → Type 0) (R : Task �
     pub settled_known : (t : Task) → IsSettled R busy t → IsKnown w now R t
     settled_known t s = record {
       recorded = s.recorded;
-      right = λ x p. settled_right x (record { recorded = reached_recorded p s.recorded; free = λ y q. s.free y (further p q) })
+      right = λ x p. settled_right x (record { recorded = reached_recorded p s.recorded; free = λ y q. s.free y (further p q) });
     }

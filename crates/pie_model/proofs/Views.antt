@@ -1,14 +1,14 @@
 -- What is told by records is what the trees show.
-use Rattle.std.proofs.Common.{ℕ, zero, suc, ◌≤◌, ◌-◌, ◌≡◌, Bool, true, false, cond, Option, Some, None, option_map, List, [], ◌∷◌, ◌++◌, map, length, ◌⊎◌, inl, inr, sym, ◌∙◌, ap, ap₂, subst, refl, arith, bytes_eq}
-use Rattle.pie_model.specs.Paths.{Path, Kind, Out, Kept, Source, kind_of, among}
-use Rattle.pie_model.specs.Tasks.{Task, Look, How}
-use Rattle.pie_model.specs.Trees.{Node, node, Trace, ends, looks, lists, writes, needs, Seen, Nothing, Holds, Clashing, outcome_of, task_of, trace_of, writes_of, is_plain, StandsIn, StandsBelow}
+use Rattle.std.proofs.Common.{ℕ, ◌-◌, ◌≡◌, Bool, true, false, cond, Option, Some, None, option_map, List, [], ◌∷◌, ◌++◌, map, length, ◌⊎◌, inl, inr, sym, ◌∙◌, ap, subst, refl, arith, bytes_eq}
+use Rattle.pie_model.specs.Paths.{Path, among}
+use Rattle.pie_model.specs.Tasks.{Task, How}
+use Rattle.pie_model.specs.Trees.{Node, node, Trace, ends, looks, lists, writes, needs, Holds, Clashing, outcome_of, task_of, trace_of, writes_of, is_plain, StandsIn, StandsBelow}
 use Rattle.pie_model.specs.Seen.{first_write, writer, writers, writers_below, writers_in, all_by, by_writers, provided}
 use Rattle.pie_model.specs.Evaluation.{World, Project, evaluation}
-use Rattle.pie_model.specs.Records.{Record, record_of, hashed, Observation, Query, Looked, Listed, Required, needs_of}
-use Rattle.pie_model.specs.StampNow.{Told, Untold, ToldHash, ToldClash, told_of, Teller, by_evaluation, by_records, recorded_outcome, told_stamp, own_told, look_now, listing_now, outcome_now, stamp_now, Agrees, asked_before}
-use Rattle.pie_model.specs.Present.{Way, Reaches, WroteByRecords, WroteInTrees, OneWriter, TwoWriters, IsTold}
-use Rattle.pie_model.proofs.Basics.{clash, cases, among_here, among_there, among_split, same_bytes, bytes_same, among_either, among_left}
+use Rattle.pie_model.specs.Records.{Record, record_of, hashed}
+use Rattle.pie_model.specs.StampNow.{Told, Untold, ToldHash, ToldClash, told_of}
+use Rattle.pie_model.specs.Present.{Way, Reaches, WroteByRecords, WroteInTrees, IsTold}
+use Rattle.pie_model.proofs.Basics.{clash, among_here, among_there, among_split, same_bytes, bytes_same}
 use Rattle.pie_model.proofs.Rooms.{node_alone, all_plain}
 use Rattle.pie_model.proofs.LooksLemmas.{first_write-hashed, some_same}
 use Rattle.pie_model.specs.RecordLaws.{HasItsRecord}
@@ -25,11 +25,11 @@ told_once V W f g (ToldHash h) Untold i j = absurd (j i.writer h (f i.writer h i
 told_once V W f g (ToldHash h) (ToldHash k) i j = ap ToldHash (j.only i.writer h (f i.writer h i.wrote)).1
 told_once V W f g (ToldHash h) ToldClash i j =
     absurd (j.distinct ((i.only j.first j.first_hash (g j.first j.first_hash j.first_wrote)).0
-      ∙ sym (i.only j.second j.second_hash (g j.second j.second_hash j.second_wrote)).0))
+    ∙ sym (i.only j.second j.second_hash (g j.second j.second_hash j.second_wrote)).0))
 told_once V W f g ToldClash Untold i j = absurd (j i.first i.first_hash (f i.first i.first_hash i.first_wrote))
 told_once V W f g ToldClash (ToldHash h) i j =
     absurd (i.distinct ((j.only i.first i.first_hash (f i.first i.first_hash i.first_wrote)).0
-      ∙ sym (j.only i.second i.second_hash (f i.second i.second_hash i.second_wrote)).0))
+    ∙ sym (j.only i.second i.second_hash (f i.second i.second_hash i.second_wrote)).0))
 told_once V W f g ToldClash ToldClash i j = refl
 
 -- ---- the writers in trees, as members of the list of writers
@@ -101,6 +101,7 @@ mutual
   listed_wrote : (p : Path) (x : Task) (b : List ℕ) (n : Node) → Lists x b (writers p n) → Wrote p x b n
   listed_wrote p x b (node t k) h =
       at_top p x b t k (lists_either x b (writer t (first_write p (writes_of k))) (writers_below p k) h) (λ i. listed_below p x b k i)
+
   listed_below : (p : Path) (x : Task) (b : List ℕ) (k : Trace) → Lists x b (writers_below p k) → WroteBelow p x b k
   listed_below p x b (ends e) h = absurd h
   listed_below p x b (looks l q s k) h = into p x b k (looks l q s k) (λ m i. i) (listed_below p x b k h)
@@ -113,10 +114,11 @@ mutual
   wrote_listed : (p : Path) (b : List ℕ) (m n : Node) → StandsIn m n → first_write p (writes_of (trace_of m)) ≡ Some b → Lists (task_of m) b (writers p n)
   wrote_listed p b m (node t k) (inl e) h =
       lists_left (task_of m) b (writer t (first_write p (writes_of k))) (writers_below p k)
-        (subst (λ z. Lists (task_of z) b (writer t (first_write p (writes_of k)))) (sym e)
-          (writer_lists t (first_write p (writes_of k)) b (subst (λ z. first_write p (writes_of (trace_of z)) ≡ Some b) e h)))
+      (subst (λ z. Lists (task_of z) b (writer t (first_write p (writes_of k)))) (sym e)
+      (writer_lists t (first_write p (writes_of k)) b (subst (λ z. first_write p (writes_of (trace_of z)) ≡ Some b) e h)))
   wrote_listed p b m (node t k) (inr s) h =
       lists_right (task_of m) b (writer t (first_write p (writes_of k))) (writers_below p k) (wrote_below p b m k s h)
+
   wrote_below : (p : Path) (b : List ℕ) (m : Node) (k : Trace) → StandsBelow m k → first_write p (writes_of (trace_of m)) ≡ Some b
       → Lists (task_of m) b (writers_below p k)
   wrote_below p b m (ends e) s h = absurd s
@@ -164,7 +166,7 @@ module _ (w : World) (P : Project) (p : Path) where
           → Lists (task_of m) b (writers p (evaluation w P v) ++ writers_in p (map (evaluation w P) us))
       go (inl e) f =
           lists_left (task_of m) b (writers p (evaluation w P v)) (writers_in p (map (evaluation w P) us))
-            (wrote_listed p b m (evaluation w P v) (subst (λ z. StandsIn m (evaluation w P z)) e s) h)
+          (wrote_listed p b m (evaluation w P v) (subst (λ z. StandsIn m (evaluation w P z)) e s) h)
       go (inr j) f = lists_right (task_of m) b (writers p (evaluation w P v)) (writers_in p (map (evaluation w P) us)) (f j)
 
   -- by hashes
@@ -229,20 +231,24 @@ module _ (w : World) (P : Project) (p : Path) where
     where
       back : (xs : List (Task × List ℕ)) → writers_in p (map (evaluation w P) us) ≡ xs → (x : Task) (b : List ℕ) → Lists x b xs → WroteAmong w P us p x b
       back xs e x b i = listed_among x b us (subst (Lists x b) (sym e) i)
+
       forth : (xs : List (Task × List ℕ)) → writers_in p (map (evaluation w P) us) ≡ xs → (x : Task) (h : List ℕ) → WroteInTrees w P us p x h
           → (b : List ℕ) × Lists x b xs × (w.hash b ≡ h)
       forth xs e x h s =
           let q : (b : List ℕ) × Lists x b (writers_in p (map (evaluation w P) us)) × (w.hash b ≡ h) = tree_listed us x h s in (q.0, subst (Lists x q.0) e q.1, q.2)
+
       by : (x : Task × List ℕ) (xs : List (Task × List ℕ)) → writers_in p (map (evaluation w P) us) ≡ x ∷ xs → (b : Bool) → all_by x.0 xs ≡ b
           → IsTold (WroteInTrees w P us p) (told_of w (cond b (Holds x.1 0) Clashing))
       by x xs e true q = record {
         writer = x.0;
         wrote = in_trees us x.0 x.1 (back (x ∷ xs) e x.0 x.1 (inl (refl, refl)));
         only = λ y k s.
-          let r : (b : List ℕ) × Lists y b (x ∷ xs) × (w.hash b ≡ k) = forth (x ∷ xs) e y k s in
-          let same : y ≡ x.0 = owner y r.0 r.1 in
-          (same, sym r.2 ∙ ap w.hash (one_content us plain x.0 r.0 x.1
-            (subst (λ z. WroteAmong w P us p z r.0) same (back (x ∷ xs) e y r.0 r.1)) (back (x ∷ xs) e x.0 x.1 (inl (refl, refl)))))
+            let r : (b : List ℕ) × Lists y b (x ∷ xs) × (w.hash b ≡ k) = forth (x ∷ xs) e y k s in
+            let same : y ≡ x.0 = owner y r.0 r.1 in (
+              same,
+              sym r.2 ∙ ap w.hash (one_content us plain x.0 r.0 x.1
+                  (subst (λ z. WroteAmong w P us p z r.0) same (back (x ∷ xs) e y r.0 r.1)) (back (x ∷ xs) e x.0 x.1 (inl (refl, refl)))),
+            );
       }
         where
           owner : (y : Task) (b : List ℕ) → ((y ≡ x.0) × (b ≡ x.1)) ⊎ Lists y b xs → y ≡ x.0
@@ -251,11 +257,15 @@ module _ (w : World) (P : Project) (p : Path) where
       by x xs e false q =
           let r : (y : Task) × (b : List ℕ) × Lists y b xs × (x.0 ≡ y → ⊥) = not_all_by x.0 xs q in
           record {
-            first = x.0; second = r.0; first_hash = w.hash x.1; second_hash = w.hash r.1;
+            first = x.0;
+            second = r.0;
+            first_hash = w.hash x.1;
+            second_hash = w.hash r.1;
             first_wrote = in_trees us x.0 x.1 (back (x ∷ xs) e x.0 x.1 (inl (refl, refl)));
             second_wrote = in_trees us r.0 r.1 (back (x ∷ xs) e r.0 r.1 (inr r.2));
-            distinct = r.3
+            distinct = r.3;
           }
+
       go : (xs : List (Task × List ℕ)) → writers_in p (map (evaluation w P) us) ≡ xs → IsTold (WroteInTrees w P us p) (told_of w (by_writers xs))
       go [] e = λ x h s. (forth [] e x h s).1
       go (x ∷ xs) e = by x xs e (all_by x.0 xs) refl
@@ -267,10 +277,12 @@ module _ (w : World) (P : Project) (R : Task → Option Record) (us : List Task)
   records_trees x h s =
       let r : HasItsRecord w P R x = right s.from s.listed x s.reaches in
       record {
-        from = s.from; listed = s.listed; found = evaluation w P x;
+        from = s.from;
+        listed = s.listed;
+        found = evaluation w P x;
         stands = reached_stands w P R s.reaches (right s.from s.listed);
         is = task_of-evaluation w P x;
-        wrote = subst (λ z. first_write p z.writes ≡ Some h) (record_right w P R x s.found r s.recorded) s.wrote
+        wrote = subst (λ z. first_write p z.writes ≡ Some h) (record_right w P R x s.found r s.recorded) s.wrote;
       }
 
   trees_records : (x : Task) (h : List ℕ) → WroteInTrees w P us p x h → WroteByRecords R us p x h
@@ -279,9 +291,12 @@ module _ (w : World) (P : Project) (R : Task → Option Record) (us : List Task)
       let way : Reaches R s.from x = subst (λ z. Reaches R s.from z) s.is q.way in
       let own : s.found ≡ evaluation w P x = q.own ∙ ap (evaluation w P) s.is in
       record {
-        from = s.from; listed = s.listed; reaches = way; found = record_of w (evaluation w P x);
+        from = s.from;
+        listed = s.listed;
+        reaches = way;
+        found = record_of w (evaluation w P x);
         recorded = (right s.from s.listed x way).is;
-        wrote = subst (λ z. first_write p (hashed w (writes_of (trace_of z))) ≡ Some h) own s.wrote
+        wrote = subst (λ z. first_write p (hashed w (writes_of (trace_of z))) ≡ Some h) own s.wrote;
       }
 
   -- what the records tell is what the trees show
@@ -289,4 +304,4 @@ module _ (w : World) (P : Project) (R : Task → Option Record) (us : List Task)
   unfolding provided
   told_is_seen t h =
       told_once (WroteByRecords R us p) (WroteInTrees w P us p) records_trees trees_records t _ h
-        (provided_told w P p us (λ u i. (right u i u Way.here).plain))
+      (provided_told w P p us (λ u i. (right u i u Way.here).plain))

@@ -1,15 +1,15 @@
 -- Ways by records, and what stands in a tree of right records.
-use Rattle.std.proofs.Common.{ℕ, zero, suc, ◌≤◌, ◌<◌, ◌-◌, ◌≡◌, Bool, true, false, cond, Option, Some, None, List, [], ◌∷◌, ◌++◌, map, length, ◌⊎◌, inl, inr, sym, ◌∙◌, ap, subst, refl, arith}
-use Rattle.pie_model.specs.Paths.{Path, among}
+use Rattle.std.proofs.Common.{ℕ, zero, suc, ◌-◌, ◌≡◌, true, Option, Some, List, [], ◌∷◌, length, inl, inr, sym, ◌∙◌, ap, subst, refl, arith}
+use Rattle.pie_model.specs.Paths.{among}
 use Rattle.pie_model.specs.Tasks.{Task}
 use Rattle.pie_model.specs.Trees.{Node, node, Trace, ends, looks, lists, writes, needs, outcome_of, task_of, trace_of, is_plain, StandsIn, StandsBelow, required_by}
 use Rattle.pie_model.specs.Evaluation.{World, Project, evaluation_with, evaluation}
 use Rattle.pie_model.specs.Records.{Record, record_of, needs_of, observations_of}
-use Rattle.pie_model.specs.Present.{Way, Reaches}
+use Rattle.pie_model.specs.Present.{Reaches}
 use Rattle.pie_model.specs.Present.Way.{here, along}
 use Rattle.pie_model.specs.RecordLaws.{HasItsRecord}
-use Rattle.pie_model.proofs.Basics.{clash, among_here, among_there}
-use Rattle.pie_model.proofs.Kids.{Kids, required_kid, kids_both, kids_required}
+use Rattle.pie_model.proofs.Basics.{among_here, among_there}
+use Rattle.pie_model.proofs.Kids.{Kids, required_kid}
 use Rattle.pie_model.proofs.Rooms.{IsOwn, own_kids}
 use Rattle.pie_model.proofs.LooksLemmas.{some_same}
 
@@ -46,7 +46,7 @@ pub needs_right : (w : World) (P : Project) (R : Task → Option Record) (x u : 
     → among u (needs_of r.observations) ≡ true → among u (required_by (trace_of (evaluation w P x))) ≡ true
 needs_right w P R x u r h e i =
     subst (λ z. among u z ≡ true) (needs_of-observations w (trace_of (evaluation w P x)))
-      (subst (λ z. among u (needs_of z.observations) ≡ true) (record_right w P R x r h e) i)
+    (subst (λ z. among u (needs_of z.observations) ≡ true) (record_right w P R x r h e) i)
 
 pub right_needs : (w : World) (P : Project) (x u : Task) → among u (required_by (trace_of (evaluation w P x))) ≡ true
     → among u (needs_of (observations_of w (trace_of (evaluation w P x)))) ≡ true
@@ -61,8 +61,8 @@ module _ (w : World) (P : Project) (R : Task → Option Record) where
   reached_stands here H = stands_itself (evaluation w P _)
   reached_stands {b} {a} (along {b = c} {r = r} e i q) H =
       required_kid (IsOwn w P) c (trace_of (evaluation w P a)) (kids_own w P a (H a here).plain) (needs_right w P R a c r (H a here) e i)
-        (λ n own f. below_in (evaluation w P b) (evaluation w P a)
-          (f (evaluation w P b) (subst (λ z. StandsIn (evaluation w P b) z) (sym own.0) (reached_stands q (λ x r. H x (along e i r))))))
+      (λ n own f. below_in (evaluation w P b) (evaluation w P a)
+      (f (evaluation w P b) (subst (λ z. StandsIn (evaluation w P b) z) (sym own.0) (reached_stands q (λ x r. H x (along e i r))))))
 
   -- what stands in the tree is reached by the records, and is its task's own evaluation
   pub record Reached (u : Task) (m : Node) : Type 0 where
@@ -82,8 +82,9 @@ module _ (w : World) (P : Project) (R : Task → Option Record) where
     stands_reached (node t k) u m e H (inl q) = own_reached u m (q ∙ e)
     stands_reached (node t k) u m e H (inr s) =
         below_reached k u m
-          (subst (λ z. Kids (IsOwn w P) (trace_of z)) (sym e) (kids_own w P u (H u here).plain))
-          (λ v i. right_needs w P u v (subst (λ z. among v (required_by (trace_of z)) ≡ true) e i)) H s
+        (subst (λ z. Kids (IsOwn w P) (trace_of z)) (sym e) (kids_own w P u (H u here).plain))
+        (λ v i. right_needs w P u v (subst (λ z. among v (required_by (trace_of z)) ≡ true) e i)) H s
+
     pub below_reached : (k : Trace) (u : Task) (m : Node) → Kids (IsOwn w P) k
         → ((v : Task) → among v (required_by k) ≡ true → among v (needs_of (observations_of w (trace_of (evaluation w P u)))) ≡ true)
         → ((x : Task) → Reaches R u x → HasItsRecord w P R x) → StandsBelow m k → Reached u m
@@ -93,5 +94,5 @@ module _ (w : World) (P : Project) (R : Task → Option Record) where
     below_reached (writes p b k) u m q f H s = below_reached k u m q f H s
     below_reached (needs h v n k) u m q f H (inl s) =
         after u v m _ (H u here).is (f v (among_here v (required_by k)))
-          (stands_reached n v m q.0.0 (λ x r. H x (along (H u here).is (f v (among_here v (required_by k))) r)) s)
+        (stands_reached n v m q.0.0 (λ x r. H x (along (H u here).is (f v (among_here v (required_by k))) r)) s)
     below_reached (needs h v n k) u m q f H (inr s) = below_reached k u m q.1 (λ x i. f x (among_there x v (required_by k) i)) H s

@@ -15,3 +15,6 @@ pub mod Steps
 pub mod Stack
 pub mod TreeLaws
 pub mod RecordLaws
+pub mod CoreLaws
+pub mod RunLaws
+pub mod EndLaws

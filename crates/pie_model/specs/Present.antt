@@ -1,5 +1,5 @@
 -- Present records: which tasks they reach, and what they tell of a path.
-use Rattle.std.specs.Prelude.{ℕ, ◌≡◌, Bool, true, Option, Some, None, List, map}
+use Rattle.std.specs.Prelude.{ℕ, ◌≡◌, true, Option, Some, List}
 use Rattle.pie_model.specs.Paths.{Path, among}
 use Rattle.pie_model.specs.Tasks.{Task}
 use Rattle.pie_model.specs.Trees.{Node, StandsIn, task_of, trace_of, writes_of}

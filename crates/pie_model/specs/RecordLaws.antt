@@ -1,5 +1,5 @@
 -- What holds of records: equal stamps give equal records.
-use Rattle.std.specs.Prelude.{ℕ, ◌≡◌, Bool, true, Option, Some, List, [], map}
+use Rattle.std.specs.Prelude.{ℕ, ◌≡◌, Bool, true, Option, Some, List, map}
 use Rattle.pie_model.specs.Paths.{Path, among}
 use Rattle.pie_model.specs.Tasks.{Task}
 use Rattle.pie_model.specs.Trees.{Node, Many, outcome_of, trace_of, is_done, is_plain, StandsIn, task_of}
@@ -47,4 +47,4 @@ abbrev pub ReachedTasksStand : Type 0
 ReachedTasksStand =
     (w : World) (P : Project) (R : Task → Option Record) (u : Task) → ((x : Task) → Reaches R u x → HasItsRecord w P R x)
     → ((x : Task) → Reaches R u x → StandsIn (evaluation w P x) (evaluation w P u))
-      × ((m : Node) → StandsIn m (evaluation w P u) → Reaches R u (task_of m))
+    × ((m : Node) → StandsIn m (evaluation w P u) → Reaches R u (task_of m))

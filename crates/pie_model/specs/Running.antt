@@ -1,6 +1,6 @@
 -- A running task's observations and writes are the first ones of its evaluation.
 use Rattle.std.specs.Prelude.{ℕ, suc, ◌≡◌, ◌++◌, false, List, [], ◌∷◌}
-use Rattle.pie_model.specs.Paths.{Path, among}
+use Rattle.pie_model.specs.Paths.{among}
 use Rattle.pie_model.specs.Tasks.{Task}
 use Rattle.pie_model.specs.Trees.{Node, Trace, outcome_of, end_of, trace_of, writes_of, StandsIn, StandsBelow, entered, entered_below, enter}
 use Rattle.pie_model.specs.Evaluation.{World, Project, Progress, follow, evaluation_with}

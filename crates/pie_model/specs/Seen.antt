@@ -18,6 +18,7 @@ abbrev mutual
   -- the tasks in a tree that wrote a path, each with what it wrote, repeats included
   pub writers : Path → Node → List (Task × List ℕ)
   writers p (node t k) = writer t (first_write p (writes_of k)) ++ writers_below p k
+
   pub writers_below : Path → Trace → List (Task × List ℕ)
   writers_below p (ends e) = []
   writers_below p (looks l q s k) = writers_below p k

@@ -1,8 +1,8 @@
 -- When stamps tell contents apart, and what a task must not do.
-use Rattle.std.specs.Prelude.{ℕ, ◌≡◌, leb, Bool, true, false, Option, Some, None, List, [], ◌∷◌, ◌++◌, length}
-use Rattle.pie_model.specs.Paths.{Path, Kind, Source, kind_of, among}
+use Rattle.std.specs.Prelude.{ℕ, ◌≡◌, leb, true, Option, Some, None, List, [], ◌∷◌, ◌++◌, length}
+use Rattle.pie_model.specs.Paths.{Path, Source, kind_of, among}
 use Rattle.pie_model.specs.Tasks.{Answer, Event, Done, Fail, LookAt, ListOf, Write, Require}
-use Rattle.pie_model.specs.Trees.{Node, Trace, ends, looks, lists, writes, needs, Seen, Nothing, Holds, Clashing, Outcome, Ended, Failed, Cycled, Many, outcome_of}
+use Rattle.pie_model.specs.Trees.{Trace, ends, looks, lists, writes, needs, Seen, Nothing, Holds, Clashing, Outcome, Ended, Failed, Cycled, Many, outcome_of}
 use Rattle.pie_model.specs.Evaluation.{World, Project}
 
 -- no two of these byte strings have one hash, and no source path has one mark and two contents

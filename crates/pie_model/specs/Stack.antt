@@ -1,7 +1,7 @@
 -- Running tasks, the newest first: each waits for the one before it.
 use Rattle.std.specs.Prelude.{ℕ, suc, ◌-◌, ◌≡◌, ◌++◌, List, [], ◌∷◌, length}
 use Rattle.pie_model.specs.Tasks.{Task, How, Require}
-use Rattle.pie_model.specs.Trees.{Node, entered, enter}
+use Rattle.pie_model.specs.Trees.{enter}
 use Rattle.pie_model.specs.Evaluation.{World, Project, Progress}
 use Rattle.pie_model.specs.Records.{Observation}
 use Rattle.pie_model.specs.Running.{IsRunning, entered_all}

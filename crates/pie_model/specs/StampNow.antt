@@ -1,11 +1,11 @@
 -- The stamp that an observation of a record would get now.
-use Rattle.std.specs.Prelude.{ℕ, ◌≡◌, Option, Some, None, option_map, List, [], ◌∷◌, ◌++◌, map}
+use Rattle.std.specs.Prelude.{ℕ, ◌≡◌, Option, Some, None, List, [], ◌∷◌, ◌++◌, map}
 use Rattle.pie_model.specs.Paths.{Path, Kind, Out, Kept, Source, kind_of}
 use Rattle.pie_model.specs.Tasks.{Task, Look, Exists, ByHash, ByMark, Digest, How}
-use Rattle.pie_model.specs.Trees.{Node, Outcome, Ended, Failed, Cycled, Many, outcome_of, Seen, Nothing, Holds, Clashing}
+use Rattle.pie_model.specs.Trees.{Outcome, Ended, Failed, Cycled, Many, outcome_of, Seen, Nothing, Holds, Clashing}
 use Rattle.pie_model.specs.Seen.{provided, first_write, seen_file}
 use Rattle.pie_model.specs.Evaluation.{World, Project, listing, evaluation}
-use Rattle.pie_model.specs.Records.{Stamp, Absent, Present, Hash, Query, Looked, Listed, Required, Observation, Record, look_stamp, value_stamp, listing_stamp, task_asked}
+use Rattle.pie_model.specs.Records.{Stamp, Absent, Present, Hash, Query, Looked, Listed, Required, Observation, Record, look_stamp, value_stamp, listing_stamp}
 
 -- what is told of a path under `out`: no task wrote it, one task with contents of this hash, or two distinct tasks
 pub data Told : Type 0 where
@@ -28,7 +28,7 @@ pub record Teller : Type 0 where
 abbrev pub by_evaluation : World → Project → Teller
 by_evaluation w P = record {
   end = λ u. outcome_of (evaluation w P u);
-  told = λ us p. told_of w (provided (map (evaluation w P) us) p)
+  told = λ us p. told_of w (provided (map (evaluation w P) us) p);
 }
 
 -- the outcome in a record, and too long a chain where there is no record

@@ -1,6 +1,6 @@
 -- When a finish leaves the other records as they stand.
-use Rattle.std.specs.Prelude.{◌≡◌, ◌⊎◌, Bool, true, Option, Some, None, List, [], ◌∷◌}
-use Rattle.pie_model.specs.Paths.{Path, Out, kind_of, among}
+use Rattle.std.specs.Prelude.{◌≡◌, ◌⊎◌, true, Option, Some, List, [], ◌∷◌}
+use Rattle.pie_model.specs.Paths.{Out, kind_of, among}
 use Rattle.pie_model.specs.Tasks.{Task}
 use Rattle.pie_model.specs.Evaluation.{World}
 use Rattle.pie_model.specs.Records.{Record, Stamp, Query, Looked, Listed, Required, Observation, needs_of}

@@ -1,8 +1,8 @@
 -- What holds of trees: a finished evaluation does not depend on what is above it.
-use Rattle.std.specs.Prelude.{ℕ, ◌<◌, ◌≤◌, ◌≡◌, Bool, true, List, [], length}
+use Rattle.std.specs.Prelude.{ℕ, ◌<◌, ◌≡◌, true, List, length}
 use Rattle.pie_model.specs.Paths.{among}
 use Rattle.pie_model.specs.Tasks.{Task}
-use Rattle.pie_model.specs.Trees.{Node, Outcome, Many, outcome_of, task_of, is_plain, StandsIn, HasTask, entered}
+use Rattle.pie_model.specs.Trees.{Node, Many, outcome_of, task_of, is_plain, StandsIn, HasTask, entered}
 use Rattle.pie_model.specs.Evaluation.{World, Project, evaluation_with, evaluation_under, evaluation}
 use Rattle.pie_model.specs.Moved.{Moved}
 

@@ -20,6 +20,7 @@ mutual
   -- the evaluation of a task
   pub data Node : Type 0 where
     node : Task → Trace → Node
+
   -- what a task did from some point on; a required task's evaluation stands where it was required
   pub data Trace : Type 0 where
     ends : Outcome → Trace
@@ -82,6 +83,7 @@ abbrev mutual
   -- an evaluation stands in a tree: it is the tree itself or stands below it
   pub StandsIn : Node → Node → Type 0
   StandsIn m (node t k) = (m ≡ node t k) ⊎ StandsBelow m k
+
   pub StandsBelow : Node → Trace → Type 0
   StandsBelow m (ends e) = ⊥
   StandsBelow m (looks l p s k) = StandsBelow m k
@@ -93,6 +95,7 @@ abbrev mutual
   -- a task stands in a tree: one of the evaluations in it is of that task
   pub HasTask : Task → Node → Type 0
   HasTask x (node t k) = (x ≡ t) ⊎ HasBelow x k
+
   pub HasBelow : Task → Trace → Type 0
   HasBelow x (ends e) = ⊥
   HasBelow x (looks l p s k) = HasBelow x k
@@ -104,6 +107,7 @@ abbrev mutual
   -- how many evaluations stand one below the other at most
   pub levels : Node → ℕ
   levels (node t k) = suc (levels_below k)
+
   pub levels_below : Trace → ℕ
   levels_below (ends e) = 0
   levels_below (looks l p s k) = levels_below k
@@ -119,6 +123,7 @@ abbrev mutual
   -- the tasks entered once a tree has been gone through, a parent before its children
   pub entered : Node → List Task → List Task
   entered (node t k) all = entered_below k (enter t all)
+
   pub entered_below : Trace → List Task → List Task
   entered_below (ends e) all = all
   entered_below (looks l p s k) all = entered_below k all
