@@ -15,3 +15,4 @@ pub mod RunningLemmas
 pub mod StepsLemmas
 pub mod PlacedLemmas
 pub mod StackLemmas
+mod Examples

@@ -18,3 +18,8 @@ pub mod RecordLaws
 pub mod CoreLaws
 pub mod RunLaws
 pub mod EndLaws
+pub mod Forest
+pub mod Verdict
+pub mod Built
+pub mod Changes
+pub mod Reasons

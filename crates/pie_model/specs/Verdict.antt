@@ -1,0 +1,108 @@
+-- The verdict on a project: accepted, or the first refusal that holds, at its least places.
+use Rattle.std.specs.Prelude.{ℕ, Bool, true, false, cond, not, leb, Option, Some, None, List, [], ◌∷◌, ◌++◌, length, bytes_eq, is_some}
+use Rattle.std.specs.List.{flat_map}
+use Rattle.std.specs.Cmp.Lexicographic.{slice_cmp}
+use Rattle.std.specs.Ordering.{nat_cmp, is_lt}
+use Rattle.pie_model.specs.Paths.{Path, Kind, Out, Kept, Source, kind_of, after_prefix}
+use Rattle.pie_model.specs.Tasks.{Task, FaultKind}
+use Rattle.pie_model.specs.Trees.{Node, Trace, ends, looks, lists, writes, needs, Seen, Nothing, Holds, Clashing, Outcome, Ended, Failed, Cycled, Many as TooLong, task_of, trace_of, writes_of}
+use Rattle.pie_model.specs.Evaluation.{World, Project}
+use Rattle.pie_model.specs.Forest.{forest, entered_tasks, live_evaluations, first_stop}
+
+-- accepted, or refused: too many tasks, a fault, a cycle, a path that two tasks wrote, a path below another one,
+-- or a path that one task found absent and another wrote
+pub data Verdict : Type 0 where
+  Accepted Many : Verdict
+  Fault : Task → FaultKind → Verdict
+  Cycle : List Task → Verdict
+  Overlap : Path → Task → Task → Verdict
+  Nested : Path → Path → Verdict
+  Hidden : Path → Task → Task → Verdict
+
+-- a path with two tasks, or with another path
+pub record Finding : Type 0 where
+  pub path : Path
+  pub first : List ℕ
+  pub second : List ℕ
+
+-- findings are ordered by path, then by the first, then by the second
+abbrev pub comes_before : Finding → Finding → Bool
+comes_before a b =
+    is_lt (slice_cmp (slice_cmp nat_cmp) (a.path ∷ a.first ∷ a.second ∷ []) (b.path ∷ b.first ∷ b.second ∷ []))
+
+-- the lesser of a finding and the least of others
+abbrev pub lesser : Finding → Option Finding → Finding
+lesser a None = a
+lesser a (Some b) = cond (comes_before b a) b a
+
+-- the least finding
+abbrev pub least : List Finding → Option Finding
+least [] = None
+least (a ∷ rest) = Some (lesser a (least rest))
+
+-- a finding where the test holds
+abbrev pub found_if : Bool → Path → List ℕ → List ℕ → List Finding
+found_if true p a b = record { path = p; first = a; second = b } ∷ []
+found_if false p a b = []
+
+-- each path that an evaluation wrote, with its task
+abbrev pub written_by : Node → List (Path × Task)
+written_by n = flat_map (λ x. (x.0, task_of n) ∷ []) (writes_of (trace_of n))
+
+-- a path of this kind, if it is under `out` and nothing was seen there
+abbrev pub absent_here : Path → Kind → Seen → List Path
+absent_here p Out Nothing = p ∷ []
+absent_here p Kept Nothing = []
+absent_here p Source Nothing = []
+absent_here p k (Holds b m) = []
+absent_here p k Clashing = []
+
+-- each path under `out` that a trace found absent
+abbrev pub found_absent : Trace → List Path
+found_absent (ends e) = []
+found_absent (looks l p s k) = absent_here p (kind_of p) s ++ found_absent k
+found_absent (lists d es k) = found_absent k
+found_absent (writes p b k) = found_absent k
+found_absent (needs h u n k) = found_absent k
+
+-- two tasks, the lesser first, that wrote one path
+abbrev pub overlaps : List (Path × Task) → List Finding
+overlaps ws =
+    flat_map (λ x. flat_map (λ y.
+      found_if (cond (bytes_eq x.0 y.0) (is_lt (slice_cmp nat_cmp x.1 y.1)) false) x.0 x.1 y.1) ws) ws
+
+-- two written paths, one of which is a directory above the other
+abbrev pub nestings : List (Path × Task) → List Finding
+nestings ws = flat_map (λ x. flat_map (λ y. found_if (is_some (after_prefix (x.0 ++ 47 ∷ []) y.0)) x.0 y.0 []) ws) ws
+
+-- a task that found a path absent, and another one that wrote it
+abbrev pub hidden_writes : List Node → List (Path × Task) → List Finding
+hidden_writes live ws =
+    flat_map (λ n. flat_map (λ p. flat_map (λ y.
+      found_if (cond (bytes_eq p y.0) (not (bytes_eq (task_of n) y.1)) false) p (task_of n) y.1) ws) (found_absent (trace_of n))) live
+
+-- the first of the last three refusals that holds, by the least findings
+abbrev pub by_findings : Option Finding → Option Finding → Option Finding → Verdict
+by_findings (Some a) n h = Overlap a.path a.first a.second
+by_findings None (Some b) h = Nested b.path b.first
+by_findings None None (Some c) = Hidden c.path c.first c.second
+by_findings None None None = Accepted
+
+-- what is checked once no root fails
+abbrev pub final_checks : List Node → Verdict
+final_checks live =
+    by_findings (least (overlaps (flat_map written_by live))) (least (nestings (flat_map written_by live)))
+      (least (hidden_writes live (flat_map written_by live)))
+
+-- the verdict where not too many tasks are entered, by the first outcome that is no value
+abbrev pub by_stop : Option Outcome → List Node → Verdict
+by_stop None live = final_checks live
+by_stop (Some (Ended v)) live = final_checks live
+by_stop (Some (Failed t k)) live = Fault t k
+by_stop (Some (Cycled ts)) live = Cycle ts
+by_stop (Some TooLong) live = Many
+
+-- the verdict on a project and its roots
+abbrev pub verdict : World → Project → List Task → Verdict
+verdict w P roots =
+    cond (leb (length (entered_tasks w P roots)) w.most_tasks) (by_stop (first_stop (forest w P roots)) (live_evaluations w P roots)) Many
