@@ -3,6 +3,9 @@ use Rattle.std.specs.Prelude.{ℕ, Bool, true, false, cond, eqb, Option, Some, N
 use Rattle.std.specs.List.{filter_map}
 use Rattle.std.specs.Cmp.Lexicographic.{slice_cmp}
 use Rattle.std.specs.Ordering.{nat_cmp, is_lt}
+-- where a path stands: under `out`, with what the builder keeps for itself, or among the sources
+pub use Rattle.pie_model.specs.declared.words.Kind.{Kind}
+pub use Rattle.pie_model.specs.declared.words.Kind.TheVariants.{Out, Kept, Source}
 
 -- a path is its bytes
 abbrev pub Path : Type 0
@@ -12,10 +15,6 @@ Path = List ℕ
 abbrev pub among : List ℕ → List (List ℕ) → Bool
 among x [] = false
 among x (y ∷ ys) = cond (bytes_eq x y) true (among x ys)
-
--- where a path stands: under `out`, with what the builder keeps for itself, or among the sources
-pub data Kind : Type 0 where
-  Out Kept Source : Kind
 
 -- a byte in front of the first segment
 abbrev pub longer_first : ℕ → List (List ℕ) → List (List ℕ)

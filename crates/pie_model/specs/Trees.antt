@@ -2,19 +2,12 @@
 use Rattle.std.specs.Prelude.{ℕ, suc, max, Bool, true, false, cond, ◌≡◌, ◌⊎◌, Option, List, [], ◌∷◌, ◌++◌}
 use Rattle.pie_model.specs.Paths.{Path, among}
 use Rattle.pie_model.specs.Tasks.{Task, Value, Look, How, FaultKind}
-
 -- what a look finds: nothing, contents with a mark, or two tasks that wrote the path
-pub data Seen : Type 0 where
-  Nothing : Seen
-  Holds : List ℕ → ℕ → Seen
-  Clashing : Seen
-
+pub use Rattle.pie_model.specs.declared.words.Seen.{Seen}
+pub use Rattle.pie_model.specs.declared.words.Seen.TheVariants.{Nothing, Holds, Clashing}
 -- how a task ended: with a value, by a fault that arose in some task, by a cycle of tasks, or by too long a chain of tasks
-pub data Outcome : Type 0 where
-  Ended : Value → Outcome
-  Failed : Task → FaultKind → Outcome
-  Cycled : List Task → Outcome
-  Many : Outcome
+pub use Rattle.pie_model.specs.declared.words.Outcome.{Outcome}
+pub use Rattle.pie_model.specs.declared.words.Outcome.TheVariants.{Ended, Failed, Cycled, Many}
 
 mutual
   -- the evaluation of a task

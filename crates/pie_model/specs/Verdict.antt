@@ -1,34 +1,27 @@
 -- The verdict on a project: accepted, or the first refusal that holds, at its least places.
-use Rattle.std.specs.Prelude.{ℕ, Bool, true, false, cond, not, leb, Option, Some, None, List, [], ◌∷◌, ◌++◌, length, bytes_eq, is_some}
+use Rattle.std.specs.Prelude.{ℕ, Bool, true, false, cond, not, leb, Option, Some, None, List, [], ◌∷◌, ◌++◌, map, length, bytes_eq, is_some}
 use Rattle.std.specs.List.{flat_map}
 use Rattle.std.specs.Cmp.Lexicographic.{slice_cmp}
-use Rattle.std.specs.Ordering.{nat_cmp, is_lt}
+use Rattle.std.specs.Ordering.{nat_cmp, is_lt, ordering_then}
 use Rattle.pie_model.specs.Paths.{Path, Kind, Out, Kept, Source, kind_of, after_prefix}
 use Rattle.pie_model.specs.Tasks.{Task, FaultKind}
 use Rattle.pie_model.specs.Trees.{Node, Trace, ends, looks, lists, writes, needs, Seen, Nothing, Holds, Clashing, Outcome, Ended, Failed, Cycled, Many as TooLong, task_of, trace_of, writes_of}
 use Rattle.pie_model.specs.Evaluation.{World, Project}
 use Rattle.pie_model.specs.Forest.{forest, entered_tasks, live_evaluations, first_stop}
-
 -- accepted, or refused: too many tasks, a fault, a cycle, a path that two tasks wrote, a path below another one,
 -- or a path that one task found absent and another wrote
-pub data Verdict : Type 0 where
-  Accepted Many : Verdict
-  Fault : Task → FaultKind → Verdict
-  Cycle : List Task → Verdict
-  Overlap : Path → Task → Task → Verdict
-  Nested : Path → Path → Verdict
-  Hidden : Path → Task → Task → Verdict
-
+pub use Rattle.pie_model.specs.declared.words.Verdict.{Verdict}
+pub use Rattle.pie_model.specs.declared.words.Verdict.TheVariants.{Accepted, Many, Fault, Cycle, Overlap, Nested, Hidden}
+-- what the last checks look for: two tasks that wrote a path, a written path above another, or a path that was absent and then written
+pub use Rattle.pie_model.specs.declared.words.Check.{Check}
+pub use Rattle.pie_model.specs.declared.words.Check.TheVariants.{Overlapping, Nesting, Hiding}
 -- a path with two tasks, or with another path
-pub record Finding : Type 0 where
-  pub path : Path
-  pub first : List ℕ
-  pub second : List ℕ
+pub use Rattle.pie_model.specs.declared.words.Finding.{Finding}
 
 -- findings are ordered by path, then by the first, then by the second
 abbrev pub comes_before : Finding → Finding → Bool
 comes_before a b =
-    is_lt (slice_cmp (slice_cmp nat_cmp) (a.path ∷ a.first ∷ a.second ∷ []) (b.path ∷ b.first ∷ b.second ∷ []))
+    is_lt (ordering_then (slice_cmp nat_cmp a.path b.path) (ordering_then (slice_cmp nat_cmp a.first b.first) (slice_cmp nat_cmp a.second b.second)))
 
 -- the lesser of a finding and the least of others
 abbrev pub lesser : Finding → Option Finding → Finding
@@ -47,7 +40,7 @@ found_if false p a b = []
 
 -- each path that an evaluation wrote, with its task
 abbrev pub written_by : Node → List (Path × Task)
-written_by n = flat_map (λ x. (x.0, task_of n) ∷ []) (writes_of (trace_of n))
+written_by n = map (λ x. (x.0, task_of n)) (writes_of (trace_of n))
 
 -- a path of this kind, if it is under `out` and nothing was seen there
 abbrev pub absent_here : Path → Kind → Seen → List Path
@@ -65,21 +58,19 @@ found_absent (lists d es k) = found_absent k
 found_absent (writes p b k) = found_absent k
 found_absent (needs h u n k) = found_absent k
 
--- two tasks, the lesser first, that wrote one path
-abbrev pub overlaps : List (Path × Task) → List Finding
-overlaps ws =
-    flat_map (λ x. flat_map (λ y.
-      found_if (cond (bytes_eq x.0 y.0) (is_lt (slice_cmp nat_cmp x.1 y.1)) false) x.0 x.1 y.1) ws) ws
+-- each path that an evaluation found absent, with its task
+abbrev pub missed_by : Node → List (Path × Task)
+missed_by n = map (λ p. (p, task_of n)) (found_absent (trace_of n))
 
--- two written paths, one of which is a directory above the other
-abbrev pub nestings : List (Path × Task) → List Finding
-nestings ws = flat_map (λ x. flat_map (λ y. found_if (is_some (after_prefix (x.0 ++ 47 ∷ []) y.0)) x.0 y.0 []) ws) ws
+-- what a check finds in a path with a task and another path with a task
+abbrev pub found_by : Check → Path × Task → Path × Task → List Finding
+found_by Overlapping x y = found_if (cond (bytes_eq x.0 y.0) (is_lt (slice_cmp nat_cmp x.1 y.1)) false) x.0 x.1 y.1
+found_by Nesting x y = found_if (is_some (after_prefix (x.0 ++ 47 ∷ []) y.0)) x.0 y.0 []
+found_by Hiding x y = found_if (cond (bytes_eq x.0 y.0) (not (bytes_eq x.1 y.1)) false) x.0 x.1 y.1
 
--- a task that found a path absent, and another one that wrote it
-abbrev pub hidden_writes : List Node → List (Path × Task) → List Finding
-hidden_writes live ws =
-    flat_map (λ n. flat_map (λ p. flat_map (λ y.
-      found_if (cond (bytes_eq p y.0) (not (bytes_eq (task_of n) y.1)) false) p (task_of n) y.1) ws) (found_absent (trace_of n))) live
+-- what a check finds in all pairs of these
+abbrev pub findings : Check → List (Path × Task) → List (Path × Task) → List Finding
+findings check xs ys = flat_map (λ x. flat_map (found_by check x) ys) xs
 
 -- the first of the last three refusals that holds, by the least findings
 abbrev pub by_findings : Option Finding → Option Finding → Option Finding → Verdict
@@ -88,11 +79,14 @@ by_findings None (Some b) h = Nested b.path b.first
 by_findings None None (Some c) = Hidden c.path c.first c.second
 by_findings None None None = Accepted
 
--- what is checked once no root fails
+-- what is checked once no root fails: the written paths among themselves, and the absent ones against them
+abbrev pub checked : List (Path × Task) → List (Path × Task) → Verdict
+checked written missed =
+    by_findings (least (findings Overlapping written written)) (least (findings Nesting written written)) (least (findings Hiding missed written))
+
+-- the checks of the live evaluations
 abbrev pub final_checks : List Node → Verdict
-final_checks live =
-    by_findings (least (overlaps (flat_map written_by live))) (least (nestings (flat_map written_by live)))
-      (least (hidden_writes live (flat_map written_by live)))
+final_checks live = checked (flat_map written_by live) (flat_map missed_by live)
 
 -- the verdict where not too many tasks are entered, by the first outcome that is no value
 abbrev pub by_stop : Option Outcome → List Node → Verdict
