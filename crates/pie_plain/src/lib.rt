@@ -1,0 +1,2 @@
+//! The plain program of building.
+#![tactic(auto)]
