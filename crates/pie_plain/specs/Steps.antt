@@ -10,7 +10,7 @@ use Rattle.pie_model.specs.declared.words.Answer.{Answer}
 use Rattle.pie_model.specs.declared.words.Answer.TheVariants.{Entries, Wrote}
 use Rattle.pie_model.specs.declared.words.Event.{Event}
 use Rattle.pie_model.specs.declared.words.Event.TheVariants.{Done, Fail, LookAt, ListOf, Write, Require}
-use Rattle.pie_model.specs.Trees.{Node, Trace, outcome_of, end_of, task_of, trace_of, writes_of, entered, entered_below}
+use Rattle.pie_model.specs.Trees.{Node, Trace, outcome_of, end_of, task_of, trace_of, writes_of, enter, entered, entered_below}
 use Rattle.pie_model.specs.declared.words.Seen.{Seen}
 use Rattle.pie_model.specs.declared.words.Seen.TheVariants.{Nothing, Holds, Clashing}
 use Rattle.pie_model.specs.declared.words.Outcome.{Outcome}
@@ -93,3 +93,7 @@ pub record IsWhole (start : List Task) (whole : Trace) (e : Outcome) (r : Row) :
 abbrev pub Keeps : World → Project → (Task → Node) → Task → List Task → Trace → ℕ → Turn → Type 0
 Keeps w P child t start whole n (Goes r) = IsStage w P child t start whole n r
 Keeps w P child t start whole n (Stops e r) = IsWhole start whole e r
+
+-- an evaluation's outcome, and all that the plain program keeps of it, once the tasks of its tree are entered after these
+abbrev pub IsEvaluated : Node → List Task → Outcome → Row → Type 0
+IsEvaluated n start e r = IsWhole (enter (task_of n) start) (trace_of n) e r

@@ -1,2 +1,6 @@
-//! The plain program of building.
+//! The plain slow program of building: evaluation, entered tasks and verdict, equal to the definitions.
 #![tactic(auto)]
+
+pub mod run;
+pub mod setting;
+pub mod sight;
