@@ -33,11 +33,6 @@ abbrev pub least : List Finding → Option Finding
 least [] = None
 least (a ∷ rest) = Some (lesser a (least rest))
 
--- a finding where the test holds
-abbrev pub found_if : Bool → Path → List ℕ → List ℕ → List Finding
-found_if true p a b = record { path = p; first = a; second = b } ∷ []
-found_if false p a b = []
-
 -- each path that an evaluation wrote, with its task
 abbrev pub written_by : Node → List (Path × Task)
 written_by n = map (λ x. (x.0, task_of n)) (writes_of (trace_of n))
@@ -62,11 +57,21 @@ found_absent (needs h u n k) = found_absent k
 abbrev pub missed_by : Node → List (Path × Task)
 missed_by n = map (λ p. (p, task_of n)) (found_absent (trace_of n))
 
--- what a check finds in a path with a task and another path with a task
+-- whether a check finds something in a path with a task and another path with a task
+abbrev pub is_found : Check → Path × Task → Path × Task → Bool
+is_found Overlapping x y = cond (bytes_eq x.0 y.0) (is_lt (slice_cmp nat_cmp x.1 y.1)) false
+is_found Nesting x y = is_some (after_prefix (x.0 ++ 47 ∷ []) y.0)
+is_found Hiding x y = cond (bytes_eq x.0 y.0) (not (bytes_eq x.1 y.1)) false
+
+-- what it then finds
+abbrev pub finding_of : Check → Path × Task → Path × Task → Finding
+finding_of Overlapping x y = record { path = x.0; first = x.1; second = y.1 }
+finding_of Nesting x y = record { path = x.0; first = y.0; second = [] }
+finding_of Hiding x y = record { path = x.0; first = x.1; second = y.1 }
+
+-- what a check finds in them, if anything
 abbrev pub found_by : Check → Path × Task → Path × Task → List Finding
-found_by Overlapping x y = found_if (cond (bytes_eq x.0 y.0) (is_lt (slice_cmp nat_cmp x.1 y.1)) false) x.0 x.1 y.1
-found_by Nesting x y = found_if (is_some (after_prefix (x.0 ++ 47 ∷ []) y.0)) x.0 y.0 []
-found_by Hiding x y = found_if (cond (bytes_eq x.0 y.0) (not (bytes_eq x.1 y.1)) false) x.0 x.1 y.1
+found_by check x y = cond (is_found check x y) (finding_of check x y ∷ []) []
 
 -- what a check finds in all pairs of these
 abbrev pub findings : Check → List (Path × Task) → List (Path × Task) → List Finding
