@@ -1,3 +1,4 @@
 pub mod Written
 pub mod Steps
 pub mod Runs
+pub mod Roots
