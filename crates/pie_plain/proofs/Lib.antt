@@ -2,3 +2,4 @@ pub mod SeenLemmas
 pub mod StepLemmas
 pub mod EvaluationLemmas
 pub mod LiveLemmas
+pub mod KindLemmas

@@ -6,6 +6,7 @@ pub mod evaluation;
 pub mod names;
 pub mod roots;
 pub mod run;
+pub mod script;
 pub mod setting;
 pub mod sight;
 pub mod verdict;
