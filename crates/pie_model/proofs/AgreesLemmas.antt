@@ -53,7 +53,7 @@ module _ (w : World) (P Q : Project) (R : Task → Option Record) (told : List T
   look_same before l p Kept b = refl
   look_same before l p Source b = refl
 
-  stamp_same : (before : List Task) (q : Query) → ((u : Task) → among u before ≡ true → IsKnown w P R u)
+  pub stamp_same : (before : List Task) (q : Query) → ((u : Task) → among u before ≡ true → IsKnown w P R u)
       → ((u : Task) → among u (task_asked q) ≡ true → IsKnown w P R u)
       → stamp_now w Q (by_records R told) own before q ≡ stamp_now w Q (by_evaluation w P) own before q
   stamp_same before (Looked l p) b n = look_same before l p (kind_of p) b

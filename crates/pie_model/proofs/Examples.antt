@@ -1,15 +1,15 @@
 -- Worked cases: the definitions computed on small projects.
-use Rattle.std.proofs.Common.{ℕ, zero, suc, ◌≡◌, Bool, true, false, cond, Option, Some, None, List, [], ◌∷◌, ◌++◌, length, map, codes, bytes_eq, refl}
+use Rattle.std.proofs.Common.{ℕ, zero, suc, ◌≡◌, Bool, false, cond, Option, Some, None, List, [], ◌∷◌, ◌++◌, length, map, codes, bytes_eq, refl}
 use Rattle.std.specs.List.{flat_map}
-use Rattle.pie_model.specs.Paths.{Path, Kind, Out, Kept, Source, kind_of, entries_among}
-use Rattle.pie_model.specs.Tasks.{Task, Look, Exists, ByHash, ByMark, Digest, How, Whole, Hashed, Ran, FaultKind, Clash, Big, Null, Answer, Flag, Contents, HashOf, Entries, Wrote, Output, Succeeded, Event, Done, Fail, LookAt, ListOf, Write, Require}
-use Rattle.pie_model.specs.Trees.{Outcome, Ended, Failed, Cycled, outcome_of, trace_of, task_of, required_by}
+use Rattle.pie_model.specs.Paths.{Path, Out, Kept, Source, kind_of, entries_among}
+use Rattle.pie_model.specs.Tasks.{Task, Exists, ByHash, ByMark, Whole, Hashed, Ran, Clash, Big, Null, Answer, Flag, Contents, HashOf, Entries, Wrote, Output, Succeeded, Event, Done, Fail, LookAt, ListOf, Write, Require}
+use Rattle.pie_model.specs.Trees.{Ended, Failed, outcome_of}
 use Rattle.pie_model.specs.Evaluation.{World, Project, evaluation}
-use Rattle.pie_model.specs.Records.{record_of, Stamp, Absent, Present, Hash, Mark, WholeValue, Success, Looked, Listed, Required, Observation, observed}
+use Rattle.pie_model.specs.Records.{record_of, Present, Hash, Mark, WholeValue, Looked, Required, observed}
 use Rattle.pie_model.specs.StampNow.{by_evaluation, stamp_now}
 use Rattle.pie_model.specs.Seen.{provided}
 use Rattle.pie_model.specs.Forest.{entered_tasks, live_evaluations}
-use Rattle.pie_model.specs.Verdict.{Verdict, Accepted, Many, Fault, Cycle, Overlap, Nested, Hidden, verdict}
+use Rattle.pie_model.specs.Verdict.{Accepted, Many, Fault, Cycle, Overlap, Nested, Hidden, verdict}
 use Rattle.pie_model.specs.Built.{provided_at, store_rows}
 
 -- ---- a world whose hash is one to one, with the true limits, and one with room for two tasks
@@ -123,7 +123,7 @@ page_record : record_of toy (evaluation toy (site_with (codes "x")) (codes "page
   task = codes "page a";
   observations = observed (Looked ByHash (codes "src/a")) (Hash (0 ∷ codes "A")) ∷ observed (Required Whole (codes "footer")) (WholeValue (codes "x")) ∷ [];
   writes = (codes "out/a", 0 ∷ codes "Ax") ∷ [];
-  outcome = Ended (codes "out/a")
+  outcome = Ended (codes "out/a");
 }
 unfolding kind_of provided entries_among
 page_record = refl
@@ -141,16 +141,18 @@ pages_agree = (refl, refl)
 -- ---- a record keeps repeats, and a task sees its own writes
 
 abbrev twice : List (Task × (List Answer → List Event))
-twice =
-    (codes "t", λ answers. LookAt Exists (codes "s") ∷ LookAt ByMark (codes "s") ∷ LookAt Exists (codes "s") ∷ Write (codes "out/p") (codes "v") ∷ LookAt ByMark (codes "out/p")
-      ∷ Done (told_at 4 answers) ∷ []) ∷ []
+twice = (
+  codes "t",
+  λ answers. LookAt Exists (codes "s") ∷ LookAt ByMark (codes "s") ∷ LookAt Exists (codes "s") ∷ Write (codes "out/p") (codes "v") ∷ LookAt ByMark (codes "out/p")
+      ∷ Done (told_at 4 answers) ∷ [],
+) ∷ []
 
 repeats_are_kept : record_of toy (evaluation toy (project twice ((codes "s", codes "1") ∷ [])) (codes "t")) ≡ record {
   task = codes "t";
   observations = observed (Looked Exists (codes "s")) Present ∷ observed (Looked ByMark (codes "s")) (Mark 7) ∷ observed (Looked Exists (codes "s")) Present
-    ∷ observed (Looked ByMark (codes "out/p")) (Hash (0 ∷ codes "v")) ∷ [];
+      ∷ observed (Looked ByMark (codes "out/p")) (Hash (0 ∷ codes "v")) ∷ [];
   writes = (codes "out/p", 0 ∷ codes "v") ∷ [];
-  outcome = Ended (codes "v")
+  outcome = Ended (codes "v");
 }
 unfolding kind_of provided
 repeats_are_kept = refl

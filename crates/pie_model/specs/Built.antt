@@ -1,5 +1,5 @@
 -- The directory that an accepted build leaves: the rows of its store, and what stands at each path.
-use Rattle.std.specs.Prelude.{ℕ, Bool, true, false, cond, ltb, eqb, ◌≡◌, Option, Some, None, option_map, List, [], ◌∷◌, ◌++◌, map, codes, bytes_eq}
+use Rattle.std.specs.Prelude.{ℕ, Bool, true, false, cond, ltb, eqb, ◌≡◌, Option, Some, None, option_map, List, [], ◌∷◌, map, codes, bytes_eq}
 use Rattle.std.specs.List.{flat_map}
 use Rattle.std.specs.FinMap as fin
 use Rattle.std.specs.Cmp.Lexicographic.{slice_cmp}

@@ -1,9 +1,9 @@
 -- Change lists, and the byte strings that two builds meet.
-use Rattle.std.specs.Prelude.{ℕ, ◌≡◌, ◌⊎◌, Bool, true, false, Option, Some, None, List, [], ◌∷◌, ◌++◌}
+use Rattle.std.specs.Prelude.{ℕ, ◌≡◌, ◌⊎◌, true, false, Option, Some, None, List, [], ◌∷◌, ◌++◌}
 use Rattle.std.specs.List.{flat_map}
 use Rattle.std.specs.FinMap as fin
 use Rattle.pie_model.specs.Paths.{Path, Out, Source, kind_of, among}
-use Rattle.pie_model.specs.Tasks.{Task, Answer, Event, How}
+use Rattle.pie_model.specs.Tasks.{Task}
 use Rattle.pie_model.specs.Trees.{Node, node, Trace, ends, looks, lists, writes, needs, Seen, Nothing, Holds, Clashing, Outcome, Ended, Failed, Cycled, Many, outcome_of, trace_of, HasTask, required_by}
 use Rattle.pie_model.specs.Evaluation.{World, Project, evaluation}
 use Rattle.pie_model.specs.Records.{Record, needs_of}
@@ -38,6 +38,7 @@ abbrev mutual
   -- the contents observed and written in a tree, its listings and its outputs
   pub strings_in : World → Node → List (List ℕ)
   strings_in w (node t k) = outcome_strings (outcome_of (node t k)) ++ strings_below w k
+
   pub strings_below : World → Trace → List (List ℕ)
   strings_below w (ends e) = []
   strings_below w (looks l p s k) = seen_strings s ++ strings_below w k
@@ -45,16 +46,20 @@ abbrev mutual
   strings_below w (writes p b k) = b ∷ strings_below w k
   strings_below w (needs h u n k) = strings_in w n ++ strings_below w k
 
--- a task that is tried: an old live task, a present root, or one that stands in the evaluation of such a task now
-pub data IsTried (w : World) (old now : Project) (old_roots roots : List Task) : Task → Type 0 where
-  was_live : {t : Task} → among t (entered_tasks w old old_roots) ≡ true → IsTried w old now old_roots roots t
-  is_root : {t : Task} → among t roots ≡ true → IsTried w old now old_roots roots t
-  stands : {t u : Task} → IsTried w old now old_roots roots t → HasTask u (evaluation w now t) → IsTried w old now old_roots roots u
+-- an old live task, or a present root
+abbrev pub IsBase : World → Project → List Task → List Task → Task → Type 0
+IsBase w old old_roots roots t = (among t (entered_tasks w old old_roots) ≡ true) ⊎ (among t roots ≡ true)
 
--- a byte string that is met: in the evaluation of a tried task now, in the old forest, or one of these besides,
+-- a task that is tried: it stands in the evaluation now of an old live task or of a present root, as these themselves do
+pub record IsTried (w : World) (old now : Project) (old_roots roots : List Task) (t : Task) : Type 0 where
+  pub base : Task
+  pub is_base : IsBase w old old_roots roots base
+  pub stands : HasTask t (evaluation w now base)
+
+-- a byte string that is met: in such an evaluation now, in the old forest, or one of these besides,
 -- which are both pipeline texts, the joined token spellings of each function of both, and the files under `out` now
 pub data IsMet (w : World) (old now : Project) (old_roots roots : List Task) (besides : List (List ℕ)) (b : List ℕ) : Type 0 where
-  tried_now : (t : Task) → IsTried w old now old_roots roots t → among b (strings_in w (evaluation w now t)) ≡ true → IsMet w old now old_roots roots besides b
+  met_now : (t : Task) → IsBase w old old_roots roots t → among b (strings_in w (evaluation w now t)) ≡ true → IsMet w old now old_roots roots besides b
   met_then : among b (flat_map (strings_in w) (forest w old old_roots)) ≡ true → IsMet w old now old_roots roots besides b
   named : among b besides ≡ true → IsMet w old now old_roots roots besides b
 

@@ -4,8 +4,8 @@ use Rattle.pie_model.specs.Paths.{Path, among}
 use Rattle.pie_model.specs.Tasks.{Task}
 use Rattle.pie_model.specs.Trees.{trace_of, is_plain, levels}
 use Rattle.pie_model.specs.Evaluation.{World, Project, evaluation}
-use Rattle.pie_model.specs.Records.{Record, record_of, needs_of}
-use Rattle.pie_model.specs.StampNow.{Told}
+use Rattle.pie_model.specs.Records.{Record, record_of, needs_of, Query, task_asked}
+use Rattle.pie_model.specs.StampNow.{Told, by_evaluation, by_records, stamp_now}
 use Rattle.pie_model.specs.Separate.{StampsSeparate, ListingsDiffer, AllMet, NeverWritesWhatItSaw}
 use Rattle.pie_model.specs.Present.{Reaches, WroteByRecords, IsTold}
 use Rattle.pie_model.specs.Consistent.{IsRecorded, IsUpToDate, IsConsistent, IsSettled}
@@ -74,3 +74,13 @@ abbrev pub TakesKeepSettled : Type 0
 TakesKeepSettled =
     (R : Task → Option Record) (busy busy_after : Task → Bool) → ((x : Task) → Passes busy_after x → Passes busy x) → (u : Task) → IsSettled R (Passes busy) u
     → IsSettled R (Passes busy_after) u
+
+-- where all that a record required before and requires next reaches has the records of its evaluations,
+-- the stamp now of a query by the records is that by evaluation: so a stamp differs by records exactly where it is a reason to run
+abbrev pub StampsByRecordsAreRight : Type 0
+StampsByRecordsAreRight =
+    (w : World) (now : Project) (R : Task → Option Record) (told : List Task → Path → Told) → TellsRight R told
+    → (own : List (Path × List ℕ)) (before : List Task) (q : Query)
+    → ((u : Task) → among u before ≡ true → IsRecorded R u × ((x : Task) → Reaches R u x → HasItsRecord w now R x))
+    → ((u : Task) → among u (task_asked q) ≡ true → IsRecorded R u × ((x : Task) → Reaches R u x → HasItsRecord w now R x))
+    → stamp_now w now (by_records R told) own before q ≡ stamp_now w now (by_evaluation w now) own before q

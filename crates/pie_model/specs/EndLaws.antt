@@ -47,6 +47,14 @@ RunsEndAsRequired =
     → record_of w (evaluation_with (suc room) w P above t)
     ≡ record { task = t; observations = seen ++ observed (Required h u) Absent ∷ []; writes = hashed w g.own; outcome = e }
 
+-- so a run ends with a value or by a fault of its own, or, where the required task did, by that task's fault
+abbrev pub AnsweredRunsEndPlain : Type 0
+AnsweredRunsEndPlain =
+    (w : World) (P : Project) (room : ℕ) (above : List Task) (t : Task) (n : ℕ) (g : Progress) (seen : List Observation) (h : How) (u : Task)
+    → P.next t g.answers ≡ Require h u → is_plain (outcome_of (evaluation_with room w P (t ∷ above) u)) ≡ true
+    → is_done (outcome_of (evaluation_with room w P (t ∷ above) u)) ≡ false → IsRunning w P room above t (suc n) g seen
+    → is_plain (outcome_of (evaluation_with (suc room) w P above t)) ≡ true
+
 -- a required task that stands above ends the run in the cycle from that task to this one
 abbrev pub RunsEndInCycle : Type 0
 RunsEndInCycle =

@@ -1,10 +1,10 @@
 -- Why a task runs, which old records stand, and which paths a build may ask for.
-use Rattle.std.specs.Prelude.{ℕ, ◌≡◌, ◌⊎◌, Bool, true, Option, Some, None, List, [], ◌∷◌, ◌++◌, codes}
+use Rattle.std.specs.Prelude.{ℕ, ◌≡◌, ◌⊎◌, true, Option, Some, None, List, [], ◌∷◌, ◌++◌, codes}
 use Rattle.pie_model.specs.Paths.{Path, among, after_prefix}
 use Rattle.pie_model.specs.Tasks.{Task}
-use Rattle.pie_model.specs.Trees.{Trace, ends, looks, lists, writes, needs, Outcome, Ended, outcome_of, trace_of}
+use Rattle.pie_model.specs.Trees.{Trace, ends, looks, lists, writes, needs, Ended, trace_of}
 use Rattle.pie_model.specs.Evaluation.{World, Project, evaluation}
-use Rattle.pie_model.specs.Records.{Record, Observation, Query, Looked, Listed, Required, record_of}
+use Rattle.pie_model.specs.Records.{Record, Observation}
 use Rattle.pie_model.specs.StampNow.{Teller, by_evaluation, stamp_now, asked_before, RecordAgrees}
 use Rattle.pie_model.specs.Built.{Directory, bytes_at, store_path, open_path, pending_path}
 

@@ -1,6 +1,5 @@
 -- Tasks, what a task may do next, and what it is answered.
-use Rattle.std.specs.Prelude.{ℕ, Bool, Option, List}
-use Rattle.pie_model.specs.Paths.{Path}
+use Rattle.std.specs.Prelude.{ℕ, List}
 -- how a path is looked at: whether it is there, its contents stamped by hash or by mark, or the hash of its contents
 pub use Rattle.pie_model.specs.declared.words.Look.{Look}
 pub use Rattle.pie_model.specs.declared.words.Look.TheVariants.{Exists, ByHash, ByMark, Digest}

@@ -1,7 +1,7 @@
 -- The tree of an evaluation: what each task observed, wrote and required, in order, and how it ended.
 use Rattle.std.specs.Prelude.{ℕ, suc, max, Bool, true, false, cond, ◌≡◌, ◌⊎◌, Option, List, [], ◌∷◌, ◌++◌}
 use Rattle.pie_model.specs.Paths.{Path, among}
-use Rattle.pie_model.specs.Tasks.{Task, Value, Look, How, FaultKind}
+use Rattle.pie_model.specs.Tasks.{Task, Look, How}
 -- what a look finds: nothing, contents with a mark, or two tasks that wrote the path
 pub use Rattle.pie_model.specs.declared.words.Seen.{Seen}
 pub use Rattle.pie_model.specs.declared.words.Seen.TheVariants.{Nothing, Holds, Clashing}

@@ -1,10 +1,10 @@
 -- The verdict on a project: accepted, or the first refusal that holds, at its least places.
-use Rattle.std.specs.Prelude.{ℕ, Bool, true, false, cond, not, leb, Option, Some, None, List, [], ◌∷◌, ◌++◌, map, length, bytes_eq, is_some}
+use Rattle.std.specs.Prelude.{Bool, false, cond, not, leb, Option, Some, None, List, [], ◌∷◌, ◌++◌, map, length, bytes_eq, is_some}
 use Rattle.std.specs.List.{flat_map}
 use Rattle.std.specs.Cmp.Lexicographic.{slice_cmp}
 use Rattle.std.specs.Ordering.{nat_cmp, is_lt, ordering_then}
 use Rattle.pie_model.specs.Paths.{Path, Kind, Out, Kept, Source, kind_of, after_prefix}
-use Rattle.pie_model.specs.Tasks.{Task, FaultKind}
+use Rattle.pie_model.specs.Tasks.{Task}
 use Rattle.pie_model.specs.Trees.{Node, Trace, ends, looks, lists, writes, needs, Seen, Nothing, Holds, Clashing, Outcome, Ended, Failed, Cycled, Many as TooLong, task_of, trace_of, writes_of}
 use Rattle.pie_model.specs.Evaluation.{World, Project}
 use Rattle.pie_model.specs.Forest.{forest, entered_tasks, live_evaluations, first_stop}

@@ -1,6 +1,6 @@
 //! A core that takes, starts and finishes tasks: its records stay consistent, and settled tasks are right.
 
-ghost use Rattle.pie_model.specs.CoreLaws.{SettledTasksAreRight, OldRecordsBegin, TakesKeepConsistent, StartsKeepConsistent, FinishesKeepConsistent, FinishesKeepSettled, TakesKeepSettled};
+ghost use Rattle.pie_model.specs.CoreLaws.{SettledTasksAreRight, OldRecordsBegin, TakesKeepConsistent, StartsKeepConsistent, FinishesKeepConsistent, FinishesKeepSettled, StampsByRecordsAreRight, TakesKeepSettled};
 
 /// The settled law: a recorded task that reaches no busy task has the record of its evaluation.
 pub fn settled_tasks_are_right()
@@ -27,4 +27,9 @@ pub fn starts_keep_consistent()
 pub fn finishes_keep_consistent()
     ensures consistent { FinishesKeepConsistent }
     ensures settled { FinishesKeepSettled }
+{}
+
+/// Over right records a stamp by records is the stamp by evaluation.
+pub fn stamps_by_records_are_right()
+    ensures { StampsByRecordsAreRight }
 {}

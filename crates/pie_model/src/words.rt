@@ -1,7 +1,6 @@
 //! The words that definitions and code share: kinds of path, events, answers, outcomes.
 
-use crate::bytes::Bytes;
-use crate::bytes::Names;
+use crate::bytes::{Bytes, Names};
 
 /// Where a path stands.
 #[derive(Clone, Copy, Debug, PartialEq, Eq)]

@@ -18,21 +18,21 @@ pub evaluated_in_cycle : (w : World) (P : Project) (n : ℕ) (above : List Task)
     → IsEvaluated (evaluation_with n w P above t) all (Cycled (round t above [])) (begun (enter t all))
 evaluated_in_cycle w P n above t all h =
     subst (λ x. IsEvaluated x all (Cycled (round t above [])) (begun (enter t all))) (sym (opened_among n w P above t h))
-      (record { end = refl; written = refl; absent = refl; below = refl; enters = refl })
+    (record { end = refl; written = refl; absent = refl; below = refl; enters = refl })
 
 pub evaluated_without_room : (w : World) (P : Project) (n : ℕ) (above : List Task) (t : Task) (all : List Task) → among t above ≡ false → n ≡ 0
     → IsEvaluated (evaluation_with n w P above t) all Many (begun (enter t all))
 evaluated_without_room w P n above t all h e =
     subst (λ m. IsEvaluated (evaluation_with m w P above t) all Many (begun (enter t all))) (sym e)
-      (subst (λ x. IsEvaluated x all Many (begun (enter t all))) (sym (opened_apart zero w P above t h))
-        (record { end = refl; written = refl; absent = refl; below = refl; enters = refl }))
+    (subst (λ x. IsEvaluated x all Many (begun (enter t all))) (sym (opened_apart zero w P above t h))
+    (record { end = refl; written = refl; absent = refl; below = refl; enters = refl }))
 
 pub evaluated_below : (w : World) (P : Project) (n m : ℕ) (above : List Task) (t : Task) (all : List Task) (e : Outcome) (r : Row) → among t above ≡ false → n ≡ suc m
     → IsWhole (enter t all) (follow w P (evaluation_with m w P (t ∷ above)) t w.most_events start) e r
     → IsEvaluated (evaluation_with n w P above t) all e r
 evaluated_below w P n m above t all e r h q s =
     subst (λ k. IsEvaluated (evaluation_with k w P above t) all e r) (sym q)
-      (subst (λ x. IsEvaluated x all e r) (sym (opened_apart (suc m) w P above t h)) s)
+    (subst (λ x. IsEvaluated x all e r) (sym (opened_apart (suc m) w P above t h)) s)
 
 task_of-evaluation_with : (n : ℕ) (w : World) (P : Project) (above : List Task) (t : Task) → task_of (evaluation_with n w P above t) ≡ t
 task_of-evaluation_with zero w P above t = refl
@@ -50,9 +50,9 @@ pub kid_is : (w : World) (P : Project) (n : ℕ) (above : List Task) (u : Task) 
 kid_is w P n above u row kid after e s h =
     let x = evaluation_with n w P above u in
     let q : (written_in (evaluation_with n w P above u) ≡ tagged (task_of (evaluation_with n w P above u)) kid.own ++ kid.below)
-        × (entered (evaluation_with n w P above u) row.entered ≡ kid.entered) = parts_of_node (evaluation_with n w P above u) row.entered e kid s in
+    × (entered (evaluation_with n w P above u) row.entered ≡ kid.entered) = parts_of_node (evaluation_with n w P above u) row.entered e kid s in
     h ∙ ap₂ (λ b t. record row { below = row.below ++ b; entered = t })
-      (sym (q.0 ∙ ap (λ z. tagged z kid.own ++ kid.below) (task_of-evaluation_with n w P above u))) (sym q.1)
+    (sym (q.0 ∙ ap (λ z. tagged z kid.own ++ kid.below) (task_of-evaluation_with n w P above u))) (sym q.1)
 
 -- a require, by what the required evaluation added
 pub require_is : (w : World) (P : Project) (n : ℕ) (above : List Task) (u : Task) (h : Rattle.pie_model.specs.declared.words.How.How) (row kid after : Row) (e : Outcome) (turn : Turn)
@@ -73,15 +73,15 @@ pub in_cycle_by : (w : World) (P : Project) (n : ℕ) (above : List Task) (t : T
     → IsEvaluated (evaluation_with n w P above t) all (Cycled tasks) row
 in_cycle_by w P n above t all slice again found tasks now b row s i h f a r e q =
     subst₂ (λ x y. IsEvaluated (evaluation_with n w P above t) all (Cycled x) y)
-      (sym (r ∙ ap₂ (round t) a f)) (sym (q ∙ ap begun e))
-      (evaluated_in_cycle w P n above t all (sym (ap (among t) s) ∙ sym i ∙ h))
+    (sym (r ∙ ap₂ (round t) a f)) (sym (q ∙ ap begun e))
+    (evaluated_in_cycle w P n above t all (sym (ap (among t) s) ∙ sym i ∙ h))
 
 pub without_room_by : (w : World) (P : Project) (n : ℕ) (above : List Task) (t : Task) (all : List Task) (slice now : List Task) (b : Bool) (row : Row)
     → slice ≡ above → b ≡ among t slice → b ≡ false → now ≡ enter t all → row ≡ begun now → n ≡ 0
     → IsEvaluated (evaluation_with n w P above t) all Many row
 without_room_by w P n above t all slice now b row s i h e q z =
     subst (IsEvaluated (evaluation_with n w P above t) all Many) (sym (q ∙ ap begun e))
-      (evaluated_without_room w P n above t all (sym (ap (among t) s) ∙ sym i ∙ h) z)
+    (evaluated_without_room w P n above t all (sym (ap (among t) s) ∙ sym i ∙ h) z)
 
 pub below_by : (w : World) (P : Project) (n m : ℕ) (above : List Task) (t : Task) (all : List Task) (slice now below : List Task) (b : Bool) (e : Outcome) (row : Row)
     → slice ≡ above → b ≡ among t slice → b ≡ false → now ≡ enter t all → below ≡ t ∷ above → n ≡ suc m
@@ -89,7 +89,7 @@ pub below_by : (w : World) (P : Project) (n m : ℕ) (above : List Task) (t : Ta
     → IsEvaluated (evaluation_with n w P above t) all e row
 below_by w P n m above t all slice now below b e row s i h q d z r =
     evaluated_below w P n m above t all e row (sym (ap (among t) s) ∙ sym i ∙ h) z
-      (subst₂ (λ x y. IsWhole x (follow w P (evaluation_with m w P y) t w.most_events start) e row) q d r)
+    (subst₂ (λ x y. IsWhole x (follow w P (evaluation_with m w P y) t w.most_events start) e row) q d r)
 
 pub one_less : (n : ℕ) → (n ≡ 0 → ⊥) → n ≡ suc (n - 1)
 one_less n h = omega arith

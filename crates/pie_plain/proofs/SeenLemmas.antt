@@ -48,11 +48,12 @@ front_alike p t (w ∷ ws) xs ys a = go (bytes_eq p w.0) (front_alike p t ws xs 
         → cond b (all_by c (at_path p (tagged t ws) ++ xs)) false ≡ cond b (all_by c ys) false
     one c true e = same_task_more p c t ws xs e ∙ a.all c
     one c false e = refl
+
     go : (b : Bool) → Alike (at_path p (tagged t ws) ++ xs) (writer t (first_write p ws) ++ ys)
         → Alike (cond b ((t, w.1) ∷ at_path p (tagged t ws)) (at_path p (tagged t ws)) ++ xs) (writer t (cond b (Some w.1) (first_write p ws)) ++ ys)
     go true r = record {
       seen = ap (λ b. cond b (Holds w.1 0) Clashing) (same_task_more p t t ws xs (bytes_same t) ∙ a.all t);
-      all = λ c. one c (bytes_eq c t) refl
+      all = λ c. one c (bytes_eq c t) refl;
     }
     go false r = r
 
@@ -63,10 +64,11 @@ mutual
   tree_alike : (p : Path) (n : Node) (xs ys : List (Task × List ℕ)) → Alike xs ys → Alike (at_path p (written_in n) ++ xs) (writers p n ++ ys)
   tree_alike p (node t k) xs ys a =
       subst (λ z. Alike (z ++ xs) (writers p (node t k) ++ ys)) (sym (at_path-append p (tagged t (writes_of k)) (written_below k)))
-        (subst (λ z. Alike z (writers p (node t k) ++ ys)) (sym (append_assoc (at_path p (tagged t (writes_of k))) (at_path p (written_below k)) xs))
-          (subst (λ z. Alike (at_path p (tagged t (writes_of k)) ++ (at_path p (written_below k) ++ xs)) z)
-            (sym (append_assoc (writer t (first_write p (writes_of k))) (writers_below p k) ys))
-            (front_alike p t (writes_of k) (at_path p (written_below k) ++ xs) (writers_below p k ++ ys) (below_alike p k xs ys a))))
+      (subst (λ z. Alike z (writers p (node t k) ++ ys)) (sym (append_assoc (at_path p (tagged t (writes_of k))) (at_path p (written_below k)) xs))
+      (subst (λ z. Alike (at_path p (tagged t (writes_of k)) ++ (at_path p (written_below k) ++ xs)) z)
+      (sym (append_assoc (writer t (first_write p (writes_of k))) (writers_below p k) ys))
+      (front_alike p t (writes_of k) (at_path p (written_below k) ++ xs) (writers_below p k ++ ys) (below_alike p k xs ys a))))
+
   below_alike : (p : Path) (k : Trace) (xs ys : List (Task × List ℕ)) → Alike xs ys → Alike (at_path p (written_below k) ++ xs) (writers_below p k ++ ys)
   below_alike p (ends e) xs ys a = a
   below_alike p (looks l q s k) xs ys a = below_alike p k xs ys a
@@ -74,16 +76,16 @@ mutual
   below_alike p (writes q b k) xs ys a = below_alike p k xs ys a
   below_alike p (needs h u n k) xs ys a =
       subst (λ z. Alike (z ++ xs) ((writers p n ++ writers_below p k) ++ ys)) (sym (at_path-append p (written_in n) (written_below k)))
-        (subst (λ z. Alike z ((writers p n ++ writers_below p k) ++ ys)) (sym (append_assoc (at_path p (written_in n)) (at_path p (written_below k)) xs))
-          (subst (λ z. Alike (at_path p (written_in n) ++ (at_path p (written_below k) ++ xs)) z)
-            (sym (append_assoc (writers p n) (writers_below p k) ys))
-            (tree_alike p n (at_path p (written_below k) ++ xs) (writers_below p k ++ ys) (below_alike p k xs ys a))))
+      (subst (λ z. Alike z ((writers p n ++ writers_below p k) ++ ys)) (sym (append_assoc (at_path p (written_in n)) (at_path p (written_below k)) xs))
+      (subst (λ z. Alike (at_path p (written_in n) ++ (at_path p (written_below k) ++ xs)) z)
+      (sym (append_assoc (writers p n) (writers_below p k) ys))
+      (tree_alike p n (at_path p (written_below k) ++ xs) (writers_below p k ++ ys) (below_alike p k xs ys a))))
 
 all_alike : (p : Path) (ns : List Node) → Alike (at_path p (written_in_all ns)) (writers_in p ns)
 all_alike p [] = alike_itself []
 all_alike p (n ∷ ns) =
     subst (λ z. Alike z (writers p n ++ writers_in p ns)) (sym (at_path-append p (written_in n) (written_in_all ns)))
-      (tree_alike p n (at_path p (written_in_all ns)) (writers_in p ns) (all_alike p ns))
+    (tree_alike p n (at_path p (written_in_all ns)) (writers_in p ns) (all_alike p ns))
 
 pub written_provided : (p : Path) (ns : List Node) → by_writers (at_path p (written_in_all ns)) ≡ provided ns p
 unfolding provided

@@ -44,7 +44,11 @@ module _ (w : World) (P : Project) (child : Task → Node) (t : Task) (start_tas
 
   whole_of : (kids : List Node) (r : Row) (e : Outcome) → At (ends e) kids r → IsWhole start_tasks whole e r
   whole_of kids r e a = record {
-    end = a.end; written = a.written ∙ append-nil r.own; absent = a.absent ∙ append-nil r.absent; below = a.below ∙ append-nil r.below; enters = a.enters
+    end = a.end;
+    written = a.written ∙ append-nil r.own;
+    absent = a.absent ∙ append-nil r.absent;
+    below = a.below ∙ append-nil r.below;
+    enters = a.enters;
   }
 
   module _ (n : ℕ) (kids : List Node) (r : Row) where
@@ -54,42 +58,81 @@ module _ (w : World) (P : Project) (child : Task → Node) (t : Task) (start_tas
     seen_keeps : (l : Look) (p : Path) (s : Seen) → At (on_seen w t l p (going r kids) (follow w P child t n) s) kids r
         → Keeps w P child t start_tasks whole n (by_seen w t l p r s)
     seen_keeps l p Nothing a = record {
-      kids = kids; below_is = a.below_is; end = a.end; written = a.written;
-      absent = a.absent ∙ sym (append_assoc r.absent (absent_here p (kind_of p) Nothing) _); below = a.below; enters = a.enters
+      kids = kids;
+      below_is = a.below_is;
+      end = a.end;
+      written = a.written;
+      absent = a.absent ∙ sym (append_assoc r.absent (absent_here p (kind_of p) Nothing) _);
+      below = a.below;
+      enters = a.enters;
     }
     seen_keeps l p (Holds b m) a = record {
-      kids = kids; below_is = a.below_is; end = a.end; written = a.written; absent = a.absent; below = a.below; enters = a.enters
+      kids = kids;
+      below_is = a.below_is;
+      end = a.end;
+      written = a.written;
+      absent = a.absent;
+      below = a.below;
+      enters = a.enters;
     }
     seen_keeps l p Clashing a = record {
-      end = a.end; written = a.written ∙ append-nil r.own; absent = a.absent ∙ append-nil r.absent; below = a.below ∙ append-nil r.below; enters = a.enters
+      end = a.end;
+      written = a.written ∙ append-nil r.own;
+      absent = a.absent ∙ append-nil r.absent;
+      below = a.below ∙ append-nil r.below;
+      enters = a.enters;
     }
 
     listing_keeps : (d : Path) (es : Option (List Path)) → At (on_listing t d (going r kids) (follow w P child t n) es) kids r
         → Keeps w P child t start_tasks whole n (by_listing t r es)
     listing_keeps d None a = record {
-      end = a.end; written = a.written ∙ append-nil r.own; absent = a.absent ∙ append-nil r.absent; below = a.below ∙ append-nil r.below; enters = a.enters
+      end = a.end;
+      written = a.written ∙ append-nil r.own;
+      absent = a.absent ∙ append-nil r.absent;
+      below = a.below ∙ append-nil r.below;
+      enters = a.enters;
     }
     listing_keeps d (Some es) a = record {
-      kids = kids; below_is = a.below_is; end = a.end; written = a.written; absent = a.absent; below = a.below; enters = a.enters
+      kids = kids;
+      below_is = a.below_is;
+      end = a.end;
+      written = a.written;
+      absent = a.absent;
+      below = a.below;
+      enters = a.enters;
     }
 
     outcome_keeps : (h : How) (u : Task) (kid : Node) (e : Outcome) → At (needs h u kid (on_outcome h (going r kids) kid (follow w P child t n) e)) kids r
         → Keeps w P child t start_tasks whole n (by_outcome h (with_kid r kid) e)
     outcome_keeps h u kid (Ended v) a = record {
-      kids = kids ++ kid ∷ []; below_is = ap (λ z. z ++ written_in kid) a.below_is ∙ sym (written_in_all-end kids kid); end = a.end; written = a.written; absent = a.absent;
-      below = a.below ∙ sym (append_assoc r.below (written_in kid) _); enters = a.enters
+      kids = kids ++ kid ∷ [];
+      below_is = ap (λ z. z ++ written_in kid) a.below_is ∙ sym (written_in_all-end kids kid);
+      end = a.end;
+      written = a.written;
+      absent = a.absent;
+      below = a.below ∙ sym (append_assoc r.below (written_in kid) _);
+      enters = a.enters;
     }
     outcome_keeps h u kid (Failed x k) a = record {
-      end = a.end; written = a.written ∙ append-nil r.own; absent = a.absent ∙ append-nil r.absent;
-      below = a.below ∙ ap (λ z. r.below ++ z) (append-nil (written_in kid)); enters = a.enters
+      end = a.end;
+      written = a.written ∙ append-nil r.own;
+      absent = a.absent ∙ append-nil r.absent;
+      below = a.below ∙ ap (λ z. r.below ++ z) (append-nil (written_in kid));
+      enters = a.enters;
     }
     outcome_keeps h u kid (Cycled ts) a = record {
-      end = a.end; written = a.written ∙ append-nil r.own; absent = a.absent ∙ append-nil r.absent;
-      below = a.below ∙ ap (λ z. r.below ++ z) (append-nil (written_in kid)); enters = a.enters
+      end = a.end;
+      written = a.written ∙ append-nil r.own;
+      absent = a.absent ∙ append-nil r.absent;
+      below = a.below ∙ ap (λ z. r.below ++ z) (append-nil (written_in kid));
+      enters = a.enters;
     }
     outcome_keeps h u kid Many a = record {
-      end = a.end; written = a.written ∙ append-nil r.own; absent = a.absent ∙ append-nil r.absent;
-      below = a.below ∙ ap (λ z. r.below ++ z) (append-nil (written_in kid)); enters = a.enters
+      end = a.end;
+      written = a.written ∙ append-nil r.own;
+      absent = a.absent ∙ append-nil r.absent;
+      below = a.below ∙ ap (λ z. r.below ++ z) (append-nil (written_in kid));
+      enters = a.enters;
     }
 
     event_keeps : (e : Event) → At (on_event w P child t (going r kids) (follow w P child t n) e) kids r → Keeps w P child t start_tasks whole n (by_event w P child t r e)
@@ -97,22 +140,32 @@ module _ (w : World) (P : Project) (child : Task → Node) (t : Task) (start_tas
     event_keeps (Fail k) a = whole_of kids r (Failed t k) a
     event_keeps (LookAt l p) a =
         seen_keeps l p (seen_by P.file r.own r.below p (kind_of p))
-          (subst (λ s. At (on_seen w t l p (going r kids) (follow w P child t n) s) kids r) (seen_visible P.file r.own r.below kids p (kind_of p) a.below_is) a)
+        (subst (λ s. At (on_seen w t l p (going r kids) (follow w P child t n) s) kids r) (seen_visible P.file r.own r.below kids p (kind_of p) a.below_is) a)
     event_keeps (ListOf d) a = listing_keeps d (listing w P d) a
     event_keeps (Write p b) a = record {
-      kids = kids; below_is = a.below_is; end = a.end; written = a.written ∙ sym (append_assoc r.own ((p, b) ∷ []) _); absent = a.absent; below = a.below; enters = a.enters
+      kids = kids;
+      below_is = a.below_is;
+      end = a.end;
+      written = a.written ∙ sym (append_assoc r.own ((p, b) ∷ []) _);
+      absent = a.absent;
+      below = a.below;
+      enters = a.enters;
     }
     event_keeps (Require h u) a = outcome_keeps h u (child u) (outcome_of (child u)) a
 
   pub step_keeps : (n : ℕ) (r : Row) → IsStage w P child t start_tasks whole (suc n) r → Keeps w P child t start_tasks whole n (step w P child t r)
   step_keeps n r s =
       event_keeps n s.kids r (P.next t r.answers)
-        (record { below_is = s.below_is; end = s.end; written = s.written; absent = s.absent; below = s.below; enters = s.enters })
+      (record { below_is = s.below_is; end = s.end; written = s.written; absent = s.absent; below = s.below; enters = s.enters })
 
   -- without events left it is out of budget
   pub budget_keeps : (r : Row) → IsStage w P child t start_tasks whole zero r → IsWhole start_tasks whole (Failed t Budget) r
   budget_keeps r s = record {
-    end = s.end; written = s.written ∙ append-nil r.own; absent = s.absent ∙ append-nil r.absent; below = s.below ∙ append-nil r.below; enters = s.enters
+    end = s.end;
+    written = s.written ∙ append-nil r.own;
+    absent = s.absent ∙ append-nil r.absent;
+    below = s.below ∙ append-nil r.below;
+    enters = s.enters;
   }
 
 -- the stage at the start

@@ -22,6 +22,7 @@ abbrev mutual
   -- all writes in a tree, each with its task
   pub written_in : Node → List (Task × Path × List ℕ)
   written_in (node t k) = tagged t (writes_of k) ++ written_below k
+
   pub written_below : Trace → List (Task × Path × List ℕ)
   written_below (ends e) = []
   written_below (looks l p s k) = written_below k

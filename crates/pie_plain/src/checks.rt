@@ -8,10 +8,8 @@ ghost use Rattle.pie_model.specs.Paths.{after_prefix};
 ghost use Rattle.pie_model.specs.Verdict.{is_found, finding_of, found_by, findings, least, comes_before};
 
 use pie_model::bytes::Bytes;
-use pie_model::words::Check;
-use pie_model::words::Finding;
-use std::alloc::AllocError;
-use std::alloc::Global;
+use pie_model::words::{Check, Finding};
+use std::alloc::{AllocError, Global};
 use std::cmp::Ordering;
 
 /// Whether a path is a directory above the other one.
@@ -54,7 +52,12 @@ fn finds(check: Check, x: &(Bytes, Bytes), y: &(Bytes, Bytes)) -> bool
 }
 
 /// What a check finds in these two.
-fn finding(alloc: Global, check: Check, x: &(Bytes, Bytes), y: &(Bytes, Bytes)) -> Result<Finding, AllocError>
+fn finding(
+    alloc: Global,
+    check: Check,
+    x: &(Bytes, Bytes),
+    y: &(Bytes, Bytes),
+) -> Result<Finding, AllocError>
     ensures { IfOk result (λ f. f ≡ finding_of check x.now y.now) }
 {
     match check {
@@ -77,7 +80,13 @@ fn finding(alloc: Global, check: Check, x: &(Bytes, Bytes), y: &(Bytes, Bytes)) 
 }
 
 /// Puts at the end what a check finds in one of these and all of those.
-fn find_in(alloc: Global, into: &mut Vec<Finding>, check: Check, x: &(Bytes, Bytes), ys: &[(Bytes, Bytes)]) -> Result<(), AllocError>
+fn find_in(
+    alloc: Global,
+    into: &mut Vec<Finding>,
+    check: Check,
+    x: &(Bytes, Bytes),
+    ys: &[(Bytes, Bytes)],
+) -> Result<(), AllocError>
     ensures { OnOk result (into.new.items ≡ into.old.items ++ flat_map (found_by check x.now) ys.now) }
 {
     match ys {
@@ -92,7 +101,13 @@ fn find_in(alloc: Global, into: &mut Vec<Finding>, check: Check, x: &(Bytes, Byt
 }
 
 /// Puts at the end what a check finds in all of these and all of those.
-pub fn find_all(alloc: Global, into: &mut Vec<Finding>, check: Check, xs: &[(Bytes, Bytes)], ys: &[(Bytes, Bytes)]) -> Result<(), AllocError>
+pub fn find_all(
+    alloc: Global,
+    into: &mut Vec<Finding>,
+    check: Check,
+    xs: &[(Bytes, Bytes)],
+    ys: &[(Bytes, Bytes)],
+) -> Result<(), AllocError>
     ensures { OnOk result (into.new.items ≡ into.old.items ++ findings check xs.now ys.now) }
 {
     match xs {

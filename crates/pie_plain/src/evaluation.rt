@@ -7,23 +7,12 @@ ghost use Rattle.pie_plain.specs.Runs.{row_of, turn_of};
 ghost use Rattle.pie_plain.specs.Steps.{IsEvaluated, IsWhole, with_kid, by_outcome, step};
 ghost use Rattle.pie_plain.specs.Written.{tagged};
 
-use crate::names::contains;
-use crate::names::entering;
-use crate::names::extend;
-use crate::names::round_onto;
-use crate::names::tag_all;
-use crate::names::with_front;
-use crate::run::Run;
-use crate::run::Summary;
+use crate::names::{contains, entering, extend, round_onto, tag_all, with_front};
+use crate::run::{Run, Summary};
 use crate::setting::Setting;
-use pie_model::bytes::Bytes;
-use pie_model::bytes::Names;
-use pie_model::words::Event;
-use pie_model::words::FaultKind;
-use pie_model::words::How;
-use pie_model::words::Outcome;
-use std::alloc::AllocError;
-use std::alloc::Global;
+use pie_model::bytes::{Bytes, Names};
+use pie_model::words::{Event, FaultKind, How, Outcome};
+use std::alloc::{AllocError, Global};
 
 /// What a required task's evaluation adds to a run.
 fn take(alloc: Global, run: &mut Run, task: &Bytes, kid: Run) -> Result<(), AllocError>
@@ -37,7 +26,15 @@ fn take(alloc: Global, run: &mut Run, task: &Bytes, kid: Run) -> Result<(), Allo
 
 /// A require.
 #[cycle(evaluating)]
-fn require<S: Setting>(setting: &S, alloc: Global, room: u64, below: &Names, how: How, task: &Bytes, run: &mut Run) -> Result<Option<Outcome>, AllocError>
+fn require<S: Setting>(
+    setting: &S,
+    alloc: Global,
+    room: u64,
+    below: &Names,
+    how: How,
+    task: &Bytes,
+    run: &mut Run,
+) -> Result<Option<Outcome>, AllocError>
     ensures { IfOk result (λ o. turn_of o (row_of run.new) ≡ by_outcome how (with_kid (row_of run.old) (evaluation_with room (S.world setting.now) (S.project setting.now) below.now task.now)) (outcome_of (evaluation_with room (S.world setting.now) (S.project setting.now) below.now task.now))) }
 {
     let kid = evaluate(setting, alloc, room, below, task, &run.entered)?;
@@ -47,7 +44,14 @@ fn require<S: Setting>(setting: &S, alloc: Global, room: u64, below: &Names, how
 
 /// The next event of a task below these, itself included.
 #[cycle(evaluating)]
-fn advance<S: Setting>(setting: &S, alloc: Global, room: u64, below: &Names, task: &Bytes, run: &mut Run) -> Result<Option<Outcome>, AllocError>
+fn advance<S: Setting>(
+    setting: &S,
+    alloc: Global,
+    room: u64,
+    below: &Names,
+    task: &Bytes,
+    run: &mut Run,
+) -> Result<Option<Outcome>, AllocError>
     ensures { IfOk result (λ o. turn_of o (row_of run.new) ≡ step (S.world setting.now) (S.project setting.now) (evaluation_with room (S.world setting.now) (S.project setting.now) below.now) task.now (row_of run.old)) }
 {
     match setting.next(task, run.answers.as_slice())? {
@@ -65,7 +69,14 @@ fn advance<S: Setting>(setting: &S, alloc: Global, room: u64, below: &Names, tas
 
 /// All events of a task below these, itself included.
 #[cycle(evaluating)]
-fn events<S: Setting>(setting: &S, alloc: Global, room: u64, below: &Names, task: &Bytes, entered: Names) -> Result<Summary, AllocError>
+fn events<S: Setting>(
+    setting: &S,
+    alloc: Global,
+    room: u64,
+    below: &Names,
+    task: &Bytes,
+    entered: Names,
+) -> Result<Summary, AllocError>
     ensures { IfOk result (λ s. IsWhole entered (follow (S.world setting.now) (S.project setting.now) (evaluation_with room (S.world setting.now) (S.project setting.now) below.now) task.now (S.world setting.now).most_events start) s.outcome (row_of s.run)) }
 {
     let mut run = Run::new(alloc, entered);
@@ -84,16 +95,29 @@ fn events<S: Setting>(setting: &S, alloc: Global, room: u64, below: &Names, task
 /// The evaluation of a task below these, the newest first, where at most so many tasks may stand one below the other.
 /// It is gone through after these tasks were entered.
 #[cycle(evaluating)]
-pub fn evaluate<S: Setting>(setting: &S, alloc: Global, room: u64, above: &Names, task: &Bytes, entered: &Names) -> Result<Summary, AllocError>
+pub fn evaluate<S: Setting>(
+    setting: &S,
+    alloc: Global,
+    room: u64,
+    above: &Names,
+    task: &Bytes,
+    entered: &Names,
+) -> Result<Summary, AllocError>
     ensures { IfOk result (λ s. IsEvaluated (evaluation_with room (S.world setting.now) (S.project setting.now) above.now task.now) entered.now s.outcome (row_of s.run)) }
 {
     let entered = entering(alloc, entered, task)?;
     if contains(above.as_slice(), task) {
         let tasks = round_onto(alloc, task, above.as_slice(), Names::new(alloc))?;
-        return Ok(Summary { outcome: Outcome::Cycled(tasks), run: Run::new(alloc, entered) });
+        return Ok(Summary {
+            outcome: Outcome::Cycled(tasks),
+            run: Run::new(alloc, entered),
+        });
     }
     if room == 0 {
-        return Ok(Summary { outcome: Outcome::Many, run: Run::new(alloc, entered) });
+        return Ok(Summary {
+            outcome: Outcome::Many,
+            run: Run::new(alloc, entered),
+        });
     }
     let below = with_front(alloc, task, above)?;
     events(setting, alloc, room - 1, &below, task, entered)

@@ -6,10 +6,8 @@ ghost use Rattle.pie_model.specs.Trees.{enter};
 ghost use Rattle.pie_model.specs.Evaluation.{round};
 ghost use Rattle.pie_plain.specs.Written.{tagged};
 
-use pie_model::bytes::Bytes;
-use pie_model::bytes::Names;
-use std::alloc::AllocError;
-use std::alloc::Global;
+use pie_model::bytes::{Bytes, Names};
+use std::alloc::{AllocError, Global};
 
 /// Whether a name is one of these.
 pub fn contains(names: &[Bytes], name: &Bytes) -> bool
@@ -70,7 +68,12 @@ pub fn entering(alloc: Global, entered: &Names, task: &Bytes) -> Result<Names, A
 }
 
 /// The tasks from one that is required again to the one that requires it, in front of those found.
-pub fn round_onto(alloc: Global, task: &Bytes, above: &[Bytes], found: Names) -> Result<Names, AllocError>
+pub fn round_onto(
+    alloc: Global,
+    task: &Bytes,
+    above: &[Bytes],
+    found: Names,
+) -> Result<Names, AllocError>
     ensures { IfOk result (λ all. all ≡ round task.now above.now found) }
 {
     match above {
@@ -86,26 +89,43 @@ pub fn round_onto(alloc: Global, task: &Bytes, above: &[Bytes], found: Names) ->
 }
 
 /// Puts a task's writes at the end, each with the task.
-pub fn tag_all(alloc: Global, into: &mut Vec<(Bytes, Bytes, Bytes)>, task: &Bytes, writes: &[(Bytes, Bytes)]) -> Result<(), AllocError>
+pub fn tag_all(
+    alloc: Global,
+    into: &mut Vec<(Bytes, Bytes, Bytes)>,
+    task: &Bytes,
+    writes: &[(Bytes, Bytes)],
+) -> Result<(), AllocError>
     ensures { OnOk result (into.new.items ≡ into.old.items ++ tagged task.now writes.now) }
 {
     match writes {
         [] => Ok(()),
         [first, rest @ ..] => {
-            into.push((task.copy(alloc)?, first.0.copy(alloc)?, first.1.copy(alloc)?))?;
+            into.push((
+                task.copy(alloc)?,
+                first.0.copy(alloc)?,
+                first.1.copy(alloc)?,
+            ))?;
             tag_all(alloc, into, task, rest)
         }
     }
 }
 
 /// Puts copies of these writes at the end.
-pub fn extend(alloc: Global, into: &mut Vec<(Bytes, Bytes, Bytes)>, writes: &[(Bytes, Bytes, Bytes)]) -> Result<(), AllocError>
+pub fn extend(
+    alloc: Global,
+    into: &mut Vec<(Bytes, Bytes, Bytes)>,
+    writes: &[(Bytes, Bytes, Bytes)],
+) -> Result<(), AllocError>
     ensures { OnOk result (into.new.items ≡ into.old.items ++ writes.now) }
 {
     match writes {
         [] => Ok(()),
         [first, rest @ ..] => {
-            into.push((first.0.copy(alloc)?, first.1.copy(alloc)?, first.2.copy(alloc)?))?;
+            into.push((
+                first.0.copy(alloc)?,
+                first.1.copy(alloc)?,
+                first.2.copy(alloc)?,
+            ))?;
             extend(alloc, into, rest)
         }
     }

@@ -11,11 +11,9 @@ use crate::evaluation::evaluate;
 use crate::names::copied;
 use crate::run::Summary;
 use crate::setting::Setting;
-use pie_model::bytes::Bytes;
-use pie_model::bytes::Names;
+use pie_model::bytes::{Bytes, Names};
 use pie_model::words::Outcome;
-use std::alloc::AllocError;
-use std::alloc::Global;
+use std::alloc::{AllocError, Global};
 
 /// What is kept of the roots.
 #[derive(Drop)]
@@ -27,7 +25,12 @@ pub struct Forest {
 }
 
 /// The evaluation of a task with nothing above, after these tasks were entered.
-fn alone<S: Setting>(setting: &S, alloc: Global, task: &Bytes, entered: &Names) -> Result<Summary, AllocError>
+fn alone<S: Setting>(
+    setting: &S,
+    alloc: Global,
+    task: &Bytes,
+    entered: &Names,
+) -> Result<Summary, AllocError>
     ensures { IfOk result (λ s. IsEvaluated (evaluation (S.world setting.now) (S.project setting.now) task.now) entered.now s.outcome (row_of s.run)) }
 {
     let above = Names::new(alloc);
@@ -36,7 +39,12 @@ fn alone<S: Setting>(setting: &S, alloc: Global, task: &Bytes, entered: &Names) 
 }
 
 /// The roots up to the first that does not end with a value.
-pub fn evaluate_roots<S: Setting>(setting: &S, alloc: Global, roots: &[Bytes], entered: &Names) -> Result<Forest, AllocError>
+pub fn evaluate_roots<S: Setting>(
+    setting: &S,
+    alloc: Global,
+    roots: &[Bytes],
+    entered: &Names,
+) -> Result<Forest, AllocError>
     ensures { IfOk result (IsForest (S.world setting.now) (S.project setting.now) roots.now entered.now) }
 {
     match roots {
@@ -54,7 +62,10 @@ pub fn evaluate_roots<S: Setting>(setting: &S, alloc: Global, roots: &[Bytes], e
                     let forest = evaluate_roots(setting, alloc, rest, &run.entered)?;
                     Ok(forest)
                 }
-                Outcome::Failed(task, kind) => Ok(stopped(Outcome::Failed(task, kind), run.entered)),
+                Outcome::Failed(task, kind) => Ok(stopped(
+                    Outcome::Failed(task, kind),
+                    run.entered,
+                )),
                 Outcome::Cycled(tasks) => Ok(stopped(Outcome::Cycled(tasks), run.entered)),
                 Outcome::Many => Ok(stopped(Outcome::Many, run.entered)),
             }
@@ -73,7 +84,12 @@ fn stopped(outcome: Outcome, entered: Names) -> Forest
 }
 
 /// Puts the paths of these writes at the end, each with the task.
-fn pair_writes(alloc: Global, into: &mut Vec<(Bytes, Bytes)>, writes: &[(Bytes, Bytes)], task: &Bytes) -> Result<(), AllocError>
+fn pair_writes(
+    alloc: Global,
+    into: &mut Vec<(Bytes, Bytes)>,
+    writes: &[(Bytes, Bytes)],
+    task: &Bytes,
+) -> Result<(), AllocError>
     ensures { OnOk result (into.new.items ≡ into.old.items ++ map (λ x. (x.0, task.now)) writes.now) }
 {
     match writes {
@@ -86,7 +102,12 @@ fn pair_writes(alloc: Global, into: &mut Vec<(Bytes, Bytes)>, writes: &[(Bytes, 
 }
 
 /// Puts these paths at the end, each with the task.
-fn pair_names(alloc: Global, into: &mut Vec<(Bytes, Bytes)>, names: &[Bytes], task: &Bytes) -> Result<(), AllocError>
+fn pair_names(
+    alloc: Global,
+    into: &mut Vec<(Bytes, Bytes)>,
+    names: &[Bytes],
+    task: &Bytes,
+) -> Result<(), AllocError>
     ensures { OnOk result (into.new.items ≡ into.old.items ++ map (λ p. (p, task.now)) names.now) }
 {
     match names {
@@ -99,7 +120,13 @@ fn pair_names(alloc: Global, into: &mut Vec<(Bytes, Bytes)>, names: &[Bytes], ta
 }
 
 /// Puts at the end the paths that a live task wrote, and those that it found absent, each with the task.
-fn gather_one<S: Setting>(setting: &S, alloc: Global, task: &Bytes, written: &mut Vec<(Bytes, Bytes)>, missed: &mut Vec<(Bytes, Bytes)>) -> Result<(), AllocError>
+fn gather_one<S: Setting>(
+    setting: &S,
+    alloc: Global,
+    task: &Bytes,
+    written: &mut Vec<(Bytes, Bytes)>,
+    missed: &mut Vec<(Bytes, Bytes)>,
+) -> Result<(), AllocError>
     ensures written { OnOk result (written.new.items ≡ written.old.items ++ written_by (evaluation (S.world setting.now) (S.project setting.now) task.now)) }
     ensures missed { OnOk result (missed.new.items ≡ missed.old.items ++ missed_by (evaluation (S.world setting.now) (S.project setting.now) task.now)) }
 {
@@ -111,7 +138,13 @@ fn gather_one<S: Setting>(setting: &S, alloc: Global, task: &Bytes, written: &mu
 }
 
 /// Puts at the end the paths that these live tasks wrote, and those that they found absent, each with its task.
-pub fn gather<S: Setting>(setting: &S, alloc: Global, tasks: &[Bytes], written: &mut Vec<(Bytes, Bytes)>, missed: &mut Vec<(Bytes, Bytes)>) -> Result<(), AllocError>
+pub fn gather<S: Setting>(
+    setting: &S,
+    alloc: Global,
+    tasks: &[Bytes],
+    written: &mut Vec<(Bytes, Bytes)>,
+    missed: &mut Vec<(Bytes, Bytes)>,
+) -> Result<(), AllocError>
     ensures written { OnOk result (written.new.items ≡ written.old.items ++ written_by_all (S.world setting.now) (S.project setting.now) tasks.now) }
     ensures missed { OnOk result (missed.new.items ≡ missed.old.items ++ missed_by_all (S.world setting.now) (S.project setting.now) tasks.now) }
 {

@@ -4,16 +4,9 @@ ghost use Rattle.std.specs.Prelude.{◌≡◌, ℕ, [], ◌∷◌, ◌++◌, IfO
 
 use crate::setting::Setting;
 use crate::sight::visible;
-use pie_model::bytes::Bytes;
-use pie_model::bytes::Names;
-use pie_model::words::Answer;
-use pie_model::words::FaultKind;
-use pie_model::words::How;
-use pie_model::words::Look;
-use pie_model::words::Outcome;
-use pie_model::words::Seen;
-use std::alloc::AllocError;
-use std::alloc::Global;
+use pie_model::bytes::{Bytes, Names};
+use pie_model::words::{Answer, FaultKind, How, Look, Outcome, Seen};
+use std::alloc::{AllocError, Global};
 
 /// How far a task has come.
 #[derive(Drop)]
@@ -71,7 +64,12 @@ impl Run {
     }
 
     /// One more path under `out` that was found absent.
-    fn miss<S: Setting>(&mut self, setting: &S, alloc: Global, path: &Bytes) -> Result<(), AllocError>
+    fn miss<S: Setting>(
+        &mut self,
+        setting: &S,
+        alloc: Global,
+        path: &Bytes,
+    ) -> Result<(), AllocError>
         ensures { OnOk result (row_of self.new ≡ record (row_of self.old) { absent = (row_of self.old).absent ++ absent_here path.now (kind_of path.now) Nothing }) }
     {
         if setting.kind(path) == pie_model::words::Kind::Out {
@@ -81,7 +79,15 @@ impl Run {
     }
 
     /// After a look that saw this.
-    fn see<S: Setting>(&mut self, setting: &S, alloc: Global, task: &Bytes, look: Look, path: &Bytes, seen: Seen) -> Result<Option<Outcome>, AllocError>
+    fn see<S: Setting>(
+        &mut self,
+        setting: &S,
+        alloc: Global,
+        task: &Bytes,
+        look: Look,
+        path: &Bytes,
+        seen: Seen,
+    ) -> Result<Option<Outcome>, AllocError>
         ensures { IfOk result (λ o. turn_of o (row_of self.new) ≡ by_seen (S.world setting.now) task.now look path.now (row_of self.old) seen) }
     {
         match seen {
@@ -99,15 +105,34 @@ impl Run {
     }
 
     /// A look.
-    pub fn look<S: Setting>(&mut self, setting: &S, alloc: Global, task: &Bytes, look: Look, path: &Bytes) -> Result<Option<Outcome>, AllocError>
+    pub fn look<S: Setting>(
+        &mut self,
+        setting: &S,
+        alloc: Global,
+        task: &Bytes,
+        look: Look,
+        path: &Bytes,
+    ) -> Result<Option<Outcome>, AllocError>
         ensures { IfOk result (λ o. turn_of o (row_of self.new) ≡ by_seen (S.world setting.now) task.now look path.now (row_of self.old) (seen_by (S.project setting.now).file (row_of self.old).own (row_of self.old).below path.now (kind_of path.now))) }
     {
-        let seen = visible(setting, alloc, self.own.as_slice(), self.below.as_slice(), path)?;
+        let seen = visible(
+            setting,
+            alloc,
+            self.own.as_slice(),
+            self.below.as_slice(),
+            path,
+        )?;
         self.see(setting, alloc, task, look, path, seen)
     }
 
     /// A listing.
-    pub fn list<S: Setting>(&mut self, setting: &S, alloc: Global, task: &Bytes, dir: &Bytes) -> Result<Option<Outcome>, AllocError>
+    pub fn list<S: Setting>(
+        &mut self,
+        setting: &S,
+        alloc: Global,
+        task: &Bytes,
+        dir: &Bytes,
+    ) -> Result<Option<Outcome>, AllocError>
         ensures { IfOk result (λ o. turn_of o (row_of self.new) ≡ by_listing task.now (row_of self.old) (listing (S.world setting.now) (S.project setting.now) dir.now)) }
     {
         match setting.listing(dir)? {

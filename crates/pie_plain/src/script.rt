@@ -5,16 +5,10 @@ ghost use Rattle.pie_model.specs.Paths.{kind_of, first_segment};
 ghost use Rattle.pie_plain.specs.Kinds.{has_slash};
 ghost use Rattle.pie_plain.specs.Script.{event_in, file_in};
 
-use crate::setting::File;
-use crate::setting::Setting;
-use pie_model::bytes::Bytes;
-use pie_model::bytes::Names;
-use pie_model::words::Answer;
-use pie_model::words::Event;
-use pie_model::words::FaultKind;
-use pie_model::words::Kind;
-use std::alloc::AllocError;
-use std::alloc::Global;
+use crate::setting::{File, Setting};
+use pie_model::bytes::{Bytes, Names};
+use pie_model::words::{Answer, Event, FaultKind, Kind};
+use std::alloc::{AllocError, Global};
 
 /// What a task does when it has had so many answers.
 #[derive(Drop)]
@@ -119,7 +113,12 @@ pub fn kind_at(path: &[u8]) -> Kind
 }
 
 /// The event of a task when it has had so many answers.
-fn event_at(alloc: Global, lines: &[Line], task: &Bytes, answers: usize) -> Result<Event, AllocError>
+fn event_at(
+    alloc: Global,
+    lines: &[Line],
+    task: &Bytes,
+    answers: usize,
+) -> Result<Event, AllocError>
     ensures { IfOk result (λ e. e ≡ event_in lines.now task.now answers) }
 {
     match lines {
@@ -171,7 +170,11 @@ fn copied_kind(alloc: Global, kind: &FaultKind) -> Result<FaultKind, AllocError>
 }
 
 /// The file at a path.
-fn file_at(alloc: Global, files: &[(Bytes, Bytes)], path: &Bytes) -> Result<Option<File>, AllocError>
+fn file_at(
+    alloc: Global,
+    files: &[(Bytes, Bytes)],
+    path: &Bytes,
+) -> Result<Option<File>, AllocError>
     ensures { IfOk result (λ f. option_map (λ x. (x.bytes, x.mark)) f ≡ file_in files.now path.now) }
 {
     match files {

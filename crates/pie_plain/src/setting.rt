@@ -4,11 +4,8 @@ ghost use Rattle.std.specs.Prelude.{◌≡◌, ℕ, IfOk, option_map};
 ghost use Rattle.pie_model.specs.Evaluation.{World, Project, listing};
 ghost use Rattle.pie_model.specs.Paths.{kind_of};
 
-use pie_model::bytes::Bytes;
-use pie_model::bytes::Names;
-use pie_model::words::Answer;
-use pie_model::words::Event;
-use pie_model::words::Kind;
+use pie_model::bytes::{Bytes, Names};
+use pie_model::words::{Answer, Event, Kind};
 use std::alloc::AllocError;
 
 /// A source file.

@@ -7,13 +7,15 @@ ghost use Rattle.pie_plain.specs.Written.{at_path, seen_by};
 
 use crate::setting::Setting;
 use pie_model::bytes::Bytes;
-use pie_model::words::Kind;
-use pie_model::words::Seen;
-use std::alloc::AllocError;
-use std::alloc::Global;
+use pie_model::words::{Kind, Seen};
+use std::alloc::{AllocError, Global};
 
 /// What was written first at the path.
-pub fn first(alloc: Global, writes: &[(Bytes, Bytes)], path: &Bytes) -> Result<Option<Bytes>, AllocError>
+pub fn first(
+    alloc: Global,
+    writes: &[(Bytes, Bytes)],
+    path: &Bytes,
+) -> Result<Option<Bytes>, AllocError>
     ensures { IfOk result (λ o. o ≡ first_write path.now writes.now) }
 {
     match writes {
@@ -61,7 +63,12 @@ pub fn shown(alloc: Global, all: &[(Bytes, Bytes, Bytes)], path: &Bytes) -> Resu
 }
 
 /// What stands at a path under `out`.
-fn provided(alloc: Global, own: &[(Bytes, Bytes)], below: &[(Bytes, Bytes, Bytes)], path: &Bytes) -> Result<Seen, AllocError>
+fn provided(
+    alloc: Global,
+    own: &[(Bytes, Bytes)],
+    below: &[(Bytes, Bytes, Bytes)],
+    path: &Bytes,
+) -> Result<Seen, AllocError>
     ensures { IfOk result (λ s. s ≡ own_first (first_write path.now own.now) (by_writers (at_path path.now below.now))) }
 {
     match first(alloc, own, path)? {
@@ -81,7 +88,13 @@ fn source<S: Setting>(setting: &S, path: &Bytes) -> Result<Seen, AllocError>
 }
 
 /// What a task sees at a path, after these own writes and all these writes of what it required.
-pub fn visible<S: Setting>(setting: &S, alloc: Global, own: &[(Bytes, Bytes)], below: &[(Bytes, Bytes, Bytes)], path: &Bytes) -> Result<Seen, AllocError>
+pub fn visible<S: Setting>(
+    setting: &S,
+    alloc: Global,
+    own: &[(Bytes, Bytes)],
+    below: &[(Bytes, Bytes, Bytes)],
+    path: &Bytes,
+) -> Result<Seen, AllocError>
     ensures { IfOk result (λ s. s ≡ seen_by (S.project setting.now).file own.now below.now path.now (kind_of path.now)) }
 {
     match setting.kind(path) {

@@ -4,19 +4,12 @@ ghost use Rattle.std.specs.Prelude.{◌≡◌, ℕ, IfOk, map};
 ghost use Rattle.pie_model.specs.Verdict.{checked, by_findings, by_stop, final_checks, findings, least, verdict};
 ghost use Rattle.pie_model.specs.Evaluation.{evaluation};
 
-use crate::checks::find_all;
-use crate::checks::least_of;
-use crate::roots::evaluate_roots;
-use crate::roots::gather;
+use crate::checks::{find_all, least_of};
+use crate::roots::{evaluate_roots, gather};
 use crate::setting::Setting;
-use pie_model::bytes::Bytes;
-use pie_model::bytes::Names;
-use pie_model::words::Check;
-use pie_model::words::Finding;
-use pie_model::words::Outcome;
-use pie_model::words::Verdict;
-use std::alloc::AllocError;
-use std::alloc::Global;
+use pie_model::bytes::{Bytes, Names};
+use pie_model::words::{Check, Finding, Outcome, Verdict};
+use std::alloc::{AllocError, Global};
 
 /// The first of the last three refusals that holds.
 fn refusal(overlap: Option<Finding>, nested: Option<Finding>, hidden: Option<Finding>) -> Verdict
@@ -35,7 +28,12 @@ fn refusal(overlap: Option<Finding>, nested: Option<Finding>, hidden: Option<Fin
 }
 
 /// The least finding of a check.
-fn least_finding(alloc: Global, check: Check, xs: &[(Bytes, Bytes)], ys: &[(Bytes, Bytes)]) -> Result<Option<Finding>, AllocError>
+fn least_finding(
+    alloc: Global,
+    check: Check,
+    xs: &[(Bytes, Bytes)],
+    ys: &[(Bytes, Bytes)],
+) -> Result<Option<Finding>, AllocError>
     ensures { IfOk result (λ f. f ≡ least (findings check xs.now ys.now)) }
 {
     let mut found = Vec::new(alloc);
@@ -45,7 +43,11 @@ fn least_finding(alloc: Global, check: Check, xs: &[(Bytes, Bytes)], ys: &[(Byte
 }
 
 /// The checks of written paths, and of absent ones against them.
-fn checks(alloc: Global, written: &[(Bytes, Bytes)], missed: &[(Bytes, Bytes)]) -> Result<Verdict, AllocError>
+fn checks(
+    alloc: Global,
+    written: &[(Bytes, Bytes)],
+    missed: &[(Bytes, Bytes)],
+) -> Result<Verdict, AllocError>
     ensures { IfOk result (λ v. v ≡ checked written.now missed.now) }
 {
     let overlap = least_finding(alloc, Check::Overlapping, written, written)?;
@@ -66,7 +68,12 @@ fn check_live<S: Setting>(setting: &S, alloc: Global, tasks: &Names) -> Result<V
 }
 
 /// The verdict where not too many tasks are entered.
-fn judge<S: Setting>(setting: &S, alloc: Global, stop: Option<Outcome>, tasks: &Names) -> Result<Verdict, AllocError>
+fn judge<S: Setting>(
+    setting: &S,
+    alloc: Global,
+    stop: Option<Outcome>,
+    tasks: &Names,
+) -> Result<Verdict, AllocError>
     ensures { IfOk result (λ v. v ≡ by_stop stop (map (evaluation (S.world setting.now) (S.project setting.now)) tasks.now)) }
 {
     match stop {
@@ -79,7 +86,11 @@ fn judge<S: Setting>(setting: &S, alloc: Global, stop: Option<Outcome>, tasks: &
 }
 
 /// The verdict on a project and its roots.
-pub fn verdict_on<S: Setting>(setting: &S, alloc: Global, roots: &[Bytes]) -> Result<Verdict, AllocError>
+pub fn verdict_on<S: Setting>(
+    setting: &S,
+    alloc: Global,
+    roots: &[Bytes],
+) -> Result<Verdict, AllocError>
     ensures { IfOk result (λ v. v ≡ verdict (S.world setting.now) (S.project setting.now) roots.now) }
 {
     let none = Names::new(alloc);
@@ -93,19 +104,20 @@ pub fn verdict_on<S: Setting>(setting: &S, alloc: Global, roots: &[Bytes]) -> Re
 #[cfg(test)]
 mod tests {
     use super::*;
-    use crate::script::Line;
-    use crate::script::Script;
-    use pie_model::words::Event;
-    use pie_model::words::FaultKind;
-    use pie_model::words::How;
-    use pie_model::words::Look;
+    use crate::script::{Line, Script};
+    use pie_model::words::{Event, FaultKind, How, Look};
     use std::test::Fail;
 
     fn bytes(alloc: Global, text: &str) -> Result<Bytes, AllocError> {
         Bytes::from_slice(alloc, text.as_bytes())
     }
 
-    fn add(script: &mut Script, task: &str, answers: usize, event: Event) -> Result<(), AllocError> {
+    fn add(
+        script: &mut Script,
+        task: &str,
+        answers: usize,
+        event: Event,
+    ) -> Result<(), AllocError> {
         let task = bytes(script.alloc, task)?;
         script.lines.push(Line {
             task,
@@ -115,7 +127,12 @@ mod tests {
         Ok(())
     }
 
-    fn needs(script: &mut Script, task: &str, answers: usize, other: &str) -> Result<(), AllocError> {
+    fn needs(
+        script: &mut Script,
+        task: &str,
+        answers: usize,
+        other: &str,
+    ) -> Result<(), AllocError> {
         let other = bytes(script.alloc, other)?;
         add(script, task, answers, Event::Require(How::Ran, other))
     }
@@ -127,7 +144,12 @@ mod tests {
         ends(script, task, 1)
     }
 
-    fn looks(script: &mut Script, task: &str, answers: usize, path: &str) -> Result<(), AllocError> {
+    fn looks(
+        script: &mut Script,
+        task: &str,
+        answers: usize,
+        path: &str,
+    ) -> Result<(), AllocError> {
         let path = bytes(script.alloc, path)?;
         add(script, task, answers, Event::LookAt(Look::Exists, path))
     }
