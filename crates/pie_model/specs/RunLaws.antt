@@ -26,8 +26,8 @@ RunsSeeNothing =
 -- a look that finds contents
 abbrev pub RunsSeeContents : Type 0
 RunsSeeContents =
-    (w : World) (P : Project) (room : ℕ) (above : List Task) (t : Task) (n : ℕ) (g : Progress) (seen : List Observation) (l : Look) (p : Path) (b : List ℕ) (m : ℕ)
-    → P.next t g.answers ≡ LookAt l p → visible_at P.file g.own g.kids p ≡ Holds b m → IsRunning w P room above t (suc n) g seen
+    (w : World) (P : Project) (room : ℕ) (above : List Task) (t : Task) (n : ℕ) (g : Progress) (seen : List Observation) (l : Look) (p : Path)
+    (b : List ℕ) (m : ℕ) → P.next t g.answers ≡ LookAt l p → visible_at P.file g.own g.kids p ≡ Holds b m → IsRunning w P room above t (suc n) g seen
     → IsRunning w P room above t n (answered g (present_answer w b l)) (seen ++ observed (Looked l p) (contents_stamp w p b m l) ∷ [])
 
 -- a listing
@@ -43,20 +43,23 @@ RunsWrite =
     (w : World) (P : Project) (room : ℕ) (above : List Task) (t : Task) (n : ℕ) (g : Progress) (seen : List Observation) (p : Path) (b : List ℕ)
     → P.next t g.answers ≡ Write p b → IsRunning w P room above t (suc n) g seen → IsRunning w P room above t n (wrote g p b) seen
 
--- a require: the required task's evaluation stands in the requirer's, and where it ends with a value the requirer goes on
+-- a required task's evaluation stands in the requirer's
 abbrev pub RequiredTasksStand : Type 0
 RequiredTasksStand =
     (w : World) (P : Project) (room : ℕ) (above : List Task) (t : Task) (n : ℕ) (g : Progress) (seen : List Observation) (h : How) (u : Task)
     → P.next t g.answers ≡ Require h u → IsRunning w P room above t (suc n) g seen
     → StandsIn (evaluation_with room w P (t ∷ above) u) (evaluation_with (suc room) w P above t)
 
+-- a required task that ended with a value: the requirer goes on
 abbrev pub RunsAreAnswered : Type 0
 RunsAreAnswered =
     (w : World) (P : Project) (room : ℕ) (above : List Task) (t : Task) (n : ℕ) (g : Progress) (seen : List Observation) (h : How) (u : Task) (v : Value)
     → P.next t g.answers ≡ Require h u → outcome_of (evaluation_with room w P (t ∷ above) u) ≡ Ended v → IsRunning w P room above t (suc n) g seen
-    → IsRunning w P room above t n (required g (evaluation_with room w P (t ∷ above) u) (output_answer v h)) (seen ++ observed (Required h u) (value_stamp w v h) ∷ [])
+    → IsRunning w P room above t n (required g (evaluation_with room w P (t ∷ above) u) (output_answer v h))
+        (seen ++ observed (Required h u) (value_stamp w v h) ∷ [])
 
--- what all that a task reaches has the record of its evaluation is answered from it: below distinct counted tasks that it does not reach, its evaluation is its own
+-- a record answers a require: where all that a task reaches has the records of its evaluations,
+-- below distinct counted tasks that it does not reach its evaluation is the one with nothing above
 abbrev pub RecordsAnswerRequires : Type 0
 RecordsAnswerRequires =
     (w : World) (P : Project) (R : Task → Option Record) (held above : List Task) → length held ≤ w.most_tasks

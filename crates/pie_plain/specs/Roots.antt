@@ -8,6 +8,13 @@ use Rattle.pie_model.specs.Running.{entered_all}
 use Rattle.pie_model.specs.Forest.{forest, first_stop}
 use Rattle.pie_model.specs.Verdict.{written_by, missed_by}
 use Rattle.pie_plain.specs.declared.roots.Forest.{Forest}
+use Rattle.pie_plain.specs.declared.run.Summary.{Summary}
+use Rattle.pie_plain.specs.Runs.{row_of}
+use Rattle.pie_plain.specs.Steps.{IsEvaluated}
+
+-- the evaluation of a task with nothing above, after these tasks were entered
+abbrev pub IsAlone : World → Project → Task → List Task → Summary → Type 0
+IsAlone w P t entered s = IsEvaluated (evaluation w P t) entered s.outcome (row_of s.run)
 
 -- the first outcome of these roots that is no value, and the tasks entered after these
 pub record IsForest (w : World) (P : Project) (roots entered : List Task) (f : Forest) : Type 0 where

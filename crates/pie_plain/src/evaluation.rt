@@ -1,11 +1,7 @@
 //! Evaluation: each required task is evaluated again.
 
-ghost use Rattle.std.specs.Prelude.{◌≡◌, ℕ, [], ◌∷◌, ◌++◌, IfOk, OnOk};
-ghost use Rattle.pie_model.specs.Evaluation.{start, follow, evaluation_with};
-ghost use Rattle.pie_model.specs.Trees.{outcome_of};
-ghost use Rattle.pie_plain.specs.Runs.{row_of, turn_of};
-ghost use Rattle.pie_plain.specs.Steps.{IsEvaluated, IsWhole, with_kid, by_outcome, step};
-ghost use Rattle.pie_plain.specs.Written.{tagged};
+ghost use Rattle.std.specs.Prelude.{IfOk, OnOk};
+ghost use Rattle.pie_plain.specs.Runs.{IsEvaluationOf, IsRequire, IsStep, IsTraceOf, TakesKid};
 
 use crate::names::{contains, entering, extend, round_onto, tag_all, with_front};
 use crate::run::{Run, Summary};
@@ -16,7 +12,7 @@ use std::alloc::{AllocError, Global};
 
 /// What a required task's evaluation adds to a run.
 fn take(alloc: Global, run: &mut Run, task: &Bytes, kid: Run) -> Result<(), AllocError>
-    ensures { OnOk result (row_of run.new ≡ record (row_of run.old) { below = (row_of run.old).below ++ (tagged task.now (row_of kid).own ++ (row_of kid).below); entered = (row_of kid).entered }) }
+    ensures { OnOk result (TakesKid task.now kid run.old run.new) }
 {
     tag_all(alloc, &mut run.below, task, kid.own.as_slice())?;
     extend(alloc, &mut run.below, kid.below.as_slice())?;
@@ -35,7 +31,7 @@ fn require<S: Setting>(
     task: &Bytes,
     run: &mut Run,
 ) -> Result<Option<Outcome>, AllocError>
-    ensures { IfOk result (λ o. turn_of o (row_of run.new) ≡ by_outcome how (with_kid (row_of run.old) (evaluation_with room (S.world setting.now) (S.project setting.now) below.now task.now)) (outcome_of (evaluation_with room (S.world setting.now) (S.project setting.now) below.now task.now))) }
+    ensures { IfOk result (λ o. IsRequire (S.world setting.now) (S.project setting.now) room below.now how task.now run.old o run.new) }
 {
     let kid = evaluate(setting, alloc, room, below, task, &run.entered)?;
     take(alloc, run, task, kid.run)?;
@@ -52,7 +48,7 @@ fn advance<S: Setting>(
     task: &Bytes,
     run: &mut Run,
 ) -> Result<Option<Outcome>, AllocError>
-    ensures { IfOk result (λ o. turn_of o (row_of run.new) ≡ step (S.world setting.now) (S.project setting.now) (evaluation_with room (S.world setting.now) (S.project setting.now) below.now) task.now (row_of run.old)) }
+    ensures { IfOk result (λ o. IsStep (S.world setting.now) (S.project setting.now) room below.now task.now run.old o run.new) }
 {
     match setting.next(task, run.answers.as_slice())? {
         Event::Done(value) => Ok(Some(Outcome::Ended(value))),
@@ -77,7 +73,7 @@ fn events<S: Setting>(
     task: &Bytes,
     entered: Names,
 ) -> Result<Summary, AllocError>
-    ensures { IfOk result (λ s. IsWhole entered (follow (S.world setting.now) (S.project setting.now) (evaluation_with room (S.world setting.now) (S.project setting.now) below.now) task.now (S.world setting.now).most_events start) s.outcome (row_of s.run)) }
+    ensures { IfOk result (IsTraceOf (S.world setting.now) (S.project setting.now) room below.now task.now entered) }
 {
     let mut run = Run::new(alloc, entered);
     let mut left = setting.most_events();
@@ -103,7 +99,7 @@ pub fn evaluate<S: Setting>(
     task: &Bytes,
     entered: &Names,
 ) -> Result<Summary, AllocError>
-    ensures { IfOk result (λ s. IsEvaluated (evaluation_with room (S.world setting.now) (S.project setting.now) above.now task.now) entered.now s.outcome (row_of s.run)) }
+    ensures { IfOk result (IsEvaluationOf (S.world setting.now) (S.project setting.now) room above.now task.now entered.now) }
 {
     let entered = entering(alloc, entered, task)?;
     if contains(above.as_slice(), task) {

@@ -3,9 +3,7 @@
 ghost use Rattle.std.specs.Prelude.{◌≡◌, ℕ, [], ◌∷◌, ◌++◌, IfOk, OnOk, map, Some, None};
 ghost use Rattle.pie_model.specs.Evaluation.{evaluation};
 ghost use Rattle.pie_model.specs.Verdict.{written_by, missed_by};
-ghost use Rattle.pie_plain.specs.Runs.{row_of};
-ghost use Rattle.pie_plain.specs.Steps.{IsEvaluated};
-ghost use Rattle.pie_plain.specs.Roots.{IsForest, written_by_all, missed_by_all};
+ghost use Rattle.pie_plain.specs.Roots.{IsAlone, IsForest, written_by_all, missed_by_all};
 
 use crate::evaluation::evaluate;
 use crate::names::copied;
@@ -31,7 +29,7 @@ fn alone<S: Setting>(
     task: &Bytes,
     entered: &Names,
 ) -> Result<Summary, AllocError>
-    ensures { IfOk result (λ s. IsEvaluated (evaluation (S.world setting.now) (S.project setting.now) task.now) entered.now s.outcome (row_of s.run)) }
+    ensures { IfOk result (IsAlone (S.world setting.now) (S.project setting.now) task.now entered.now) }
 {
     let above = Names::new(alloc);
     let summary = evaluate(setting, alloc, setting.most_tasks(), &above, task, entered)?;

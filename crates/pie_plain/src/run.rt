@@ -38,7 +38,7 @@ impl Run {
     ghost use Rattle.pie_model.specs.Verdict.{absent_here};
     ghost use Rattle.pie_model.specs.declared.words.Answer.TheVariants.{Wrote};
     ghost use Rattle.pie_model.specs.declared.words.Seen.TheVariants.{Nothing};
-    ghost use Rattle.pie_plain.specs.Runs.{row_of, turn_of};
+    ghost use Rattle.pie_plain.specs.Runs.{row_of, turn_of, IsListing, IsLook, IsSight, Misses};
     ghost use Rattle.pie_plain.specs.Steps.{Goes, with_answer, by_seen, by_listing, by_outcome};
     ghost use Rattle.pie_plain.specs.Written.{seen_by};
 
@@ -70,7 +70,7 @@ impl Run {
         alloc: Global,
         path: &Bytes,
     ) -> Result<(), AllocError>
-        ensures { OnOk result (row_of self.new ≡ record (row_of self.old) { absent = (row_of self.old).absent ++ absent_here path.now (kind_of path.now) Nothing }) }
+        ensures { OnOk result (Misses path.now self.old self.new) }
     {
         if setting.kind(path) == pie_model::words::Kind::Out {
             self.absent.push(path.copy(alloc)?)?;
@@ -88,7 +88,7 @@ impl Run {
         path: &Bytes,
         seen: Seen,
     ) -> Result<Option<Outcome>, AllocError>
-        ensures { IfOk result (λ o. turn_of o (row_of self.new) ≡ by_seen (S.world setting.now) task.now look path.now (row_of self.old) seen) }
+        ensures { IfOk result (λ o. IsSight (S.world setting.now) task.now look path.now seen self.old o self.new) }
     {
         match seen {
             Seen::Nothing => {
@@ -113,7 +113,7 @@ impl Run {
         look: Look,
         path: &Bytes,
     ) -> Result<Option<Outcome>, AllocError>
-        ensures { IfOk result (λ o. turn_of o (row_of self.new) ≡ by_seen (S.world setting.now) task.now look path.now (row_of self.old) (seen_by (S.project setting.now).file (row_of self.old).own (row_of self.old).below path.now (kind_of path.now))) }
+        ensures { IfOk result (λ o. IsLook (S.world setting.now) (S.project setting.now) task.now look path.now self.old o self.new) }
     {
         let seen = visible(
             setting,
@@ -133,7 +133,7 @@ impl Run {
         task: &Bytes,
         dir: &Bytes,
     ) -> Result<Option<Outcome>, AllocError>
-        ensures { IfOk result (λ o. turn_of o (row_of self.new) ≡ by_listing task.now (row_of self.old) (listing (S.world setting.now) (S.project setting.now) dir.now)) }
+        ensures { IfOk result (λ o. IsListing (S.world setting.now) (S.project setting.now) task.now dir.now self.old o self.new) }
     {
         match setting.listing(dir)? {
             Some(entries) => {

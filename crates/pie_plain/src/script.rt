@@ -1,7 +1,7 @@
 //! A project whose tasks make fixed events, to try the plain program and later bodies on.
 
-ghost use Rattle.std.specs.Prelude.{◌≡◌, ℕ, IfOk, bytes_eq, codes, cond, false, option_map, true};
-ghost use Rattle.pie_model.specs.Paths.{kind_of, first_segment};
+ghost use Rattle.std.specs.Prelude.{◌≡◌, ℕ, IfOk, bytes_eq, cond, false, option_map, true};
+ghost use Rattle.pie_model.specs.Paths.{kind_of, first_segment, among, kept_names};
 ghost use Rattle.pie_plain.specs.Kinds.{has_slash};
 ghost use Rattle.pie_plain.specs.Script.{event_in, file_in};
 
@@ -76,7 +76,7 @@ pub fn has_more(path: &[u8]) -> bool
 
 /// Whether a path is one of those that the builder keeps for itself, but for `out`.
 fn is_kept(path: &[u8]) -> bool
-    ensures { result ≡ cond (bytes_eq (first_segment path.now) (codes ".pie")) true (cond (bytes_eq (first_segment path.now) (codes "pie.pipeline")) true (cond (bytes_eq (first_segment path.now) (codes "pie.roots")) true false)) }
+    ensures { result ≡ among (first_segment path.now) kept_names }
 {
     if starts(path, b".pie") {
         return true;
