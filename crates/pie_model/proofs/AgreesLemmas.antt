@@ -22,7 +22,8 @@ asked_either u before (Required r v) h = among_either u before (v ∷ []) h
 module _ (w : World) (P : Project) (one two : Teller) (own : List (Path × List ℕ)) (K : Task → Type 0)
     (f : (before : List Task) (q : Query) → ((u : Task) → among u before ≡ true → K u) → ((u : Task) → among u (task_asked q) ≡ true → K u)
     → stamp_now w P one own before q ≡ stamp_now w P two own before q) where
-  pub agrees_along : (os : List Observation) (before : List Task) → ((u : Task) → among u before ≡ true → K u) → ((u : Task) → among u (needs_of os) ≡ true → K u)
+  pub agrees_along : (os : List Observation) (before : List Task) → ((u : Task) → among u before ≡ true → K u)
+      → ((u : Task) → among u (needs_of os) ≡ true → K u)
       → Agrees w P one own before os → Agrees w P two own before os
   agrees_along [] before b n h = tt
   agrees_along (o ∷ os) before b n h = (

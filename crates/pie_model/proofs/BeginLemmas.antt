@@ -34,7 +34,8 @@ module _ (w : World) (old now : Project) (by : Teller) (own : List (Path × List
   stamp_moves before o (Listed d) s h = s
   stamp_moves before o (Required r u) s h = h
 
-  pub agrees_moves : (os : List Observation) (before : List Task) → SourcesStill w now os → Agrees w old by own before os → Agrees w now by own before os
+  pub agrees_moves : (os : List Observation) (before : List Task) → SourcesStill w now os → Agrees w old by own before os
+      → Agrees w now by own before os
   agrees_moves [] before s h = tt
   agrees_moves (o ∷ os) before s h = (stamp_moves before o o.query s.0 h.0, agrees_moves os (asked_before before o.query) s.1 h.1)
 

@@ -69,7 +69,8 @@ project tasks files = record { next = meaning tasks; file = file_in files; entri
 
 -- ---- kinds of path, and entries
 
-kinds : map kind_of (codes "out/a" ∷ codes "out" ∷ codes "out/a/b" ∷ codes ".pie/store" ∷ codes "pie.pipeline" ∷ codes "pie.roots/x" ∷ codes "outer/a" ∷ codes "src/out" ∷ [])
+kinds : map kind_of (codes "out/a" ∷ codes "out" ∷ codes "out/a/b" ∷ codes ".pie/store" ∷ codes "pie.pipeline" ∷ codes "pie.roots/x"
+    ∷ codes "outer/a" ∷ codes "src/out" ∷ [])
     ≡ Out ∷ Kept ∷ Out ∷ Kept ∷ Kept ∷ Kept ∷ Source ∷ Source ∷ []
 unfolding kind_of
 kinds = refl
@@ -115,13 +116,15 @@ unfolding kind_of provided entries_among
 site_provides = refl
 
 -- rows go by height, then by task
-site_rows : map (λ r. r.task) (store_rows toy (site_with (codes "x")) (codes "site" ∷ [])) ≡ codes "footer" ∷ codes "page a" ∷ codes "page b" ∷ codes "site" ∷ []
+site_rows : map (λ r. r.task) (store_rows toy (site_with (codes "x")) (codes "site" ∷ []))
+    ≡ codes "footer" ∷ codes "page a" ∷ codes "page b" ∷ codes "site" ∷ []
 unfolding kind_of provided entries_among
 site_rows = refl
 
 page_record : record_of toy (evaluation toy (site_with (codes "x")) (codes "page a")) ≡ record {
   task = codes "page a";
-  observations = observed (Looked ByHash (codes "src/a")) (Hash (0 ∷ codes "A")) ∷ observed (Required Whole (codes "footer")) (WholeValue (codes "x")) ∷ [];
+  observations = observed (Looked ByHash (codes "src/a")) (Hash (0 ∷ codes "A"))
+      ∷ observed (Required Whole (codes "footer")) (WholeValue (codes "x")) ∷ [];
   writes = (codes "out/a", 0 ∷ codes "Ax") ∷ [];
   outcome = Ended (codes "out/a");
 }
@@ -129,12 +132,15 @@ unfolding kind_of provided entries_among
 page_record = refl
 
 -- a changed footer with the same output: the footer's stamp differs, and the pages agree
-footer_differs : stamp_now toy (site_with (codes "xy")) (by_evaluation toy (site_with (codes "xy"))) [] [] (Looked ByHash (codes "inc/foot")) ≡ Some (Hash (0 ∷ codes "xy"))
+footer_differs : stamp_now toy (site_with (codes "xy")) (by_evaluation toy (site_with (codes "xy"))) [] []
+    (Looked ByHash (codes "inc/foot")) ≡ Some (Hash (0 ∷ codes "xy"))
 unfolding kind_of provided entries_among
 footer_differs = refl
 
-pages_agree : (stamp_now toy (site_with (codes "xy")) (by_evaluation toy (site_with (codes "xy"))) [] [] (Looked ByHash (codes "src/a")) ≡ Some (Hash (0 ∷ codes "A")))
-    × (stamp_now toy (site_with (codes "xy")) (by_evaluation toy (site_with (codes "xy"))) [] [] (Required Whole (codes "footer")) ≡ Some (WholeValue (codes "x")))
+pages_agree : (stamp_now toy (site_with (codes "xy")) (by_evaluation toy (site_with (codes "xy"))) [] [] (Looked ByHash (codes "src/a"))
+    ≡ Some (Hash (0 ∷ codes "A")))
+    × (stamp_now toy (site_with (codes "xy")) (by_evaluation toy (site_with (codes "xy"))) [] [] (Required Whole (codes "footer"))
+    ≡ Some (WholeValue (codes "x")))
 unfolding kind_of provided entries_among
 pages_agree = (refl, refl)
 
@@ -143,13 +149,15 @@ pages_agree = (refl, refl)
 abbrev twice : List (Task × (List Answer → List Event))
 twice = (
   codes "t",
-  λ answers. LookAt Exists (codes "s") ∷ LookAt ByMark (codes "s") ∷ LookAt Exists (codes "s") ∷ Write (codes "out/p") (codes "v") ∷ LookAt ByMark (codes "out/p")
+  λ answers. LookAt Exists (codes "s") ∷ LookAt ByMark (codes "s") ∷ LookAt Exists (codes "s") ∷ Write (codes "out/p") (codes "v") ∷ LookAt
+      ByMark (codes "out/p")
       ∷ Done (told_at 4 answers) ∷ [],
 ) ∷ []
 
 repeats_are_kept : record_of toy (evaluation toy (project twice ((codes "s", codes "1") ∷ [])) (codes "t")) ≡ record {
   task = codes "t";
-  observations = observed (Looked Exists (codes "s")) Present ∷ observed (Looked ByMark (codes "s")) (Mark 7) ∷ observed (Looked Exists (codes "s")) Present
+  observations = observed (Looked Exists (codes "s")) Present ∷ observed (Looked ByMark (codes "s")) (Mark 7) ∷ observed
+      (Looked Exists (codes "s")) Present
       ∷ observed (Looked ByMark (codes "out/p")) (Hash (0 ∷ codes "v")) ∷ [];
   writes = (codes "out/p", 0 ∷ codes "v") ∷ [];
   outcome = Ended (codes "v");
@@ -162,7 +170,11 @@ repeats_are_kept = refl
 abbrev dynamic : List (Task × (List Answer → List Event))
 dynamic =
     (codes "x", λ answers. Write (codes "out/p") (codes "P") ∷ Done [] ∷ [])
-    ∷ (codes "y", λ answers. LookAt Exists (codes "flag") ∷ cond (is_there answers) (Require Ran (codes "x")) (Done (codes "1")) ∷ Done (codes "1") ∷ [])
+    ∷ (
+      codes "y",
+      λ answers. LookAt Exists (codes "flag") ∷ cond (is_there answers) (Require Ran (codes "x")) (Done (codes "1")) ∷ Done
+          (codes "1") ∷ [],
+    )
     ∷ (codes "t", λ answers. Require Ran (codes "y") ∷ LookAt ByHash (codes "out/p") ∷ Done (told_at 1 answers) ∷ [])
     ∷ []
 
@@ -196,7 +208,8 @@ writer_of p b answers = Write p b ∷ Done [] ∷ []
 
 abbrev several : List (Task × (List Answer → List Event))
 several =
-    (codes "w1", writer_of (codes "out/a") (codes "1")) ∷ (codes "w2", writer_of (codes "out/a") (codes "2")) ∷ (codes "v", writer_of (codes "out/a/b") [])
+    (codes "w1", writer_of (codes "out/a") (codes "1")) ∷ (codes "w2", writer_of (codes "out/a") (codes "2")) ∷
+    (codes "v", writer_of (codes "out/a/b") [])
     ∷ (codes "both", λ answers. Require Ran (codes "w2") ∷ Require Ran (codes "w1") ∷ Done [] ∷ [])
     ∷ (codes "deep", λ answers. Require Ran (codes "w1") ∷ Require Ran (codes "v") ∷ Done [] ∷ [])
     ∷ (codes "early", λ answers. LookAt Exists (codes "out/a") ∷ Require Ran (codes "w1") ∷ Done [] ∷ [])

@@ -41,7 +41,8 @@ module _ (w : World) (P : Project) (t : Task) (child : Task → Node) (polite : 
         (st (own_so_far l p g (present_answer w b l) i own) kids, G (answered g (present_answer w b l)) before done own kids)
     seen_itself l p g before Clashing i st done own kids = clash false done refl
 
-    listing_itself : (d : Path) (g : Progress) (before : List Task) (es : Option (List Path)) → listing w P d ≡ es → Itself g before (on_listing t d g go es)
+    listing_itself : (d : Path) (g : Progress) (before : List Task) (es : Option (List Path)) → listing w P d ≡ es
+        → Itself g before (on_listing t d g go es)
     listing_itself d g before None e done own kids = clash false done refl
     listing_itself d g before (Some es) e done own kids = (ap (listing_now w) e, G (answered g (Entries es)) before done own kids)
 
@@ -77,7 +78,8 @@ module _ (w : World) (P : Project) (t : Task) (child : Task → Node) (polite : 
   pub follow_itself : (n : ℕ) (g : Progress) (before : List Task) → Itself g before (follow w P child t n g)
   follow_itself zero g before done own kids = tt
   follow_itself (suc n) g before done own kids =
-      event_itself (follow w P child t n) (follow_itself n) (λ p. unwritten_later w P child t polite p n) g before (P.next t g.answers) refl done own kids
+      event_itself (follow w P child t n) (follow_itself n) (λ p. unwritten_later w P child t polite p n) g before (P.next t g.answers) refl
+      done own kids
 
 pub agrees_itself_with : (n : ℕ) (w : World) (P : Project) (t : Task) → n ≤ w.most_tasks → NeverWritesWhatItSaw (P.next t)
     → is_done (outcome_of (evaluation_with n w P [] t)) ≡ true

@@ -16,14 +16,16 @@ Kids Q (lists d es k) = Kids Q k
 Kids Q (writes p b k) = Kids Q k
 Kids Q (needs h u n k) = Q u n × Kids Q k
 
-pub good_kid : (good : Outcome → Bool) → ((v : Value) → good (Ended v) ≡ true) → (h : How) (g : Progress) (n : Node) (go : Progress → Trace) (e : Outcome)
+pub good_kid : (good : Outcome → Bool) → ((v : Value) → good (Ended v) ≡ true)
+    → (h : How) (g : Progress) (n : Node) (go : Progress → Trace) (e : Outcome)
     → good (end_of (on_outcome h g n go e)) ≡ true → good e ≡ true
 good_kid good gv h g n go (Ended v) k = gv v
 good_kid good gv h g n go (Failed t f) k = k
 good_kid good gv h g n go (Cycled ts) k = k
 good_kid good gv h g n go Many k = k
 
-module _ (w : World) (P : Project) (t : Task) (child : Task → Node) (Q : Task → Node → Type 0) (good : Outcome → Bool) (gv : (v : Value) → good (Ended v) ≡ true)
+module _ (w : World) (P : Project) (t : Task) (child : Task → Node) (Q : Task → Node → Type 0) (good : Outcome → Bool)
+    (gv : (v : Value) → good (Ended v) ≡ true)
     (H : (u : Task) → good (outcome_of (child u)) ≡ true → Q u (child u)) where
   module _ (go : Progress → Trace) (G : (g : Progress) → good (end_of (go g)) ≡ true → Kids Q (go g)) where
     seen_kids : (l : Look) (p : Path) (g : Progress) (s : Seen) → good (end_of (on_seen w t l p g go s)) ≡ true → Kids Q (on_seen w t l p g go s)
@@ -31,7 +33,8 @@ module _ (w : World) (P : Project) (t : Task) (child : Task → Node) (Q : Task 
     seen_kids l p g (Holds b m) h = G _ h
     seen_kids l p g Clashing h = tt
 
-    listing_kids : (d : Path) (g : Progress) (es : Option (List Path)) → good (end_of (on_listing t d g go es)) ≡ true → Kids Q (on_listing t d g go es)
+    listing_kids : (d : Path) (g : Progress) (es : Option (List Path)) → good (end_of (on_listing t d g go es)) ≡ true
+        → Kids Q (on_listing t d g go es)
     listing_kids d g None h = tt
     listing_kids d g (Some es) h = G _ h
 
@@ -75,7 +78,8 @@ kids_map Q R f (writes p b k) h = kids_map Q R f k h
 kids_map Q R f (needs r u n k) h = (f u n h.0, kids_map Q R f k h.1)
 
 -- a task that stands below stands in one of the required evaluations
-pub task_below : {R : Type 0} (Q : Task → Node → Type 0) (x : Task) (k : Trace) → Kids Q k → ((u : Task) (n : Node) → Q u n → HasTask x n → R) → HasBelow x k → R
+pub task_below : {R : Type 0} (Q : Task → Node → Type 0) (x : Task) (k : Trace) → Kids Q k
+    → ((u : Task) (n : Node) → Q u n → HasTask x n → R) → HasBelow x k → R
 task_below Q x (ends e) q f h = absurd h
 task_below Q x (looks l p s k) q f h = task_below Q x k q f h
 task_below Q x (lists d es k) q f h = task_below Q x k q f h
@@ -83,7 +87,8 @@ task_below Q x (writes p b k) q f h = task_below Q x k q f h
 task_below Q x (needs r u n k) q f (inl h) = f u n q.0 h
 task_below Q x (needs r u n k) q f (inr h) = task_below Q x k q.1 f h
 
-pub node_below : {R : Type 0} (Q : Task → Node → Type 0) (m : Node) (k : Trace) → Kids Q k → ((u : Task) (n : Node) → among u (required_by k) ≡ true → Q u n → StandsIn m n → R)
+pub node_below : {R : Type 0} (Q : Task → Node → Type 0) (m : Node) (k : Trace) → Kids Q k
+    → ((u : Task) (n : Node) → among u (required_by k) ≡ true → Q u n → StandsIn m n → R)
     → StandsBelow m k → R
 node_below Q m (ends e) q f h = absurd h
 node_below Q m (looks l p s k) q f h = node_below Q m k q f h
@@ -107,7 +112,8 @@ kids_both Q R (writes p b k) h g = kids_both Q R k h g
 kids_both Q R (needs r u n k) h g = ((h.0, g.0), kids_both Q R k h.1 g.1)
 
 -- what stands in a required evaluation stands in the trace, and its task is required
-pub kids_stand : (whole k : Trace) → ((m : Node) → StandsBelow m k → StandsBelow m whole) → Kids (λ u n. (m : Node) → StandsIn m n → StandsBelow m whole) k
+pub kids_stand : (whole k : Trace) → ((m : Node) → StandsBelow m k → StandsBelow m whole)
+    → Kids (λ u n. (m : Node) → StandsIn m n → StandsBelow m whole) k
 kids_stand whole (ends e) f = tt
 kids_stand whole (looks l p s k) f = kids_stand whole k f
 kids_stand whole (lists d es k) f = kids_stand whole k f
@@ -160,7 +166,8 @@ module _ (w : World) (P : Project) (t : Task) (child : Task → Node) where
     seen_many l p g (Holds b m) h = G _ h
     seen_many l p g Clashing h = cc
 
-    listing_many : (d : Path) (g : Progress) (es : Option (List Path)) → end_of (on_listing t d g go es) ≡ Many → StopsBy Many (on_listing t d g go es)
+    listing_many : (d : Path) (g : Progress) (es : Option (List Path)) → end_of (on_listing t d g go es) ≡ Many
+        → StopsBy Many (on_listing t d g go es)
     listing_many d g None h = cc
     listing_many d g (Some es) h = G _ h
 

@@ -36,7 +36,8 @@ pub looked_more : (next : List Answer → Event) (fed rest : List Answer) (a : A
 looked_more next fed [] a = append-nil (path_looked (next fed)) ∙ ap (λ z. path_looked (next z)) (sym (append-nil fed))
 looked_more next fed (x ∷ rest) a =
     ap (λ z. path_looked (next fed) ++ z)
-    (looked_more next (fed ++ x ∷ []) rest a ∙ ap (λ z. looked_paths next (fed ++ x ∷ []) rest ++ path_looked (next z)) (append_assoc fed (x ∷ []) rest))
+    (looked_more next (fed ++ x ∷ []) rest a ∙ ap (λ z. looked_paths next (fed ++ x ∷ []) rest ++ path_looked (next z))
+    (append_assoc fed (x ∷ []) rest))
     ∙ sym (append_assoc (path_looked (next fed)) (looked_paths next (fed ++ x ∷ []) rest) (path_looked (next (fed ++ x ∷ rest))))
 
 pub looked_keeps : (next : List Answer → Event) (p : Path) (answers : List Answer) (a : Answer) → among p (looked_paths next [] answers) ≡ true
@@ -72,7 +73,8 @@ module _ (w : World) (P : Project) (child : Task → Node) (t : Task) (polite : 
     outcome_unwritten r g n (Cycled ts) h = refl
     outcome_unwritten r g n Many h = refl
 
-    write_unwritten : (g : Progress) (q : Path) (b : List ℕ) → P.next t g.answers ≡ Write q b → Looked g → first_write p ((q, b) ∷ writes_of (go (wrote g q b))) ≡ None
+    write_unwritten : (g : Progress) (q : Path) (b : List ℕ) → P.next t g.answers ≡ Write q b → Looked g
+        → first_write p ((q, b) ∷ writes_of (go (wrote g q b))) ≡ None
     write_unwritten g q b e h = by (bytes_eq p q) refl
       where
         rest : first_write p (writes_of (go (wrote g q b))) ≡ None
@@ -214,7 +216,8 @@ listing_is w P d es h =
     (r.0, subst (λ x. leb (length (w.listing_bytes x)) w.most_bytes ≡ true) r.0 r.1)
 
 -- two listings with one stamp are equal
-pub listings_alike : (w : World) (old now : Project) (Met : List ℕ → Type 0) → StampsSeparate w old now Met → ListingsDiffer w → (d : Path) (es es0 : List Path)
+pub listings_alike : (w : World) (old now : Project) (Met : List ℕ → Type 0) → StampsSeparate w old now Met → ListingsDiffer w
+    → (d : Path) (es es0 : List Path)
     → listing w now d ≡ Some es → listing w old d ≡ Some es0 → Met (w.listing_bytes es) → Met (w.listing_bytes es0)
     → Hash (w.hash (w.listing_bytes es)) ≡ Hash (w.hash (w.listing_bytes es0)) → es ≡ es0
 listings_alike w old now Met sep differ d es es0 h h0 m m0 e =

@@ -77,7 +77,8 @@ module _ (w : World) (P : Project) (t : Task) (m : ℕ) (na oa : List Task) (new
         → MovedNode m na oa n old
         → MovedTrace m na oa (needs h u n (on_outcome h g n new_go (outcome_of n))) (needs h u old (on_outcome h g old old_go (outcome_of old)))
     need_moved h u g n old k (same_node e) =
-        subst (λ x. MovedTrace m na oa (needs h u x (on_outcome h g x new_go (outcome_of x))) (needs h u old (on_outcome h g old old_go (outcome_of old)))) (sym e)
+        subst (λ x. MovedTrace m na oa (needs h u x (on_outcome h g x new_go (outcome_of x)))
+        (needs h u old (on_outcome h g old old_go (outcome_of old)))) (sym e)
         (outcome_moved h u g old (outcome_of old) k)
     need_moved h u g n old k (no_room_node e f) = no_room (ap (λ x. end_of (on_outcome h g n new_go x)) e) (λ q. f (omega arith))
     need_moved h u g n old k (through_node a ts e i o s) = through a ts (ap (λ x. end_of (on_outcome h g n new_go x)) e) i o (inl s)
@@ -125,7 +126,8 @@ opened_among (suc n) w P above t h =
     ap (λ b. node t (cond b (ends (Cycled (round t above []))) (follow w P (evaluation_with n w P (t ∷ above)) t w.most_events start))) h
 
 -- a plain evaluation is not below its own task
-pub plain_apart : (n : ℕ) (w : World) (P : Project) (above : List Task) (t : Task) → is_plain (outcome_of (evaluation_with n w P above t)) ≡ true → among t above ≡ false
+pub plain_apart : (n : ℕ) (w : World) (P : Project) (above : List Task) (t : Task) → is_plain (outcome_of (evaluation_with n w P above t))
+    ≡ true → among t above ≡ false
 plain_apart n w P above t h = go (cases (among t above))
   where
     go : (among t above ≡ true) ⊎ (among t above ≡ false) → among t above ≡ false
@@ -147,7 +149,8 @@ moved_by n (suc m) w P na oa t rec h o (inr f) =
 
 pub moved_with : (n m : ℕ) (w : World) (P : Project) (na oa : List Task) (t : Task) → is_plain (outcome_of (evaluation_with n w P oa t)) ≡ true
     → MovedNode m na oa (evaluation_with m w P na t) (evaluation_with n w P oa t)
-moved_with zero m w P na oa t h = clash false (sym (ap (λ x. is_plain (outcome_of x)) (opened_apart zero w P oa t (plain_apart zero w P oa t h))) ∙ h) refl
+moved_with zero m w P na oa t h = clash false (sym (ap (λ x. is_plain (outcome_of x))
+    (opened_apart zero w P oa t (plain_apart zero w P oa t h))) ∙ h) refl
 moved_with (suc n) m w P na oa t h =
     moved_by n m w P na oa t (λ k u q. moved_with n k w P (t ∷ na) (t ∷ oa) u q) h (plain_apart (suc n) w P oa t h) (cases (among t na))
 
@@ -157,7 +160,8 @@ pub moved_law : (old_room new_room : ℕ) (w : World) (P : Project) (old_above n
     → Moved new_room new_above (evaluation_with new_room w P new_above t) (evaluation_with old_room w P old_above t)
 moved_law n m w P oa na t h = go (moved_with n m w P na oa t h)
   where
-    go : MovedNode m na oa (evaluation_with m w P na t) (evaluation_with n w P oa t) → Moved m na (evaluation_with m w P na t) (evaluation_with n w P oa t)
+    go : MovedNode m na oa (evaluation_with m w P na t) (evaluation_with n w P oa t)
+        → Moved m na (evaluation_with m w P na t) (evaluation_with n w P oa t)
     go (same_node e) = same_tree e
     go (no_room_node e f) = no_room_tree e f
     go (through_node a ts e i o s) = through_tree a ts e i s

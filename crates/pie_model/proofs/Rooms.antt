@@ -96,9 +96,11 @@ few_levels zero w P above t h xs f = up (length (without t xs)) (length xs) (wit
     up a b q = omega arith
 few_levels (suc n) w P above t h xs f =
     up _ _ _ (levels_kids (length (without t xs)) (trace_of (evaluation_with (suc n) w P above t))
-    (kids_map (λ u m. ((x : Task) → HasTask x m → HasBelow x whole) × (((x : Task) → HasTask x m → HasBelow x whole) → levels m ≤ length (without t xs))) _
+    (kids_map (λ u m. ((x : Task) → HasTask x m → HasBelow x whole)
+    × (((x : Task) → HasTask x m → HasBelow x whole) → levels m ≤ length (without t xs))) _
     (λ u m q. q.1 q.0) whole
-    (kids_both (λ u m. (x : Task) → HasTask x m → HasBelow x whole) (λ u m. ((x : Task) → HasTask x m → HasBelow x whole) → levels m ≤ length (without t xs)) whole
+    (kids_both (λ u m. (x : Task) → HasTask x m → HasBelow x whole)
+    (λ u m. ((x : Task) → HasTask x m → HasBelow x whole) → levels m ≤ length (without t xs)) whole
     (kids_have whole whole (λ x i. i))
     (evaluation_kids n w P above t (λ u m. ((x : Task) → HasTask x m → HasBelow x whole) → levels m ≤ length (without t xs)) not_round (λ v. refl)
     (λ u q inside. few_levels n w P (t ∷ above) u q (without t xs)
@@ -118,7 +120,8 @@ pub many_deep : (n : ℕ) (w : World) (P : Project) (above : List Task) (t : Tas
 many_deep zero w P above t h = omega arith
 many_deep (suc n) w P above t h =
     up _ _ (levels_stop (suc n) Many (trace_of (evaluation_with (suc n) w P above t))
-    (evaluation_kids n w P above t (λ u m. outcome_of m ≡ Many → suc n ≤ levels m) not_round (λ v. refl) (λ u q. many_deep n w P (t ∷ above) u) (ap not_round h))
+    (evaluation_kids n w P above t (λ u m. outcome_of m ≡ Many → suc n ≤ levels m) not_round (λ v. refl)
+    (λ u q. many_deep n w P (t ∷ above) u) (ap not_round h))
     stops)
   where
     up : (a b : ℕ) → a ≤ b → suc a ≤ suc b
@@ -188,17 +191,20 @@ mutual
       ap (entered_below k) (nothing_new n all (λ x i. f x (inl i))) ∙ nothing_below k all (λ x i. f x (inr i))
 
 -- a tree that ends in too long a chain has entered more tasks than may be
-pub many_entered : (n : ℕ) (w : World) (P : Project) (above : List Task) (t : Task) (all : List Task) → outcome_of (evaluation_with n w P above t) ≡ Many
+pub many_entered : (n : ℕ) (w : World) (P : Project) (above : List Task) (t : Task) (all : List Task)
+    → outcome_of (evaluation_with n w P above t) ≡ Many
     → n < length (entered (evaluation_with n w P above t) all)
 many_entered n w P above t all h =
     over _ _ (many_deep n w P above t h)
-    (few_levels n w P above t (ap not_round h) (entered (evaluation_with n w P above t) all) (λ x i. stands_entered x (evaluation_with n w P above t) all i))
+    (few_levels n w P above t (ap not_round h) (entered (evaluation_with n w P above t) all)
+    (λ x i. stands_entered x (evaluation_with n w P above t) all i))
   where
     over : {c : ℕ} (a b : ℕ) → suc a ≤ b → b ≤ c → a < c
     over a b q r = omega arith
 
 -- a plain tree stands unchanged wherever its levels have room and no task above stands in it
-pub placed : (n m : ℕ) (w : World) (P : Project) (old_above new_above : List Task) (t : Task) → is_plain (outcome_of (evaluation_with n w P old_above t)) ≡ true
+pub placed : (n m : ℕ) (w : World) (P : Project) (old_above new_above : List Task) (t : Task)
+    → is_plain (outcome_of (evaluation_with n w P old_above t)) ≡ true
     → levels (evaluation_with n w P old_above t) ≤ m
     → ((a : Task) → among a new_above ≡ true → HasTask a (evaluation_with n w P old_above t) → ⊥)
     → evaluation_with m w P new_above t ≡ evaluation_with n w P old_above t
@@ -216,7 +222,8 @@ pub evaluation_room : (w : World) (P : Project) (t : Task) → evaluation w P t 
 evaluation_room w P t = ap (λ n. evaluation_with n w P [] t) (room_of_none w)
 
 -- a plain tree is the evaluation with nothing above
-pub alone : (n : ℕ) (w : World) (P : Project) (above : List Task) (t : Task) → n ≤ w.most_tasks → is_plain (outcome_of (evaluation_with n w P above t)) ≡ true
+pub alone : (n : ℕ) (w : World) (P : Project) (above : List Task) (t : Task) → n ≤ w.most_tasks
+    → is_plain (outcome_of (evaluation_with n w P above t)) ≡ true
     → evaluation w P t ≡ evaluation_with n w P above t
 alone n w P above t le h =
     evaluation_room w P t ∙ placed n w.most_tasks w P above [] t h (up _ _ _ (levels_room n w P above t h) le) (λ a i s. clash false i refl)
@@ -231,8 +238,15 @@ pub record Somewhere (w : World) (P : Project) (n : ℕ) (m : Node) : Type 0 whe
   pub fits : room ≤ n
   pub is : m ≡ evaluation_with room w P above (task_of m)
 
-pub somewhere : (n : ℕ) (w : World) (P : Project) (above : List Task) (r : Task) (m : Node) → StandsIn m (evaluation_with n w P above r) → Somewhere w P n m
-somewhere zero w P above r m (inl e) = record { room = 0; above = above; fits = omega arith; is = e ∙ ap (evaluation_with zero w P above) (sym (ap task_of e)) }
+pub somewhere : (n : ℕ) (w : World) (P : Project) (above : List Task) (r : Task) (m : Node) → StandsIn m (evaluation_with n w P above r)
+    → Somewhere w P n m
+somewhere zero w P above r m (inl e) = record {
+  room = 0;
+  above = above;
+  fits = omega arith;
+  is = e
+      ∙ ap (evaluation_with zero w P above) (sym (ap task_of e));
+}
 somewhere zero w P above r m (inr k) = absurd k
 somewhere (suc n) w P above r m (inl e) =
     record { room = suc n; above = above; fits = omega arith; is = e ∙ ap (evaluation_with (suc n) w P above) (sym (ap task_of e)) }
@@ -245,7 +259,8 @@ somewhere (suc n) w P above r m (inr k) =
     more s = let fact : s.room ≤ n = s.fits in record { room = s.room; above = s.above; fits = omega arith; is = s.is }
 
 -- each plain evaluation in a tree is its task's evaluation with nothing above
-pub node_alone : (n : ℕ) (w : World) (P : Project) (above : List Task) (r : Task) (m : Node) → n ≤ w.most_tasks → StandsIn m (evaluation_with n w P above r)
+pub node_alone : (n : ℕ) (w : World) (P : Project) (above : List Task) (r : Task) (m : Node) → n ≤ w.most_tasks
+    → StandsIn m (evaluation_with n w P above r)
     → is_plain (outcome_of m) ≡ true → m ≡ evaluation w P (task_of m)
 node_alone n w P above r m le i h = go (somewhere n w P above r m i)
   where
@@ -256,14 +271,16 @@ node_alone n w P above r m le i h = go (somewhere n w P above r m i)
         up a b c q r = omega arith
 
 -- all evaluations in a plain tree are plain
-pub all_plain : (n : ℕ) (w : World) (P : Project) (above : List Task) (r : Task) (m : Node) → is_plain (outcome_of (evaluation_with n w P above r)) ≡ true
+pub all_plain : (n : ℕ) (w : World) (P : Project) (above : List Task) (r : Task) (m : Node)
+    → is_plain (outcome_of (evaluation_with n w P above r)) ≡ true
     → StandsIn m (evaluation_with n w P above r) → is_plain (outcome_of m) ≡ true
 all_plain zero w P above r m h (inl e) = ap (λ x. is_plain (outcome_of x)) e ∙ h
 all_plain zero w P above r m h (inr k) = absurd k
 all_plain (suc n) w P above r m h (inl e) = ap (λ x. is_plain (outcome_of x)) e ∙ h
 all_plain (suc n) w P above r m h (inr k) =
     node_below (λ u x. StandsIn m x → is_plain (outcome_of m) ≡ true) m (trace_of (evaluation_with (suc n) w P above r))
-    (evaluation_kids n w P above r (λ u x. StandsIn m x → is_plain (outcome_of m) ≡ true) is_plain (λ v. refl) (λ u q. all_plain n w P (r ∷ above) u m q) h)
+    (evaluation_kids n w P above r (λ u x. StandsIn m x → is_plain (outcome_of m) ≡ true) is_plain (λ v. refl)
+    (λ u q. all_plain n w P (r ∷ above) u m q) h)
     (λ u x i f s. f s) k
 
 -- a task that stands in a tree has an evaluation in it
@@ -316,7 +333,8 @@ mutual
 abbrev pub IsOwn : World → Project → Task → Node → Type 0
 IsOwn w P u n = (n ≡ evaluation w P u) × (is_plain (outcome_of n) ≡ true)
 
-pub own_kids : (n : ℕ) (w : World) (P : Project) (above : List Task) (t : Task) → n ≤ w.most_tasks → is_plain (outcome_of (evaluation_with n w P above t)) ≡ true
+pub own_kids : (n : ℕ) (w : World) (P : Project) (above : List Task) (t : Task) → n ≤ w.most_tasks
+    → is_plain (outcome_of (evaluation_with n w P above t)) ≡ true
     → Kids (IsOwn w P) (trace_of (evaluation_with n w P above t))
 own_kids zero w P above t le h = tt
 own_kids (suc n) w P above t le h =

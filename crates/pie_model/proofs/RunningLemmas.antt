@@ -126,7 +126,8 @@ module _ (w : World) (P : Project) (room : ℕ) (above : List Task) (t : Task) w
         written = a.written;
         end = a.end;
         stands = λ m s. a.stands m (inr s);
-        enters = λ all. a.enters all ∙ ap (entered_below (rest_of_run w P room above t n (required g (evaluation_with room w P (t ∷ above) u) (output_answer v k))))
+        enters = λ all. a.enters all ∙ ap (entered_below
+            (rest_of_run w P room above t n (required g (evaluation_with room w P (t ∷ above) u) (output_answer v k))))
             (sym (entered_all-end g.kids (evaluation_with room w P (t ∷ above) u) (enter t all)));
       }
 
@@ -142,17 +143,20 @@ module _ (w : World) (P : Project) (room : ℕ) (above : List Task) (t : Task) w
         outcome = a.end i;
       }
 
-  pub ends_done : (n : ℕ) (g : Progress) (seen : List Observation) (v : Value) → P.next t g.answers ≡ Done v → IsRunning w P room above t (suc n) g seen
+  pub ends_done : (n : ℕ) (g : Progress) (seen : List Observation) (v : Value) → P.next t g.answers ≡ Done v
+      → IsRunning w P room above t (suc n) g seen
       → record_of w (evaluation_with (suc room) w P above t) ≡ record { task = t; observations = seen; writes = hashed w g.own; outcome = Ended v }
   ends_done n g seen v h r = record_by g seen (Ended v) (at_event n g seen (Done v) h r)
 
-  pub ends_failed : (n : ℕ) (g : Progress) (seen : List Observation) (k : FaultKind) → P.next t g.answers ≡ Fail k → IsRunning w P room above t (suc n) g seen
+  pub ends_failed : (n : ℕ) (g : Progress) (seen : List Observation) (k : FaultKind) → P.next t g.answers ≡ Fail k
+      → IsRunning w P room above t (suc n) g seen
       → record_of w (evaluation_with (suc room) w P above t) ≡ record { task = t; observations = seen; writes = hashed w g.own; outcome = Failed t k }
   ends_failed n g seen k h r = record_by g seen (Failed t k) (at_event n g seen (Fail k) h r)
 
   last_more : (g : Progress) (seen : List Observation) (o : Observation) (T : Trace) (e : Outcome) → At T g seen
       → observations_of w T ≡ o ∷ [] → writes_of T ≡ [] → end_of T ≡ e
-      → record_of w (evaluation_with (suc room) w P above t) ≡ record { task = t; observations = seen ++ o ∷ []; writes = hashed w g.own; outcome = e }
+      → record_of w (evaluation_with (suc room) w P above t)
+      ≡ record { task = t; observations = seen ++ o ∷ []; writes = hashed w g.own; outcome = e }
   last_more g seen o T e a os ws es =
       λ i. record {
         task = task_of-evaluation_with (suc room) w P above t i;
@@ -166,14 +170,16 @@ module _ (w : World) (P : Project) (room : ℕ) (above : List Task) (t : Task) w
       → record_of w (evaluation_with (suc room) w P above t)
       ≡ record { task = t; observations = seen ++ observed (Looked l p) Absent ∷ []; writes = hashed w g.own; outcome = Failed t Clash }
   ends_clashing n g seen l p h v r =
-      last_more g seen _ _ (Failed t Clash) (subst (λ s. At (on_seen w t l p g (rest_of_run w P room above t n) s) g seen) v (at_event n g seen (LookAt l p) h r)) refl refl refl
+      last_more g seen _ _ (Failed t Clash) (subst (λ s. At (on_seen w t l p g (rest_of_run w P room above t n) s) g seen) v
+      (at_event n g seen (LookAt l p) h r)) refl refl refl
 
   pub ends_too_big : (n : ℕ) (g : Progress) (seen : List Observation) (d : Path) → P.next t g.answers ≡ ListOf d
       → listing w P d ≡ None → IsRunning w P room above t (suc n) g seen
       → record_of w (evaluation_with (suc room) w P above t)
       ≡ record { task = t; observations = seen ++ observed (Listed d) Absent ∷ []; writes = hashed w g.own; outcome = Failed t Big }
   ends_too_big n g seen d h v r =
-      last_more g seen _ _ (Failed t Big) (subst (λ s. At (on_listing t d g (rest_of_run w P room above t n) s) g seen) v (at_event n g seen (ListOf d) h r)) refl refl refl
+      last_more g seen _ _ (Failed t Big) (subst (λ s. At (on_listing t d g (rest_of_run w P room above t n) s) g seen) v
+      (at_event n g seen (ListOf d) h r)) refl refl refl
 
   stopped : (k : How) (u : Task) (g : Progress) (go : Progress → Trace) (n : Node) (e : Outcome) → outcome_of n ≡ e → is_done e ≡ false
       → (observations_of w (needs k u n (on_outcome k g n go e)) ≡ observed (Required k u) Absent ∷ [])
@@ -201,7 +207,8 @@ module _ (w : World) (P : Project) (room : ℕ) (above : List Task) (t : Task) w
       → among u (t ∷ above) ≡ true → IsRunning w P room above t (suc n) g seen
       → outcome_of (evaluation_with (suc room) w P above t) ≡ Cycled (round u (t ∷ above) [])
   ends_in_cycle n g seen k u h i r =
-      ap (λ z. z.outcome) (ends_as_required n g seen k u (Cycled (round u (t ∷ above) [])) h (ap outcome_of (opened_among room w P (t ∷ above) u i)) refl r)
+      ap (λ z. z.outcome) (ends_as_required n g seen k u (Cycled (round u (t ∷ above) [])) h
+      (ap outcome_of (opened_among room w P (t ∷ above) u i)) refl r)
 
   -- ---- what it has entered
 
@@ -217,7 +224,8 @@ module _ (w : World) (P : Project) (room : ℕ) (above : List Task) (t : Task) w
   pub enters_required : (n : ℕ) (g : Progress) (seen : List Observation) (k : How) (u : Task) → P.next t g.answers ≡ Require k u
       → IsRunning w P room above t (suc n) g seen → (all : List Task)
       → entered (evaluation_with (suc room) w P above t) all
-      ≡ entered_below (on_outcome k g (evaluation_with room w P (t ∷ above) u) (rest_of_run w P room above t n) (outcome_of (evaluation_with room w P (t ∷ above) u)))
+      ≡ entered_below (on_outcome k g (evaluation_with room w P (t ∷ above) u) (rest_of_run w P room above t n)
+      (outcome_of (evaluation_with room w P (t ∷ above) u)))
       (entered (evaluation_with room w P (t ∷ above) u) (entered_all g.kids (enter t all)))
   enters_required n g seen k u h r all = (at_event n g seen (Require k u) h r).enters all
 

@@ -42,7 +42,8 @@ opened_room w P t k h =
 pub required_is_own : (w : World) (now : Project) (t : Task) (h : How) (u : Task) (g : Progress) (go : Progress → Trace)
     → is_done (outcome_of (evaluation w now u)) ≡ true
     → ((levels (evaluation w now u) ≤ w.most_tasks - 1 → ⊥) → outcome_of (evaluation w now t) ≡ Many → ⊥)
-    → end_of (on_outcome h g (evaluation_with (w.most_tasks - 1) w now (t ∷ []) u) go (outcome_of (evaluation_with (w.most_tasks - 1) w now (t ∷ []) u)))
+    → end_of (on_outcome h g (evaluation_with (w.most_tasks - 1) w now (t ∷ []) u) go
+    (outcome_of (evaluation_with (w.most_tasks - 1) w now (t ∷ []) u)))
     ≡ outcome_of (evaluation w now t)
     → evaluation_with (w.most_tasks - 1) w now (t ∷ []) u ≡ evaluation w now u
 required_is_own w now t h u g go done shallow end =
@@ -67,7 +68,8 @@ required_is_own w now t h u g go done shallow end =
     by (same_node e) = e ∙ sym room
     by (no_room_node e f) = absurd (shallow (λ q. f (subst (λ x. levels x ≤ w.most_tasks - 1) room q)) (sym (ended Many e)))
     by (through_node a ts e i o s) =
-        let stands : HasTask t (evaluation w now u) = subst (λ x. HasTask t x) (sym room) (subst (λ x. HasTask x (evaluation_with w.most_tasks w now [] u)) (same_task a i (among_split a t [] i)) s) in
+        let stands : HasTask t (evaluation w now u) = subst (λ x. HasTask t x) (sym room)
+        (subst (λ x. HasTask x (evaluation_with w.most_tasks w now [] u)) (same_task a i (among_split a t [] i)) s) in
         clash false (ap is_plain (ended (Cycled ts) e) ∙ plain_standing w now u t plain stands) refl
 
 same_records : (w : World) (t : Task) (T T0 : Trace) → SameTrace w T T0 → record_of w (node t T) ≡ record_of w (node t T0)
@@ -79,11 +81,13 @@ pub second_law : (w : World) (old now : Project) (Met : List ℕ → Type 0) →
     → is_done (outcome_of (evaluation_with n w old above t)) ≡ true
     → AllMet w Met (trace_of (evaluation_with n w old above t)) → AllMet w Met (trace_of (evaluation w now t))
     → RecordAgrees w now (by_evaluation w now) (record_of w (evaluation_with n w old above t))
-    → ((u : Task) → among u (needs_of (observations_of w (trace_of (evaluation_with n w old above t)))) ≡ true → is_done (outcome_of (evaluation w now u)) ≡ true
+    → ((u : Task) → among u (needs_of (observations_of w (trace_of (evaluation_with n w old above t)))) ≡ true
+    → is_done (outcome_of (evaluation w now u)) ≡ true
     → (levels (evaluation w now u) ≤ w.most_tasks - 1 → ⊥) → outcome_of (evaluation w now t) ≡ Many → ⊥)
     → record_of w (evaluation w now t) ≡ record_of w (evaluation_with n w old above t)
 second_law w old now Met sep differ t zero above le meaning polite done met0 met agrees shallow =
-    clash false (sym (ap (λ x. is_plain (outcome_of x)) (opened_apart zero w old above t (plain_apart zero w old above t (done_plain _ done)))) ∙ done_plain _ done) refl
+    clash false (sym (ap (λ x. is_plain (outcome_of x))
+    (opened_apart zero w old above t (plain_apart zero w old above t (done_plain _ done)))) ∙ done_plain _ done) refl
 second_law w old now Met sep differ t (suc k) above le meaning polite done met0 met agrees shallow =
     ap (record_of w) now_is ∙ same_records w t T T0 same ∙ sym (ap (record_of w) old_is)
   where
@@ -110,7 +114,8 @@ second_law w old now Met sep differ t (suc k) above le meaning polite done met0 
           met0 = subst (λ x. AllMet w Met (trace_of x)) old_is met0;
           own = refl;
           agrees = subst (λ x. RecordAgrees w now (by_evaluation w now) (record_of w x)) old_is agrees;
-          shallow = subst (λ x. (u : Task) → among u (needs_of (observations_of w (trace_of x))) ≡ true → is_done (outcome_of (evaluation w now u)) ≡ true
+          shallow = subst (λ x. (u : Task) → among u (needs_of (observations_of w (trace_of x))) ≡ true
+              → is_done (outcome_of (evaluation w now u)) ≡ true
               → (levels (evaluation w now u) ≤ w.most_tasks - 1 → ⊥) → outcome_of (evaluation w now t) ≡ Many → ⊥) old_is shallow;
           ends = sym (ap outcome_of now_is);
         })

@@ -28,7 +28,8 @@ pub record Beside (w : World) (now : Project) (before : List Task) (g g0 : Progr
   pub kids : g.kids ≡ map (evaluation w now) before
 
 -- what is known of the rest of the two traces
-pub record Rest (w : World) (now : Project) (Met : List ℕ → Type 0) (room : ℕ) (own_all : List (Path × List ℕ)) (E : Outcome) (g : Progress) (before : List Task)
+pub record Rest (w : World) (now : Project) (Met : List ℕ → Type 0) (room : ℕ) (own_all : List (Path × List ℕ)) (E : Outcome) (g : Progress)
+    (before : List Task)
     (T T0 : Trace) : Type 0 where
   pub done : is_done (end_of T0) ≡ true
   pub met : AllMet w Met T
@@ -40,7 +41,8 @@ pub record Rest (w : World) (now : Project) (Met : List ℕ → Type 0) (room : 
   pub ends : end_of T ≡ E
 
 module _ (w : World) (old now : Project) (Met : List ℕ → Type 0) (sep : StampsSeparate w old now Met) (differ : ListingsDiffer w) (t : Task)
-    (child0 child : Task → Node) (meaning : old.next t ≡ now.next t) (polite : NeverWritesWhatItSaw (old.next t)) (own_all : List (Path × List ℕ)) (E : Outcome) (room : ℕ)
+    (child0 child : Task → Node) (meaning : old.next t ≡ now.next t) (polite : NeverWritesWhatItSaw (old.next t))
+    (own_all : List (Path × List ℕ)) (E : Outcome) (room : ℕ)
     (kid : (h : How) (u : Task) (g : Progress) (go : Progress → Trace) → is_done (outcome_of (evaluation w now u)) ≡ true
     → ((levels (evaluation w now u) ≤ room → ⊥) → E ≡ Many → ⊥) → end_of (on_outcome h g (child u) go (outcome_of (child u))) ≡ E
     → child u ≡ evaluation w now u) where
@@ -49,7 +51,8 @@ module _ (w : World) (old now : Project) (Met : List ℕ → Type 0) (sep : Stam
 
   module _ (go go0 : Progress → Trace)
       (G : (g g0 : Progress) (before : List Task) → Beside w now before g g0 → Premises g before (go g) (go0 g0) → SameTrace w (go g) (go0 g0))
-      (unwritten : (p : Path) (g : Progress) → among p (looked_paths (old.next t) [] g.answers) ≡ true → first_write p (writes_of (go0 g)) ≡ None) where
+      (unwritten : (p : Path) (g : Progress) → among p (looked_paths (old.next t) [] g.answers) ≡ true → first_write p (writes_of (go0 g))
+      ≡ None) where
     beside_answer : (before : List Task) (g g0 : Progress) (a a0 : Answer) → a ≡ a0 → Beside w now before g g0
         → Beside w now before (answered g a) (answered g0 a0)
     beside_answer before g g0 a a0 e b = record { answers = ap₂ (λ x y. x ++ y ∷ []) b.answers e; own = b.own; kids = b.kids }
@@ -57,11 +60,14 @@ module _ (w : World) (old now : Project) (Met : List ℕ → Type 0) (sep : Stam
     look_goes : (l : Look) (p : Path) (g g0 : Progress) (before : List Task) (s s0 : Seen) → Beside w now before g g0
         → look_stamp w l p s ≡ look_stamp w l p s0 → seen_stamp w l p s ≡ seen_stamp w l p s0
         → (kind_of p ≡ Source → seen_file (now.file p) ≡ s) → (kind_of p ≡ Source → seen_file (old.file p) ≡ s0)
-        → Premises g before (looks l p s (go (answered g (seen_answer w old now Met sep p l s)))) (looks l p s0 (go0 (answered g0 (seen_answer w old now Met sep p l s0))))
-        → SameTrace w (looks l p s (go (answered g (seen_answer w old now Met sep p l s)))) (looks l p s0 (go0 (answered g0 (seen_answer w old now Met sep p l s0))))
+        → Premises g before (looks l p s (go (answered g (seen_answer w old now Met sep p l s))))
+        (looks l p s0 (go0 (answered g0 (seen_answer w old now Met sep p l s0))))
+        → SameTrace w (looks l p s (go (answered g (seen_answer w old now Met sep p l s))))
+        (looks l p s0 (go0 (answered g0 (seen_answer w old now Met sep p l s0))))
     look_goes l p g g0 before s s0 b e f src src0 r =
         let a = looks_alike w old now Met sep p l s s0 r.met.0 r.met0.0 src src0 f in
-        let same = G (answered g (seen_answer w old now Met sep p l s)) (answered g0 (seen_answer w old now Met sep p l s0)) before (beside_answer before g g0 _ _ a b)
+        let same = G (answered g (seen_answer w old now Met sep p l s)) (answered g0 (seen_answer w old now Met sep p l s0)) before
+        (beside_answer before g g0 _ _ a b)
         (record { done = r.done; met = r.met.1; met0 = r.met0.1; own = r.own; agrees = r.agrees.1; shallow = r.shallow; ends = r.ends }) in
         record {
           observations = ap₂ (λ x y. observed (Looked l p) x ∷ y) e same.observations;
@@ -85,7 +91,8 @@ module _ (w : World) (old now : Project) (Met : List ℕ → Type 0) (sep : Stam
         → look_now w now (by_evaluation w now) own_all before l p (kind_of p) ≡ seen_stamp w l p s
 
     -- by what is seen now
-    seen_now : (l : Look) (p : Path) (g g0 : Progress) (before : List Task) (s s0 : Seen) → old.next t g0.answers ≡ LookAt l p → Beside w now before g g0
+    seen_now : (l : Look) (p : Path) (g g0 : Progress) (before : List Task) (s s0 : Seen) → old.next t g0.answers ≡ LookAt l p
+        → Beside w now before g g0
         → Stamped l p g before s → Some (look_stamp w l p s0) ≡ seen_stamp w l p s0
         → (kind_of p ≡ Source → seen_file (now.file p) ≡ s) → (kind_of p ≡ Source → seen_file (old.file p) ≡ s0)
         → Premises g before (on_seen w t l p g go s) (looks l p s0 (go0 (answered g0 (seen_answer w old now Met sep p l s0))))
@@ -103,7 +110,8 @@ module _ (w : World) (old now : Project) (Met : List ℕ → Type 0) (sep : Stam
         never x q = cc
 
     -- by what was seen then
-    seen_then : (l : Look) (p : Path) (g g0 : Progress) (before : List Task) (s s0 : Seen) → old.next t g0.answers ≡ LookAt l p → Beside w now before g g0
+    seen_then : (l : Look) (p : Path) (g g0 : Progress) (before : List Task) (s s0 : Seen) → old.next t g0.answers ≡ LookAt l p
+        → Beside w now before g g0
         → Stamped l p g before s → (kind_of p ≡ Source → seen_file (now.file p) ≡ s) → (kind_of p ≡ Source → seen_file (old.file p) ≡ s0)
         → Premises g before (on_seen w t l p g go s) (on_seen w t l p g0 go0 s0)
         → SameTrace w (on_seen w t l p g go s) (on_seen w t l p g0 go0 s0)
@@ -178,8 +186,10 @@ module _ (w : World) (old now : Project) (Met : List ℕ → Type 0) (sep : Stam
 
     need_now : (h : How) (u : Task) (g g0 : Progress) (before : List Task) (n0 : Node) (v0 : Value) (e : Outcome) → Beside w now before g g0
         → outcome_of (evaluation w now u) ≡ e → outcome_of n0 ≡ Ended v0
-        → Premises g before (needs h u (child u) (on_outcome h g (child u) go (outcome_of (child u)))) (needs h u n0 (go0 (required g0 n0 (output_answer v0 h))))
-        → SameTrace w (needs h u (child u) (on_outcome h g (child u) go (outcome_of (child u)))) (needs h u n0 (go0 (required g0 n0 (output_answer v0 h))))
+        → Premises g before (needs h u (child u) (on_outcome h g (child u) go (outcome_of (child u))))
+        (needs h u n0 (go0 (required g0 n0 (output_answer v0 h))))
+        → SameTrace w (needs h u (child u) (on_outcome h g (child u) go (outcome_of (child u))))
+        (needs h u n0 (go0 (required g0 n0 (output_answer v0 h))))
     need_now h u g g0 before n0 v0 (Ended v) b e e0 r =
         let f = some_same _ _ (sym (ap (outcome_now w h) e) ∙ r.agrees.0) ∙ ap (outcome_stamp w h) e0 in
         let is = kid h u g go (ap is_done e)
@@ -216,7 +226,8 @@ module _ (w : World) (old now : Project) (Met : List ℕ → Type 0) (sep : Stam
     event_goes g g0 before (Fail f) i b r = record { observations = refl; written = refl; end = refl }
     event_goes g g0 before (LookAt l p) i b r =
         seen_then l p g g0 before (visible_at now.file g.own g.kids p) (visible_at old.file g0.own g0.kids p) i b
-        (λ f. look_now_is w now (by_evaluation w now) own_all g.own before g.kids l p (kind_of p) refl f (ap (λ ks. told_of w (provided ks p)) (sym b.kids)))
+        (λ f. look_now_is w now (by_evaluation w now) own_all g.own before g.kids l p (kind_of p) refl f
+        (ap (λ ks. told_of w (provided ks p)) (sym b.kids)))
         (λ k. sym (ap (visible_by now.file g.own g.kids p) k))
         (λ k. sym (ap (visible_by old.file g0.own g0.kids p) k)) r
     event_goes g g0 before (ListOf d) i b r = listing_goes d g g0 before (listing w now d) (listing w old d) b refl refl r

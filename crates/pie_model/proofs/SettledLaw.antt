@@ -52,11 +52,13 @@ module _ (w : World) (old now : Project) (Met : List ℕ → Type 0) (R : Task �
 
   module _ (sep : StampsSeparate w old now Met) (differ : ListingsDiffer w) (polite : (t : Task) → NeverWritesWhatItSaw (old.next t)) where
     -- by what is right below
-    stands_now : (t : Task) (r : Record) → R t ≡ Some r → ((u : Task) → among u (needs_of r.observations) ≡ true → (x : Task) → Reaches R u x → HasItsRecord w now R x)
+    stands_now : (t : Task) (r : Record) → R t ≡ Some r
+        → ((u : Task) → among u (needs_of r.observations) ≡ true → (x : Task) → Reaches R u x → HasItsRecord w now R x)
         → IsUpToDate w old now Met R told t r → r ≡ record_of w (evaluation w now t)
     stands_now t r e right (inl h) = h
     stands_now t r e right (inr s) =
-        s.was ∙ sym (second_law w old now Met sep differ t (w.most_tasks - length {A = Task} []) [] (omega arith) s.meaning (polite t) s.done s.met (c.met t r e)
+        s.was ∙ sym (second_law w old now Met sep differ t (w.most_tasks - length {A = Task} []) [] (omega arith) s.meaning (polite t)
+        s.done s.met (c.met t r e)
         (subst (RecordAgrees w now (by_evaluation w now)) s.was
         (agrees_by_evaluation w now now R told c.telling r.writes r.observations [] (λ u i. clash false i refl)
         (λ u i. record { recorded = c.closed t r u e i; right = right u i }) s.agrees))
@@ -70,13 +72,15 @@ module _ (w : World) (old now : Project) (Met : List ℕ → Type 0) (R : Task �
     right_by : (t : Task) (r : Record) → R t ≡ Some r → r ≡ record_of w (evaluation w now t) → HasItsRecord w now R t
     right_by t r e h = record { is = e ∙ ap Some h; plain = ap (λ z. is_plain z.outcome) (sym h) ∙ c.plain t r e }
 
-    settled_under : (t u x : Task) (r : Record) → R t ≡ Some r → among u (needs_of r.observations) ≡ true → Reaches R u x → IsSettled R busy t → IsSettled R busy x
+    settled_under : (t u x : Task) (r : Record) → R t ≡ Some r → among u (needs_of r.observations) ≡ true → Reaches R u x
+        → IsSettled R busy t → IsSettled R busy x
     settled_under t u x r e i q s = record {
       recorded = reached_recorded q (c.closed t r u e i);
       free = λ y p. s.free y (along e i (further q p));
     }
 
-    settled_step : (n : ℕ) → ((x : Task) → rank x < n → IsSettled R busy x → HasItsRecord w now R x) → (t : Task) → rank t < suc n → IsSettled R busy t → HasItsRecord w now R t
+    settled_step : (n : ℕ) → ((x : Task) → rank x < n → IsSettled R busy x → HasItsRecord w now R x) → (t : Task) → rank t < suc n
+        → IsSettled R busy t → HasItsRecord w now R t
     settled_step n ih t q s =
         right_by t s.recorded.kept s.recorded.is
         (stands_now t s.recorded.kept s.recorded.is

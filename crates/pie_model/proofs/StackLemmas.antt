@@ -32,7 +32,8 @@ mutual
   below_begins (looks l p s k) all = below_begins k all
   below_begins (lists d es k) all = below_begins k all
   below_begins (writes p b k) all = below_begins k all
-  below_begins (needs h u n k) all = begins_more all (entered n all) (entered_below k (entered n all)) (entered_begins n all) (below_begins k (entered n all))
+  below_begins (needs h u n k) all = begins_more all (entered n all) (entered_below k (entered n all)) (entered_begins n all)
+      (below_begins k (entered n all))
 
 module _ (w : World) (P : Project) (root : Task) where
   child_is : (fs : List Frame) (f : Frame) (room : ℕ) → w.most_tasks - length (tasks_of fs) ≡ suc room → (u : Task)
@@ -43,7 +44,8 @@ module _ (w : World) (P : Project) (root : Task) where
       less a b c q = omega arith
 
   -- an outcome that is no value is the root's
-  pub sinks : (fs : List Frame) (u : Task) (e : Outcome) → IsWaiting w P root fs u → outcome_of (evaluation_under w P (tasks_of fs) u) ≡ e → is_done e ≡ false
+  pub sinks : (fs : List Frame) (u : Task) (e : Outcome) → IsWaiting w P root fs u → outcome_of (evaluation_under w P (tasks_of fs) u) ≡ e
+      → is_done e ≡ false
       → outcome_of (evaluation w P root) ≡ e
   sinks [] u e nobody h d = h
   sinks (f ∷ fs) u e (waits k room room_is run next below) h d =
@@ -76,7 +78,8 @@ module _ (w : World) (P : Project) (root : Task) where
       (sym (child_is fs f room room_is u))
       (subst (λ z. Begins (entered (evaluation_with room w P (f.task ∷ tasks_of fs) u) (entered_by base (f ∷ fs))) z)
       (sym (enters_required w P room (tasks_of fs) f.task f.left f.progress f.seen k u next run (entered_by base fs)))
-      (below_begins (on_outcome k f.progress (evaluation_with room w P (f.task ∷ tasks_of fs) u) (rest_of_run w P room (tasks_of fs) f.task f.left) (outcome_of (evaluation_with room w P (f.task ∷ tasks_of fs) u)))
+      (below_begins (on_outcome k f.progress (evaluation_with room w P (f.task ∷ tasks_of fs) u)
+      (rest_of_run w P room (tasks_of fs) f.task f.left) (outcome_of (evaluation_with room w P (f.task ∷ tasks_of fs) u)))
       (entered (evaluation_with room w P (f.task ∷ tasks_of fs) u) (entered_by base (f ∷ fs))))))
       (subst (λ n. Begins (entered (evaluation_with n w P (tasks_of fs) f.task) (entered_by base fs)) (entered (evaluation w P root) base)) room_is
       (sinks_begins base fs f.task below))

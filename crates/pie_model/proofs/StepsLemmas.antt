@@ -83,7 +83,8 @@ module _ (R S : Task → Option Record) (t : Task) (new : Record) (change : Chan
       where
         by : (u ≡ t) ⊎ (u ≡ t → ⊥) → Reaches R v x → Reaches R u x
         by (inl z) more = along (ap R z ∙ was)
-            (subst (λ ns. among v ns ≡ true) (ap (λ y. needs_of y.observations) (some_same r new (sym e ∙ ap S z ∙ change.now)) ∙ sym shape.needs) i) more
+            (subst (λ ns. among v ns ≡ true) (ap (λ y. needs_of y.observations) (some_same r new (sym e ∙ ap S z ∙ change.now))
+            ∙ sym shape.needs) i) more
         by (inr z) more = along (sym (change.others u z) ∙ e) i more
 
     shape_writes_forth : (us : List Task) (p : Path) (x : Task) (h : List ℕ) → WroteByRecords R us p x h → WroteByRecords S us p x h
@@ -96,7 +97,8 @@ module _ (R S : Task → Option Record) (t : Task) (new : Record) (change : Chan
           reaches = shape_forth s.reaches;
           found = new;
           recorded = ap S z ∙ change.now;
-          wrote = ap (first_write p) (sym shape.writes ∙ ap (λ y. y.writes) (some_same before s.found (sym was ∙ sym (ap R z) ∙ s.recorded))) ∙ s.wrote;
+          wrote = ap (first_write p) (sym shape.writes
+              ∙ ap (λ y. y.writes) (some_same before s.found (sym was ∙ sym (ap R z) ∙ s.recorded))) ∙ s.wrote;
         }
         by (inr z) = record {
           from = s.from;
@@ -117,7 +119,8 @@ module _ (R S : Task → Option Record) (t : Task) (new : Record) (change : Chan
           reaches = shape_back s.reaches;
           found = before;
           recorded = ap R z ∙ was;
-          wrote = ap (first_write p) (shape.writes ∙ ap (λ y. y.writes) (some_same new s.found (sym change.now ∙ sym (ap S z) ∙ s.recorded))) ∙ s.wrote;
+          wrote = ap (first_write p) (shape.writes ∙ ap (λ y. y.writes)
+              (some_same new s.found (sym change.now ∙ sym (ap S z) ∙ s.recorded))) ∙ s.wrote;
         }
         by (inr z) = record {
           from = s.from;
@@ -132,7 +135,8 @@ module _ (R S : Task → Option Record) (t : Task) (new : Record) (change : Chan
 
   module _ (w : World) (now : Project) (told retold : List Task → Path → Told)
       (telling : (us : List Task) (p : Path) → ((u : Task) → among u us ≡ true → IsRecorded R u) → IsTold (WroteByRecords R us p) (told us p))
-      (retelling : (us : List Task) (p : Path) → ((u : Task) → among u us ≡ true → IsRecorded S u) → IsTold (WroteByRecords S us p) (retold us p)) where
+      (retelling : (us : List Task) (p : Path) → ((u : Task) → among u us ≡ true → IsRecorded S u)
+      → IsTold (WroteByRecords S us p) (retold us p)) where
     still_recorded : (u : Task) → IsRecorded R u → IsRecorded S u
     still_recorded u h = by (one_or_not u t)
       where
@@ -185,7 +189,8 @@ module _ (R S : Task → Option Record) (t : Task) (new : Record) (change : Chan
               (change.others u (λ z. (m u (among_here u [])).1 (subst (λ y. Reaches R u y) z here))) ∙ k
 
       -- the second kind: its stamps of the task are the new ones
-      called_agrees : (os : List Observation) (us : List Task) → ((u : Task) → among u us ≡ true → IsRecorded R u) → ((u : Task) → among u (needs_of os) ≡ true → IsRecorded R u)
+      called_agrees : (os : List Observation) (us : List Task) → ((u : Task) → among u us ≡ true → IsRecorded R u)
+          → ((u : Task) → among u (needs_of os) ≡ true → IsRecorded R u)
           → Each (StampStill w S t) os → ((before : Record) × (R t ≡ Some before) × SameShape before new) ⊎ Each LooksElsewhere os
           → Agrees w now (by_records R told) own us os → Agrees w now (by_records S retold) own us os
       called_agrees [] us b n c f h = tt
@@ -211,12 +216,14 @@ module _ (R S : Task → Option Record) (t : Task) (new : Record) (change : Chan
           rest (inl x) = inl x
           rest (inr x) = inr x.1
 
-          told_again : (p : Path) (l : Look) (s : Stamp) → ((before : Record) × (R t ≡ Some before) × SameShape before new) ⊎ LooksElsewhere (Looked l p) s
+          told_again : (p : Path) (l : Look) (s : Stamp) → ((before : Record) × (R t ≡ Some before) × SameShape before new)
+              ⊎ LooksElsewhere (Looked l p) s
               → kind_of p ≡ Out → told us p ≡ retold us p
           told_again p l s (inl x) e = told_shape x.0 x.1 x.2 us p b
           told_again p l s (inr x) e = absurd (x e)
 
-          by_query : (q : Query) (s : Stamp) → StampStill w S t q s → ((before : Record) × (R t ≡ Some before) × SameShape before new) ⊎ LooksElsewhere q s
+          by_query : (q : Query) (s : Stamp) → StampStill w S t q s → ((before : Record) × (R t ≡ Some before) × SameShape before new)
+              ⊎ LooksElsewhere q s
               → stamp_now w now (by_records R told) own us q ≡ Some s → stamp_now w now (by_records S retold) own us q ≡ Some s
           by_query (Looked l p) s m x k = look_again us l p (kind_of p) s (told_again p l s x) k
           by_query (Listed d) s m x k = k
@@ -258,16 +265,18 @@ pub finish_consistent : (w : World) (old now : Project) (Met : List ℕ → Type
     → ((x : Task) → (x ≡ t → ⊥) → (busy_after x → ⊥) → busy x → ⊥)
     → ((x : Task) (r : Record) → (x ≡ t → ⊥) → (busy_after x → ⊥) → R x ≡ Some r → IsUntouched w R S t new r)
     → IsConsistent w old now Met S retold held new_rank busy_after
-finish_consistent w old now Met R S told retold held rank new_rank busy after t new c change right in_held plain met needs lower retelling others untouched = record {
-  few = c.few;
-  counted = λ x r e. by_one x (λ x. among x held ≡ true) in_held (λ z. c.counted x r (sym (change.others x z) ∙ e));
-  closed = λ x r u e i. still u (by_one_record x r e (λ r. among u (needs_of r.observations) ≡ true → IsRecorded R u) (needs u) (λ k. c.closed x r u k) i);
-  lower = lower;
-  plain = λ x r e. by_one_record x r e (λ r. is_plain r.outcome ≡ true) plain (λ k. c.plain x r k);
-  met = λ x r e. by_one x (λ x. AllMet w Met (trace_of (evaluation w now x))) met (λ z. c.met x r (sym (change.others x z) ∙ e));
-  telling = retelling;
-  current = λ x r e b. by_current x r e b (one_or_not x t);
-}
+finish_consistent w old now Met R S told retold held rank new_rank busy after t new c change right in_held plain met needs lower retelling
+    others untouched = record {
+      few = c.few;
+      counted = λ x r e. by_one x (λ x. among x held ≡ true) in_held (λ z. c.counted x r (sym (change.others x z) ∙ e));
+      closed = λ x r u e i. still u (by_one_record x r e (λ r. among u (needs_of r.observations) ≡ true → IsRecorded R u) (needs u)
+          (λ k. c.closed x r u k) i);
+      lower = lower;
+      plain = λ x r e. by_one_record x r e (λ r. is_plain r.outcome ≡ true) plain (λ k. c.plain x r k);
+      met = λ x r e. by_one x (λ x. AllMet w Met (trace_of (evaluation w now x))) met (λ z. c.met x r (sym (change.others x z) ∙ e));
+      telling = retelling;
+      current = λ x r e b. by_current x r e b (one_or_not x t);
+    }
   where
     still : (u : Task) → IsRecorded R u → IsRecorded S u
     still = still_recorded R S t new change w now told retold c.telling retelling
@@ -286,7 +295,8 @@ finish_consistent w old now Met R S told retold held rank new_rank busy after t 
         go (inl z) = subst Q (some_same new r (sym change.now ∙ sym (ap S z) ∙ e)) q
         go (inr z) = f (sym (change.others x z) ∙ e)
 
-    again : (x : Task) (r : Record) → R x ≡ Some r → IsUntouched w R S t new r → IsUpToDate w old now Met R told x r → IsUpToDate w old now Met S retold x r
+    again : (x : Task) (r : Record) → R x ≡ Some r → IsUntouched w R S t new r → IsUpToDate w old now Met R told x r
+        → IsUpToDate w old now Met S retold x r
     again x r e f (inl h) = inl h
     again x r e f (inr s) = inr (record {
       was = s.was;
@@ -303,7 +313,8 @@ finish_consistent w old now Met R S told retold held rank new_rank busy after t 
         again x r k (untouched x r z b k) (c.current x r k (others x z b))
 
 -- a start, or any other task that becomes busy, keeps the records consistent
-pub more_busy : (w : World) (old now : Project) (Met : List ℕ → Type 0) (R : Task → Option Record) (told : List Task → Path → Told) (held held_after : List Task)
+pub more_busy : (w : World) (old now : Project) (Met : List ℕ → Type 0) (R : Task → Option Record) (told : List Task → Path → Told)
+    (held held_after : List Task)
     (rank : Task → ℕ) (busy busy_after : Task → Type 0) → IsConsistent w old now Met R told held rank busy
     → length held_after ≤ w.most_tasks → ((x : Task) → among x held ≡ true → among x held_after ≡ true) → ((x : Task) → busy x → busy_after x)
     → IsConsistent w old now Met R told held_after rank busy_after
@@ -319,7 +330,8 @@ more_busy w old now Met R told held held_after rank busy after c few more f = re
 }
 
 -- a scheduled task whose record stands is taken
-pub take_consistent : (w : World) (old now : Project) (Met : List ℕ → Type 0) (R : Task → Option Record) (told : List Task → Path → Told) (held : List Task)
+pub take_consistent : (w : World) (old now : Project) (Met : List ℕ → Type 0) (R : Task → Option Record) (told : List Task → Path → Told)
+    (held : List Task)
     (rank : Task → ℕ) (busy busy_after : Task → Type 0) (t : Task) → IsConsistent w old now Met R told held rank busy
     → ((r : Record) → R t ≡ Some r → IsUpToDate w old now Met R told t r) → ((x : Task) → (x ≡ t → ⊥) → busy x → busy_after x)
     → IsConsistent w old now Met R told held rank busy_after
@@ -339,5 +351,6 @@ take_consistent w old now Met R told held rank busy after t c up f = record {
     by x r e b (inr z) = c.current x r e (λ i. b (f x z i))
 
 -- and what was settled stays settled
-pub take_settled : (R : Task → Option Record) (busy busy_after : Task → Type 0) → ((x : Task) → busy_after x → busy x) → (u : Task) → IsSettled R busy u → IsSettled R busy_after u
+pub take_settled : (R : Task → Option Record) (busy busy_after : Task → Type 0) → ((x : Task) → busy_after x → busy x) → (u : Task)
+    → IsSettled R busy u → IsSettled R busy_after u
 take_settled R busy after f u s = record { recorded = s.recorded; free = λ x q i. s.free x q (f x i) }

@@ -78,13 +78,16 @@ record WroteBelow (p : Path) (x : Task) (b : List ℕ) (k : Trace) : Type 0 wher
   is : task_of found ≡ x
   wrote : first_write p (writes_of (trace_of found)) ≡ Some b
 
-into : (p : Path) (x : Task) (b : List ℕ) (k0 k : Trace) → ((m : Node) → StandsBelow m k0 → StandsBelow m k) → WroteBelow p x b k0 → WroteBelow p x b k
+into : (p : Path) (x : Task) (b : List ℕ) (k0 k : Trace) → ((m : Node) → StandsBelow m k0 → StandsBelow m k) → WroteBelow p x b k0
+    → WroteBelow p x b k
 into p x b k0 k f s = record { found = s.found; stands = f s.found s.stands; is = s.is; wrote = s.wrote }
 
-into_node : (p : Path) (x : Task) (b : List ℕ) (n : Node) (k : Trace) → ((m : Node) → StandsIn m n → StandsBelow m k) → Wrote p x b n → WroteBelow p x b k
+into_node : (p : Path) (x : Task) (b : List ℕ) (n : Node) (k : Trace) → ((m : Node) → StandsIn m n → StandsBelow m k) → Wrote p x b n
+    → WroteBelow p x b k
 into_node p x b n k f s = record { found = s.found; stands = f s.found s.stands; is = s.is; wrote = s.wrote }
 
-at_top : (p : Path) (x : Task) (b : List ℕ) (t : Task) (k : Trace) → Lists x b (writer t (first_write p (writes_of k))) ⊎ Lists x b (writers_below p k)
+at_top : (p : Path) (x : Task) (b : List ℕ) (t : Task) (k : Trace) → Lists x b (writer t (first_write p (writes_of k)))
+    ⊎ Lists x b (writers_below p k)
     → (Lists x b (writers_below p k) → WroteBelow p x b k) → Wrote p x b (node t k)
 at_top p x b t k (inl h) f =
     let q : (x ≡ t) × (first_write p (writes_of k) ≡ Some b) = lists_writer x t (first_write p (writes_of k)) b h in
@@ -111,7 +114,8 @@ mutual
       at_need p x b r u n k (lists_either x b (writers p n) (writers_below p k) h) (λ i. listed_wrote p x b n i) (λ i. listed_below p x b k i)
 
 mutual
-  wrote_listed : (p : Path) (b : List ℕ) (m n : Node) → StandsIn m n → first_write p (writes_of (trace_of m)) ≡ Some b → Lists (task_of m) b (writers p n)
+  wrote_listed : (p : Path) (b : List ℕ) (m n : Node) → StandsIn m n → first_write p (writes_of (trace_of m)) ≡ Some b
+      → Lists (task_of m) b (writers p n)
   wrote_listed p b m (node t k) (inl e) h =
       lists_left (task_of m) b (writer t (first_write p (writes_of k))) (writers_below p k)
       (subst (λ z. Lists (task_of z) b (writer t (first_write p (writes_of k)))) (sym e)
@@ -186,19 +190,29 @@ module _ (w : World) (P : Project) (p : Path) where
 
   in_trees : (us : List Task) (x : Task) (b : List ℕ) → WroteAmong w P us p x b → WroteInTrees w P us p x (w.hash b)
   in_trees us x b s =
-      record { from = s.from; listed = s.listed; found = s.found; stands = s.stands; is = s.is; wrote = hash_of_write (writes_of (trace_of s.found)) b s.wrote }
+      record {
+        from = s.from;
+        listed = s.listed;
+        found = s.found;
+        stands = s.stands;
+        is = s.is;
+        wrote = hash_of_write
+            (writes_of (trace_of s.found)) b s.wrote;
+      }
 
   tree_listed : (us : List Task) (x : Task) (h : List ℕ) → WroteInTrees w P us p x h
       → (b : List ℕ) × Lists x b (writers_in p (map (evaluation w P) us)) × (w.hash b ≡ h)
   tree_listed us x h s =
-      let q : (b : List ℕ) × (first_write p (writes_of (trace_of s.found)) ≡ Some b) × (w.hash b ≡ h) = write_of_hash (writes_of (trace_of s.found)) h s.wrote in
+      let q : (b : List ℕ) × (first_write p (writes_of (trace_of s.found)) ≡ Some b)
+      × (w.hash b ≡ h) = write_of_hash (writes_of (trace_of s.found)) h s.wrote in
       (q.0, subst (λ z. Lists z q.0 (writers_in p (map (evaluation w P) us))) s.is (among_listed q.0 s.from us s.found s.listed s.stands q.1), q.2)
 
   -- one task writes one content in plain trees
   one_content : (us : List Task) → ((u : Task) → among u us ≡ true → is_plain (outcome_of (evaluation w P u)) ≡ true) → (x : Task) (a b : List ℕ)
       → WroteAmong w P us p x a → WroteAmong w P us p x b → a ≡ b
   one_content us plain x a b s r =
-      some_same _ _ (sym s.wrote ∙ ap (λ z. first_write p (writes_of (trace_of z))) (alone s ∙ ap (evaluation w P) (s.is ∙ sym r.is) ∙ sym (alone r)) ∙ r.wrote)
+      some_same _ _ (sym s.wrote ∙ ap (λ z. first_write p (writes_of (trace_of z)))
+      (alone s ∙ ap (evaluation w P) (s.is ∙ sym r.is) ∙ sym (alone r)) ∙ r.wrote)
     where
       alone : {c : List ℕ} (q : WroteAmong w P us p x c) → q.found ≡ evaluation w P (task_of q.found)
       alone q = node_alone (w.most_tasks - length {A = Task} []) w P [] q.from q.found (omega arith) q.stands
@@ -229,13 +243,15 @@ module _ (w : World) (P : Project) (p : Path) where
       → IsTold (WroteInTrees w P us p) (told_of w (by_writers (writers_in p (map (evaluation w P) us))))
   provided_told us plain = go (writers_in p (map (evaluation w P) us)) refl
     where
-      back : (xs : List (Task × List ℕ)) → writers_in p (map (evaluation w P) us) ≡ xs → (x : Task) (b : List ℕ) → Lists x b xs → WroteAmong w P us p x b
+      back : (xs : List (Task × List ℕ)) → writers_in p (map (evaluation w P) us) ≡ xs → (x : Task) (b : List ℕ) → Lists x b xs
+          → WroteAmong w P us p x b
       back xs e x b i = listed_among x b us (subst (Lists x b) (sym e) i)
 
       forth : (xs : List (Task × List ℕ)) → writers_in p (map (evaluation w P) us) ≡ xs → (x : Task) (h : List ℕ) → WroteInTrees w P us p x h
           → (b : List ℕ) × Lists x b xs × (w.hash b ≡ h)
       forth xs e x h s =
-          let q : (b : List ℕ) × Lists x b (writers_in p (map (evaluation w P) us)) × (w.hash b ≡ h) = tree_listed us x h s in (q.0, subst (Lists x q.0) e q.1, q.2)
+          let q : (b : List ℕ) × Lists x b (writers_in p (map (evaluation w P) us))
+          × (w.hash b ≡ h) = tree_listed us x h s in (q.0, subst (Lists x q.0) e q.1, q.2)
 
       by : (x : Task × List ℕ) (xs : List (Task × List ℕ)) → writers_in p (map (evaluation w P) us) ≡ x ∷ xs → (b : Bool) → all_by x.0 xs ≡ b
           → IsTold (WroteInTrees w P us p) (told_of w (cond b (Holds x.1 0) Clashing))
@@ -272,7 +288,8 @@ module _ (w : World) (P : Project) (p : Path) where
 
 -- ---- the records' writers are the trees' writers
 
-module _ (w : World) (P : Project) (R : Task → Option Record) (us : List Task) (right : (u : Task) → among u us ≡ true → (x : Task) → Reaches R u x → HasItsRecord w P R x) (p : Path) where
+module _ (w : World) (P : Project) (R : Task → Option Record) (us : List Task)
+    (right : (u : Task) → among u us ≡ true → (x : Task) → Reaches R u x → HasItsRecord w P R x) (p : Path) where
   records_trees : (x : Task) (h : List ℕ) → WroteByRecords R us p x h → WroteInTrees w P us p x h
   records_trees x h s =
       let r : HasItsRecord w P R x = right s.from s.listed x s.reaches in

@@ -57,7 +57,8 @@ kids_own w P x h = own_kids (w.most_tasks - length {A = Task} []) w P [] x (omeg
 
 module _ (w : World) (P : Project) (R : Task → Option Record) where
   -- what the records reach stands in the tree
-  pub reached_stands : {b a : Task} → Reaches R a b → ((x : Task) → Reaches R a x → HasItsRecord w P R x) → StandsIn (evaluation w P b) (evaluation w P a)
+  pub reached_stands : {b a : Task} → Reaches R a b → ((x : Task) → Reaches R a x → HasItsRecord w P R x)
+      → StandsIn (evaluation w P b) (evaluation w P a)
   reached_stands here H = stands_itself (evaluation w P _)
   reached_stands {b} {a} (along {b = c} {r = r} e i q) H =
       required_kid (IsOwn w P) c (trace_of (evaluation w P a)) (kids_own w P a (H a here).plain) (needs_right w P R a c r (H a here) e i)
@@ -78,7 +79,8 @@ module _ (w : World) (P : Project) (R : Task → Option Record) where
   after u v m r e i q = record { way = along e i q.way; own = q.own }
 
   mutual
-    pub stands_reached : (n : Node) (u : Task) (m : Node) → n ≡ evaluation w P u → ((x : Task) → Reaches R u x → HasItsRecord w P R x) → StandsIn m n → Reached u m
+    pub stands_reached : (n : Node) (u : Task) (m : Node) → n ≡ evaluation w P u → ((x : Task) → Reaches R u x → HasItsRecord w P R x)
+        → StandsIn m n → Reached u m
     stands_reached (node t k) u m e H (inl q) = own_reached u m (q ∙ e)
     stands_reached (node t k) u m e H (inr s) =
         below_reached k u m

@@ -56,7 +56,7 @@ RunsAreAnswered =
     (w : World) (P : Project) (room : ℕ) (above : List Task) (t : Task) (n : ℕ) (g : Progress) (seen : List Observation) (h : How) (u : Task) (v : Value)
     → P.next t g.answers ≡ Require h u → outcome_of (evaluation_with room w P (t ∷ above) u) ≡ Ended v → IsRunning w P room above t (suc n) g seen
     → IsRunning w P room above t n (required g (evaluation_with room w P (t ∷ above) u) (output_answer v h))
-        (seen ++ observed (Required h u) (value_stamp w v h) ∷ [])
+    (seen ++ observed (Required h u) (value_stamp w v h) ∷ [])
 
 -- a record answers a require: where all that a task reaches has the records of its evaluations,
 -- below distinct counted tasks that it does not reach its evaluation is the one with nothing above

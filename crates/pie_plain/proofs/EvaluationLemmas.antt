@@ -1,8 +1,8 @@
 -- What the plain program's evaluation is by its parts.
-use Rattle.std.proofs.Common.{ℕ, zero, suc, ◌-◌, ◌<◌, ◌≤◌, ◌≡◌, Bool, true, false, cond, Option, Some, None, List, [], ◌∷◌, ◌++◌, ◌⊎◌, inl, inr, sym, ◌∙◌, ap, ap₂, subst, subst₂, refl, arith, Result, Ok, Err, IfOk}
-use Rattle.pie_model.specs.Paths.{Path, among}
+use Rattle.std.proofs.Common.{ℕ, zero, suc, ◌-◌, ◌<◌, ◌≡◌, Bool, true, false, List, [], ◌∷◌, ◌++◌, sym, ◌∙◌, ap, ap₂, subst, subst₂, refl, arith, Result, Ok, Err, IfOk}
+use Rattle.pie_model.specs.Paths.{among}
 use Rattle.pie_model.specs.Tasks.{Task}
-use Rattle.pie_model.specs.Trees.{Node, node, Trace, ends, outcome_of, task_of, trace_of, enter, entered}
+use Rattle.pie_model.specs.Trees.{Node, node, Trace, outcome_of, task_of, enter, entered}
 use Rattle.pie_model.specs.declared.words.Outcome.{Outcome}
 use Rattle.pie_model.specs.declared.words.Outcome.TheVariants.{Cycled, Many}
 use Rattle.pie_model.specs.Evaluation.{World, Project, start, follow, round, evaluation_with}
@@ -27,7 +27,8 @@ evaluated_without_room w P n above t all h e =
     (subst (λ x. IsEvaluated x all Many (begun (enter t all))) (sym (opened_apart zero w P above t h))
     (record { end = refl; written = refl; absent = refl; below = refl; enters = refl }))
 
-pub evaluated_below : (w : World) (P : Project) (n m : ℕ) (above : List Task) (t : Task) (all : List Task) (e : Outcome) (r : Row) → among t above ≡ false → n ≡ suc m
+pub evaluated_below : (w : World) (P : Project) (n m : ℕ) (above : List Task) (t : Task) (all : List Task) (e : Outcome) (r : Row)
+    → among t above ≡ false → n ≡ suc m
     → IsWhole (enter t all) (follow w P (evaluation_with m w P (t ∷ above)) t w.most_events start) e r
     → IsEvaluated (evaluation_with n w P above t) all e r
 evaluated_below w P n m above t all e r h q s =
@@ -55,7 +56,8 @@ kid_is w P n above u row kid after e s h =
     (sym (q.0 ∙ ap (λ z. tagged z kid.own ++ kid.below) (task_of-evaluation_with n w P above u))) (sym q.1)
 
 -- a require, by what the required evaluation added
-pub require_is : (w : World) (P : Project) (n : ℕ) (above : List Task) (u : Task) (h : Rattle.pie_model.specs.declared.words.How.How) (row kid after : Row) (e : Outcome) (turn : Turn)
+pub require_is : (w : World) (P : Project) (n : ℕ) (above : List Task) (u : Task) (h : Rattle.pie_model.specs.declared.words.How.How)
+    (row kid after : Row) (e : Outcome) (turn : Turn)
     → IsEvaluated (evaluation_with n w P above u) row.entered e kid
     → after ≡ record row { below = row.below ++ (tagged u kid.own ++ kid.below); entered = kid.entered }
     → turn ≡ by_outcome h after e
@@ -68,7 +70,8 @@ pub advance_keeps : (w : World) (P : Project) (child : Task → Node) (t : Task)
 advance_keeps w P child t all whole n row turn s e = subst (Keeps w P child t all whole n) (sym e) (step_keeps w P child t all whole n row s)
 
 -- the same in the words of the code's steps
-pub in_cycle_by : (w : World) (P : Project) (n : ℕ) (above : List Task) (t : Task) (all : List Task) (slice again found tasks now : List Task) (b : Bool) (row : Row)
+pub in_cycle_by : (w : World) (P : Project) (n : ℕ) (above : List Task) (t : Task) (all : List Task)
+    (slice again found tasks now : List Task) (b : Bool) (row : Row)
     → slice ≡ above → b ≡ among t slice → b ≡ true → found ≡ [] → again ≡ above → tasks ≡ round t again found → now ≡ enter t all → row ≡ begun now
     → IsEvaluated (evaluation_with n w P above t) all (Cycled tasks) row
 in_cycle_by w P n above t all slice again found tasks now b row s i h f a r e q =
@@ -76,14 +79,16 @@ in_cycle_by w P n above t all slice again found tasks now b row s i h f a r e q 
     (sym (r ∙ ap₂ (round t) a f)) (sym (q ∙ ap begun e))
     (evaluated_in_cycle w P n above t all (sym (ap (among t) s) ∙ sym i ∙ h))
 
-pub without_room_by : (w : World) (P : Project) (n : ℕ) (above : List Task) (t : Task) (all : List Task) (slice now : List Task) (b : Bool) (row : Row)
+pub without_room_by : (w : World) (P : Project) (n : ℕ) (above : List Task) (t : Task) (all : List Task) (slice now : List Task) (b : Bool)
+    (row : Row)
     → slice ≡ above → b ≡ among t slice → b ≡ false → now ≡ enter t all → row ≡ begun now → n ≡ 0
     → IsEvaluated (evaluation_with n w P above t) all Many row
 without_room_by w P n above t all slice now b row s i h e q z =
     subst (IsEvaluated (evaluation_with n w P above t) all Many) (sym (q ∙ ap begun e))
     (evaluated_without_room w P n above t all (sym (ap (among t) s) ∙ sym i ∙ h) z)
 
-pub below_by : (w : World) (P : Project) (n m : ℕ) (above : List Task) (t : Task) (all : List Task) (slice now below : List Task) (b : Bool) (e : Outcome) (row : Row)
+pub below_by : (w : World) (P : Project) (n m : ℕ) (above : List Task) (t : Task) (all : List Task) (slice now below : List Task) (b : Bool)
+    (e : Outcome) (row : Row)
     → slice ≡ above → b ≡ among t slice → b ≡ false → now ≡ enter t all → below ≡ t ∷ above → n ≡ suc m
     → IsWhole now (follow w P (evaluation_with m w P below) t w.most_events start) e row
     → IsEvaluated (evaluation_with n w P above t) all e row

@@ -23,11 +23,13 @@ below_later : (p : Path) → below_out (later p) ≡ cond (has_slash p) Out Kept
 below_later [] = refl
 below_later (c ∷ p) = go (eqb c 47) (below_later p)
   where
-    go : (b : Bool) → below_out (later p) ≡ cond (has_slash p) Out Kept → below_out (cond b (segments p) (later p)) ≡ cond (cond b true (has_slash p)) Out Kept
+    go : (b : Bool) → below_out (later p) ≡ cond (has_slash p) Out Kept → below_out (cond b (segments p) (later p))
+        ≡ cond (cond b true (has_slash p)) Out Kept
     go true e = ap below_out (segments_are p)
     go false e = e
 
-pub kind_is : (p : Path) (out more kept : Bool) (k : Kind) → out ≡ bytes_eq (first_segment p) (codes "out") → more ≡ has_slash p → kept ≡ among (first_segment p) kept_names
+pub kind_is : (p : Path) (out more kept : Bool) (k : Kind) → out ≡ bytes_eq (first_segment p) (codes "out") → more ≡ has_slash p → kept
+    ≡ among (first_segment p) kept_names
     → k ≡ cond out (cond more Out Kept) (cond kept Kept Source) → k ≡ kind_of p
 unfolding kind_of
 kind_is p out more kept k a b c d =

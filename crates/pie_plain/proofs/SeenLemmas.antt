@@ -1,14 +1,13 @@
 -- All writes show the same at a path as the first ones.
-use Rattle.std.proofs.Common.{ℕ, ◌≡◌, Bool, true, false, cond, Option, Some, None, List, [], ◌∷◌, ◌++◌, sym, ◌∙◌, ap, ap₂, subst, refl, append_assoc, append-nil, bytes_eq}
-use Rattle.pie_model.specs.Paths.{Path, kind_of}
+use Rattle.std.proofs.Common.{ℕ, ◌≡◌, Bool, true, false, cond, Option, Some, List, [], ◌∷◌, ◌++◌, sym, ◌∙◌, ap, subst, refl, append_assoc, bytes_eq}
+use Rattle.pie_model.specs.Paths.{Path}
 use Rattle.pie_model.specs.declared.words.Kind.{Kind}
 use Rattle.pie_model.specs.declared.words.Kind.TheVariants.{Out, Kept, Source}
 use Rattle.pie_model.specs.Tasks.{Task}
 use Rattle.pie_model.specs.Trees.{Node, node, Trace, ends, looks, lists, writes, needs, writes_of}
-use Rattle.pie_model.specs.declared.words.Seen.{Seen}
-use Rattle.pie_model.specs.declared.words.Seen.TheVariants.{Nothing, Holds, Clashing}
+use Rattle.pie_model.specs.declared.words.Seen.TheVariants.{Holds, Clashing}
 use Rattle.pie_model.specs.Seen.{first_write, writer, writers, writers_below, writers_in, all_by, by_writers, provided, own_first, visible_by}
-use Rattle.pie_model.proofs.Basics.{bytes_same, same_bytes}
+use Rattle.pie_model.proofs.Basics.{bytes_same}
 use Rattle.pie_plain.specs.Written.{tagged, written_in, written_below, written_in_all, at_path, seen_by}
 
 pub at_path-append : (p : Path) (xs ys : List (Task × Path × List ℕ)) → at_path p (xs ++ ys) ≡ at_path p xs ++ at_path p ys
@@ -69,14 +68,16 @@ mutual
       (sym (append_assoc (writer t (first_write p (writes_of k))) (writers_below p k) ys))
       (front_alike p t (writes_of k) (at_path p (written_below k) ++ xs) (writers_below p k ++ ys) (below_alike p k xs ys a))))
 
-  below_alike : (p : Path) (k : Trace) (xs ys : List (Task × List ℕ)) → Alike xs ys → Alike (at_path p (written_below k) ++ xs) (writers_below p k ++ ys)
+  below_alike : (p : Path) (k : Trace) (xs ys : List (Task × List ℕ)) → Alike xs ys
+      → Alike (at_path p (written_below k) ++ xs) (writers_below p k ++ ys)
   below_alike p (ends e) xs ys a = a
   below_alike p (looks l q s k) xs ys a = below_alike p k xs ys a
   below_alike p (lists d es k) xs ys a = below_alike p k xs ys a
   below_alike p (writes q b k) xs ys a = below_alike p k xs ys a
   below_alike p (needs h u n k) xs ys a =
       subst (λ z. Alike (z ++ xs) ((writers p n ++ writers_below p k) ++ ys)) (sym (at_path-append p (written_in n) (written_below k)))
-      (subst (λ z. Alike z ((writers p n ++ writers_below p k) ++ ys)) (sym (append_assoc (at_path p (written_in n)) (at_path p (written_below k)) xs))
+      (subst (λ z. Alike z ((writers p n ++ writers_below p k) ++ ys))
+      (sym (append_assoc (at_path p (written_in n)) (at_path p (written_below k)) xs))
       (subst (λ z. Alike (at_path p (written_in n) ++ (at_path p (written_below k) ++ xs)) z)
       (sym (append_assoc (writers p n) (writers_below p k) ys))
       (tree_alike p n (at_path p (written_below k) ++ xs) (writers_below p k ++ ys) (below_alike p k xs ys a))))
@@ -91,8 +92,10 @@ pub written_provided : (p : Path) (ns : List Node) → by_writers (at_path p (wr
 unfolding provided
 written_provided p ns = (all_alike p ns).seen
 
-pub seen_visible : (file : Path → Option (List ℕ × ℕ)) (own : List (Path × List ℕ)) (below : List (Task × Path × List ℕ)) (kids : List Node) (p : Path) (k : Kind)
+pub seen_visible : (file : Path → Option (List ℕ × ℕ)) (own : List (Path × List ℕ)) (below : List (Task × Path × List ℕ)) (kids : List Node)
+    (p : Path) (k : Kind)
     → below ≡ written_in_all kids → visible_by file own kids p k ≡ seen_by file own below p k
-seen_visible file own below kids p Out e = ap (own_first (first_write p own)) (sym (written_provided p kids) ∙ ap (λ z. by_writers (at_path p z)) (sym e))
+seen_visible file own below kids p Out e = ap (own_first (first_write p own))
+    (sym (written_provided p kids) ∙ ap (λ z. by_writers (at_path p z)) (sym e))
 seen_visible file own below kids p Kept e = refl
 seen_visible file own below kids p Source e = refl

@@ -1,30 +1,27 @@
 -- One event keeps the stage.
-use Rattle.std.proofs.Common.{ℕ, zero, suc, ◌≡◌, Bool, true, false, cond, Option, Some, None, List, [], ◌∷◌, ◌++◌, sym, ◌∙◌, ap, ap₂, subst, refl, append_assoc, append-nil}
+use Rattle.std.proofs.Common.{ℕ, zero, suc, ◌≡◌, Option, Some, None, List, [], ◌∷◌, ◌++◌, sym, ◌∙◌, ap, subst, refl, append_assoc, append-nil}
 use Rattle.pie_model.specs.Paths.{Path, kind_of}
-use Rattle.pie_model.specs.declared.words.Kind.{Kind}
 use Rattle.pie_model.specs.Tasks.{Task}
 use Rattle.pie_model.specs.declared.words.Look.{Look}
 use Rattle.pie_model.specs.declared.words.How.{How}
-use Rattle.pie_model.specs.declared.words.FaultKind.TheVariants.{Clash, Budget, Big}
-use Rattle.pie_model.specs.declared.words.Answer.{Answer}
-use Rattle.pie_model.specs.declared.words.Answer.TheVariants.{Entries, Wrote}
+use Rattle.pie_model.specs.declared.words.FaultKind.TheVariants.{Budget}
 use Rattle.pie_model.specs.declared.words.Event.{Event}
 use Rattle.pie_model.specs.declared.words.Event.TheVariants.{Done, Fail, LookAt, ListOf, Write, Require}
-use Rattle.pie_model.specs.Trees.{Node, Trace, ends, needs, outcome_of, end_of, writes_of, entered, entered_below}
+use Rattle.pie_model.specs.Trees.{Node, Trace, ends, needs, outcome_of, end_of, writes_of, entered_below}
 use Rattle.pie_model.specs.declared.words.Seen.{Seen}
 use Rattle.pie_model.specs.declared.words.Seen.TheVariants.{Nothing, Holds, Clashing}
 use Rattle.pie_model.specs.declared.words.Outcome.{Outcome}
 use Rattle.pie_model.specs.declared.words.Outcome.TheVariants.{Ended, Failed, Cycled, Many}
-use Rattle.pie_model.specs.Seen.{visible_by, visible_at}
-use Rattle.pie_model.specs.Evaluation.{World, Project, Progress, start, absent_answer, present_answer, output_answer, listing, on_seen, on_listing, on_outcome, on_event, follow}
+use Rattle.pie_model.specs.Evaluation.{World, Project, Progress, start, listing, on_seen, on_listing, on_outcome, on_event, follow}
 use Rattle.pie_model.specs.Verdict.{found_absent, absent_here}
 use Rattle.pie_plain.specs.Written.{written_in, written_below, written_in_all, seen_by}
-use Rattle.pie_plain.specs.Steps.{Row, Turn, Goes, Stops, with_answer, by_seen, by_listing, with_kid, by_outcome, by_event, step, IsStage, IsWhole, Keeps}
+use Rattle.pie_plain.specs.Steps.{Row, by_seen, by_listing, with_kid, by_outcome, by_event, step, IsStage, IsWhole, Keeps}
 use Rattle.pie_plain.proofs.SeenLemmas.{seen_visible}
 
 pub written_in_all-end : (ns : List Node) (n : Node) → written_in_all (ns ++ n ∷ []) ≡ written_in_all ns ++ written_in n
 written_in_all-end [] n = append-nil (written_in n)
-written_in_all-end (x ∷ ns) n = ap (λ z. written_in x ++ z) (written_in_all-end ns n) ∙ sym (append_assoc (written_in x) (written_in_all ns) (written_in n))
+written_in_all-end (x ∷ ns) n = ap (λ z. written_in x ++ z) (written_in_all-end ns n)
+    ∙ sym (append_assoc (written_in x) (written_in_all ns) (written_in n))
 
 module _ (w : World) (P : Project) (child : Task → Node) (t : Task) (start_tasks : List Task) (whole : Trace) where
   -- the stage with a rest in another form
@@ -40,7 +37,15 @@ module _ (w : World) (P : Project) (child : Task → Node) (t : Task) (start_tas
   going r kids = record { answers = r.answers; own = r.own; kids = kids }
 
   stage_of : (n : ℕ) (kids : List Node) (r : Row) → At (follow w P child t n (going r kids)) kids r → IsStage w P child t start_tasks whole n r
-  stage_of n kids r a = record { kids = kids; below_is = a.below_is; end = a.end; written = a.written; absent = a.absent; below = a.below; enters = a.enters }
+  stage_of n kids r a = record {
+    kids = kids;
+    below_is = a.below_is;
+    end = a.end;
+    written = a.written;
+    absent = a.absent;
+    below = a.below;
+    enters = a.enters;
+  }
 
   whole_of : (kids : List Node) (r : Row) (e : Outcome) → At (ends e) kids r → IsWhole start_tasks whole e r
   whole_of kids r e a = record {
@@ -102,7 +107,8 @@ module _ (w : World) (P : Project) (child : Task → Node) (t : Task) (start_tas
       enters = a.enters;
     }
 
-    outcome_keeps : (h : How) (u : Task) (kid : Node) (e : Outcome) → At (needs h u kid (on_outcome h (going r kids) kid (follow w P child t n) e)) kids r
+    outcome_keeps : (h : How) (u : Task) (kid : Node) (e : Outcome)
+        → At (needs h u kid (on_outcome h (going r kids) kid (follow w P child t n) e)) kids r
         → Keeps w P child t start_tasks whole n (by_outcome h (with_kid r kid) e)
     outcome_keeps h u kid (Ended v) a = record {
       kids = kids ++ kid ∷ [];
@@ -135,12 +141,14 @@ module _ (w : World) (P : Project) (child : Task → Node) (t : Task) (start_tas
       enters = a.enters;
     }
 
-    event_keeps : (e : Event) → At (on_event w P child t (going r kids) (follow w P child t n) e) kids r → Keeps w P child t start_tasks whole n (by_event w P child t r e)
+    event_keeps : (e : Event) → At (on_event w P child t (going r kids) (follow w P child t n) e) kids r
+        → Keeps w P child t start_tasks whole n (by_event w P child t r e)
     event_keeps (Done v) a = whole_of kids r (Ended v) a
     event_keeps (Fail k) a = whole_of kids r (Failed t k) a
     event_keeps (LookAt l p) a =
         seen_keeps l p (seen_by P.file r.own r.below p (kind_of p))
-        (subst (λ s. At (on_seen w t l p (going r kids) (follow w P child t n) s) kids r) (seen_visible P.file r.own r.below kids p (kind_of p) a.below_is) a)
+        (subst (λ s. At (on_seen w t l p (going r kids) (follow w P child t n) s) kids r)
+        (seen_visible P.file r.own r.below kids p (kind_of p) a.below_is) a)
     event_keeps (ListOf d) a = listing_keeps d (listing w P d) a
     event_keeps (Write p b) a = record {
       kids = kids;

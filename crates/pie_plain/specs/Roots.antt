@@ -1,5 +1,5 @@
 -- What the plain program keeps of the roots and of the live tasks.
-use Rattle.std.specs.Prelude.{◌≡◌, List, [], map}
+use Rattle.std.specs.Prelude.{◌≡◌, List, map}
 use Rattle.std.specs.List.{flat_map}
 use Rattle.pie_model.specs.Paths.{Path}
 use Rattle.pie_model.specs.Tasks.{Task}

@@ -1,8 +1,7 @@
 -- A project whose tasks make fixed events, whatever they are answered.
-use Rattle.std.specs.Prelude.{ℕ, zero, suc, ◌≡◌, Bool, true, false, cond, eqb, Option, Some, None, List, [], ◌∷◌, length, bytes_eq}
+use Rattle.std.specs.Prelude.{ℕ, cond, eqb, Option, Some, None, List, [], ◌∷◌, length, bytes_eq}
 use Rattle.pie_model.specs.Paths.{Path}
 use Rattle.pie_model.specs.Tasks.{Task}
-use Rattle.pie_model.specs.declared.words.Answer.{Answer}
 use Rattle.pie_model.specs.declared.words.Event.{Event}
 use Rattle.pie_model.specs.declared.words.Event.TheVariants.{Fail}
 use Rattle.pie_model.specs.declared.words.FaultKind.TheVariants.{Unknown}

@@ -1,11 +1,10 @@
 -- One event of a running task, as the plain program makes it.
-use Rattle.std.specs.Prelude.{ℕ, zero, suc, ◌≡◌, Bool, true, false, Option, Some, None, List, [], ◌∷◌, ◌++◌}
+use Rattle.std.specs.Prelude.{ℕ, ◌≡◌, Option, Some, None, List, [], ◌∷◌, ◌++◌}
 use Rattle.pie_model.specs.Paths.{Path, kind_of}
-use Rattle.pie_model.specs.declared.words.Kind.{Kind}
 use Rattle.pie_model.specs.Tasks.{Task}
 use Rattle.pie_model.specs.declared.words.Look.{Look}
 use Rattle.pie_model.specs.declared.words.How.{How}
-use Rattle.pie_model.specs.declared.words.FaultKind.TheVariants.{Clash, Budget, Big}
+use Rattle.pie_model.specs.declared.words.FaultKind.TheVariants.{Clash, Big}
 use Rattle.pie_model.specs.declared.words.Answer.{Answer}
 use Rattle.pie_model.specs.declared.words.Answer.TheVariants.{Entries, Wrote}
 use Rattle.pie_model.specs.declared.words.Event.{Event}
@@ -15,7 +14,7 @@ use Rattle.pie_model.specs.declared.words.Seen.{Seen}
 use Rattle.pie_model.specs.declared.words.Seen.TheVariants.{Nothing, Holds, Clashing}
 use Rattle.pie_model.specs.declared.words.Outcome.{Outcome}
 use Rattle.pie_model.specs.declared.words.Outcome.TheVariants.{Ended, Failed, Cycled, Many}
-use Rattle.pie_model.specs.Evaluation.{World, Project, Progress, absent_answer, present_answer, output_answer, listing, follow}
+use Rattle.pie_model.specs.Evaluation.{World, Project, absent_answer, present_answer, output_answer, listing, follow}
 use Rattle.pie_model.specs.Verdict.{found_absent, absent_here}
 use Rattle.pie_plain.specs.Written.{written_in, written_below, written_in_all, seen_by}
 

@@ -1,16 +1,13 @@
 -- All writes of a tree in one list, and what is seen of them.
-use Rattle.std.specs.Prelude.{ℕ, ◌≡◌, Bool, true, false, cond, List, [], ◌∷◌, ◌++◌, map, bytes_eq}
-use Rattle.pie_model.specs.Paths.{Path, kind_of}
+use Rattle.std.specs.Prelude.{ℕ, cond, List, [], ◌∷◌, ◌++◌, bytes_eq}
+use Rattle.pie_model.specs.Paths.{Path}
 use Rattle.pie_model.specs.declared.words.Kind.{Kind}
 use Rattle.pie_model.specs.declared.words.Kind.TheVariants.{Out, Kept, Source}
 use Rattle.pie_model.specs.Tasks.{Task}
-use Rattle.pie_model.specs.Trees.{Node, node, Trace, ends, looks, lists, writes, needs, writes_of, trace_of, outcome_of}
+use Rattle.pie_model.specs.Trees.{Node, node, Trace, ends, looks, lists, writes, needs, writes_of}
 use Rattle.pie_model.specs.declared.words.Seen.{Seen}
 use Rattle.pie_model.specs.declared.words.Seen.TheVariants.{Nothing}
-use Rattle.pie_model.specs.declared.words.Outcome.{Outcome}
 use Rattle.pie_model.specs.Seen.{by_writers, first_write, own_first, seen_file}
-use Rattle.pie_model.specs.Evaluation.{Project}
-use Rattle.pie_model.specs.Verdict.{found_absent}
 use Rattle.std.specs.Prelude.{Option}
 
 -- a task's writes with the task

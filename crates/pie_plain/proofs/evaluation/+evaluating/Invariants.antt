@@ -18,8 +18,11 @@ decreases-require g l = 4 * l.room + 1
 
 abbrev pub invariant-events-events : goal.invariant-events-events
 invariant-events-events g l =
-    IsStage (g.S.Setting.world l.setting) (g.S.Setting.project l.setting) (evaluation_with l.room (g.S.Setting.world l.setting) (g.S.Setting.project l.setting) l.below) l.task l.fn.entered
-    (follow (g.S.Setting.world l.setting) (g.S.Setting.project l.setting) (evaluation_with l.room (g.S.Setting.world l.setting) (g.S.Setting.project l.setting) l.below) l.task (g.S.Setting.world l.setting).most_events start) l.left (row_of l.run)
+    IsStage (g.S.Setting.world l.setting) (g.S.Setting.project l.setting)
+    (evaluation_with l.room (g.S.Setting.world l.setting) (g.S.Setting.project l.setting) l.below) l.task l.fn.entered
+    (follow (g.S.Setting.world l.setting) (g.S.Setting.project l.setting)
+    (evaluation_with l.room (g.S.Setting.world l.setting) (g.S.Setting.project l.setting) l.below) l.task
+    (g.S.Setting.world l.setting).most_events start) l.left (row_of l.run)
 
 abbrev pub decreases-events-events : goal.decreases-events-events
 decreases-events-events g l = l.left

@@ -5,7 +5,8 @@ use Rattle.pie_plain.proofs.roots.gather_one.Goals as goal
 pub returns-clause-written : goal.returns-clause-written
 returns-clause-written g c =
     written_one (g.S.Setting.world c.args.setting.now) (g.S.Setting.project c.args.setting.now) c.args.task.now _ _ (row_of c.in_ok-one.one.run)
-    c.as_slice.result.now c.args.written.now.items c.pair_writes.new.into.items c.in_ok-one.ensures c.as_slice.ensures.value c.in_ok-pair_writes.ensures
+    c.as_slice.result.now c.args.written.now.items c.pair_writes.new.into.items c.in_ok-one.ensures c.as_slice.ensures.value
+    c.in_ok-pair_writes.ensures
 
 pub returns-clause-missed : goal.returns-clause-missed
 returns-clause-missed g c =
