@@ -14,7 +14,12 @@ impl<'a> Reader<'a> {
         let mut lines = Vec::new(alloc);
         let last = self.lines(alloc, inner, &mut lines)?;
         self.want(Kind::CloseBrace)?;
-        Ok(Block { at, end: self.past, lines, last })
+        Ok(Block {
+            at,
+            end: self.past,
+            lines,
+            last,
+        })
     }
 
     // { "val" name "=" expr ";" | expr ";" } [ expr ]

@@ -31,7 +31,11 @@ impl<'a> Reader<'a> {
     ) -> Result<Expr, Fault> {
         let args = self.arguments(alloc, room)?;
         let form = Form::Call(kind, name, args);
-        Ok(Expr { at, end: self.past, form })
+        Ok(Expr {
+            at,
+            end: self.past,
+            form,
+        })
     }
 
     // "(" [ expr { "," expr } ] ")"
@@ -62,7 +66,11 @@ impl<'a> Reader<'a> {
         let operand = Box::new(alloc, self.expr(alloc, inner)?)?;
         self.want(Kind::CloseRound)?;
         let form = Form::Effect(kind, operand);
-        Ok(Expr { at, end: self.past, form })
+        Ok(Expr {
+            at,
+            end: self.past,
+            form,
+        })
     }
 
     // "read" "(" expr [ "by" ("hash" | "mark") ] ")"
@@ -75,7 +83,11 @@ impl<'a> Reader<'a> {
         let kind = self.by_of_read()?;
         self.want(Kind::CloseRound)?;
         let form = Form::Effect(kind, path);
-        Ok(Expr { at, end: self.past, form })
+        Ok(Expr {
+            at,
+            end: self.past,
+            form,
+        })
     }
 
     // [ "by" ("hash" | "mark") ], where a `require` in front may have passed a `by mark`
@@ -108,7 +120,11 @@ impl<'a> Reader<'a> {
         let value = Box::new(alloc, self.expr(alloc, inner)?)?;
         self.want(Kind::CloseRound)?;
         let form = Form::Write(path, value);
-        Ok(Expr { at, end: self.past, form })
+        Ok(Expr {
+            at,
+            end: self.past,
+            form,
+        })
     }
 
     // "fail" type "(" expr ")"
@@ -121,7 +137,11 @@ impl<'a> Reader<'a> {
         let text = Box::new(alloc, self.expr(alloc, inner)?)?;
         self.want(Kind::CloseRound)?;
         let form = Form::Fail(kind, text);
-        Ok(Expr { at, end: self.past, form })
+        Ok(Expr {
+            at,
+            end: self.past,
+            form,
+        })
     }
 
     // "require" name "(" [ args ] ")" [ "by" "hash" ]
@@ -133,7 +153,11 @@ impl<'a> Reader<'a> {
         let args = self.arguments(alloc, room)?;
         let kind = self.by_of_require(room)?;
         let form = Form::Call(kind, name, args);
-        Ok(Expr { at, end: self.past, form })
+        Ok(Expr {
+            at,
+            end: self.past,
+            form,
+        })
     }
 
     // [ "by" "hash" ]; a `by mark` is passed where it belongs to the `read` around

@@ -31,7 +31,11 @@ impl<'a> Reader<'a> {
             return Ok(first);
         }
         let form = Form::Chain(Box::new(alloc, first)?, steps);
-        Ok(Expr { at, end: self.past, form })
+        Ok(Expr {
+            at,
+            end: self.past,
+            form,
+        })
     }
 
     // { operator operand }
@@ -70,7 +74,11 @@ impl<'a> Reader<'a> {
         self.pass();
         let right = self.chain(alloc, room, Level::Sum)?;
         let form = Form::Compare(comparison, Box::new(alloc, left)?, Box::new(alloc, right)?);
-        Ok(Expr { at, end: self.past, form })
+        Ok(Expr {
+            at,
+            end: self.past,
+            form,
+        })
     }
 
     // prefix = [ "!" | "-" ] proj
@@ -83,7 +91,11 @@ impl<'a> Reader<'a> {
         self.pass();
         let operand = self.projected(alloc, room)?;
         let form = Form::Prefix(prefix, Box::new(alloc, operand)?);
-        Ok(Expr { at, end: self.past, form })
+        Ok(Expr {
+            at,
+            end: self.past,
+            form,
+        })
     }
 
     // proj = prim { "." int }
@@ -96,7 +108,11 @@ impl<'a> Reader<'a> {
             return Ok(tuple);
         }
         let form = Form::Project(Box::new(alloc, tuple)?, indices);
-        Ok(Expr { at, end: self.past, form })
+        Ok(Expr {
+            at,
+            end: self.past,
+            form,
+        })
     }
 
     // { "." int }

@@ -29,7 +29,14 @@ impl<'a> Reader<'a> {
         let result = self.written_type(alloc, room)?;
         let body = self.block(alloc, room)?;
         let end = self.past;
-        Ok(Function { at, end, name, params, result, body })
+        Ok(Function {
+            at,
+            end,
+            name,
+            params,
+            result,
+            body,
+        })
     }
 
     // "(" [ param { "," param } ] ")"
@@ -60,6 +67,11 @@ impl<'a> Reader<'a> {
         let at = name.at;
         self.want(Kind::Colon)?;
         let kind = self.written_type(alloc, room)?;
-        Ok(Param { at, end: self.past, name, kind })
+        Ok(Param {
+            at,
+            end: self.past,
+            name,
+            kind,
+        })
     }
 }

@@ -10,6 +10,8 @@ mod kind;
 mod parsing;
 mod primary;
 mod reader;
+#[cfg(test)]
+mod tests;
 mod tree;
 mod type_tree;
 mod typing;
@@ -17,7 +19,7 @@ mod typing;
 pub use error::ParseError;
 pub use parsing::{MAX_CONDITIONS, parse};
 pub use tree::{
-    Block, CallKind, Comparison, EffectKind, Expr, Form, Function, Index, Line, Literal, Name, Operator,
-    Param, Pipeline, Prefix, Step,
+    Block, CallKind, Comparison, EffectKind, Expr, Form, Function, Index, Line, Literal, Name,
+    Operator, Param, Pipeline, Prefix, Step,
 };
 pub use type_tree::{PlainType, Type, TypeForm};

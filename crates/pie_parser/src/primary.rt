@@ -32,7 +32,11 @@ impl<'a> Reader<'a> {
         let literal = self.literal_here()?;
         self.pass();
         let form = Form::Literal(literal);
-        Ok(Expr { at, end: self.past, form })
+        Ok(Expr {
+            at,
+            end: self.past,
+            form,
+        })
     }
 
     // The literal that is the next token.
@@ -58,7 +62,11 @@ impl<'a> Reader<'a> {
         let at = self.start();
         self.want(Kind::Null)?;
         let form = Form::Null(self.plain_type(alloc, room)?);
-        Ok(Expr { at, end: self.past, form })
+        Ok(Expr {
+            at,
+            end: self.past,
+            form,
+        })
     }
 
     // "empty" type
@@ -66,7 +74,11 @@ impl<'a> Reader<'a> {
         let at = self.start();
         self.want(Kind::Empty)?;
         let form = Form::Empty(self.written_type(alloc, room)?);
-        Ok(Expr { at, end: self.past, form })
+        Ok(Expr {
+            at,
+            end: self.past,
+            form,
+        })
     }
 
     // "(" expr ")" | "(" expr "," expr { "," expr } ")"
@@ -84,7 +96,11 @@ impl<'a> Reader<'a> {
         self.more(alloc, inner, &mut items)?;
         self.want(Kind::CloseRound)?;
         let form = Form::Tuple(items);
-        Ok(Expr { at, end: self.past, form })
+        Ok(Expr {
+            at,
+            end: self.past,
+            form,
+        })
     }
 
     // { "," expr }
@@ -115,7 +131,11 @@ impl<'a> Reader<'a> {
         self.more(alloc, inner, &mut items)?;
         self.want(Kind::CloseSquare)?;
         let form = Form::List(items);
-        Ok(Expr { at, end: self.past, form })
+        Ok(Expr {
+            at,
+            end: self.past,
+            form,
+        })
     }
 
     // "for" name "in" expr "]", behind the item of a comprehension
@@ -127,7 +147,11 @@ impl<'a> Reader<'a> {
         let list = self.expr(alloc, room)?;
         self.want(Kind::CloseSquare)?;
         let form = Form::Each(Box::new(alloc, item)?, name, Box::new(alloc, list)?);
-        Ok(Expr { at, end: self.past, form })
+        Ok(Expr {
+            at,
+            end: self.past,
+            form,
+        })
     }
 
     // "if" expr block [ "else" block ]
@@ -147,11 +171,19 @@ impl<'a> Reader<'a> {
         let then = Box::new(alloc, self.block(alloc, room)?)?;
         if self.peek() != Kind::Else {
             let form = Form::If(test, then, None);
-            return Ok(Expr { at, end: self.past, form });
+            return Ok(Expr {
+                at,
+                end: self.past,
+                form,
+            });
         }
         self.pass();
         let otherwise = Box::new(alloc, self.block(alloc, room)?)?;
         let form = Form::If(test, then, Some(otherwise));
-        Ok(Expr { at, end: self.past, form })
+        Ok(Expr {
+            at,
+            end: self.past,
+            form,
+        })
     }
 }

@@ -16,7 +16,11 @@ impl<'a> Reader<'a> {
         }
         self.pass();
         let form = TypeForm::Nullable(Box::new(alloc, plain)?);
-        Ok(Type { at, end: self.past, form })
+        Ok(Type {
+            at,
+            end: self.past,
+            form,
+        })
     }
 
     // plain = "unit" | "bool" | "int" | "text" | "path" | name | "[" type "]" | "(" type "," type { "," type } ")"
@@ -33,7 +37,11 @@ impl<'a> Reader<'a> {
     fn named_type(&mut self) -> Result<Type, Fault> {
         let name = self.name()?;
         let form = TypeForm::Named(name.text);
-        Ok(Type { at: name.at, end: name.end, form })
+        Ok(Type {
+            at: name.at,
+            end: name.end,
+            form,
+        })
     }
 
     fn keyword_type(&mut self) -> Result<Type, Fault> {
@@ -43,7 +51,11 @@ impl<'a> Reader<'a> {
         let at = self.start();
         self.pass();
         let form = TypeForm::Plain(plain);
-        Ok(Type { at, end: self.past, form })
+        Ok(Type {
+            at,
+            end: self.past,
+            form,
+        })
     }
 
     #[cycle(typing)]
@@ -53,7 +65,11 @@ impl<'a> Reader<'a> {
         let item = self.written_type(alloc, inner)?;
         self.want(Kind::CloseSquare)?;
         let form = TypeForm::List(Box::new(alloc, item)?);
-        Ok(Type { at, end: self.past, form })
+        Ok(Type {
+            at,
+            end: self.past,
+            form,
+        })
     }
 
     #[cycle(typing)]
@@ -69,7 +85,11 @@ impl<'a> Reader<'a> {
         self.more_types(alloc, inner, &mut items)?;
         self.want(Kind::CloseRound)?;
         let form = TypeForm::Tuple(items);
-        Ok(Type { at, end: self.past, form })
+        Ok(Type {
+            at,
+            end: self.past,
+            form,
+        })
     }
 
     // { "," type }
