@@ -1,0 +1,9 @@
+pub mod Prefixes
+pub mod Spelled
+pub mod Longest
+pub mod Insides
+pub mod Quoting
+pub mod Utf8
+pub mod Takes
+pub mod Passing
+pub mod OneAnswer

@@ -1,0 +1,9 @@
+pub mod Codes
+pub mod Kinds
+pub mod Plain
+pub mod PlainTypes
+pub mod TreeFalls
+pub mod TreeView
+pub mod TypeCodes
+pub mod TypeFalls
+pub mod TypeView
