@@ -1,0 +1,4 @@
+pub mod Among
+pub mod HasUse
+pub mod MarkedNumbers
+pub mod RowLemmas
