@@ -53,7 +53,7 @@ true_has row (Reads path) h = contains_any (λ p. same_text p path) path (same_t
 true_has row (Lists path) h = contains_any (λ p. same_text p path) path (same_text_refl path) row.lists h
 true_has row (Writes path) h = contains_any (λ p. same_text p path) path (same_text_refl path) row.writes h
 
-none_has : (what : Use) → has no_edges what ≡ false
+pub none_has : (what : Use) → has no_edges what ≡ false
 none_has (Calls t) = refl
 none_has (Reads path) = refl
 none_has (Lists dir) = refl

@@ -2,12 +2,17 @@
 #![tactic(auto)]
 
 mod edges;
+mod index;
+mod indexed;
 mod marks;
 mod plain;
 mod rows;
+#[cfg(test)]
+mod tests;
 mod uses;
 
 pub use edges::{Edges, TaskNo};
+pub use indexed::IndexedRows;
 pub use marks::marked;
 pub use plain::PlainRows;
 pub use rows::TaskRows;

@@ -1,10 +1,10 @@
 //! What an edge of a task leads to.
-ghost use Rattle.std.specs.Prelude.{◌≡◌, ◌==◌, ◌++◌, map, IfOk};
+ghost use Rattle.std.specs.Prelude.{◌≡◌, IfOk};
 ghost use Rattle.pie_graph.specs.Rows.{row_of};
 ghost use Rattle.pie_graph.specs.Uses.{has};
 
 use crate::{Edges, TaskNo};
-use pie_base::Path;
+use pie_base::{OutOfMemory, Path};
 
 /// What an edge of a task leads to.
 #[derive(PartialEq, Eq, PartialOrd, Ord, Drop)]
@@ -17,6 +17,20 @@ pub enum Use {
     Lists(Path),
     /// A path that was written.
     Writes(Path),
+}
+
+impl Use {
+    /// An equal use, which shares the path.
+    pub(crate) fn copy(&self) -> Result<Use, OutOfMemory>
+        ensures { IfOk result (λ copy. copy ≡ self.now) }
+    {
+        match self {
+            Use::Calls(callee) => Ok(Use::Calls(*callee)),
+            Use::Reads(path) => Ok(Use::Reads(path.copy()?)),
+            Use::Lists(dir) => Ok(Use::Lists(dir.copy()?)),
+            Use::Writes(path) => Ok(Use::Writes(path.copy()?)),
+        }
+    }
 }
 
 impl Edges {
