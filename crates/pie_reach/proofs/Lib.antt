@@ -1,2 +1,4 @@
+pub mod DescentSteps
 pub mod Meets
+pub mod Turning
 pub mod WalkSteps

@@ -35,7 +35,7 @@ unmarked-set (false ∷ marks) zero l e = refl
 unmarked-set (true ∷ marks) (suc n) l e = unmarked-set marks n (omega arith) e
 unmarked-set (false ∷ marks) (suc n) l e = ap (λ m. m + 1) (unmarked-set marks n (omega arith) e)
 
-alone : (n k : ℕ) → Contains (n ∷ []) k → n ≡ k
+pub alone : (n k : ℕ) → Contains (n ∷ []) k → n ≡ k
 alone n k h = elim (contains_cases n k [] h) [ inl e ↦ e | inr later ↦ absurd (omega (arith, later.1)) ]
 
 -- the number had its mark

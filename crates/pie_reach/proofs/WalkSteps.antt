@@ -14,7 +14,10 @@ use Rattle.pie_graph.specs.Rows.{Row, row_at, no_edges, Calls}
 use Rattle.pie_reach.specs.Reaches.{Leads}
 use Rattle.pie_reach.specs.Reaches.Leads.{itself, step}
 use Rattle.pie_reach.specs.Walks.{Walked, meet_all, unmarked, GoesTo, LedTo, Ready, Walking, IsClosure}
-use Rattle.pie_reach.proofs.Meets.{Meets, all_met}
+use Rattle.std.proofs.Common.{set}
+use Rattle.std.proofs.lemmas.List.{get_or-set_same, get_or-set_other}
+use Rattle.pie_graph.proofs.Among.{contains_here}
+use Rattle.pie_reach.proofs.Meets.{Meets, all_met, alone}
 
 pub leads_on : (goes : ℕ → ℕ → Type 0) (a b c : ℕ) → Leads goes a b → goes b c → Leads goes a c
 leads_on goes a b c (itself {a = d}) g = step g itself
@@ -110,3 +113,27 @@ number_below bound nos i d below l = subst (λ (n : ℕ). n < bound) (at.get_or-
 -- the last number that waits is taken
 pub popped_last : (w : Walked) (marks : List Bool) (work rest : List TaskNo) (task : TaskNo) → (let v : Walked = record { marks = marks; work = numbers work } in v ≡ w) → work ≡ rest ++ task ∷ [] → w.work ≡ numbers rest ++ task.0 ∷ []
 popped_last w marks work rest task view split = sym (ap (λ (v : Walked). v.work) view) ∙ ap numbers split ∙ map-append (λ (t : TaskNo). t.0) rest (task ∷ [])
+
+-- a way in the other direction
+pub turned : (goes : ℕ → ℕ → Type 0) (a b : ℕ) → Leads (λ x y. goes y x) a b → Leads goes b a
+turned goes a b (itself {a = c}) = itself
+turned goes a b (step {a = x} {b = y} {c = z} first rest) = leads_on goes b y a (turned goes y b rest) first
+
+pub turned_back : (goes : ℕ → ℕ → Type 0) (a b : ℕ) → Leads goes b a → Leads (λ x y. goes y x) a b
+turned_back goes a b h = turned (λ x y. goes y x) b a h
+
+pub upstream_exactly : (rows : List Row) (n : ℕ) (marks after : List Bool) (found : List ℕ) → n < length rows → IsClosure (length rows) (λ a b. Calls rows b a) (n ∷ []) marks → after ≡ set marks n false → Exactly (IsMarked after) found → Exactly (λ k. Leads (Calls rows) k n × (k ≢ n)) found
+upstream_exactly rows n marks after found l closed e x = record {
+  ascending = x.ascending;
+  only = λ k h.
+      let is : get_or (set marks n false) k false ≡ true = ap (λ (ms : List Bool). get_or ms k false) (sym e) ∙ x.only k h in
+      elim (eqb_tells k n) [
+        | inl same ↦
+            let here : get_or (set marks n false) k false ≡ false = ap (λ (m : ℕ). get_or (set marks n false) m false) same.1 ∙ get_or-set_same marks n false false (omega (arith, closed.sized)) in
+            absurd (cc)
+        | inr other ↦
+            let led = closed.only k (sym (get_or-set_other marks n k false false other.1) ∙ is) in
+            (turned (Calls rows) n k (subst (λ (s : ℕ). Leads (λ a b. Calls rows b a) s k) (sym (alone n led.0 led.1)) led.2), other.1)
+      ];
+  each = λ k h. x.each k (ap (λ (ms : List Bool). get_or ms k false) e ∙ get_or-set_other marks n k false false h.1 ∙ closed.each k (n, contains_here n [], turned_back (Calls rows) n k h.0))
+}

@@ -28,6 +28,12 @@ pub trait Ways {
 /// From a task to those that it requires.
 pub struct Down<'a, R: TaskRows>(pub &'a R);
 
+impl<'a, R: TaskRows> Drop for Down<'a, R> {
+    fn drop(self) {
+        let Down(_) = self;
+    }
+}
+
 impl<'a, R: TaskRows> Ways for Down<'a, R> {
     ghost size = { λ s. length (R.rows s.0.now) };
 
@@ -45,6 +51,12 @@ impl<'a, R: TaskRows> Ways for Down<'a, R> {
 
 /// From a task to those that require it.
 pub struct Up<'a, R: TaskRows>(pub &'a R);
+
+impl<'a, R: TaskRows> Drop for Up<'a, R> {
+    fn drop(self) {
+        let Up(_) = self;
+    }
+}
 
 impl<'a, R: TaskRows> Ways for Up<'a, R> {
     ghost size = { λ s. length (R.rows s.0.now) };
