@@ -1,18 +1,17 @@
 -- The turns of a walk down keep what holds between them.
-use Rattle.std.proofs.Common.{◌≡◌, ◌≢◌, ◌⊎◌, ℕ, zero, suc, ◌<◌, ◌≤◌, ◌+◌, ◌-◌, Bool, true, false, List, [], ◌∷◌, length, get_or, set, map, refl, sym, ap, ◌∙◌, subst, inl, inr, arith, length-set}
+use Rattle.std.proofs.Common.{◌≡◌, ◌≢◌, ℕ, ◌<◌, ◌≤◌, ◌+◌, List, [], ◌∷◌, length, get_or, set, map, refl, sym, ap, ◌∙◌, subst, inl, inr, arith, length-set}
 use Rattle.std.specs.Prelude.{slice_index}
 use Rattle.std.specs.List.{Contains}
 use Rattle.std.proofs.lemmas.Bool.Decides.{eqb_tells}
 use Rattle.std.proofs.lemmas.Bool.{cases_lt}
 use Rattle.std.proofs.lemmas.List.{get_or-set_same, get_or-set_other, get_or_default, get_or-map, ext_get_or, length-map}
-use Rattle.pie_graph.specs.declared.edges.TaskNo.{TaskNo}
-use Rattle.pie_graph.specs.Rows.{Row, row_at, no_edges, Calls}
+use Rattle.pie_graph.specs.Rows.{Row, row_at, Calls}
 use Rattle.pie_graph.proofs.Among.{contains_here, contains_later, contains_cases}
 use Rattle.pie_reach.specs.declared.descent.State.{State}
 use Rattle.pie_reach.specs.declared.descent.State.TheVariants.{New, Open, Done}
 use Rattle.pie_reach.specs.declared.descent.Frame.{Frame}
-use Rattle.pie_reach.specs.Reaches.{Leads, Reaches, height_over}
-use Rattle.pie_reach.specs.Reaches.Leads.{itself, step}
+use Rattle.pie_reach.specs.Reaches.{Reaches, height_over}
+use Rattle.pie_reach.specs.Reaches.Leads.{itself}
 use Rattle.pie_reach.specs.Descents.{state_of, height_of, height_at, IsDone, needs_of, IsFrame, IsAwaited, AreFrames, Holds, HasCycle, KeepsMet}
 use Rattle.pie_reach.proofs.WalkSteps.{leads_on}
 
@@ -40,15 +39,15 @@ same_height states n k s fresh is =
 same_heights : (states : List State) (n : ℕ) (s : State) (needs : List ℕ) → IsNotDone states n → ((i : ℕ) → i < length needs → IsDone states (slice_index needs i)) → map (height_at (set states n s)) needs ≡ map (height_at states) needs
 same_heights states n s needs fresh done =
     ext_get_or 0 (map (height_at (set states n s)) needs) (map (height_at states) needs) (length-map needs (height_at (set states n s)) ∙ sym (length-map needs (height_at states)))
-        (λ i l. let within : i < length needs = omega (arith, length-map needs (height_at (set states n s))) in
-            get_or-map (height_at (set states n s)) needs i 0 0 within ∙ same_height states n (get_or needs i 0) s fresh (done i within) ∙ sym (get_or-map (height_at states) needs i 0 0 within))
+    (λ i l. let within : i < length needs = omega (arith, length-map needs (height_at (set states n s))) in
+    get_or-map (height_at (set states n s)) needs i 0 0 within ∙ same_height states n (get_or needs i 0) s fresh (done i within) ∙ sym (get_or-map (height_at states) needs i 0 0 within))
 
 frame_kept : (rows : List Row) (states : List State) (n : ℕ) (s : State) (f : Frame) → f.no.0 ≢ n → IsNotDone states n → IsFrame rows states f → IsFrame rows (set states n s) f
 frame_kept rows states n s f apart fresh is = record {
   inside = is.inside;
   stacked = other_state states n f.no.0 s apart ∙ is.stacked;
   within = is.within;
-  before = λ i l. still_done states n (slice_index (needs_of rows f) i) s fresh (is.before i l)
+  before = λ i l. still_done states n (slice_index (needs_of rows f) i) s fresh (is.before i l);
 }
 
 frames_kept : (rows : List Row) (states : List State) (n : ℕ) (s : State) (fs : List Frame) → ((g : Frame) → Contains fs g → g.no.0 ≢ n) → IsNotDone states n → AreFrames rows states fs → AreFrames rows (set states n s) fs
@@ -93,7 +92,7 @@ finish rows states f fs h holds all over =
             let same : Done h ≡ Done high = sym (ap (state_of (set states n (Done h))) e.1 ∙ now) ∙ is in
             let equal : high ≡ h = cc in
             equal ∙ over ∙ ap height_over (sym (same_heights states n (Done h) (needs_of rows f) fresh (λ i l. top.before i (omega arith))))
-                ∙ ap (λ (m : ℕ). height_over (map (height_at (set states n (Done h))) (row_at rows m).needs)) (sym e.1)
+            ∙ ap (λ (m : ℕ). height_over (map (height_at (set states n (Done h))) (row_at rows m).needs)) (sym e.1)
         | inr e ↦
             let old : state_of states k ≡ Done high = sym (other_state states n k (Done h) e.1) ∙ is in
             holds.height k high old ∙ ap height_over (sym (same_heights states n (Done h) (row_at rows k).needs fresh (holds.done k (high, old))))
@@ -101,9 +100,9 @@ finish rows states f fs h holds all over =
       done = λ k is i l. elim (eqb_tells k n) [
         | inl e ↦
             subst (λ (m : ℕ). IsDone (set states n (Done h)) (slice_index (row_at rows m).needs i)) (sym e.1)
-                (still_done states n (slice_index (needs_of rows f) i) (Done h) fresh (top.before i (omega (arith, subst (λ (m : ℕ). i < length (row_at rows m).needs) e.1 l))))
+            (still_done states n (slice_index (needs_of rows f) i) (Done h) fresh (top.before i (omega (arith, subst (λ (m : ℕ). i < length (row_at rows m).needs) e.1 l))))
         | inr e ↦ still_done states n (slice_index (row_at rows k).needs i) (Done h) fresh (holds.done k (is.0, sym (other_state states n k (Done h) e.1) ∙ is.1) i l)
-      ]
+      ];
     }
 
 -- the top of the stack goes on to its next required task
@@ -111,20 +110,25 @@ pub advance : (rows : List Row) (states : List State) (f g : Frame) (fs : List F
 advance rows states f g fs same next holds l is =
     let top = holds.frames.0 in
     let there : (i : ℕ) → i < f.next + 1 → IsDone states (slice_index (needs_of rows f) i) =
-            λ i m. elim (cases_lt i f.next) [ inl below ↦ top.before i below | inr above ↦ subst (λ (j : ℕ). IsDone states (slice_index (needs_of rows f) j)) (omega arith) is ] in
+    λ i m. elim (cases_lt i f.next) [ inl below ↦ top.before i below | inr above ↦ subst (λ (j : ℕ). IsDone states (slice_index (needs_of rows f) j)) (omega arith) is ] in
     record {
       sized = holds.sized;
-      frames = (record {
+      frames = (
+        record {
           inside = subst (λ (n : ℕ). n < length rows) (sym same) top.inside;
           stacked = ap (state_of states) same ∙ top.stacked;
           within = subst (λ (n : ℕ). g.next ≤ length (row_at rows n).needs) (sym same) (omega (arith, next, l));
-          before = λ i m. subst (λ (n : ℕ). IsDone states (slice_index (row_at rows n).needs i)) (sym same) (there i (omega (arith, next, m)))
-        }, awaited_same rows f g fs (sym same) holds.frames.1, (λ x h e. holds.frames.2 x h (e ∙ same)), holds.frames.3);
+          before = λ i m. subst (λ (n : ℕ). IsDone states (slice_index (row_at rows n).needs i)) (sym same) (there i (omega (arith, next, m)));
+        },
+        awaited_same rows f g fs (sym same) holds.frames.1,
+        (λ x h e. holds.frames.2 x h (e ∙ same)),
+        holds.frames.3,
+      );
       stands = λ k o.
           let x = holds.stands k o in
           elim (contains_cases f x.0 fs x.1) [ inl e ↦ (g, contains_here g fs, same ∙ ap (λ (y : Frame). y.no.0) e ∙ x.2) | inr later ↦ (x.0, contains_later g x.0 fs later, x.2) ];
       height = holds.height;
-      done = holds.done
+      done = holds.done;
     }
 
 -- a new task goes on top
@@ -135,7 +139,7 @@ enter rows states f fs start l new awaited holds =
     let inside : n < length states = omega (arith, holds.sized) in
     let now : state_of (set states n Open) n ≡ Open = get_or-set_same states n Open New inside in
     let apart : (g : Frame) → Contains fs g → g.no.0 ≢ n =
-            λ g h e. let clash : New ≡ Open = sym new ∙ ap (state_of states) (sym e) ∙ (frame_in rows states fs g holds.frames h).stacked in cc in
+    λ g h e. let clash : New ≡ Open = sym new ∙ ap (state_of states) (sym e) ∙ (frame_in rows states fs g holds.frames h).stacked in cc in
     record {
       sized = length-set states n Open ∙ holds.sized;
       frames = (record { inside = l; stacked = now; within = omega (arith, start); before = λ i m. absurd (omega (arith, start, m)) }, awaited, apart, frames_kept rows states n Open fs apart fresh holds.frames);
@@ -152,7 +156,7 @@ enter rows states f fs start l new awaited holds =
       done = λ k is i m. elim (eqb_tells k n) [
         | inl e ↦ absurd (open_is_not_done (set states n Open) k (ap (state_of (set states n Open)) e.1 ∙ now) is.0 is.1)
         | inr e ↦ still_done states n (slice_index (row_at rows k).needs i) Open fresh (holds.done k (is.0, sym (other_state states n k Open e.1) ∙ is.1) i m)
-      ]
+      ];
     }
 
 pub calls_at : (rows : List Row) (caller callee i : ℕ) → i < length (row_at rows caller).needs → slice_index (row_at rows caller).needs i ≡ callee → Calls rows caller callee

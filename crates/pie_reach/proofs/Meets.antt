@@ -1,6 +1,6 @@
 -- What meeting numbers leaves.
 use Rattle.std.proofs.Common.{◌≡◌, ◌⊎◌, ℕ, zero, suc, ◌<◌, ◌+◌, Bool, true, false, cond, List, [], ◌∷◌, ◌++◌, length, get_or, set, refl, sym, ap, ◌∙◌, subst, inl, inr, arith, length-set}
-use Rattle.std.specs.List.{Contains, All}
+use Rattle.std.specs.List.{Contains}
 use Rattle.std.proofs.lemmas.Bool.Decides.{eqb_tells}
 use Rattle.std.proofs.lemmas.List.{get_or-set_same, get_or-set_other, length_push}
 use Rattle.std.proofs.lemmas.List.Elements.{Contains-append_left, Contains-push, Contains-push_cases, All-head, All-tail}
@@ -25,7 +25,7 @@ meets_none w = record {
   only = λ k h. inl h;
   work_kept = λ k h. h;
   work_only = λ k h. inl h;
-  total = refl
+  total = refl;
 }
 
 unmarked-set : (marks : List Bool) (n : ℕ) → n < length marks → get_or marks n false ≡ false → unmarked (set marks n true) + 1 ≡ unmarked marks
@@ -47,7 +47,7 @@ old_one n w is = record {
   only = λ k h. inl h;
   work_kept = λ k h. h;
   work_only = λ k h. inl h;
-  total = refl
+  total = refl;
 }
 
 -- the number gets its mark
@@ -65,7 +65,7 @@ new_one n w l not = record {
   ];
   work_kept = λ k h. Contains-append_left w.work (n ∷ []) k h;
   work_only = λ k h. elim (Contains-push_cases w.work n k h) [ inl i ↦ inl i | inr e ↦ inr (subst (Contains (n ∷ [])) e (contains_here n [])) ];
-  total = omega (arith, unmarked-set w.marks n l not, length_push w.work n)
+  total = omega (arith, unmarked-set w.marks n l not, length_push w.work n);
 }
 
 meets_one : (n : ℕ) (w : Walked) → n < length w.marks → Meets (n ∷ []) w (meet n w)
@@ -85,20 +85,20 @@ meets_more n ns w v u first rest = record {
   ];
   only = λ k h. elim (rest.only k h) [
     | inl i ↦ elim (first.only k i) [
-        | inl j ↦ inl j
-        | inr j ↦ inr (subst (Contains (n ∷ ns)) (alone n k j.0) (contains_here n ns), rest.work_kept k j.1)
-      ]
+      | inl j ↦ inl j
+      | inr j ↦ inr (subst (Contains (n ∷ ns)) (alone n k j.0) (contains_here n ns), rest.work_kept k j.1)
+    ]
     | inr i ↦ inr (contains_later n k ns i.0, i.1)
   ];
   work_kept = λ k h. rest.work_kept k (first.work_kept k h);
   work_only = λ k h. elim (rest.work_only k h) [
     | inl i ↦ elim (first.work_only k i) [
-        | inl j ↦ inl j
-        | inr j ↦ inr (subst (Contains (n ∷ ns)) (alone n k j) (contains_here n ns))
-      ]
+      | inl j ↦ inl j
+      | inr j ↦ inr (subst (Contains (n ∷ ns)) (alone n k j) (contains_here n ns))
+    ]
     | inr i ↦ inr (contains_later n k ns i)
   ];
-  total = rest.total ∙ first.total
+  total = rest.total ∙ first.total;
 }
 
 pub all_met : (ns : List ℕ) (w : Walked) → AllBelow (length w.marks) ns → Meets ns w (meet_all ns w)
@@ -106,4 +106,4 @@ all_met [] w below = meets_none w
 all_met (n ∷ ns) w below =
     let first = meets_one n w (All-head (λ m. m < length w.marks) n ns below) in
     meets_more n ns w (meet n w) (meet_all ns (meet n w)) first
-        (all_met ns (meet n w) (subst (λ (size : ℕ). AllBelow size ns) (sym first.sized) (All-tail (λ m. m < length w.marks) n ns below)))
+    (all_met ns (meet n w) (subst (λ (size : ℕ). AllBelow size ns) (sym first.sized) (All-tail (λ m. m < length w.marks) n ns below)))

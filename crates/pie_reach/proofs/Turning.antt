@@ -1,7 +1,7 @@
 -- One turn of a walk down, in the words of its code.
-use Rattle.std.proofs.Common.{◌≡◌, ◌≢◌, ℕ, zero, suc, ◌<◌, ◌≤◌, ◌+◌, ◌-◌, List, [], ◌∷◌, ◌++◌, length, get_or, set, map, refl, sym, ap, ◌∙◌, subst, arith}
+use Rattle.std.proofs.Common.{◌≡◌, ℕ, zero, suc, ◌<◌, ◌≤◌, ◌+◌, List, [], ◌∷◌, ◌++◌, length, get_or, set, map, refl, sym, ap, ◌∙◌, subst, arith}
 use Rattle.std.specs.Prelude.{slice_index, reverse}
-use Rattle.std.proofs.lemmas.List.{reverse-append, get_or-map, get_or_default, length-map}
+use Rattle.std.proofs.lemmas.List.{reverse-append, get_or-set_same, get_or-map, get_or_default, length-map}
 use Rattle.pie_graph.specs.declared.edges.TaskNo.{TaskNo}
 use Rattle.pie_graph.specs.Numbers.{numbers}
 use Rattle.pie_graph.specs.Rows.{Row, row_at}
@@ -55,10 +55,11 @@ pub turn_finish : (rows : List Row) (states : List State) (items rest : List Fra
     → Holds rows (set states f.no.0 (Done h)) (reverse rest) × (left_at rows (set states f.no.0 (Done h)) rest < left_at rows states items) × KeepsMet states (set states f.no.0 (Done h))
 turn_finish rows states items rest f callees h holds split needs all over =
     let at = popped rows states items rest f split holds in
-    let many = as_many callees (needs_of rows f) needs in
-    (finish rows states f (reverse rest) h at (omega arith) (over ∙ ap (λ (ns : List ℕ). height_over (map (height_at states) ns)) needs),
-     omega (arith, left_new_done rows states f.no.0 h at.frames.0.stacked, ap (left_open rows) (top_first items rest f split), at.frames.0.within),
-     met_stays states f.no.0 (Done h) (λ e. absurd (cc)) (omega (arith, at.sized, at.frames.0.inside)))
+    let many = as_many callees (needs_of rows f) needs in (
+      finish rows states f (reverse rest) h at (omega arith) (over ∙ ap (λ (ns : List ℕ). height_over (map (height_at states) ns)) needs),
+      omega (arith, left_new_done rows states f.no.0 h at.frames.0.stacked, ap (left_open rows) (top_first items rest f split), at.frames.0.within),
+      met_stays states f.no.0 (Done h) (λ e. absurd (cc)) (omega (arith, at.sized, at.frames.0.inside)),
+    )
 
 pub turn_advance : (rows : List Row) (states : List State) (items rest now : List Frame) (f g : Frame) (callees : List TaskNo) (d : TaskNo) (h : ℕ) → Holds rows states (reverse items) → items ≡ rest ++ f ∷ [] → now ≡ rest ++ g ∷ [] → g.no.0 ≡ f.no.0 → g.next ≡ f.next + 1 → numbers callees ≡ needs_of rows f → f.next < length callees → state_of states (get_or callees f.next d).0 ≡ Done h
     → Holds rows states (reverse now) × (left_at rows states now < left_at rows states items) × KeepsMet states states
@@ -66,11 +67,12 @@ turn_advance rows states items rest now f g callees d h holds split pushed same 
     let at = popped rows states items rest f split holds in
     let many = as_many callees (needs_of rows f) needs in
     let less : f.next < length (needs_of rows f) = omega arith in
-    let same_needs : needs_of rows g ≡ needs_of rows f = ap (λ (n : ℕ). (row_at rows n).needs) same in
-    (subst (Holds rows states) (sym (top_first now rest g pushed))
-        (advance rows states f g (reverse rest) same next at less (h, ap (state_of states) (callee_is callees (needs_of rows f) f.next d needs l) ∙ done)),
-     omega (arith, ap (left_open rows) (top_first items rest f split), ap (left_open rows) (top_first now rest g pushed), ap length same_needs, next, less),
-     λ n e. e)
+    let same_needs : needs_of rows g ≡ needs_of rows f = ap (λ (n : ℕ). (row_at rows n).needs) same in (
+      subst (Holds rows states) (sym (top_first now rest g pushed))
+          (advance rows states f g (reverse rest) same next at less (h, ap (state_of states) (callee_is callees (needs_of rows f) f.next d needs l) ∙ done)),
+      omega (arith, ap (left_open rows) (top_first items rest f split), ap (left_open rows) (top_first now rest g pushed), ap length same_needs, next, less),
+      λ n e. e,
+    )
 
 pub turn_enter : (rows : List Row) (states after : List State) (items rest between now : List Frame) (f g : Frame) (callees : List TaskNo) (d : TaskNo) → Holds rows states (reverse items) → items ≡ rest ++ f ∷ [] → between ≡ rest ++ f ∷ [] → now ≡ between ++ g ∷ [] → g.no ≡ get_or callees f.next d → g.next ≡ 0 → after ≡ set states g.no.0 Open → numbers callees ≡ needs_of rows f → f.next < length callees → g.no.0 < length rows → state_of states g.no.0 ≡ New
     → Holds rows after (reverse now) × (left_at rows after now < left_at rows states items) × KeepsMet states after
@@ -79,11 +81,12 @@ turn_enter rows states after items rest between now f g callees d holds split ba
     let many = as_many callees (needs_of rows f) needs in
     let less : f.next < length (needs_of rows f) = omega arith in
     let stack : reverse now ≡ g ∷ (f ∷ reverse rest) = top_first now between g pushed ∙ ap (λ (fs : List Frame). g ∷ fs) (top_first between rest f back) in
-    let within : g.no.0 < length states = omega (arith, at.sized, inside) in
-    (subst (λ (ss : List State). Holds rows ss (reverse now)) (sym set_now) (subst (Holds rows (set states g.no.0 Open)) (sym stack)
-        (enter rows states g (f ∷ reverse rest) start inside new (less, callee_is callees (needs_of rows f) f.next d needs l ∙ ap (λ (t : TaskNo). t.0) (sym same)) at)),
-     omega (arith, ap (left_new rows) set_now, left_new_open rows states g.no.0 inside within new, ap (left_open rows) stack, ap (left_open rows) (top_first items rest f split), start),
-     subst (KeepsMet states) (sym set_now) (met_stays states g.no.0 Open (λ e. absurd (cc)) within))
+    let within : g.no.0 < length states = omega (arith, at.sized, inside) in (
+      subst (λ (ss : List State). Holds rows ss (reverse now)) (sym set_now) (subst (Holds rows (set states g.no.0 Open)) (sym stack)
+          (enter rows states g (f ∷ reverse rest) start inside new (less, callee_is callees (needs_of rows f) f.next d needs l ∙ ap (λ (t : TaskNo). t.0) (sym same)) at)),
+      omega (arith, ap (left_new rows) set_now, left_new_open rows states g.no.0 inside within new, ap (left_open rows) stack, ap (left_open rows) (top_first items rest f split), start),
+      subst (KeepsMet states) (sym set_now) (met_stays states g.no.0 Open (λ e. absurd (cc)) within),
+    )
 
 pub turn_cycle : (rows : List Row) (states : List State) (items rest : List Frame) (f : Frame) (callees : List TaskNo) (d : TaskNo) → Holds rows states (reverse items) → items ≡ rest ++ f ∷ [] → numbers callees ≡ needs_of rows f → f.next < length callees → state_of states (get_or callees f.next d).0 ≡ Open → HasCycle rows
 turn_cycle rows states items rest f callees d holds split needs l o =
@@ -95,3 +98,16 @@ ended rows states items e holds = subst (λ (fs : List Frame). Holds rows states
 
 pub state_read : (states : List State) (n : ℕ) (s : State) → n < length states → s ≡ get_or states n s → state_of states n ≡ s
 state_read states n s l e = get_or_default states n New s l ∙ sym e
+
+pub visit_starts : (rows : List Row) (states after : List State) (items now : List Frame) (f : Frame) → Holds rows states (reverse items) → items ≡ [] → now ≡ items ++ f ∷ [] → f.next ≡ 0 → after ≡ set states f.no.0 Open → f.no.0 < length rows → state_of states f.no.0 ≡ New → Holds rows after (reverse now)
+visit_starts rows states after items now f holds none pushed start set_now inside new =
+    let empty = ended rows states items none holds in
+    let stack : reverse now ≡ f ∷ [] = top_first now items f pushed ∙ ap (λ (fs : List Frame). f ∷ reverse fs) none in
+    subst (λ (ss : List State). Holds rows ss (reverse now)) (sym set_now) (subst (Holds rows (set states f.no.0 Open)) (sym stack) (enter rows states f [] start inside new tt empty))
+
+pub visit_keeps : (states after last : List State) (n : ℕ) → n < length states → after ≡ set states n Open → KeepsMet after last → KeepsMet states last × (state_of last n ≡ New → ⊥)
+visit_keeps states after last n l e kept =
+    let open_not : Open ≡ New → ⊥ = λ clash. absurd (cc) in (
+      (λ k new. met_stays states n Open open_not l k (ap (λ (ss : List State). state_of ss k) (sym e) ∙ kept k new)),
+      (λ new. open_not (sym (get_or-set_same states n Open New l) ∙ ap (λ (ss : List State). state_of ss n) (sym e) ∙ kept n new)),
+    )

@@ -1,23 +1,22 @@
 -- A walk from its start to its end.
-use Rattle.std.proofs.Common.{◌≡◌, ◌⊎◌, ◌≢◌, ℕ, ◌<◌, ◌+◌, Bool, true, false, List, [], ◌∷◌, ◌++◌, length, get_or, refl, sym, ap, ◌∙◌, subst, inl, inr, arith}
-use Rattle.std.specs.List.{Contains, All}
+use Rattle.std.proofs.Common.{◌≡◌, ◌≢◌, ℕ, ◌<◌, ◌+◌, Bool, true, false, List, [], ◌∷◌, ◌++◌, length, get_or, sym, ap, ◌∙◌, subst, inl, inr, arith}
+use Rattle.std.specs.List.{Contains}
 use Rattle.std.proofs.lemmas.Bool.Decides.{eqb_tells}
 use Rattle.std.proofs.lemmas.List.{length_push}
 use Rattle.std.proofs.lemmas.List.Elements.{Contains-append_left, Contains-push, Contains-push_cases, Contains-get_or}
-use Rattle.std.proofs.Common.{◌≤◌}
 use Rattle.std.proofs.lemmas.Bool.{cases_lt}
 use Rattle.std.proofs.lemmas.List.{get_or_past, length-map, map-append}
 use Rattle.std.proofs.Math.ListN as at
 use Rattle.pie_graph.specs.declared.edges.TaskNo.{TaskNo}
 use Rattle.pie_graph.specs.Numbers.{numbers, IsMarked, AllBelow, Exactly}
-use Rattle.pie_graph.specs.Rows.{Row, row_at, no_edges, Calls}
+use Rattle.pie_graph.specs.Rows.{Row, no_edges, Calls}
 use Rattle.pie_reach.specs.Reaches.{Leads}
 use Rattle.pie_reach.specs.Reaches.Leads.{itself, step}
-use Rattle.pie_reach.specs.Walks.{Walked, meet_all, unmarked, GoesTo, LedTo, Ready, Walking, IsClosure}
+use Rattle.pie_reach.specs.Walks.{Walked, meet_all, unmarked, GoesTo, Ready, Walking, IsClosure}
 use Rattle.std.proofs.Common.{set}
 use Rattle.std.proofs.lemmas.List.{get_or-set_same, get_or-set_other}
 use Rattle.pie_graph.proofs.Among.{contains_here}
-use Rattle.pie_reach.proofs.Meets.{Meets, all_met, alone}
+use Rattle.pie_reach.proofs.Meets.{all_met, alone}
 
 pub leads_on : (goes : ℕ → ℕ → Type 0) (a b c : ℕ) → Leads goes a b → goes b c → Leads goes a c
 leads_on goes a b c (itself {a = d}) g = step g itself
@@ -37,7 +36,7 @@ pub goes_up : (rows : List Row) (callee : ℕ) (found : List ℕ) → Exactly (�
 goes_up rows callee found x = record {
   below = λ k h. caller_below rows k callee (x.only k h);
   only = x.only;
-  each = x.each
+  each = x.each;
 }
 
 pub walk_starts : (count : ℕ) (goes : ℕ → ℕ → Type 0) (starts : List ℕ) (w : Walked) → length w.marks ≡ count → ((n : ℕ) → IsMarked w.marks n → ⊥) → w.work ≡ [] → AllBelow count starts → Walking count goes starts (meet_all starts w)
@@ -48,7 +47,7 @@ walk_starts count goes starts w size none idle below =
       sound = λ k h. elim (met.only k h) [ inl i ↦ absurd (none k i) | inr i ↦ (k, i.0, itself) ];
       started = met.marked;
       waiting = λ k h. elim (met.work_only k h) [ inl i ↦ absurd (omega (arith, (subst (λ (ns : List ℕ). Contains ns k) idle i).1)) | inr i ↦ met.marked k i ];
-      closed = λ k h. elim (met.only k h) [ inl i ↦ absurd (none k i) | inr i ↦ inl i.1 ]
+      closed = λ k h. elim (met.only k h) [ inl i ↦ absurd (none k i) | inr i ↦ inl i.1 ];
     }
 
 pub ready_steps : (count : ℕ) (goes : ℕ → ℕ → Type 0) (w : Walked) (rest : List ℕ) (n : ℕ) (found : List ℕ) → w.work ≡ rest ++ n ∷ [] → GoesTo count goes n found → Ready count w → Ready count (meet_all found (record { marks = w.marks; work = rest }))
@@ -56,7 +55,7 @@ ready_steps count goes w rest n found popped to ready =
     let met = all_met found (record { marks = w.marks; work = rest }) (subst (λ (s : ℕ). AllBelow s found) (sym ready.sized) (all_below count found to.below)) in
     record {
       sized = met.sized ∙ ready.sized;
-      below = λ k h. elim (met.work_only k h) [ inl i ↦ ready.below k (subst (λ (ns : List ℕ). Contains ns k) (sym popped) (Contains-append_left rest (n ∷ []) k i)) | inr i ↦ to.below k i ]
+      below = λ k h. elim (met.work_only k h) [ inl i ↦ ready.below k (subst (λ (ns : List ℕ). Contains ns k) (sym popped) (Contains-append_left rest (n ∷ []) k i)) | inr i ↦ to.below k i ];
     }
 
 pub walk_steps : (count : ℕ) (goes : ℕ → ℕ → Type 0) (starts : List ℕ) (w : Walked) (rest : List ℕ) (n : ℕ) (found : List ℕ) → w.work ≡ rest ++ n ∷ [] → GoesTo count goes n found → Walking count goes starts w → Walking count goes starts (meet_all found (record { marks = w.marks; work = rest }))
@@ -74,17 +73,17 @@ walk_steps count goes starts w rest n found popped to walking =
       ];
       closed = λ k h. elim (met.only k h) [
         | inl i ↦ elim (eqb_tells k n) [
-            | inl e ↦ inr (λ m g. met.marked m (to.each m (subst (λ (a : ℕ). goes a m) e.1 g)))
-            | inr e ↦ elim (walking.closed k i) [
-                | inl j ↦ elim (Contains-push_cases rest n k (subst (λ (ns : List ℕ). Contains ns k) popped j)) [
-                    | inl there ↦ inl (met.work_kept k there)
-                    | inr same ↦ absurd (e.1 (sym same))
-                  ]
-                | inr j ↦ inr (λ m g. met.kept m (j m g))
-              ]
+          | inl e ↦ inr (λ m g. met.marked m (to.each m (subst (λ (a : ℕ). goes a m) e.1 g)))
+          | inr e ↦ elim (walking.closed k i) [
+            | inl j ↦ elim (Contains-push_cases rest n k (subst (λ (ns : List ℕ). Contains ns k) popped j)) [
+              | inl there ↦ inl (met.work_kept k there)
+              | inr same ↦ absurd (e.1 (sym same))
+            ]
+            | inr j ↦ inr (λ m g. met.kept m (j m g))
           ]
+        ]
         | inr i ↦ inl i.1
-      ]
+      ];
     }
 
 pub nearer_step : (w : Walked) (rest : List ℕ) (n : ℕ) (found : List ℕ) → w.work ≡ rest ++ n ∷ [] → AllBelow (length w.marks) found → unmarked (meet_all found (record { marks = w.marks; work = rest })).marks + length (meet_all found (record { marks = w.marks; work = rest })).work < unmarked w.marks + length w.work
@@ -104,7 +103,7 @@ pub walk_ends : (count : ℕ) (goes : ℕ → ℕ → Type 0) (starts : List ℕ
 walk_ends count goes starts w idle walking = record {
   sized = walking.ready.sized;
   only = walking.sound;
-  each = λ k led. closed_under count goes starts w idle walking led.0 k led.2 (walking.started led.0 led.1)
+  each = λ k led. closed_under count goes starts w idle walking led.0 k led.2 (walking.started led.0 led.1);
 }
 
 pub number_below : (bound : ℕ) (nos : List TaskNo) (i : ℕ) (d : TaskNo) → AllBelow bound (numbers nos) → i < length nos → (get_or nos i d).0 < bound
@@ -135,5 +134,5 @@ upstream_exactly rows n marks after found l closed e x = record {
             let led = closed.only k (sym (get_or-set_other marks n k false false other.1) ∙ is) in
             (turned (Calls rows) n k (subst (λ (s : ℕ). Leads (λ a b. Calls rows b a) s k) (sym (alone n led.0 led.1)) led.2), other.1)
       ];
-  each = λ k h. x.each k (ap (λ (ms : List Bool). get_or ms k false) e ∙ get_or-set_other marks n k false false h.1 ∙ closed.each k (n, contains_here n [], turned_back (Calls rows) n k h.0))
+  each = λ k h. x.each k (ap (λ (ms : List Bool). get_or ms k false) e ∙ get_or-set_other marks n k false false h.1 ∙ closed.each k (n, contains_here n [], turned_back (Calls rows) n k h.0));
 }

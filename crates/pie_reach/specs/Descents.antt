@@ -97,3 +97,14 @@ Turns rows old new Cycle = HasCycle rows
 abbrev pub Finds : List Row → Descent → Descent → Bool → Type 0
 Finds rows old new true = HasCycle rows
 Finds rows old new false = (new.stack.items ≡ []) × Descends rows new × KeepsMet old.states.items new.states.items
+
+-- what a visit leaves: a cycle, or an empty stack with the task done
+abbrev pub Visits : List Row → Descent → Descent → ℕ → Bool → Type 0
+Visits rows old new n true = HasCycle rows
+Visits rows old new n false =
+    (new.stack.items ≡ []) × Descends rows new × KeepsMet old.states.items new.states.items × (state_of new.states.items n ≡ New → ⊥)
+
+-- each task is done
+pub record AllDone (rows : List Row) (states : List State) : Type 0 where
+  pub holds : Holds rows states []
+  pub met : (n : ℕ) → n < length rows → state_of states n ≡ New → ⊥

@@ -35,3 +35,7 @@ pub record IsLowest (rows : List Row) (members : List ℕ) (under lowest : ℕ) 
   pub member : Contains members lowest
   pub reached : Reaches rows under lowest
   pub alone : (other : ℕ) → Contains members other → Reaches rows lowest other → other ≡ lowest
+
+-- a task reaches none of these
+abbrev pub ReachesNone : List Row → List ℕ → ℕ → Type 0
+ReachesNone rows members under = (n : ℕ) → Contains members n → Reaches rows under n → ⊥

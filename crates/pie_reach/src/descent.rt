@@ -1,8 +1,8 @@
 //! A walk down from each task that finishes a task after all that it requires.
-ghost use Rattle.std.specs.Prelude.{◌≡◌, ℕ, ◌+◌, ◌<◌, [], ◌∷◌, ◌++◌, length, map, max, IfOk, OnOk, slice_set};
+ghost use Rattle.std.specs.Prelude.{◌≡◌, ℕ, ◌+◌, ◌<◌, MatchOption, [], ◌∷◌, ◌++◌, length, map, max, IfOk, OnOk, slice_set};
 ghost use Rattle.pie_graph.specs.Numbers.{numbers, AllBelow};
 ghost use Rattle.pie_reach.specs.Reaches.{height_over};
-ghost use Rattle.pie_reach.specs.Descents.{state_of, height_of, height_at, Descends, Turns, Finds};
+ghost use Rattle.pie_reach.specs.Descents.{state_of, height_of, height_at, Descends, Turns, Finds, Visits, HasCycle, AllDone};
 ghost use Rattle.pie_reach.specs.declared.descent.State.TheVariants.{New, Open};
 
 use pie_base::OutOfMemory;
@@ -85,7 +85,10 @@ impl Descent {
         let callee = callees[frame.next];
         match self.states[callee.0 as usize] {
             State::Done(_) => {
-                self.stack.push(Frame { no: frame.no, next: frame.next + 1 })?;
+                self.stack.push(Frame {
+                    no: frame.no,
+                    next: frame.next + 1,
+                })?;
                 Ok(Turn::Went)
             }
             State::Open => Ok(Turn::Cycle),
@@ -110,6 +113,43 @@ impl Descent {
             }
         }
     }
+
+    // A task and all that it requires are done, or a cycle is found.
+    fn visit<R: TaskRows>(&mut self, rows: &R, no: TaskNo) -> Result<bool, OutOfMemory>
+        requires number { no.0 < length (R.rows rows.now) }
+        requires empty { self.old.stack.items ≡ [] }
+        requires holds { Descends (R.rows rows.now) self.old }
+        ensures { IfOk result (Visits (R.rows rows.now) self.old self.new no.0) }
+    {
+        match self.states[no.0 as usize] {
+            State::New => {
+                self.enter(no)?;
+                let cycle = self.run(rows)?;
+                Ok(cycle)
+            }
+            State::Open => Ok(false),
+            State::Done(_) => Ok(false),
+        }
+    }
+}
+
+/// The states of all tasks, each of them done; none where there is a cycle.
+pub(crate) fn descend<R: TaskRows>(
+    alloc: Global,
+    rows: &R,
+) -> Result<Option<Vec<State>>, OutOfMemory>
+    ensures { IfOk result (λ found. MatchOption found (HasCycle (R.rows rows.now)) (λ states. AllDone (R.rows rows.now) states.items)) }
+{
+    let count = rows.count();
+    let mut descent = Descent::new(alloc, count)?;
+    for i in 0..count {
+        if descent.visit(rows, TaskNo(i))? {
+            return Ok(None);
+        }
+    }
+    let Descent { states, stack } = descent;
+    drop(stack);
+    Ok(Some(states))
 }
 
 // One more than the greatest height of these, all of them done. A height that didn't fit 32 bits

@@ -117,7 +117,11 @@ impl Walk {
 }
 
 /// Marks all numbers to which one of these leads.
-pub fn closure<W: Ways>(alloc: Global, ways: &W, starts: &[TaskNo]) -> Result<Vec<bool>, OutOfMemory>
+pub fn closure<W: Ways>(
+    alloc: Global,
+    ways: &W,
+    starts: &[TaskNo],
+) -> Result<Vec<bool>, OutOfMemory>
     requires { AllBelow (W.size ways.now) (numbers starts.now) }
     ensures { IfOk result (λ marks. IsClosure (W.size ways.now) (W.goes ways.now) (numbers starts.now) marks.items) }
 {

@@ -1,5 +1,4 @@
-use Rattle.std.proofs.Common.{Bool, List, sym, subst}
-use Rattle.pie_graph.specs.Numbers.{numbers, IsMarked, Exactly}
+use Rattle.pie_graph.specs.Numbers.{numbers}
 use Rattle.pie_reach.proofs.WalkSteps.{upstream_exactly}
 use Rattle.pie_reach.proofs.reach.upstream.Goals as goal
 

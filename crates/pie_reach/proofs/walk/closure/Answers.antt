@@ -10,4 +10,4 @@ returns g c =
     let goes = g.W.Ways.goes c.args.ways.now in
     let starts = numbers c.args.starts.now in
     subst (λ (marks : List Bool). IsClosure count goes starts marks) (sym c.into_marks.ensures)
-        (walk_ends count goes starts c.run.new.self c.in_ok-run.ensures.over (c.in_ok-run.ensures.kept starts c.in_ok-walk.ensures))
+    (walk_ends count goes starts c.run.new.self c.in_ok-run.ensures.over (c.in_ok-run.ensures.kept starts c.in_ok-walk.ensures))

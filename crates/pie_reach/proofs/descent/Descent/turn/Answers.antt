@@ -1,4 +1,4 @@
-use Rattle.std.proofs.Common.{◌≡◌, ◌∙◌, ◌<◌, ◌+◌, List, length, get_or, map, refl, sym, ap, arith}
+use Rattle.std.proofs.Common.{◌∙◌, ◌<◌, ◌+◌, List, length, get_or, map, refl, ap, arith}
 use Rattle.pie_graph.specs.declared.edges.TaskNo.{TaskNo}
 use Rattle.pie_graph.specs.Numbers.{numbers}
 use Rattle.pie_reach.specs.declared.descent.State.{State}
@@ -12,8 +12,8 @@ use Rattle.pie_reach.proofs.descent.Descent.turn.Goals as goal
 pub returns-then-frame-callees : goal.returns-then-frame-callees
 returns-then-frame-callees g c =
     turn_finish (g.R.TaskRows.rows c.args.rows.now) c.args.self.now.states.items c.args.self.now.stack.items c.pop.new.self.items c.in-Some.frame c.callees-callees.result.now c.in_ok-height.height
-        c.requires c.in-Some.ensures.items c.callees-callees.ensures.callees c.if-frame-callees.true
-        (c.in_ok-height.ensures ∙ ap (λ (ss : List State). height_over (map (height_at ss) (numbers c.callees-callees.result.now))) c.as_slice.ensures.value)
+    c.requires c.in-Some.ensures.items c.callees-callees.ensures.callees c.if-frame-callees.true
+    (c.in_ok-height.ensures ∙ ap (λ (ss : List State). height_over (map (height_at ss) (numbers c.callees-callees.result.now))) c.as_slice.ensures.value)
 
 pub index-requires : goal.index-requires
 index-requires g c = omega (arith, c.requires.sized, number_below _ c.callees-callees.result.now c.in-Some.frame.next (record { 0 = 0 }) c.callees-callees.ensures.needs_below c.if-frame-callees.false)
@@ -30,8 +30,8 @@ returns-in_ok-push-in-Done g c =
     let callee = get_or callees c.in-Some.frame.next d in
     let within : callee.0 < length states = omega (arith, c.requires.sized, number_below _ callees c.in-Some.frame.next d c.callees-callees.ensures.needs_below c.if-frame-callees.false) in
     turn_advance (g.R.TaskRows.rows c.args.rows.now) states c.args.self.now.stack.items c.pop.new.self.items c.push.new.self.items c.in-Some.frame next callees d c.in-Done.field-0
-        c.requires c.in-Some.ensures.items c.in_ok-push-in-Done.ensures.items refl refl c.callees-callees.ensures.callees c.if-frame-callees.false
-        (state_read states callee.0 c.index.result.now within c.index.ensures ∙ c.in-Done.is)
+    c.requires c.in-Some.ensures.items c.in_ok-push-in-Done.ensures.items refl refl c.callees-callees.ensures.callees c.if-frame-callees.false
+    (state_read states callee.0 c.index.result.now within c.index.ensures ∙ c.in-Done.is)
 
 pub returns-in-Open : goal.returns-in-Open
 returns-in-Open g c =
@@ -41,8 +41,8 @@ returns-in-Open g c =
     let callee = get_or callees c.in-Some.frame.next d in
     let within : callee.0 < length states = omega (arith, c.requires.sized, number_below _ callees c.in-Some.frame.next d c.callees-callees.ensures.needs_below c.if-frame-callees.false) in
     turn_cycle (g.R.TaskRows.rows c.args.rows.now) states c.args.self.now.stack.items c.pop.new.self.items c.in-Some.frame callees d
-        c.requires c.in-Some.ensures.items c.callees-callees.ensures.callees c.if-frame-callees.false
-        (state_read states callee.0 c.index.result.now within c.index.ensures ∙ c.in-Open.is)
+    c.requires c.in-Some.ensures.items c.callees-callees.ensures.callees c.if-frame-callees.false
+    (state_read states callee.0 c.index.result.now within c.index.ensures ∙ c.in-Open.is)
 
 pub returns-in_ok-enter-in-New : goal.returns-in_ok-enter-in-New
 returns-in_ok-enter-in-New g c =
@@ -54,5 +54,5 @@ returns-in_ok-enter-in-New g c =
     let inside = number_below _ callees c.in-Some.frame.next d c.callees-callees.ensures.needs_below c.if-frame-callees.false in
     let within : callee.0 < length states = omega (arith, c.requires.sized, inside) in
     turn_enter (g.R.TaskRows.rows c.args.rows.now) states c.enter.new.self.states.items c.args.self.now.stack.items c.pop.new.self.items c.push-in-New.new.self.items c.enter.new.self.stack.items c.in-Some.frame next callees d
-        c.requires c.in-Some.ensures.items c.in_ok-push-in-New.ensures.items c.in_ok-enter-in-New.ensures.stack refl refl c.in_ok-enter-in-New.ensures.states c.callees-callees.ensures.callees c.if-frame-callees.false inside
-        (state_read states callee.0 c.index.result.now within c.index.ensures ∙ c.in-New.is)
+    c.requires c.in-Some.ensures.items c.in_ok-push-in-New.ensures.items c.in_ok-enter-in-New.ensures.stack refl refl c.in_ok-enter-in-New.ensures.states c.callees-callees.ensures.callees c.if-frame-callees.false inside
+    (state_read states callee.0 c.index.result.now within c.index.ensures ∙ c.in-New.is)
