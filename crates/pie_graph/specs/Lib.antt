@@ -1,0 +1,5 @@
+pub mod Alone
+pub mod Index
+pub mod Numbers
+pub mod Rows
+pub mod Uses

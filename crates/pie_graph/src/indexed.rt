@@ -1,0 +1,97 @@
+//! Rows with an index: each question looks only at its answers.
+ghost use Rattle.std.specs.Prelude.{◌≡◌, [], IfOk};
+ghost use Rattle.pie_graph.specs.Numbers.{numbers, Exactly};
+ghost use Rattle.pie_graph.specs.Rows.{Row, row_of, row_at};
+ghost use Rattle.pie_graph.specs.Uses.{Has};
+
+use crate::index::{edges_of, replace_all, users_of};
+use crate::{Edges, TaskNo, TaskRows, Use};
+use pie_base::{OutOfMemory, Path};
+use std::alloc::Global;
+use std::collections::BTreeSet;
+use std::marker::Model;
+
+/// Rows with an index from each task and path to the tasks that use it.
+#[derive(Drop)]
+pub struct IndexedRows {
+    rows: Vec<Edges>,
+    index: BTreeSet<(Use, u32)>,
+}
+
+impl Model for IndexedRows {
+    ghost use Rattle.std.specs.Prelude.{List, map, length, ◌≤◌};
+    ghost use Rattle.pie_graph.specs.Rows.{Row, row_of, NeedsBelow};
+
+    ghost Value = { List Row };
+
+    ghost use Rattle.pie_graph.specs.Index.{IsIndex};
+
+    ghost view = { λ r. map row_of r.rows.items };
+
+    ghost invariant = { λ r. (length r.rows.items ≤ 50000) × NeedsBelow (map row_of r.rows.items) × IsIndex r.index (map row_of r.rows.items) };
+}
+
+impl IndexedRows {
+    /// No rows.
+    pub fn new(alloc: Global) -> IndexedRows
+        ensures { result ≡ [] }
+    {
+        IndexedRows {
+            rows: Vec::new(alloc),
+            index: BTreeSet::new(alloc),
+        }
+    }
+
+    // The tasks with an edge that leads there.
+    fn users(&self, what: Use) -> Result<Vec<TaskNo>, OutOfMemory>
+        ensures { IfOk result (λ found. Exactly (λ k. Has (row_at self.now k) what) (numbers found.items)) }
+    {
+        let found = users_of(*self.rows.allocator(), &self.index, what)?;
+        Ok(found)
+    }
+}
+
+impl TaskRows for IndexedRows {
+    ghost rows = { λ rows. rows };
+
+    fn count(&self) -> u32 {
+        self.rows.len() as u32
+    }
+
+    fn add(&mut self) -> Result<TaskNo, OutOfMemory> {
+        let number = self.rows.len() as u32;
+        let edges = Edges::new(*self.rows.allocator());
+        self.rows.push(edges)?;
+        Ok(TaskNo(number))
+    }
+
+    fn set_edges(&mut self, no: TaskNo, edges: Edges) -> Result<(), OutOfMemory> {
+        let alloc = *self.rows.allocator();
+        let row = &self.rows[no.0 as usize];
+        let old = edges_of(alloc, row, no.0)?;
+        let new = edges_of(alloc, &edges, no.0)?;
+        replace_all(&mut self.index, &old, &new)?;
+        self.rows[no.0 as usize] = edges;
+        Ok(())
+    }
+
+    fn callees(&self, no: TaskNo) -> &[TaskNo] {
+        self.rows[no.0 as usize].needs.as_slice()
+    }
+
+    fn callers(&self, no: TaskNo) -> Result<Vec<TaskNo>, OutOfMemory> {
+        self.users(Use::Calls(no))
+    }
+
+    fn readers_of(&self, path: &Path) -> Result<Vec<TaskNo>, OutOfMemory> {
+        self.users(Use::Reads(path.copy()?))
+    }
+
+    fn listers_of(&self, dir: &Path) -> Result<Vec<TaskNo>, OutOfMemory> {
+        self.users(Use::Lists(dir.copy()?))
+    }
+
+    fn writers_of(&self, path: &Path) -> Result<Vec<TaskNo>, OutOfMemory> {
+        self.users(Use::Writes(path.copy()?))
+    }
+}

@@ -1,0 +1,6 @@
+pub mod DescentSteps
+pub mod HeightFacts
+pub mod LeastSteps
+pub mod Meets
+pub mod Turning
+pub mod WalkSteps

@@ -1,0 +1,4 @@
+pub mod LeastKey
+pub mod Descents
+pub mod Reaches
+pub mod Walks
