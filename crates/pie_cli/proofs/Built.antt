@@ -22,7 +22,8 @@ tied : (q : List ℕ) → eq_by_cmp (slice_cmp nat_cmp) q q ≡ true
 tied q = ap is_eq (tied_itself nat_list_cmp_total q)
 
 -- what is at a path after files are gone
-get-without_files : (d : Directory) (paths : List (List ℕ)) (q : List ℕ) → file_at (without_files d paths) q ≡ cond (is_among q paths) None (file_at d q)
+get-without_files : (d : Directory) (paths : List (List ℕ)) (q : List ℕ) → file_at (without_files d paths) q
+    ≡ cond (is_among q paths) None (file_at d q)
 get-without_files d [] q = refl
 get-without_files d (path ∷ paths) q =
     get-without_files (without_file d path) paths q
@@ -54,7 +55,8 @@ passed test q p paths false rest e = rest
 is_among-filter : (test : List ℕ → Bool) (q : List ℕ) (paths : List (List ℕ)) → is_among q (filter test paths) ≡ (is_among q paths && test q)
 is_among-filter test q [] = refl
 is_among-filter test q (p ∷ paths) =
-    elim (eq_by_cmp (slice_cmp nat_cmp) q p) as (λ b. eq_by_cmp (slice_cmp nat_cmp) q p ≡ b → is_among q (filter test (p ∷ paths)) ≡ ((b || is_among q paths) && test q)) [
+    elim (eq_by_cmp (slice_cmp nat_cmp) q p) as (λ b. eq_by_cmp (slice_cmp nat_cmp) q p ≡ b
+    → is_among q (filter test (p ∷ paths)) ≡ ((b || is_among q paths) && test q)) [
       | true ↦ λ e. kept test q p paths (test p) (is_among-filter test q paths) (same_path q p e) refl e
       | false ↦ λ e. passed test q p paths (test p) (is_among-filter test q paths) e
     ] refl
@@ -80,14 +82,16 @@ text_differs q path e = elim (same_text q path) as (λ b. same_text q path ≡ b
 ] refl
 
 -- what is left beside the written file is as the removals leave it
-beside : (d : Directory) (path q : List ℕ) → eq_by_cmp (slice_cmp nat_cmp) q path ≡ false → file_at (without_files d (removed_by d path)) q ≡ file_at (without_out d) q
+beside : (d : Directory) (path q : List ℕ) → eq_by_cmp (slice_cmp nat_cmp) q path ≡ false
+    → file_at (without_files d (removed_by d path)) q ≡ file_at (without_out d) q
 beside d path q e =
     get-without_files d (removed_by d path) q
     ∙ ap (λ b. cond b None (file_at d q)) (among_removed d path q)
     ∙ gone (is_among q (paths_of d)) (is_out q) (same_text q path) (file_at d q) (fin.contains_key-keys d q) (text_differs q path e)
     ∙ sym (fin.get-retain_keys d (λ p. not (is_out p)) q (λ x t. ap (λ p. not (is_out p)) (sym (antisymmetric q x t))))
 
-pub built : (d : Directory) (path bytes : List ℕ) (mark : ℕ) → with_file (without_files d (removed_by d path)) path bytes mark ≡ built_directory d path bytes mark
+pub built : (d : Directory) (path bytes : List ℕ) (mark : ℕ) → with_file (without_files d
+    (removed_by d path)) path bytes mark ≡ built_directory d path bytes mark
 built d path bytes mark = fin.same_map nat_list_cmp_total antisymmetric
     (with_file (without_files d (removed_by d path)) path bytes mark) (built_directory d path bytes mark) (λ q.
     fin.get-insert nat_list_cmp_total (without_files d (removed_by d path)) path (bytes, mark) q

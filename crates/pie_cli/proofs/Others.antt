@@ -25,7 +25,8 @@ all_out path (p ∷ there) = kept_out path p there (is_out p) (not (same_text p 
 
 narrowed : (path p : List ℕ) (ps : List (List ℕ)) (out other : Bool) → is_out p ≡ out → not (same_text p path) ≡ other
     → other_paths path (filter is_out ps) ≡ filter (λ q. not (same_text q path)) (filter is_out ps)
-    → other_paths path (cond out (p ∷ filter is_out ps) (filter is_out ps)) ≡ filter (λ q. not (same_text q path)) (cond out (p ∷ filter is_out ps) (filter is_out ps))
+    → other_paths path (cond out (p ∷ filter is_out ps) (filter is_out ps))
+    ≡ filter (λ q. not (same_text q path)) (cond out (p ∷ filter is_out ps) (filter is_out ps))
 narrowed path p ps true true out other rest =
     ap (λ b. cond (b && not (same_text p path)) (p ∷ other_paths path (filter is_out ps)) (other_paths path (filter is_out ps))) out
     ∙ ap (cond (not (same_text p path)) (p ∷ other_paths path (filter is_out ps))) rest
@@ -44,7 +45,8 @@ others_under path (p ∷ ps) = narrowed path p ps (is_out p) (not (same_text p p
 pub others_removed : (d : Directory) (path : List ℕ) → other_paths path (files_under d (codes "out")) ≡ removed_by d path
 others_removed d path = others_under path (paths_of d)
 
-pub reports_no_pipeline : (o : Option Directory) (report : Report) → string_bytes report.text ≡ codes "bad pipeline: absent\n" → report.status ≡ Pipeline
+pub reports_no_pipeline : (o : Option Directory) (report : Report) → string_bytes report.text
+    ≡ codes "bad pipeline: absent\n" → report.status ≡ Pipeline
     → IfSome o (λ d. Reports d no_pipeline o report)
 reports_no_pipeline None report text status = tt
 reports_no_pipeline (Some d) report text status = record { text = text; status = status; left = (d, refl, refl) }
@@ -54,7 +56,8 @@ pub reports_not_yet : (o : Option Directory) (report : Report) → string_bytes 
 reports_not_yet None report text status = tt
 reports_not_yet (Some d) report text status = record { text = text; status = status; left = (d, refl, refl) }
 
-pub reports_refused : (o : Option Directory) (kind : FaultKind) (report : Report) → string_bytes report.text ≡ model.refused_text kind → report.status ≡ Refused
+pub reports_refused : (o : Option Directory) (kind : FaultKind) (report : Report) → string_bytes report.text
+    ≡ model.refused_text kind → report.status ≡ Refused
     → IfSome o (λ d. Reports d (refused kind) o report)
 reports_refused None kind report text status = tt
 reports_refused (Some d) kind report text status = record { text = text; status = status; left = (d, refl, refl) }
@@ -70,5 +73,12 @@ reports_accepted (Some d) after path bytes there removed report listed other tex
     record {
       text = text ∙ ap (model.accepted_text path) is;
       status = status;
-      left = (with_file (without_files d removed) path bytes done.0, done.1, (done.0, ap (λ ps. with_file (without_files d ps) path bytes done.0) is ∙ built d path bytes done.0));
+      left = (
+        with_file (without_files d removed) path bytes done.0,
+        done.1,
+        (
+          done.0,
+          ap (λ ps. with_file (without_files d ps) path bytes done.0) is ∙ built d path bytes done.0,
+        ),
+      );
     }

@@ -28,11 +28,14 @@ apart q path off on = elim (eq_by_cmp (slice_cmp nat_cmp) q path) as (λ b. eq_b
 pub keeps_without : (d : Directory) (path q : List ℕ) → is_out path ≡ true → is_out q ≡ false → file_at (without_file d path) q ≡ file_at d q
 keeps_without d path q on off = fin.get-remove nat_list_cmp_total d path q ∙ ap (λ b. cond b None (fin.get d q)) (apart q path off on)
 
-pub keeps_with : (d : Directory) (path q bytes : List ℕ) (mark : ℕ) → is_out path ≡ true → is_out q ≡ false → file_at (with_file d path bytes mark) q ≡ file_at d q
-keeps_with d path q bytes mark on off = fin.get-insert nat_list_cmp_total d path (bytes, mark) q ∙ ap (λ b. cond b (Some (bytes, mark)) (fin.get d q)) (apart q path off on)
+pub keeps_with : (d : Directory) (path q bytes : List ℕ) (mark : ℕ) → is_out path ≡ true → is_out q ≡ false
+    → file_at (with_file d path bytes mark) q ≡ file_at d q
+keeps_with d path q bytes mark on off = fin.get-insert nat_list_cmp_total d path (bytes, mark) q
+    ∙ ap (λ b. cond b (Some (bytes, mark)) (fin.get d q)) (apart q path off on)
 
 abbrev pub Kept : Option Directory → Option Directory → Type 0
-Kept before after = IfSome before (λ d. (e : Directory) × (after ≡ Some e) × ((path : List ℕ) → is_out path ≡ false → file_at e path ≡ file_at d path))
+Kept before after = IfSome before (λ d. (e : Directory) × (after ≡ Some e) × ((path : List ℕ) → is_out path ≡ false
+    → file_at e path ≡ file_at d path))
 
 kept_same : (before after : Option Directory) → after ≡ before → Kept before after
 kept_same None after is = tt
@@ -67,9 +70,17 @@ pub write_keeps : (before after : Option Directory) (path bytes : List ℕ) (res
     → (IsErrOf result Failed → IfSome before (λ d. MayHaveWritten d path after))
     → (IsErrOf result OutOfMemory → after ≡ before) → Kept before after
 write_keeps None after path bytes result out written failed unchanged = tt
-write_keeps (Some d) after path bytes (Ok u) out written failed unchanged = (with_file d path bytes written.0, written.1, λ q off. keeps_with d path q bytes written.0 out off)
+write_keeps (Some d) after path bytes (Ok u) out written failed unchanged = (
+  with_file d path bytes written.0,
+  written.1,
+  λ q off. keeps_with d path q bytes written.0 out off,
+)
 write_keeps (Some d) after path bytes (Err Failed) out written failed unchanged =
-    ⊎_elim (λ is. (d, is, λ q off. refl)) (λ some. (with_file d path some.0 some.1, some.2, λ q off. keeps_with d path q some.0 some.1 out off)) (failed refl)
+    ⊎_elim (λ is. (d, is, λ q off. refl)) (λ some. (
+      with_file d path some.0 some.1,
+      some.2,
+      λ q off. keeps_with d path q some.0 some.1 out off,
+    )) (failed refl)
 write_keeps (Some d) after path bytes (Err OutOfMemory) out written failed unchanged = (d, unchanged refl, λ q off. refl)
 
 -- some of the files are gone, and the rest is to go
@@ -95,7 +106,8 @@ pub removed_all : (before after : Option Directory) (rest all : List (List ℕ))
 removed_all None after rest all none so_far = tt
 removed_all (Some d) after rest all none so_far = so_far.1 ∙ ap Some (sym (ap (without_files so_far.0) none) ∙ so_far.2)
 
-pub starts : {S : Type 0} (holds : S → Option Directory) (faults : S → ℕ) (old : S) (all : List (List ℕ)) → AllOut all → Removing holds faults old old all all
+pub starts : {S : Type 0} (holds : S → Option Directory) (faults : S → ℕ) (old : S) (all : List (List ℕ)) → AllOut all
+    → Removing holds faults old old all all
 starts holds faults old all out = record {
   out = out;
   steady = refl;

@@ -3,7 +3,8 @@ use Rattle.std.proofs.Common.{◌≡◌, ℕ, ◌+◌, ◌≤◌, List, ◌++◌
 use Rattle.std.specs.Prelude.{Option, None, Some, IfSome}
 
 -- so many bytes of the text are done, the output gained just these, and no call failed
-pub record Printing {S : Type 0} (held : S → Option (List ℕ)) (faults : S → ℕ) (IsSure : S → Type 0) (old new : S) (text : List ℕ) (done : ℕ) : Type 0 where
+pub record Printing {S : Type 0} (held : S → Option (List ℕ)) (faults : S → ℕ) (IsSure : S
+    → Type 0) (old new : S) (text : List ℕ) (done : ℕ) : Type 0 where
   pub inside : done ≤ length text
   pub gained : IfSome (held old) (λ bytes. held new ≡ Some (bytes ++ take done text))
   pub steady : faults new ≡ faults old
@@ -15,5 +16,6 @@ pub gained_more : (before middle after : Option (List ℕ)) (text : List ℕ) (d
     → IfSome before (λ bytes. after ≡ Some (bytes ++ take (done + n) text))
 gained_more None middle after text done n first more = tt
 gained_more (Some bytes) middle after text done n first more =
-    let now : after ≡ Some ((bytes ++ take done text) ++ take n (drop done text)) = subst (λ m. IfSome m (λ b. after ≡ Some (b ++ take n (drop done text)))) first more in
+    let now : after ≡ Some ((bytes ++ take done text) ++ take n (drop done text)) = subst (λ m. IfSome m (λ b. after
+    ≡ Some (b ++ take n (drop done text)))) first more in
     now ∙ ap Some (append_assoc bytes (take done text) (take n (drop done text)) ∙ ap (λ t. bytes ++ t) (sym (take-add done n text)))

@@ -38,6 +38,10 @@ without_files d (path ∷ paths) = without_files (without_file d path) paths
 pub record KeepsOutside (before after : Option Directory) : Type 0 where
   pub kept : IfSome before (λ d. (e : Directory) × (after ≡ Some e) × ((path : List ℕ) → is_out path ≡ false → file_at e path ≡ file_at d path))
 
+-- these files are gone, and this one is written with some mark
+abbrev pub HasReplaced : Directory → List (List ℕ) → List ℕ → List ℕ → Option Directory → Type 0
+HasReplaced d removed path bytes after = (mark : ℕ) × (after ≡ Some (with_file (without_files d removed) path bytes mark))
+
 -- each of these paths lies under `out/`
 abbrev pub AllOut : List (List ℕ) → Type 0
 AllOut [] = Unit {0}

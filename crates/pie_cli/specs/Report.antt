@@ -33,7 +33,8 @@ removed_lines (path ∷ paths) = codes "removed " ++ (path ++ (codes "\n" ++ rem
 
 -- the report of a build that wrote one file
 abbrev pub accepted_text : List ℕ → List (List ℕ) → List ℕ
-accepted_text path removed = codes "accepted\nran main()\nwrote " ++ (path ++ (codes "\n" ++ (removed_lines removed ++ codes "live 1\noutput main() = unit\n")))
+accepted_text path removed = codes "accepted\nran main()\nwrote " ++ (path ++ (codes "\n" ++
+    (removed_lines removed ++ codes "live 1\noutput main() = unit\n")))
 
 -- the report of a build that was refused
 abbrev pub refused_text : FaultKind → List ℕ

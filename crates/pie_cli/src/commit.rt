@@ -3,7 +3,7 @@ ghost use Rattle.std.specs.Prelude.{◌≡◌, [], ◌∷◌, ◌++◌, ◌&&◌
 ghost use Rattle.pie_base.specs.Path.{is_out, same_text};
 ghost use Rattle.pie_files.specs.Directory.{with_file, without_file};
 ghost use Rattle.pie_files.specs.Streams.{Counted};
-ghost use Rattle.pie_cli.specs.Left.{KeepsOutside, other_paths, without_files, AllOut};
+ghost use Rattle.pie_cli.specs.Left.{KeepsOutside, HasReplaced, other_paths, without_files, AllOut};
 
 use pie_base::{OutOfMemory, Path};
 use pie_files::{Files, FilesError};
@@ -18,7 +18,7 @@ pub(crate) fn replace_out<F: Files>(
 ) -> Result<(), FilesError>
     requires path { is_out path.now ≡ true }
     requires removed { AllOut removed.now }
-    ensures built { IfSome (F.holds files.old) (λ d. OnOk result ((mark : ℕ) × (F.holds files.new ≡ Some (with_file (without_files d removed.now) path.now bytes.now mark)))) }
+    ensures built { IfSome (F.holds files.old) (λ d. OnOk result (HasReplaced d removed.now path.now bytes.now (F.holds files.new))) }
     ensures outside { KeepsOutside (F.holds files.old) (F.holds files.new) }
     ensures counted { Counted F.faults FilesError.Failed files.old files.new result }
 {
@@ -77,7 +77,8 @@ fn list_others(alloc: Global, there: &[Path], path: &Path) -> Result<Vec<Path>, 
 }
 
 fn note_other(others: &mut Vec<Path>, other: &Path, path: &Path) -> Result<(), OutOfMemory>
-    ensures { OnOk result (others.new.items ≡ (if is_out other.now && not (same_text other.now path.now) then others.old.items ++ other.now ∷ [] else others.old.items)) }
+    ensures { let is_other = is_out other.now && not (same_text other.now path.now) in
+        OnOk result (others.new.items ≡ (if is_other then others.old.items ++ other.now ∷ [] else others.old.items)) }
 {
     if other.under_out() && other != path {
         others.push(other.copy()?)?;

@@ -31,17 +31,20 @@ pub fn run<F: Files, I: Source, K: Sink>(
 ) -> Status
     // A clean build, where the directory and the output are told.
     ensures built { is_fresh (texts_of words.now) ≡ true → is_answer result ≡ true → IfSome (F.holds files.old) (λ d. HasBuilt d (F.holds files.new) result) }
-    ensures report { is_fresh (texts_of words.now) ≡ true → is_answer result ≡ true → IfSome (F.holds files.old) (λ d. Gains (K.held out.old) (K.held out.new) (report_of d (build_of d))) }
+    ensures report { is_fresh (texts_of words.now) ≡ true → is_answer result ≡ true
+        → IfSome (F.holds files.old) (λ d. Gains (K.held out.old) (K.held out.new) (report_of d (build_of d))) }
     ensures front { is_fresh (texts_of words.now) ≡ true → IfSome (F.holds files.old) (λ d. PrintsFront d (K.held out.old) (K.held out.new)) }
     ensures outside { KeepsOutside (F.holds files.old) (F.holds files.new) }
 
     // Words that are no command.
-    ensures usage { is_fresh (texts_of words.now) ≡ false → is_answer result ≡ true → (result ≡ Status.Usage) × Gains (K.held out.old) (K.held out.new) usage_text }
+    ensures usage { is_fresh (texts_of words.now) ≡ false → is_answer result ≡ true
+        → (result ≡ Status.Usage) × Gains (K.held out.old) (K.held out.new) usage_text }
     ensures usage_front { is_fresh (texts_of words.now) ≡ false → GainsFront (K.held out.old) (K.held out.new) usage_text }
     ensures nothing_asked { is_fresh (texts_of words.now) ≡ false → files.new ≡ files.old }
 
     // The cause of each status that is no answer; want of memory alone has none.
-    ensures files { result ≡ Status.Files → Rose (F.faults files.old) (F.faults files.new) × Gains (K.held out.old) (K.held out.new) files_fault_text }
+    ensures files { result ≡ Status.Files
+        → Rose (F.faults files.old) (F.faults files.new) × Gains (K.held out.old) (K.held out.new) files_fault_text }
     ensures output { result ≡ Status.Output → Rose (K.faults out.old) (K.faults out.new) }
     ensures no_input { result ≢ Status.Input }
     ensures steady { is_answer result ≡ true → (F.faults files.new ≡ F.faults files.old) × (K.faults out.new ≡ K.faults out.old) }
@@ -60,10 +63,12 @@ pub fn run<F: Files, I: Source, K: Sink>(
 #[tactic(auto, using(crate::proofs::Outside::keeps_same))]
 fn run_fresh<F: Files, K: Sink>(alloc: Global, files: &mut F, out: &mut K) -> Status
     ensures built { is_answer result ≡ true → IfSome (F.holds files.old) (λ d. HasBuilt d (F.holds files.new) result) }
-    ensures report { is_answer result ≡ true → IfSome (F.holds files.old) (λ d. Gains (K.held out.old) (K.held out.new) (report_of d (build_of d))) }
+    ensures report { is_answer result ≡ true
+        → IfSome (F.holds files.old) (λ d. Gains (K.held out.old) (K.held out.new) (report_of d (build_of d))) }
     ensures front { IfSome (F.holds files.old) (λ d. PrintsFront d (K.held out.old) (K.held out.new)) }
     ensures outside { KeepsOutside (F.holds files.old) (F.holds files.new) }
-    ensures files { result ≡ Status.Files → Rose (F.faults files.old) (F.faults files.new) × Gains (K.held out.old) (K.held out.new) files_fault_text }
+    ensures files { result ≡ Status.Files
+        → Rose (F.faults files.old) (F.faults files.new) × Gains (K.held out.old) (K.held out.new) files_fault_text }
     ensures output { result ≡ Status.Output → Rose (K.faults out.old) (K.faults out.new) }
     ensures no_input { result ≢ Status.Input }
     ensures steady { is_answer result ≡ true → (F.faults files.new ≡ F.faults files.old) × (K.faults out.new ≡ K.faults out.old) }

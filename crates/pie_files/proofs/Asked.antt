@@ -1,9 +1,8 @@
 -- The list of calls on files in memory grows by one.
-use Rattle.std.proofs.Common.{◌≡◌, ℕ, List, [], ◌∷◌, ◌++◌, refl, ap, arith}
-use Rattle.std.specs.Prelude.{Option, Some, Result, Ok, Err}
+use Rattle.std.proofs.Common.{◌≡◌, List, [], ◌∷◌, ◌++◌, refl, ap, arith}
+use Rattle.std.specs.Prelude.{Some, Ok}
 use Rattle.pie_files.specs.declared.files.Call.{Call}
 use Rattle.pie_files.specs.declared.files.Call.TheVariants.{Write, Remove, Sync}
-use Rattle.pie_files.specs.declared.files.FilesError.{FilesError}
 use Rattle.pie_files.specs.declared.sure_files.Logged.{Logged}
 use Rattle.pie_files.specs.declared.sure_files.Logged.TheVariants.{Put, Asked, Wrote, Removed, Synced}
 use Rattle.pie_files.specs.declared.sure_files.SureFiles.{SureFiles}
@@ -20,7 +19,8 @@ asked_push (Removed path ∷ log) x = ap (λ cs. Remove path ∷ cs) (asked_push
 asked_push (Synced ∷ log) x = ap (λ cs. Sync ∷ cs) (asked_push log x)
 
 -- a call on files that never fail was noted
-pub sure_called : {T : Type 0} (kind : Call → Type 0) (call : Call) (old new : SureFiles) (value : T) → kind call → asked_by new ≡ asked_by old ++ call ∷ []
+pub sure_called : {T : Type 0} (kind : Call → Type 0) (call : Call) (old new : SureFiles) (value : T) → kind call
+    → asked_by new ≡ asked_by old ++ call ∷ []
     → Called {S = SureFiles} (λ s. Some (asked_by s)) (λ _. 0) kind old new (Ok value)
 sure_called kind call old new value is noted = record {
   noted = (call, is, ap Some noted);

@@ -23,7 +23,8 @@ IsWrite path (Ok value) call = (mark : ℕ) × (call ≡ Write path (Some mark))
 IsWrite path (Err e) call = call ≡ Write path None
 
 -- what every call says: it is noted, and the count of faults tells exactly whether it failed
-pub record Called {S T : Type 0} (asked : S → Option (List Call)) (faults : S → ℕ) (kind : Call → Type 0) (old new : S) (result : Result T FilesError) : Type 0 where
+pub record Called {S T : Type 0} (asked : S → Option (List Call)) (faults : S → ℕ) (kind : Call
+    → Type 0) (old new : S) (result : Result T FilesError) : Type 0 where
   pub noted : NotesUnlessMemory result kind (asked old) (asked new)
   pub later : faults old ≤ faults new
   pub steady : OnOk result (faults new ≡ faults old)

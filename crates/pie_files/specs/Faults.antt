@@ -1,5 +1,5 @@
 -- How a count of faults tells that a call failed.
-use Rattle.std.specs.Prelude.{◌≡◌, ◌⊎◌, ◌<◌, ◌≤◌, ◌-◌, ◌^◌, ℕ}
+use Rattle.std.specs.Prelude.{◌⊎◌, ◌<◌, ◌≤◌, ◌-◌, ◌^◌, ℕ}
 
 -- the count rose, or stands at its end, where it can't rise any more
 abbrev pub Rose : ℕ → ℕ → Type 0

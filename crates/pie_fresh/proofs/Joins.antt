@@ -26,9 +26,11 @@ by_size d sum bytes rest big is =
     ∙ ap (λ b. with_text (cond b (fault Big) (text (sum ++ bytes))) (λ more. joined_in d more rest)) (sym is)
     ∙ chosen big
   where
-    chosen : (b : Bool) → with_text (cond b (fault Big) (text (sum ++ bytes))) (λ more. joined_in d more rest) ≡ cond b (fault Big) (joined_in d (sum ++ bytes) rest)
+    chosen : (b : Bool) → with_text (cond b (fault Big) (text (sum ++ bytes))) (λ more. joined_in d more rest)
+        ≡ cond b (fault Big) (joined_in d (sum ++ bytes) rest)
     chosen true = refl
     chosen false = refl
 
-pub next_part : (terms : List Term) (i : ℕ) (t : Term) → i < length terms → drop i terms ≡ t ∷ drop (i + 1) terms → map part_of (drop i terms) ≡ part_of t ∷ map part_of (drop (i + 1) terms)
+pub next_part : (terms : List Term) (i : ℕ) (t : Term) → i < length terms → drop i terms ≡ t ∷ drop (i + 1) terms
+    → map part_of (drop i terms) ≡ part_of t ∷ map part_of (drop (i + 1) terms)
 next_part terms i t h e = ap (map part_of) e

@@ -15,7 +15,8 @@ chosen false true c h = cc
 chosen false false true h = refl
 chosen false false false h = cc
 
-refused : (a b c : Bool) (e : PathError) → cond a (Some Empty) (cond b (Some TooLong) (cond c None (Some BadSegment))) ≡ Some e → (not a && not b && c) ≡ false
+refused : (a b c : Bool) (e : PathError) → cond a (Some Empty) (cond b (Some TooLong) (cond c None (Some BadSegment)))
+    ≡ Some e → (not a && not b && c) ≡ false
 refused true b c e h = refl
 refused false true c e h = refl
 refused false false true e h = cc

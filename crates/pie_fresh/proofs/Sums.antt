@@ -27,7 +27,8 @@ opened : (n i : ℕ) (text rest : List ℕ) (p : Part) → i < n → part text �
 opened n i text rest p h is =
     ap (λ k. sum k text) (fewer n i h) ∙ ap (λ q. then_on q (λ p' rest'. after_part p' rest' (sum (n - (i + 1))) (mark (codes "+") rest'))) is
 
-pub sum_turn : (n i : ℕ) (text rest behind : List ℕ) (p : Part) (ps : List Part) → i < n → part text ≡ Some (p, rest) → mark (codes "+") rest ≡ Some behind
+pub sum_turn : (n i : ℕ) (text rest behind : List ℕ) (p : Part) (ps : List Part) → i < n → part text ≡ Some (p, rest)
+    → mark (codes "+") rest ≡ Some behind
     → behind_parts ps (sum (n - i) text) ≡ behind_parts (ps ++ p ∷ []) (sum (n - (i + 1)) behind)
 sum_turn n i text rest behind p ps h is more =
     ap (behind_parts ps) (opened n i text rest p h is ∙ ap (after_part p rest (sum (n - (i + 1)))) more)
@@ -39,7 +40,8 @@ sum_stops n i text rest p ps h is none = ap (behind_parts ps) (opened n i text r
 
 pub sum_fails : (n i : ℕ) (text : List ℕ) (ps : List Part) → i < n → part text ≡ None → behind_parts ps (sum (n - i) text) ≡ None
 sum_fails n i text ps h none =
-    ap (λ k. behind_parts ps (sum k text)) (fewer n i h) ∙ ap (λ q. behind_parts ps (then_on q (λ p rest. after_part p rest (sum (n - (i + 1))) (mark (codes "+") rest)))) none
+    ap (λ k. behind_parts ps (sum k text)) (fewer n i h) ∙ ap (λ q. behind_parts ps (then_on q
+    (λ p rest. after_part p rest (sum (n - (i + 1))) (mark (codes "+") rest)))) none
 
 pub sum_out : (n i : ℕ) (text : List ℕ) (ps : List Part) → n - i ≡ 0 → behind_parts ps (sum (n - i) text) ≡ None
 sum_out n i text ps none = ap (λ k. behind_parts ps (sum k text)) none
@@ -53,7 +55,8 @@ no_mark None b e h = refl
 no_mark (Some rest) b e h = absurd (false≢true (sym h ∙ e))
 
 -- a refusal of a part refuses the whole
-pub refuses : {A B C D : Type 0} (f : A → B) (g : C → D) (e : Stop) (rest after : List ℕ) (small : Parsed B) (whole : Parsed D) → (small ≡ None → whole ≡ None)
+pub refuses : {A B C D : Type 0} (f : A → B) (g : C → D) (e : Stop) (rest after : List ℕ) (small : Parsed B)
+    (whole : Parsed D) → (small ≡ None → whole ≡ None)
     → Agrees f (Err e) rest small → Agrees g (Err e) after whole
 refuses f g NotYet rest after small whole h none = h none
 refuses f g OutOfMemory rest after small whole h none = tt

@@ -33,7 +33,8 @@ literal text = then_past (mark (codes "\"") text) (literal_from false)
 
 -- what stands before the path that is written
 abbrev pub heading : List ℕ → Option (List ℕ)
-heading = passes_all (word (codes "func") ∷ word (codes "main") ∷ mark (codes "(") ∷ mark (codes ")") ∷ mark (codes "->") ∷ word (codes "unit")
+heading = passes_all (word (codes "func") ∷ word (codes "main") ∷ mark (codes "(") ∷ mark (codes ")")
+    ∷ mark (codes "->") ∷ word (codes "unit")
     ∷ mark (codes "{") ∷ word (codes "write") ∷ mark (codes "(") ∷ word (codes "path") ∷ mark (codes "(") ∷ [])
 
 -- what stands before the path that is read
@@ -62,7 +63,8 @@ path_that kind text = then_on (literal text) (λ path rest. cond (spells_path pa
 
 -- a text literal, or `get(read(path(..)))` of a source
 abbrev pub read_part : List ℕ → Parsed Part
-read_part text = then_past (reading text) (λ rest. then_on (path_that is_source rest) (λ path behind. then_past (read_end behind) (λ end. Some (reads path, end))))
+read_part text = then_past (reading text) (λ rest. then_on (path_that is_source rest) (λ path behind. then_past
+    (read_end behind) (λ end. Some (reads path, end))))
 
 abbrev pub text_part : List ℕ → Parsed Part
 text_part text = option_map (λ p. (holds p.0, p.1)) (literal text)

@@ -22,13 +22,16 @@ loop-path-preserved g c =
     let next : drop c.loop-path.path-index all ≡ item ∷ rest =
     drop_more all c.loop-path.path-index item c.loop-path-test.true ∙ ap (λ x. x ∷ rest) (sym c.path-item.is) in
     let out : AllOut (item ∷ rest) = subst AllOut next c.loop-path.invariant.out in
-    let so_far : IfSome (g.F.Files.holds c.args.files.now) (λ d. (e : Directory) × (g.F.Files.holds c.loop-path.files ≡ Some e) × (without_files e (item ∷ rest) ≡ without_files d all)) =
-    subst (λ (r : List (List ℕ)). IfSome (g.F.Files.holds c.args.files.now) (λ d. (e : Directory) × (g.F.Files.holds c.loop-path.files ≡ Some e) × (without_files e r ≡ without_files d all)))
+    let so_far : IfSome (g.F.Files.holds c.args.files.now) (λ d. (e : Directory) × (g.F.Files.holds c.loop-path.files
+    ≡ Some e) × (without_files e (item ∷ rest) ≡ without_files d all)) =
+    subst (λ (r : List (List ℕ)). IfSome (g.F.Files.holds c.args.files.now) (λ d. (e : Directory)
+    × (g.F.Files.holds c.loop-path.files ≡ Some e) × (without_files e r ≡ without_files d all)))
     next c.loop-path.invariant.removed in
     record {
       out = out.1;
       steady = c.in_ok-remove_out.ensures.counted.steady ∙ c.loop-path.invariant.steady;
-      removed = removed_more (g.F.Files.holds c.args.files.now) (g.F.Files.holds c.loop-path.files) (g.F.Files.holds c.remove_out.new.files) item rest all
+      removed = removed_more (g.F.Files.holds c.args.files.now) (g.F.Files.holds c.loop-path.files)
+          (g.F.Files.holds c.remove_out.new.files) item rest all
           so_far c.in_ok-remove_out.ensures.removed;
       outside = keeps_both (g.F.Files.holds c.args.files.now) (g.F.Files.holds c.loop-path.files) (g.F.Files.holds c.remove_out.new.files)
           c.loop-path.invariant.outside c.remove_out.ensures.outside;

@@ -5,11 +5,14 @@ use Rattle.pie_cli.proofs.print.print_text.Goals as goal
 
 pub loop-done-preserved : goal.loop-done-preserved
 loop-done-preserved g c =
-    let gained : IfSome (g.K.Sink.held c.loop-done.out) (λ bytes. g.K.Sink.held c.put.new.self ≡ Some (bytes ++ take c.in_ok-n.n (drop c.loop-done.done c.args.text.now))) =
-    subst (λ (p : List ℕ). IfSome (g.K.Sink.held c.loop-done.out) (λ bytes. g.K.Sink.held c.put.new.self ≡ Some (bytes ++ take c.in_ok-n.n p))) c.split_at.ensures.back c.in_ok-n.ensures.gained in
+    let gained : IfSome (g.K.Sink.held c.loop-done.out) (λ bytes. g.K.Sink.held c.put.new.self
+    ≡ Some (bytes ++ take c.in_ok-n.n (drop c.loop-done.done c.args.text.now))) =
+    subst (λ (p : List ℕ). IfSome (g.K.Sink.held c.loop-done.out) (λ bytes. g.K.Sink.held c.put.new.self
+    ≡ Some (bytes ++ take c.in_ok-n.n p))) c.split_at.ensures.back c.in_ok-n.ensures.gained in
     record {
       inside = omega (arith, c.in_ok-n.ensures.bound, c.split_at.ensures.back_len);
-      gained = gained_more (g.K.Sink.held c.args.out.now) (g.K.Sink.held c.loop-done.out) (g.K.Sink.held c.put.new.self) c.args.text.now c.loop-done.done c.in_ok-n.n
+      gained = gained_more (g.K.Sink.held c.args.out.now) (g.K.Sink.held c.loop-done.out)
+          (g.K.Sink.held c.put.new.self) c.args.text.now c.loop-done.done c.in_ok-n.n
           c.loop-done.invariant.gained gained;
       steady = c.in_ok-n.ensures.counted.steady ∙ c.loop-done.invariant.steady;
       sure = λ s. (c.put.ensures.sure (c.loop-done.invariant.sure s)).0;

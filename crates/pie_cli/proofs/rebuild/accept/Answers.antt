@@ -16,13 +16,18 @@ returns-clause-built g c =
     let listed : IfSome before (λ (d : Directory). there ≡ files_under d (codes "out")) =
     subst (λ (p : List ℕ). IfSome before (λ (d : Directory). there ≡ files_under d p)) c.in_ok-out.ensures c.in_ok-there.ensures.listed in
     let other : removed ≡ other_paths c.args.path there = c.in_ok-removed.ensures.others ∙ ap (other_paths c.args.path) c.deref.ensures.value in
-    let built : IfSome before (λ (d : Directory). (mark : ℕ) × (after ≡ Some (with_file (without_files d c.deref-3.result.now) c.args.path c.deref-4.result.now mark))) =
-    subst (λ h. IfSome h (λ (d : Directory). (mark : ℕ) × (after ≡ Some (with_file (without_files d c.deref-3.result.now) c.args.path c.deref-4.result.now mark))))
+    let built : IfSome before (λ (d : Directory). (mark : ℕ) × (after
+    ≡ Some (with_file (without_files d c.deref-3.result.now) c.args.path c.deref-4.result.now mark))) =
+    subst (λ h. IfSome h (λ (d : Directory). (mark : ℕ) × (after
+    ≡ Some (with_file (without_files d c.deref-3.result.now) c.args.path c.deref-4.result.now mark))))
     c.in_ok-there.ensures.same c.in_ok-replace_out.ensures.built in
-    let of_removed : IfSome before (λ (d : Directory). (mark : ℕ) × (after ≡ Some (with_file (without_files d removed) c.args.path c.deref-4.result.now mark))) =
-    subst (λ (ps : List (List ℕ)). IfSome before (λ (d : Directory). (mark : ℕ) × (after ≡ Some (with_file (without_files d ps) c.args.path c.deref-4.result.now mark))))
+    let of_removed : IfSome before (λ (d : Directory). (mark : ℕ) × (after
+    ≡ Some (with_file (without_files d removed) c.args.path c.deref-4.result.now mark))) =
+    subst (λ (ps : List (List ℕ)). IfSome before (λ (d : Directory). (mark : ℕ) × (after
+    ≡ Some (with_file (without_files d ps) c.args.path c.deref-4.result.now mark))))
     c.deref-3.ensures.value built in
-    let of_bytes : IfSome before (λ (d : Directory). (mark : ℕ) × (after ≡ Some (with_file (without_files d removed) c.args.path c.args.bytes.items mark))) =
+    let of_bytes : IfSome before (λ (d : Directory). (mark : ℕ) × (after
+    ≡ Some (with_file (without_files d removed) c.args.path c.args.bytes.items mark))) =
     subst (λ (bs : List ℕ). IfSome before (λ (d : Directory). (mark : ℕ) × (after ≡ Some (with_file (without_files d removed) c.args.path bs mark))))
     c.deref-4.ensures.value of_removed in
     reports_accepted before after c.args.path c.args.bytes.items there removed _ listed other

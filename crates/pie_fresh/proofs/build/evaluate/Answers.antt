@@ -12,4 +12,5 @@ returns-clause-outcome g c =
     told (g.F.Files.holds c.args.files.now)
     (λ (d : Directory). made_of c.in_ok-made.made ≡ joined_in d [] (map part_of c.deref.result.now))
     (λ (d : Directory). plain_build c.outcome_of.result ≡ evaluated d (plain c.args.program))
-    (λ d e. c.outcome_of.ensures.outcome ∙ ap (by_made c.args.program.target) (e ∙ ap (λ ts. joined_in d [] (map part_of ts)) c.deref.ensures.value)) c.in_ok-made.ensures.made
+    (λ d e. c.outcome_of.ensures.outcome ∙ ap (by_made c.args.program.target) (e
+    ∙ ap (λ ts. joined_in d [] (map part_of ts)) c.deref.ensures.value)) c.in_ok-made.ensures.made

@@ -6,4 +6,5 @@ use Rattle.pie_files.proofs.HeldLemmas.{get_held}
 use Rattle.pie_files.proofs.held.Held.get.Goals as goal
 
 pub returns : goal.returns
-returns c = ap (option_map content_of) c.get.ensures.value ∙ sym (get_held c.self.inside.files.entries c.args.path.now) ∙ ap (λ d. fin.get d c.args.path.now) c.self.view_is
+returns c = ap (option_map content_of) c.get.ensures.value ∙ sym
+    (get_held c.self.inside.files.entries c.args.path.now) ∙ ap (λ d. fin.get d c.args.path.now) c.self.view_is

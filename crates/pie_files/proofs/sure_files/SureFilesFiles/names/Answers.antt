@@ -1,4 +1,4 @@
-use Rattle.std.proofs.Common.{ap, refl}
+use Rattle.std.proofs.Common.{ap}
 use Rattle.pie_files.specs.declared.files.Call.TheVariants.{Names}
 use Rattle.pie_files.proofs.Asked.{sure_called}
 use Rattle.pie_files.proofs.sure_files.SureFilesFiles.names.Goals as goal

@@ -1,5 +1,4 @@
-use Rattle.std.proofs.Common.{ap, refl}
-use Rattle.pie_files.specs.declared.files.Call.TheVariants.{Sync}
+use Rattle.std.proofs.Common.{refl}
 use Rattle.pie_files.proofs.Asked.{sure_called}
 use Rattle.pie_files.proofs.sure_files.SureFilesFiles.sync.Goals as goal
 

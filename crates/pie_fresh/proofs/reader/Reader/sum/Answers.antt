@@ -11,7 +11,9 @@ pub returns-in_err-term : goal.returns-in_err-term
 returns-in_err-term c =
     let p = err_from_is_err_and c.from_residual.result c.from_residual.ensures.1 in
     let start = c.args.self.now in
-    rw (p.1, p.2) (refuses part_of (λ (terms : Vec Term Global). map part_of terms.items) c.in_err-term.field-0.0 c.part.new.self c.part.new.self (part c.loop.self) (sum (length start) start)
+    rw (p.1, p.2) (refuses part_of (λ
+    (terms : Vec Term Global). map part_of terms.items) c.in_err-term.field-0.0 c.part.new.self c.part.new.self
+    (part c.loop.self) (sum (length start) start)
     (λ none. ap (λ n. sum n start) (sym c.len-end.ensures) ∙ sym c.loop.invariant
     ∙ sum_fails c.len-end.result c.loop.counter c.loop.self (map part_of c.loop.terms.items) c.loop-test.true none)
     c.in_err-term.ensures)
@@ -21,9 +23,11 @@ returns-then-not-at_mark c =
     let start = c.args.self.now in
     let read : map part_of c.push.new.self.items ≡ map part_of c.loop.terms.items ++ part_of c.in_ok-term.term ∷ [] =
     ap (map part_of) c.in_ok-push.ensures.items ∙ map_push c.loop.terms.items c.in_ok-term.term in
-    let none : mark (codes "+") c.part.new.self ≡ None = no_mark (mark (codes "+") c.part.new.self) c.at_mark.result c.at_mark.ensures c.if-not-at_mark.true in
+    let none : mark (codes "+") c.part.new.self ≡ None = no_mark (mark
+    (codes "+") c.part.new.self) c.at_mark.result c.at_mark.ensures c.if-not-at_mark.true in
     ap (λ n. sum n start) (sym c.len-end.ensures) ∙ sym c.loop.invariant
-    ∙ sum_stops c.len-end.result c.loop.counter c.loop.self c.part.new.self (part_of c.in_ok-term.term) (map part_of c.loop.terms.items) c.loop-test.true c.in_ok-term.ensures none
+    ∙ sum_stops c.len-end.result c.loop.counter c.loop.self c.part.new.self (part_of c.in_ok-term.term)
+    (map part_of c.loop.terms.items) c.loop-test.true c.in_ok-term.ensures none
     ∙ ap (λ ps. Some (ps, c.part.new.self)) (sym read)
 
 pub loop-preserved : goal.loop-preserved
@@ -31,6 +35,7 @@ loop-preserved c =
     let read : map part_of c.push.new.self.items ≡ map part_of c.loop.terms.items ++ part_of c.in_ok-term.term ∷ [] =
     ap (map part_of) c.in_ok-push.ensures.items ∙ map_push c.loop.terms.items c.in_ok-term.term in
     ap (λ ps. behind_parts ps (sum (c.len-end.result - (c.loop.counter + 1)) c.mark.new.self)) read
-    ∙ sym (sum_turn c.len-end.result c.loop.counter c.loop.self c.part.new.self c.mark.new.self (part_of c.in_ok-term.term) (map part_of c.loop.terms.items)
+    ∙ sym (sum_turn c.len-end.result c.loop.counter c.loop.self c.part.new.self c.mark.new.self
+    (part_of c.in_ok-term.term) (map part_of c.loop.terms.items)
     c.loop-test.true c.in_ok-term.ensures c.in_ok-mark.ensures)
     ∙ c.loop.invariant
