@@ -1,14 +1,14 @@
 -- The other paths under `out/`, and the reports of each build.
-use Rattle.std.proofs.Common.{◌≡◌, ℕ, Bool, true, false, not, cond, List, [], ◌∷◌, refl, sym, ap, ◌∙◌, subst}
+use Rattle.std.proofs.Common.{◌≡◌, ℕ, Bool, true, false, not, cond, List, [], ◌∷◌, refl, ap, ◌∙◌}
 use Rattle.std.specs.Prelude.{◌&&◌, Option, None, Some, IfSome, codes, string_bytes}
 use Rattle.std.specs.List.{filter}
 use Rattle.pie_base.specs.declared.fault.FaultKind.{FaultKind}
 use Rattle.pie_base.specs.declared.status.Status.TheVariants.{Ok, Refused, Pipeline}
 use Rattle.pie_base.specs.Path.{is_out, same_text}
 use Rattle.pie_files.specs.Directory.{Directory, with_file, files_under, paths_of}
-use Rattle.pie_fresh.specs.Build.{Build, no_pipeline, not_yet, refused, accepted}
+use Rattle.pie_fresh.specs.Build.{no_pipeline, not_yet, refused, accepted}
 use Rattle.pie_cli.specs.declared.rebuild.Report.{Report}
-use Rattle.pie_cli.specs.Left.{IsLeft, other_paths, removed_by, without_files, AllOut}
+use Rattle.pie_cli.specs.Left.{other_paths, removed_by, without_files, AllOut}
 use Rattle.pie_cli.specs.Rebuilt.{Reports}
 use Rattle.pie_cli.specs.Report as model
 use Rattle.pie_cli.proofs.Built.{built}

@@ -1,5 +1,5 @@
 -- What a status says.
-use Rattle.std.proofs.Common.{◌≡◌, true, false, refl}
+use Rattle.std.proofs.Common.{◌≡◌, true, refl}
 use Rattle.std.proofs.lemmas.Bool.{false≢true}
 use Rattle.pie_base.specs.declared.status.Status.{Status}
 use Rattle.pie_base.specs.declared.status.Status.TheVariants.{Ok, Refused, Usage, BadInput, Pipeline, Files, Input, Output, Memory}

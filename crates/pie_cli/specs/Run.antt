@@ -1,13 +1,13 @@
 -- What a run of the program says.
-use Rattle.std.specs.Prelude.{◌≡◌, ◌⊎◌, ℕ, Bool, true, false, List, [], ◌∷◌, ◌++◌, take, Option, None, Some, IfSome, codes, map, String, string_bytes, cond}
+use Rattle.std.specs.Prelude.{◌≡◌, ◌⊎◌, ℕ, Bool, true, false, List, [], ◌∷◌, ◌++◌, take, Option, Some, IfSome, codes, map, String, string_bytes}
 use Rattle.std.specs.declared.alloc.Global.{Global}
 use Rattle.pie_base.specs.Path.{same_text}
 use Rattle.pie_base.specs.declared.status.Status.{Status}
 use Rattle.pie_base.specs.declared.status.Status.TheVariants as status
 use Rattle.pie_files.specs.Directory.{Directory}
-use Rattle.pie_fresh.specs.Build.{Build, build_of}
+use Rattle.pie_fresh.specs.Build.{build_of}
 use Rattle.pie_cli.specs.Left.{IsLeft}
-use Rattle.pie_cli.specs.Report.{report_of, status_of, usage_text, files_fault_text}
+use Rattle.pie_cli.specs.Report.{report_of, status_of, files_fault_text}
 
 -- the words are the one word `fresh`
 abbrev pub is_fresh : List (List ℕ) → Bool

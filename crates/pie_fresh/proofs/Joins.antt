@@ -1,13 +1,11 @@
 -- One turn of the loop that joins the parts.
-use Rattle.std.proofs.Common.{◌≡◌, ℕ, ◌+◌, ◌<◌, Bool, true, false, cond, List, [], ◌∷◌, ◌++◌, length, drop, refl, sym, ap, ◌∙◌, arith, length-append}
-use Rattle.std.specs.Prelude.{Option, Some, None, IfSome, map, nat_lt}
-use Rattle.std.proofs.lemmas.List.{drop_more}
-use Rattle.pie_base.specs.declared.fault.FaultKind.{FaultKind}
+use Rattle.std.proofs.Common.{◌≡◌, ℕ, ◌+◌, ◌<◌, Bool, true, false, cond, List, [], ◌∷◌, ◌++◌, length, drop, refl, sym, ap, ◌∙◌, length-append}
+use Rattle.std.specs.Prelude.{Option, IfSome, map, nat_lt}
 use Rattle.pie_base.specs.declared.fault.FaultKind.TheVariants.{Big}
 use Rattle.pie_files.specs.Directory.{Directory}
 use Rattle.pie_fresh.specs.declared.reader.Term.{Term}
 use Rattle.pie_fresh.specs.Tiny.{Part, part_of}
-use Rattle.pie_fresh.specs.Build.{Made, text, fault, is_big, part_in, joined_in, with_text, sized}
+use Rattle.pie_fresh.specs.Build.{Made, text, fault, part_in, joined_in, with_text, sized}
 
 -- the files are as before, and what is left joins to what all the parts join to
 pub record Joining {S : Type 0} (holds : S → Option Directory) (faults : S → ℕ) (old new : S) (sum : List ℕ) (rest parts : List Part) : Type 0 where

@@ -1,6 +1,6 @@
 -- A text is a path exactly where it isn't refused as one.
-use Rattle.std.proofs.Common.{◌≡◌, ℕ, Bool, true, false, not, cond, List, length, refl, sym, ap, ◌∙◌, ◌==◌, nat_lt}
-use Rattle.std.specs.Prelude.{◌&&◌, Option, None, Some, Result, Ok, Err}
+use Rattle.std.proofs.Common.{◌≡◌, ℕ, Bool, true, false, not, cond, List, length, refl, ◌==◌, nat_lt}
+use Rattle.std.specs.Prelude.{◌&&◌, None, Some}
 use Rattle.std.specs.List.{list_all}
 use Rattle.std.specs.Str.{is_utf8}
 use Rattle.std.proofs.lemmas.Bool.{and_from, and_right}

@@ -1,5 +1,5 @@
 -- A clean build: what the files of a directory make of it.
-use Rattle.std.specs.Prelude.{ℕ, ◌+◌, Bool, true, false, cond, nat_lt, List, [], ◌∷◌, ◌++◌, length, codes, Option, None, Some}
+use Rattle.std.specs.Prelude.{ℕ, ◌+◌, Bool, false, cond, nat_lt, List, [], ◌∷◌, ◌++◌, length, codes, Option, None, Some}
 use Rattle.std.specs.Option.{option_map, option_map_or}
 use Rattle.std.specs.Str.{is_utf8}
 use Rattle.pie_base.specs.declared.fault.FaultKind.{FaultKind}

@@ -1,5 +1,5 @@
 -- What the parts of the reader answer.
-use Rattle.std.specs.Prelude.{◌≡◌, List, ℕ, true, false, Option, None, Some, Result, Ok, Err}
+use Rattle.std.specs.Prelude.{◌≡◌, List, ℕ, true, false, None, Some, Result, Ok, Err}
 use Rattle.pie_fresh.specs.declared.reader.Literal.{Literal}
 use Rattle.pie_fresh.specs.declared.reader.Stop.{Stop}
 use Rattle.pie_fresh.specs.declared.reader.Stop.TheVariants.{NotYet, OutOfMemory}

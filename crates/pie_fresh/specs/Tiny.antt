@@ -1,5 +1,5 @@
 -- The first language: one function that joins texts and files, and writes what it has.
-use Rattle.std.specs.Prelude.{ℕ, suc, zero, Bool, true, false, not, ◌&&◌, ◌||◌, cond, nat_lt, ◌==◌, List, [], ◌∷◌, ◌++◌, map, length, codes, Option, None, Some, is_none}
+use Rattle.std.specs.Prelude.{ℕ, suc, zero, Bool, false, not, ◌&&◌, ◌||◌, cond, nat_lt, ◌==◌, List, [], ◌∷◌, map, length, codes, Option, None, Some, is_none}
 use Rattle.std.specs.Option.{option_map}
 use Rattle.std.specs.Str.{is_utf8}
 use Rattle.pie_base.specs.Path.{is_path, is_out, is_source, same_text}

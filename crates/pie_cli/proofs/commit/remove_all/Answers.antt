@@ -3,7 +3,7 @@ use Rattle.std.specs.Prelude.{IfSome, Some}
 use Rattle.std.proofs.lemmas.List.{drop_more}
 use Rattle.pie_files.specs.Directory.{Directory}
 use Rattle.pie_cli.specs.Left.{AllOut, without_files}
-use Rattle.pie_cli.proofs.Outside.{Removing, starts, keeps_both, removed_more}
+use Rattle.pie_cli.proofs.Outside.{starts, keeps_both, removed_more}
 use Rattle.pie_cli.proofs.commit.remove_all.Goals as goal
 
 pub loop-path-init : goal.loop-path-init

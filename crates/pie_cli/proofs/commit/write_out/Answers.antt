@@ -1,5 +1,3 @@
-use Rattle.std.proofs.Common.{◌≡◌, ℕ}
-use Rattle.std.specs.Prelude.{IfSome, OnOk, Some}
 use Rattle.std.proofs.lemmas.Result.{on_ok_weaker}
 use Rattle.pie_cli.proofs.Outside.{write_keeps}
 use Rattle.pie_cli.proofs.commit.write_out.Goals as goal

@@ -1,9 +1,8 @@
-use Rattle.std.proofs.Common.{◌≡◌, ℕ, refl, sym, ap, ◌∙◌, subst, List}
+use Rattle.std.proofs.Common.{◌≡◌, ℕ, refl, ap, ◌∙◌, subst, List}
 use Rattle.std.specs.Prelude.{IfSome, Some, codes}
 use Rattle.pie_files.specs.Directory.{Directory, files_under, with_file}
 use Rattle.pie_cli.specs.Left.{other_paths, without_files}
 use Rattle.pie_cli.specs.Report.{accepted_text}
-use Rattle.pie_fresh.proofs.Told.{told}
 use Rattle.pie_cli.proofs.Others.{reports_accepted}
 use Rattle.pie_cli.proofs.rebuild.accept.Goals as goal
 

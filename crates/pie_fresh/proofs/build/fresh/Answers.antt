@@ -1,10 +1,10 @@
 use Rattle.std.proofs.Common.{◌≡◌, ap, ◌∙◌, sym, subst}
-use Rattle.std.specs.Prelude.{codes, Option, None, Some, IfSome, IfOk}
+use Rattle.std.specs.Prelude.{codes, Some, IfSome, IfOk}
 use Rattle.std.specs.Option.{option_map}
 use Rattle.std.proofs.lemmas.Result.{IfOk-weaker}
 use Rattle.pie_files.specs.Directory.{Directory}
 use Rattle.pie_fresh.specs.Tiny.{tiny_of}
-use Rattle.pie_fresh.specs.Build.{Build, plain_build, no_pipeline, by_pipeline, by_program, build_of, file_bytes}
+use Rattle.pie_fresh.specs.Build.{plain_build, no_pipeline, by_pipeline, by_program, build_of, file_bytes}
 use Rattle.pie_fresh.proofs.Told.{told, told_both}
 use Rattle.pie_fresh.proofs.build.fresh.Goals as goal
 

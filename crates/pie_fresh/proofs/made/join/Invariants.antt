@@ -1,6 +1,5 @@
-use Rattle.std.proofs.Common.{◌≡◌, [], drop}
-use Rattle.std.specs.Prelude.{map, IfSome}
-use Rattle.pie_fresh.specs.Build.{joined_in}
+use Rattle.std.proofs.Common.{drop}
+use Rattle.std.specs.Prelude.{map}
 use Rattle.pie_fresh.specs.Tiny.{part_of}
 use Rattle.pie_fresh.proofs.Joins.{Joining}
 use Rattle.pie_fresh.proofs.made.join.Given as goal

@@ -1,9 +1,9 @@
-use Rattle.std.proofs.Common.{rules, ◌≡◌, ℕ, ◌+◌, ◌-◌, ◌++◌, [], ◌∷◌, sym, ap, ◌∙◌, subst}
+use Rattle.std.proofs.Common.{◌≡◌, ◌+◌, ◌-◌, ◌++◌, [], ◌∷◌, sym, ap, ◌∙◌}
 use Rattle.std.specs.Prelude.{Some, None, map, length, codes}
 use Rattle.std.proofs.Common.{Vec, Global}
 use Rattle.pie_fresh.specs.declared.reader.Term.{Term}
 use Rattle.std.proofs.lemmas.Result.{err_from_is_err_and}
-use Rattle.pie_fresh.specs.Tiny.{Part, part_of, sum, part, mark}
+use Rattle.pie_fresh.specs.Tiny.{part_of, sum, part, mark}
 use Rattle.pie_fresh.proofs.Sums.{behind_parts, sum_turn, sum_stops, sum_fails, map_push, no_mark, refuses}
 use Rattle.pie_fresh.proofs.reader.Reader.sum.Goals as goal
 
