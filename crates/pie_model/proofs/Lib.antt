@@ -16,3 +16,4 @@ pub mod StepsLemmas
 pub mod PlacedLemmas
 pub mod StackLemmas
 mod Examples
+pub mod RankLemmas

@@ -23,3 +23,4 @@ pub mod Verdict
 pub mod Built
 pub mod Changes
 pub mod Reasons
+pub mod Ranks

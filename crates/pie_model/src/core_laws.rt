@@ -1,6 +1,7 @@
 //! A core that takes, starts and finishes tasks: its records stay consistent, and settled tasks are right.
 
 ghost use Rattle.pie_model.specs.CoreLaws.{SettledTasksAreRight, OldRecordsBegin, TakesKeepConsistent, StartsKeepConsistent, FinishesKeepConsistent, FinishesKeepSettled, StampsByRecordsAreRight, TakesKeepSettled};
+ghost use Rattle.pie_model.specs.Ranks.{RecordsHaveRanks};
 
 /// The settled law: a recorded task that reaches no busy task has the record of its evaluation.
 pub fn settled_tasks_are_right()
@@ -32,4 +33,9 @@ pub fn finishes_keep_consistent()
 /// Over right records a stamp by records is the stamp by evaluation.
 pub fn stamps_by_records_are_right()
     ensures { StampsByRecordsAreRight }
+{}
+
+/// Records whose requires have no cycle have ranks, which the other laws ask for.
+pub fn records_without_a_cycle_have_ranks()
+    ensures { RecordsHaveRanks }
 {}
