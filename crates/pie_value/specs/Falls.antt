@@ -28,8 +28,8 @@ most_le_weight (v ∷ vs) = omega (arith, deep_le_mass v, most_le_weight vs)
 max_zero_le : (n m : ℕ) → n ≤ m → max n 0 ≤ m
 max_zero_le n m h = omega arith
 
--- what stands behind the pointer is deeper than nothing, and no deeper than the items weigh
+-- what stands behind the pointer is no deeper than the items weigh
 pub inside_le_weight : (a : Inside) → deep-Items a ≤ weight (behind (λ rc. trees_of rc.value.items) a.values)
 inside_le_weight a =
-    elim a.values as (λ o. deep-Items (record { values = o }) ≤ weight (behind (λ rc. trees_of rc.value.items) o))
+    elim a.values as (λ o. deep-Items (record a { values = o }) ≤ weight (behind (λ rc. trees_of rc.value.items) o))
     [ None ↦ omega arith | Some rc ↦ max_zero_le _ _ (max_zero_le _ _ (most_le_weight rc.value.items)) ]

@@ -2,5 +2,10 @@ pub mod Tree
 pub mod Codes
 pub mod Shared
 pub mod Held
+pub mod Size
 pub mod Values
 pub mod Falls
+pub mod Types
+pub mod TypeCodes
+pub mod TypeTrees
+pub mod TypeFalls

@@ -2,7 +2,9 @@
 #![tactic(auto)]
 
 mod blob;
+mod ty;
 mod value;
 
 pub use blob::Blob;
-pub use value::{Items, Value};
+pub use ty::{Part, Parts, Ty};
+pub use value::{Items, Value, depth, size};
