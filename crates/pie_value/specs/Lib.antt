@@ -5,6 +5,7 @@ pub mod Held
 pub mod Size
 pub mod Values
 pub mod Falls
+pub mod TaskCodes
 pub mod Types
 pub mod TypeCodes
 pub mod TypeTrees

@@ -2,9 +2,20 @@
 #![tactic(auto)]
 
 mod blob;
+mod builtin;
+mod event;
+mod same;
+mod stamp;
+mod task;
 mod ty;
 mod value;
+mod verdict;
 
 pub use blob::Blob;
+pub use builtin::Builtin;
+pub use event::{Answer, By, Event, How};
+pub use stamp::Stamp;
+pub use task::Task;
 pub use ty::{Part, Parts, Ty};
 pub use value::{Items, Value, depth, size};
+pub use verdict::{Fault, Refusal, Tasks, Verdict};
