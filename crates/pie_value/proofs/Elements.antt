@@ -1,8 +1,9 @@
 -- Trees tell values apart, and an item weighs less than the items.
-use Rattle.std.proofs.Common.{◌≡◌, ℕ, zero, suc, ◌+◌, ◌<◌, ◌≤◌, List, [], ◌∷◌, length, get_or, refl, ap, sym, ◌∙◌, arith}
+use Rattle.std.proofs.Common.{◌≡◌, ℕ, zero, suc, ◌+◌, ◌<◌, ◌≤◌, List, [], ◌∷◌, length, get_or, drop, refl, ap, sym, ◌∙◌, arith}
+use Rattle.std.proofs.lemmas.List.{drop_more}
 use Rattle.pie_value.specs.declared.value.Value.{Value}
 use Rattle.pie_value.specs.declared.value.Value.TheVariants.{Unit as VUnit, Bool as VBool, Int as VInt, Text as VText, Path as VPath, List as VList, Tuple as VTuple, Null as VNull, Bytes as VBytes}
-use Rattle.pie_value.specs.Tree.{Tree, Trees, items_of, list_of, mass, weight}
+use Rattle.pie_value.specs.Tree.{Tree, Trees, items_of, list_of, count_of, mass, weight}
 use Rattle.pie_value.specs.Values.{tree_of, trees_of}
 
 -- the list of the items of a list is that list
@@ -44,3 +45,16 @@ pub trees_decided : (ts us : List Tree) (xs ys : List Value) {P : Type 0} → tr
     → (P → xs ≡ ys) × (xs ≡ ys → P) → (P → ts ≡ us) × (ts ≡ us → P)
 trees_decided ts us xs ys ex ey e =
     (λ p. sym ex ∙ ap trees_of (e.0 p) ∙ ey, λ q. e.1 (trees_inj xs ys (ex ∙ q ∙ sym ey)))
+
+pub count_of_items : (ts : List Tree) → count_of (items_of ts) ≡ length ts
+count_of_items [] = refl
+count_of_items (t ∷ ts) = omega (arith, count_of_items ts)
+
+-- what is left of some values from a place on: the value there, and the rest
+pub trees_left : (vs : List Value) (i : ℕ) (v : Value) → i < length vs → v ≡ get_or vs i v
+    → trees_of (drop i vs) ≡ tree_of v ∷ trees_of (drop (i + 1) vs)
+trees_left vs i v h e = ap trees_of (drop_more vs i v h) ∙ ap (λ (w : Value). tree_of w ∷ trees_of (drop (i + 1) vs)) (sym e)
+
+pub count_of_trees : (vs : List Value) → count_of (items_of (trees_of vs)) ≡ length vs
+count_of_trees [] = refl
+count_of_trees (v ∷ vs) = omega (arith, count_of_trees vs)

@@ -3,6 +3,7 @@ pub mod Codes
 pub mod Shared
 pub mod Held
 pub mod Size
+pub mod Canonical
 pub mod Values
 pub mod Falls
 pub mod TaskCodes

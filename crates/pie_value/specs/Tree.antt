@@ -42,8 +42,8 @@ abbrev mutual
   mass (TInt n) = 1
   mass (TText bs) = 1
   mass (TPath bs) = 1
-  mass (TList ts) = masses ts + 2
-  mass (TTuple ts) = masses ts + 2
+  mass (TList ts) = masses ts + 4
+  mass (TTuple ts) = masses ts + 4
   mass TNull = 1
   mass (TBytes bs) = 1
 

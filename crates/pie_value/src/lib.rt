@@ -10,6 +10,7 @@ mod task;
 mod ty;
 mod value;
 mod verdict;
+mod writer;
 
 pub use blob::Blob;
 pub use builtin::Builtin;
@@ -19,3 +20,4 @@ pub use task::Task;
 pub use ty::{Part, Parts, Ty};
 pub use value::{Items, Value, depth, size};
 pub use verdict::{Fault, Refusal, Tasks, Verdict};
+pub use writer::{encode, encode_task};

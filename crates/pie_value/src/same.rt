@@ -13,8 +13,14 @@ impl Value {
             (Value::Unit, Value::Unit) => true,
             (Value::Bool(a), Value::Bool(b)) => *a == *b,
             (Value::Int(a), Value::Int(b)) => *a == *b,
-            (Value::Text(a), Value::Text(b)) => same_bytes(a.as_str().as_bytes(), b.as_str().as_bytes()),
-            (Value::Path(a), Value::Path(b)) => same_bytes(a.as_str().as_bytes(), b.as_str().as_bytes()),
+            (Value::Text(a), Value::Text(b)) => same_bytes(
+                a.as_str().as_bytes(),
+                b.as_str().as_bytes(),
+            ),
+            (Value::Path(a), Value::Path(b)) => same_bytes(
+                a.as_str().as_bytes(),
+                b.as_str().as_bytes(),
+            ),
             (Value::List(a), Value::List(b)) => same_values(a.as_slice(), b.as_slice()),
             (Value::Tuple(a), Value::Tuple(b)) => same_values(a.as_slice(), b.as_slice()),
             (Value::Null, Value::Null) => true,

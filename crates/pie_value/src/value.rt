@@ -189,7 +189,11 @@ fn slice_of(values: &Option<Rc<Vec<Value>>>) -> &[Value]
 }
 
 // Appends a value to contents of one owner in place, and to shared ones in a list of their own.
-fn append(shared: &mut Option<Rc<Vec<Value>>>, alloc: Global, value: Value) -> Result<(), OutOfMemory>
+fn append(
+    shared: &mut Option<Rc<Vec<Value>>>,
+    alloc: Global,
+    value: Value,
+) -> Result<(), OutOfMemory>
     ensures pushed { OnOk result (behind (λ rc. trees_of rc.value.items) shared.new ≡ behind (λ rc. trees_of rc.value.items) shared.old ++ tree_of value ∷ []) }
     ensures unchanged { OnErr result (behind (λ rc. trees_of rc.value.items) shared.new ≡ behind (λ rc. trees_of rc.value.items) shared.old) }
 {

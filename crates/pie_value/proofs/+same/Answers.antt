@@ -8,7 +8,7 @@ use Rattle.pie_value.proofs.+same.Goals as goal
 pub same::same_values-same-requires : goal.same::same_values-same-requires
 same::same_values-same-requires t c =
     let h : mass (tree_of c.index-a-i.result) < weight (trees_of c.args.a.now) =
-        omega (arith, mass_at c.args.a.now c.loop-i.i c.index-a-i.result (omega arith), ap (λ (v : Value). mass (tree_of v)) c.index-a-i.is) in
+    omega (arith, mass_at c.args.a.now c.loop-i.i c.index-a-i.result (omega arith), ap (λ (v : Value). mass (tree_of v)) c.index-a-i.is) in
     (omega arith, tt)
 
 pub value::Value::same-returns-in-List-List : goal.value::Value::same-returns-in-List-List
