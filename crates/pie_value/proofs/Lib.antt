@@ -1,3 +1,9 @@
 pub mod SizeLemmas
 pub mod Elements
 pub mod Writing
+pub mod TextTests
+pub mod Taking
+pub mod Turns
+pub mod ReadBack
+pub mod WriteBack
+pub mod Decoded

@@ -1,6 +1,6 @@
 -- Size and depth of a list that grows by a value.
-use Rattle.std.proofs.Common.{◌≡◌, ℕ, ◌+◌, ◌-◌, ◌^◌, ◌≤◌, min, max, List, [], ◌∷◌, ◌++◌, refl, ap, sym, arith}
-use Rattle.pie_value.specs.Tree.{Tree, Trees, items_of}
+use Rattle.std.proofs.Common.{◌≡◌, ℕ, ◌+◌, ◌-◌, ◌^◌, min, max, List, [], ◌∷◌, ◌++◌, arith}
+use Rattle.pie_value.specs.Tree.{Tree, items_of}
 use Rattle.pie_value.specs.Size.{size_of, sizes_of, depth_of, deepest_of, capped_64, capped_32, Measures}
 
 pub sizes_of_append : (ts : List Tree) (t : Tree) → sizes_of (items_of (ts ++ t ∷ [])) ≡ sizes_of (items_of ts) + size_of t

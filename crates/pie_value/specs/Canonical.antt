@@ -1,5 +1,5 @@
 -- The canonical bytes of values and tasks: a tag, and then what the value holds.
-use Rattle.std.specs.Prelude.{◌≡◌, ℕ, ◌+◌, ◌≤◌, ◌<◌, ◌^◌, Bool, true, List, [], ◌∷◌, ◌++◌, length, cond, IsTrue, FitsSigned}
+use Rattle.std.specs.Prelude.{◌≡◌, ℕ, ◌≤◌, ◌<◌, ◌^◌, List, [], ◌∷◌, ◌++◌, length, cond, IsTrue, FitsSigned}
 use Rattle.std.specs.Int.{w32, w64, to_be_bytes, cast_unsigned}
 use Rattle.std.specs.Str.{IsUtf8}
 use Rattle.pie_base.specs.Path.{is_path}
@@ -88,3 +88,16 @@ pub record IsEncodableTask (t : Task) : Type 0 where
   pub few : length t.args < 2 ^ 32
   pub shallow : deepest_of (items_of t.args) ≤ 64
   pub short : HaveShortParts (items_of t.args)
+
+-- these bytes are the canonical bytes of this value
+pub record IsCanonical (t : Tree) (bs : List ℕ) : Type 0 where
+  pub encodable : IsEncodable t
+  pub leaves : HasTrueLeaves t
+  pub bytes : bs ≡ enc t
+
+-- these bytes are the canonical bytes of this task
+pub record IsCanonicalTask (t : Task) (bs : List ℕ) : Type 0 where
+  pub encodable : IsEncodableTask t
+  pub name : IsUtf8 t.func
+  pub leaves : HaveTrueLeaves (items_of t.args)
+  pub bytes : bs ≡ enc_task t

@@ -4,6 +4,7 @@ pub mod Shared
 pub mod Held
 pub mod Size
 pub mod Canonical
+pub mod Reading
 pub mod Values
 pub mod Falls
 pub mod TaskCodes

@@ -1,6 +1,5 @@
 -- A type weighs more than its parts.
-use Rattle.std.proofs.Common.{ℕ, ◌+◌, ◌≤◌, max, List, [], ◌∷◌, arith}
-use Rattle.std.specs.Prelude.{Option, Some, None}
+use Rattle.std.proofs.Common.{ℕ, ◌≤◌, max, List, [], ◌∷◌, arith}
 use denote.Param.Weighed.{most}
 use Rattle.pie_value.specs.declared.ty.Ty.{Ty}
 use Rattle.pie_value.specs.declared.ty.Ty.TheVariants.{Unit as VUnit, Bool as VBool, Int as VInt, Text as VText, Path as VPath, List as VList, Tuple as VTuple, Nullable as VNullable, Bytes as VBytes}
@@ -8,7 +7,6 @@ use Rattle.pie_value.specs.declared.ty.Part.TheInside as part
 use Rattle.pie_value.specs.declared.ty.Parts.TheInside as parts
 use Rattle.pie_value.specs.declared.ty.Part.TheDeep.{deep-Ty, deep-Part, deep-Parts}
 use Rattle.pie_value.specs.Types.{ty_mass, part_weight, parts_weight}
-use Rattle.pie_value.specs.Shared.{behind}
 use Rattle.pie_value.specs.TypeTrees.{ty_tree, ty_trees}
 
 deep_le_mass : (t : Ty) → deep-Ty t ≤ ty_mass (ty_tree t)

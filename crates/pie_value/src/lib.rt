@@ -4,6 +4,7 @@
 mod blob;
 mod builtin;
 mod event;
+mod reader;
 mod same;
 mod stamp;
 mod task;
@@ -15,6 +16,7 @@ mod writer;
 pub use blob::Blob;
 pub use builtin::Builtin;
 pub use event::{Answer, By, Event, How};
+pub use reader::{ValueFault, decode, decode_front, decode_task_front};
 pub use stamp::Stamp;
 pub use task::Task;
 pub use ty::{Part, Parts, Ty};

@@ -4,16 +4,20 @@
 ghost use Rattle.std.specs.Prelude.{◌≡◌, ℕ, ◌+◌, ◌<◌, ◌^◌, List, [], ◌∷◌, ◌++◌, length, IfOk, OnOk};
 ghost use Rattle.pie_value.specs.Tree.{items_of};
 ghost use Rattle.pie_value.specs.Values.{tree_of, trees_of};
-ghost use Rattle.pie_value.specs.Canonical.{be32, counted, enc, encs, enc_items, enc_task, HasShortParts, HaveShortParts, HasTrueLeaves, HaveTrueLeaves, IsEncodable, IsEncodableTask};
+ghost use Rattle.pie_value.specs.Canonical.{be32, counted, enc, encs, enc_items, enc_task, HasShortParts, HaveShortParts, HasTrueLeaves, HaveTrueLeaves, IsEncodable, IsEncodableTask, IsCanonical, IsCanonicalTask};
+ghost use Rattle.pie_value.specs.Reading.{value_whole, task_front};
 
 use crate::{Items, Task, Value};
 use pie_base::OutOfMemory;
 use std::alloc::Global;
 
 /// The canonical bytes of a value.
+#[tactic(auto, using(crate::proofs::Decoded::whole_again))]
 pub fn encode(alloc: Global, value: &Value) -> Result<Vec<u8>, OutOfMemory>
     requires { IsEncodable (tree_of value.now) }
-    ensures { IfOk result (λ bytes. bytes.items ≡ enc (tree_of value.now)) }
+    ensures bytes { IfOk result (λ bytes. bytes.items ≡ enc (tree_of value.now)) }
+    ensures canonical { IfOk result (λ bytes. IsCanonical (tree_of value.now) bytes.items) }
+    ensures read_back { IfOk result (λ bytes. value_whole bytes.items ≡ Ok (tree_of value.now, [])) }
 {
     let mut out = Vec::new(alloc);
     put(&mut out, value)?;
@@ -21,9 +25,12 @@ pub fn encode(alloc: Global, value: &Value) -> Result<Vec<u8>, OutOfMemory>
 }
 
 /// The canonical bytes of a task.
+#[tactic(auto, using(crate::proofs::Decoded::task_whole_again))]
 pub fn encode_task(alloc: Global, task: &Task) -> Result<Vec<u8>, OutOfMemory>
     requires { IsEncodableTask task.now }
-    ensures { IfOk result (λ bytes. bytes.items ≡ enc_task task.now) }
+    ensures bytes { IfOk result (λ bytes. bytes.items ≡ enc_task task.now) }
+    ensures canonical { IfOk result (λ bytes. IsCanonicalTask task.now bytes.items) }
+    ensures read_back { IfOk result (λ bytes. task_front bytes.items ≡ Ok (task.now, [])) }
 {
     let mut out = Vec::new(alloc);
     put_counted(&mut out, task.func.as_str().as_bytes())?;

@@ -1,4 +1,4 @@
-use Rattle.std.proofs.Common.{◌≡◌, ◌++◌, ◌+◌, drop, take}
+use Rattle.std.proofs.Common.{◌≡◌, ◌++◌, ◌+◌, drop}
 use Rattle.pie_value.specs.Tree.{mass, weight, items_of}
 use Rattle.pie_value.specs.Values.{tree_of, trees_of}
 use Rattle.pie_value.specs.Canonical.{encs, HaveShortParts, HaveTrueLeaves}

@@ -1,0 +1,365 @@
+//! Reading canonical bytes. Rule: docs/FORMATS.md, "Values". Bytes are read once from the left, so the first
+//! fault met is the one at the least place.
+ghost use Rattle.std.specs.Prelude.{◌≡◌, ℕ, ◌-◌, ◌==◌, [], length, take, IfOk, MatchOption, true, false};
+ghost use Rattle.std.specs.Str.{is_utf8};
+ghost use Rattle.pie_value.specs.Tree.{Tree};
+ghost use Rattle.pie_value.specs.Values.{tree_of};
+ghost use Rattle.pie_value.specs.Canonical.{IsCanonical, IsCanonicalTask};
+ghost use Rattle.pie_value.specs.Reading.{Agrees, AgreesInFront, Refuses, byte_of, bytes_of, number_of, int_of, counted_of, tested_of, is_path_text, tag_at, tag_of, flag_of, tagged, items_front, value_within, value_front, value_whole, task_front};
+
+use crate::{Blob, Items, Task, Value};
+use pie_base::{MAX_DEPTH, OutOfMemory, Path, PathError, Text};
+use std::alloc::{AllocError, AllocFailed, Global};
+use std::marker::Model;
+
+/// Why bytes are no canonical bytes. The fault at the least place is answered; at one place the first of these.
+#[derive(Clone, Copy, Debug, PartialEq, Eq)]
+pub enum ValueFault {
+    /// The bytes end where more are needed.
+    Short,
+    /// No kind of value has this tag, or a truth value has another byte than 0 and 1.
+    BadTag,
+    /// A text that isn't UTF-8, or a path that is none, with all its bytes there.
+    BadText,
+    /// There are bytes after the value.
+    Rest,
+    /// At the tag of a value inside 64 others.
+    TooDeep,
+    OutOfMemory,
+}
+
+impl From<AllocError> for ValueFault {
+    ghost use Rattle.pie_value.specs.declared.reader.ValueFault.TheVariants.{OutOfMemory};
+
+    ghost from_gives = { λ _ e. e ≡ OutOfMemory };
+
+    fn from(_: AllocError) -> Self {
+        ValueFault::OutOfMemory
+    }
+}
+
+impl<T: Drop> From<AllocFailed<T>> for ValueFault {
+    ghost use Rattle.pie_value.specs.declared.reader.ValueFault.TheVariants.{OutOfMemory};
+
+    ghost from_gives = { λ _ e. e ≡ OutOfMemory };
+
+    fn from(_: AllocFailed<T>) -> Self {
+        ValueFault::OutOfMemory
+    }
+}
+
+impl From<OutOfMemory> for ValueFault {
+    ghost use Rattle.pie_value.specs.declared.reader.ValueFault.TheVariants.{OutOfMemory};
+
+    ghost from_gives = { λ _ e. e ≡ OutOfMemory };
+
+    fn from(_: OutOfMemory) -> Self {
+        ValueFault::OutOfMemory
+    }
+}
+
+/// The value whose canonical bytes these are.
+pub fn decode(alloc: Global, bytes: &[u8]) -> Result<Value, ValueFault>
+    ensures answer { Agrees tree_of result [] (value_whole bytes.now) }
+    ensures canonical { IfOk result (λ value. IsCanonical (tree_of value) bytes.now) }
+    ensures refused { Refuses result → (t : Tree) → ¬ (IsCanonical t bytes.now) }
+{
+    Reader::whole(alloc, bytes)
+}
+
+/// The value whose canonical bytes stand in front, and how many these are. Bytes after them are no fault.
+pub fn decode_front(alloc: Global, bytes: &[u8]) -> Result<(Value, usize), ValueFault>
+    ensures answer { AgreesInFront tree_of result bytes.now (value_front bytes.now) }
+    ensures canonical { IfOk result (λ found. IsCanonical (tree_of found.0) (take found.1 bytes.now)) }
+    ensures refused { Refuses result → (t : Tree) (n : ℕ) → ¬ (IsCanonical t (take n bytes.now)) }
+{
+    Reader::value_in_front(alloc, bytes)
+}
+
+/// The task whose canonical bytes stand in front, and how many these are. Bytes after them are no fault.
+pub fn decode_task_front(alloc: Global, bytes: &[u8]) -> Result<(Task, usize), ValueFault>
+    ensures answer { AgreesInFront (λ t. t) result bytes.now (task_front bytes.now) }
+    ensures canonical { IfOk result (λ found. IsCanonicalTask found.0 (take found.1 bytes.now)) }
+    ensures refused { Refuses result → (t : Task) (n : ℕ) → ¬ (IsCanonicalTask t (take n bytes.now)) }
+{
+    Reader::task_in_front(alloc, bytes)
+}
+
+// The kinds of value, in the order of their tags.
+#[derive(Clone, Copy)]
+enum Tag {
+    Unit,
+    Bool,
+    Int,
+    Text,
+    Path,
+    List,
+    Tuple,
+    Null,
+    Bytes,
+}
+
+// Bytes that are still to be read. Contracts see the list of them.
+#[derive(Drop)]
+struct Reader<'a> {
+    rest: &'a [u8],
+}
+
+impl<'a> Model for Reader<'a> {
+    ghost use Rattle.std.specs.Prelude.{List, ℕ};
+
+    ghost Value = { List ℕ };
+
+    ghost view = { λ r. r.rest.now };
+}
+
+impl<'a> Reader<'a> {
+    fn whole(alloc: Global, bytes: &'a [u8]) -> Result<Value, ValueFault>
+        ensures { Agrees tree_of result [] (value_whole bytes.now) }
+    {
+        let mut reader = Reader { rest: bytes };
+        let value = reader.front(alloc)?;
+        if reader.is_done() {
+            Ok(value)
+        } else {
+            Err(ValueFault::Rest)
+        }
+    }
+
+    fn value_in_front(alloc: Global, bytes: &'a [u8]) -> Result<(Value, usize), ValueFault>
+        ensures { AgreesInFront tree_of result bytes.now (value_front bytes.now) }
+    {
+        let mut reader = Reader { rest: bytes };
+        let value = reader.front(alloc)?;
+        let len = reader.taken_of(bytes);
+        Ok((value, len))
+    }
+
+    fn task_in_front(alloc: Global, bytes: &'a [u8]) -> Result<(Task, usize), ValueFault>
+        ensures { AgreesInFront (λ t. t) result bytes.now (task_front bytes.now) }
+    {
+        let mut reader = Reader { rest: bytes };
+        let func = reader.text(alloc)?;
+        let args = reader.front_items(alloc)?;
+        let len = reader.taken_of(bytes);
+        Ok((Task { func, args }, len))
+    }
+
+    fn byte(&mut self) -> Result<u8, ValueFault>
+        ensures { Agrees (λ b. b) result self.new (byte_of self.old) }
+    {
+        let Some((byte, rest)) = self.rest.split_first() else {
+            return Err(ValueFault::Short);
+        };
+        self.rest = rest;
+        Ok(*byte)
+    }
+
+    fn bytes(&mut self, len: usize) -> Result<&'a [u8], ValueFault>
+        ensures { Agrees (λ b. b.now) result self.new (bytes_of len self.old) }
+    {
+        if self.rest.len() < len {
+            return Err(ValueFault::Short);
+        }
+        let (front, rest) = self.rest.split_at(len);
+        self.rest = rest;
+        Ok(front)
+    }
+
+    #[tactic(auto, unfolding(crate::specs::Reading::number_of))]
+    fn number(&mut self) -> Result<usize, ValueFault>
+        ensures { Agrees (λ n. n) result self.new (number_of self.old) }
+    {
+        let Some((digits, rest)) = self.rest.split_first_chunk::<4>() else {
+            return Err(ValueFault::Short);
+        };
+        self.rest = rest;
+        Ok(u32::from_be_bytes(*digits) as usize)
+    }
+
+    #[tactic(auto, unfolding(crate::specs::Reading::int_of))]
+    fn int(&mut self) -> Result<i64, ValueFault>
+        ensures { Agrees (λ n. n) result self.new (int_of self.old) }
+    {
+        let Some((digits, rest)) = self.rest.split_first_chunk::<8>() else {
+            return Err(ValueFault::Short);
+        };
+        self.rest = rest;
+        Ok(i64::from_be_bytes(*digits))
+    }
+
+    fn counted(&mut self) -> Result<&'a [u8], ValueFault>
+        ensures { Agrees (λ b. b.now) result self.new (counted_of self.old) }
+    {
+        let len = self.number()?;
+        self.bytes(len)
+    }
+
+    fn tag(&mut self) -> Result<Tag, ValueFault>
+        ensures { Agrees (λ t. t) result self.new (tag_of self.old) }
+    {
+        let byte = self.byte()?;
+        known_tag(byte).ok_or(ValueFault::BadTag)
+    }
+
+    fn flag(&mut self) -> Result<bool, ValueFault>
+        ensures { Agrees (λ b. b) result self.new (flag_of self.old) }
+    {
+        match self.byte()? {
+            0 => Ok(false),
+            1 => Ok(true),
+            _ => Err(ValueFault::BadTag),
+        }
+    }
+
+    fn text(&mut self, alloc: Global) -> Result<Text, ValueFault>
+        ensures { Agrees (λ t. t) result self.new (tested_of is_utf8 self.old) }
+    {
+        let bytes = self.counted()?;
+        let Some(text) = as_text(bytes) else {
+            return Err(ValueFault::BadText);
+        };
+        let text = Text::new(alloc, text)?;
+        Ok(text)
+    }
+
+    #[tactic(auto, using(crate::proofs::TextTests::path_taken, crate::proofs::TextTests::path_refused))]
+    fn path(&mut self, alloc: Global) -> Result<Path, ValueFault>
+        ensures { Agrees (λ p. p) result self.new (tested_of is_path_text self.old) }
+    {
+        let bytes = self.counted()?;
+        let Some(text) = as_text(bytes) else {
+            return Err(ValueFault::BadText);
+        };
+        match Path::read(alloc, text) {
+            Ok(path) => Ok(path),
+            Err(PathError::OutOfMemory) => Err(ValueFault::OutOfMemory),
+            Err(_) => Err(ValueFault::BadText),
+        }
+    }
+
+    // A value that nests at most so deep.
+    #[cycle(reading)]
+    #[tactic(auto, using(crate::proofs::Turns::value_goes))]
+    fn value(&mut self, alloc: Global, depth: u32) -> Result<Value, ValueFault>
+        ensures { Agrees tree_of result self.new (value_within depth self.old) }
+    {
+        let tag = self.tag()?;
+        if depth == 0 {
+            return Err(ValueFault::TooDeep);
+        }
+        self.tagged(alloc, tag, depth - 1)
+    }
+
+    #[cycle(reading)]
+    fn tagged(&mut self, alloc: Global, tag: Tag, depth: u32) -> Result<Value, ValueFault>
+        ensures { Agrees tree_of result self.new (tagged (value_within depth) tag self.old) }
+    {
+        match tag {
+            Tag::Unit => Ok(Value::Unit),
+            Tag::Bool => {
+                let b = self.flag()?;
+                Ok(Value::Bool(b))
+            }
+            Tag::Int => {
+                let n = self.int()?;
+                Ok(Value::Int(n))
+            }
+            Tag::Text => {
+                let text = self.text(alloc)?;
+                Ok(Value::Text(text))
+            }
+            Tag::Path => {
+                let path = self.path(alloc)?;
+                Ok(Value::Path(path))
+            }
+            Tag::List => {
+                let items = self.items(alloc, depth)?;
+                Ok(Value::List(items))
+            }
+            Tag::Tuple => {
+                let items = self.items(alloc, depth)?;
+                Ok(Value::Tuple(items))
+            }
+            Tag::Null => Ok(Value::Null),
+            Tag::Bytes => {
+                let bytes = self.counted()?;
+                let bytes = Vec::from_slice(alloc, bytes)?;
+                let blob = Blob::shared(alloc, bytes)?;
+                Ok(Value::Bytes(blob))
+            }
+        }
+    }
+
+    // Items that nest at most so deep, behind their number.
+    #[cycle(reading)]
+    #[tactic(auto, using(crate::proofs::Turns::one_more, crate::proofs::Turns::one_fails))]
+    fn items(&mut self, alloc: Global, depth: u32) -> Result<Items, ValueFault>
+        ensures { Agrees (λ ts. ts) result self.new (items_front (value_within depth) self.old) }
+    {
+        let count = self.number()?;
+        let mut items = Items::new();
+        for _ in 0..count {
+            let value = self.value(alloc, depth)?;
+            items.push(alloc, value)?;
+        }
+        Ok(items)
+    }
+
+    #[tactic(auto, unfolding(crate::specs::Reading::value_front))]
+    fn front(&mut self, alloc: Global) -> Result<Value, ValueFault>
+        ensures { Agrees tree_of result self.new (value_front self.old) }
+    {
+        let value = self.value(alloc, MAX_DEPTH)?;
+        Ok(value)
+    }
+
+    #[tactic(auto, unfolding(crate::specs::Reading::value_front))]
+    fn front_items(&mut self, alloc: Global) -> Result<Items, ValueFault>
+        ensures { Agrees (λ ts. ts) result self.new (items_front value_front self.old) }
+    {
+        let items = self.items(alloc, MAX_DEPTH)?;
+        Ok(items)
+    }
+
+    fn is_done(&self) -> bool
+        ensures { result ≡ (length self.now == 0) }
+    {
+        self.rest.is_empty()
+    }
+
+    // How many of these bytes were read.
+    fn taken_of(&self, bytes: &[u8]) -> usize
+        ensures { result ≡ length bytes.now - length self.now }
+    {
+        bytes.len().saturating_sub(self.rest.len())
+    }
+}
+
+fn known_tag(byte: u8) -> Option<Tag>
+    ensures { result ≡ tag_at byte }
+{
+    match byte {
+        0 => Some(Tag::Unit),
+        1 => Some(Tag::Bool),
+        2 => Some(Tag::Int),
+        3 => Some(Tag::Text),
+        4 => Some(Tag::Path),
+        5 => Some(Tag::List),
+        6 => Some(Tag::Tuple),
+        7 => Some(Tag::Null),
+        8 => Some(Tag::Bytes),
+        _ => None,
+    }
+}
+
+// The bytes as a text, where they are UTF-8.
+#[tactic(auto, using(crate::proofs::TextTests::not_utf8, crate::proofs::TextTests::utf8))]
+fn as_text(bytes: &[u8]) -> Option<&str>
+    ensures { MatchOption result (is_utf8 bytes.now ≡ false) (λ text. (text.now ≡ bytes.now) × (is_utf8 bytes.now ≡ true)) }
+{
+    match str::from_utf8(bytes) {
+        Ok(text) => Some(text),
+        Err(_) => None,
+    }
+}
