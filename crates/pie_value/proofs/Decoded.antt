@@ -6,8 +6,8 @@ use Rattle.std.proofs.lemmas.List.{length-append, length-drop, take-append-drop}
 use Rattle.std.proofs.Math.Seq.{take-append_seam, drop-append_seam}
 use Rattle.pie_value.specs.declared.value.Value.{Value}
 use Rattle.pie_value.specs.declared.task.Task.{Task}
-use Rattle.pie_value.specs.declared.reader.ValueFault.{ValueFault}
-use Rattle.pie_value.specs.declared.reader.ValueFault.TheVariants.{Short, BadTag, BadText, Rest, TooDeep, OutOfMemory}
+use Rattle.pie_value.specs.declared.value_fault.ValueFault.{ValueFault}
+use Rattle.pie_value.specs.declared.value_fault.ValueFault.TheVariants.{Short, BadTag, BadText, Rest, TooDeep, OutOfMemory}
 use Rattle.pie_value.specs.Tree.{Tree, items_of, count_of}
 use Rattle.pie_value.specs.Values.{tree_of}
 use Rattle.pie_value.specs.Canonical.{counted, enc, enc_items, enc_task, IsCanonical, IsCanonicalTask}

@@ -7,3 +7,5 @@ pub mod Turns
 pub mod ReadBack
 pub mod WriteBack
 pub mod Decoded
+pub mod Lengths
+pub mod Orders

@@ -3,7 +3,7 @@ use Rattle.std.proofs.Common.{◌≡◌, ℕ, zero, suc, ◌+◌, ◌^◌, ◌<�
 use Rattle.std.specs.Str.{is_utf8}
 use Rattle.std.proofs.lemmas.Str.{IsUtf8-from_is_utf8}
 use Rattle.pie_base.specs.Path.{is_path}
-use Rattle.pie_value.specs.declared.reader.ValueFault.TheVariants.{TooDeep}
+use Rattle.pie_value.specs.declared.value_fault.ValueFault.TheVariants.{TooDeep}
 use Rattle.pie_value.specs.declared.reader.Tag.{Tag}
 use Rattle.pie_value.specs.declared.reader.Tag.TheVariants.{Unit as TagUnit, Bool as TagBool, Int as TagInt, Text as TagText, Path as TagPath, List as TagList, Tuple as TagTuple, Null as TagNull, Bytes as TagBytes}
 use Rattle.pie_value.specs.Tree.{Tree, Trees, TUnit, TBool, TInt, TText, TPath, TList, TTuple, TNull, TBytes, items_of, count_of}

@@ -8,8 +8,8 @@ use Rattle.std.proofs.Math.Seq.{take-append_seam, drop-append_seam}
 use Rattle.std.proofs.lemmas.Nat.{be_bytes_4, be_bytes_8, from_be_bytes-to_be_bytes_4, from_be_bytes-to_be_bytes_8}
 use Rattle.std.proofs.lemmas.Int.{to_z-of_z, of_z-to_z}
 use Rattle.std.proofs.Math.Facts.{sfits_to_z, Fits-of_lt, Fits-of_z, Fits-lt-pow}
-use Rattle.pie_value.specs.declared.reader.ValueFault.{ValueFault}
-use Rattle.pie_value.specs.declared.reader.ValueFault.TheVariants.{Short, BadText}
+use Rattle.pie_value.specs.declared.value_fault.ValueFault.{ValueFault}
+use Rattle.pie_value.specs.declared.value_fault.ValueFault.TheVariants.{Short, BadText}
 use Rattle.pie_value.specs.declared.reader.Tag.{Tag}
 use Rattle.pie_value.specs.declared.reader.Tag.TheVariants.{Unit as TagUnit, Bool as TagBool, Int as TagInt, Text as TagText, Path as TagPath, List as TagList, Tuple as TagTuple, Null as TagNull, Bytes as TagBytes}
 use Rattle.pie_value.specs.Canonical.{be32, counted}

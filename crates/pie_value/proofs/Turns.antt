@@ -1,6 +1,6 @@
 -- Reading values one after another.
 use Rattle.std.proofs.Common.{◌≡◌, ℕ, zero, suc, ◌+◌, ◌-◌, ◌<◌, List, [], ◌∷◌, ◌++◌, Ok, Err, refl, ap, ◌∙◌, arith}
-use Rattle.pie_value.specs.declared.reader.ValueFault.{ValueFault}
+use Rattle.pie_value.specs.declared.value_fault.ValueFault.{ValueFault}
 use Rattle.pie_value.specs.declared.reader.Tag.{Tag}
 use Rattle.pie_value.specs.Tree.{Tree}
 use Rattle.pie_value.specs.Reading.{Parsed, then_on, tag_of, tagged, values_of, value_within}

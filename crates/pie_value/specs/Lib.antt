@@ -5,6 +5,8 @@ pub mod Held
 pub mod Size
 pub mod Canonical
 pub mod Reading
+pub mod Order
+pub mod Limits
 pub mod Values
 pub mod Falls
 pub mod TaskCodes

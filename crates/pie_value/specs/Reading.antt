@@ -4,8 +4,8 @@ use Rattle.std.specs.Int.{w32, w64, from_be_bytes, cast_signed}
 use Rattle.std.specs.Str.{is_utf8}
 use Rattle.pie_base.specs.Path.{is_path}
 use Rattle.pie_value.specs.declared.task.Task.{Task}
-use Rattle.pie_value.specs.declared.reader.ValueFault.{ValueFault}
-use Rattle.pie_value.specs.declared.reader.ValueFault.TheVariants.{Short, BadTag, BadText, Rest, TooDeep, OutOfMemory}
+use Rattle.pie_value.specs.declared.value_fault.ValueFault.{ValueFault}
+use Rattle.pie_value.specs.declared.value_fault.ValueFault.TheVariants.{Short, BadTag, BadText, Rest, TooDeep, OutOfMemory}
 use Rattle.pie_value.specs.declared.reader.Tag.{Tag}
 use Rattle.pie_value.specs.declared.reader.Tag.TheVariants.{Unit as TagUnit, Bool as TagBool, Int as TagInt, Text as TagText, Path as TagPath, List as TagList, Tuple as TagTuple, Null as TagNull, Bytes as TagBytes}
 use Rattle.pie_value.specs.Tree.{Tree, TUnit, TBool, TInt, TText, TPath, TList, TTuple, TNull, TBytes, items_of}

@@ -4,22 +4,26 @@
 mod blob;
 mod builtin;
 mod event;
+mod limits;
+mod order;
 mod reader;
 mod same;
 mod stamp;
 mod task;
 mod ty;
 mod value;
+mod value_fault;
 mod verdict;
 mod writer;
 
 pub use blob::Blob;
 pub use builtin::Builtin;
 pub use event::{Answer, By, Event, How};
-pub use reader::{ValueFault, decode, decode_front, decode_task_front};
+pub use reader::{decode, decode_front, decode_task_front};
 pub use stamp::Stamp;
 pub use task::Task;
 pub use ty::{Part, Parts, Ty};
 pub use value::{Items, Value, depth, size};
+pub use value_fault::ValueFault;
 pub use verdict::{Fault, Refusal, Tasks, Verdict};
 pub use writer::{encode, encode_task};

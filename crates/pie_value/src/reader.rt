@@ -7,56 +7,10 @@ ghost use Rattle.pie_value.specs.Values.{tree_of};
 ghost use Rattle.pie_value.specs.Canonical.{IsCanonical, IsCanonicalTask};
 ghost use Rattle.pie_value.specs.Reading.{Agrees, AgreesInFront, Refuses, byte_of, bytes_of, number_of, int_of, counted_of, tested_of, is_path_text, tag_at, tag_of, flag_of, tagged, items_front, value_within, value_front, value_whole, task_front};
 
-use crate::{Blob, Items, Task, Value};
-use pie_base::{MAX_DEPTH, OutOfMemory, Path, PathError, Text};
-use std::alloc::{AllocError, AllocFailed, Global};
+use crate::{Blob, Items, Task, Value, ValueFault};
+use pie_base::{MAX_DEPTH, Path, PathError, Text};
+use std::alloc::Global;
 use std::marker::Model;
-
-/// Why bytes are no canonical bytes. The fault at the least place is answered; at one place the first of these.
-#[derive(Clone, Copy, Debug, PartialEq, Eq)]
-pub enum ValueFault {
-    /// The bytes end where more are needed.
-    Short,
-    /// No kind of value has this tag, or a truth value has another byte than 0 and 1.
-    BadTag,
-    /// A text that isn't UTF-8, or a path that is none, with all its bytes there.
-    BadText,
-    /// There are bytes after the value.
-    Rest,
-    /// At the tag of a value inside 64 others.
-    TooDeep,
-    OutOfMemory,
-}
-
-impl From<AllocError> for ValueFault {
-    ghost use Rattle.pie_value.specs.declared.reader.ValueFault.TheVariants.{OutOfMemory};
-
-    ghost from_gives = { λ _ e. e ≡ OutOfMemory };
-
-    fn from(_: AllocError) -> Self {
-        ValueFault::OutOfMemory
-    }
-}
-
-impl<T: Drop> From<AllocFailed<T>> for ValueFault {
-    ghost use Rattle.pie_value.specs.declared.reader.ValueFault.TheVariants.{OutOfMemory};
-
-    ghost from_gives = { λ _ e. e ≡ OutOfMemory };
-
-    fn from(_: AllocFailed<T>) -> Self {
-        ValueFault::OutOfMemory
-    }
-}
-
-impl From<OutOfMemory> for ValueFault {
-    ghost use Rattle.pie_value.specs.declared.reader.ValueFault.TheVariants.{OutOfMemory};
-
-    ghost from_gives = { λ _ e. e ≡ OutOfMemory };
-
-    fn from(_: OutOfMemory) -> Self {
-        ValueFault::OutOfMemory
-    }
-}
 
 /// The value whose canonical bytes these are.
 pub fn decode(alloc: Global, bytes: &[u8]) -> Result<Value, ValueFault>

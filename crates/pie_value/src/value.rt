@@ -1,8 +1,9 @@
 //! Values, and the items of lists and tuples.
-ghost use Rattle.std.specs.Prelude.{◌≡◌, ◌+◌, max, [], ◌∷◌, ◌++◌, IfOk, OnOk, OnErr};
+ghost use Rattle.std.specs.Prelude.{◌≡◌, ◌+◌, max, length, [], ◌∷◌, ◌++◌, IfOk, OnOk, OnErr};
 ghost use Rattle.pie_value.specs.Tree.{items_of};
 ghost use Rattle.pie_value.specs.Values.{tree_of, trees_of};
 ghost use Rattle.pie_value.specs.Shared.{behind};
+ghost use Rattle.pie_value.specs.Canonical.{enc};
 ghost use Rattle.pie_value.specs.Size.{size_of, sizes_of, depth_of, deepest_of, capped_64, capped_32};
 
 use crate::Blob;
@@ -109,13 +110,15 @@ impl Items {
         })
     }
 
-    fn bytes(&self) -> u64
+    /// How many canonical bytes the items have together, or the greatest number of 64 bits where there are more.
+    pub fn bytes(&self) -> u64
         ensures { result ≡ capped_64 (sizes_of (items_of self.now)) }
     {
         self.bytes
     }
 
-    fn deepest(&self) -> u32
+    /// The depth of the deepest item, 0 without items, or the greatest number of 32 bits where it is deeper.
+    pub fn deepest(&self) -> u32
         ensures { result ≡ capped_32 (deepest_of (items_of self.now)) }
     {
         self.deepest
@@ -142,8 +145,10 @@ impl Value {
 }
 
 /// How many canonical bytes the value has, or the greatest number of 64 bits where there are more.
+#[tactic(auto, using(crate::proofs::Lengths::length_enc))]
 pub fn size(value: &Value) -> u64
-    ensures { result ≡ capped_64 (size_of (tree_of value.now)) }
+    ensures size { result ≡ capped_64 (size_of (tree_of value.now)) }
+    ensures bytes { result ≡ capped_64 (length (enc (tree_of value.now))) }
 {
     match value {
         Value::Unit | Value::Null => 1,
