@@ -9,3 +9,4 @@ pub mod WriteBack
 pub mod Decoded
 pub mod Lengths
 pub mod Orders
+pub mod Escapes

@@ -6,6 +6,7 @@ pub mod Size
 pub mod Canonical
 pub mod Reading
 pub mod Order
+pub mod Shown
 pub mod Limits
 pub mod Values
 pub mod Falls
