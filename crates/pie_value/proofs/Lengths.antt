@@ -1,11 +1,11 @@
 -- The size of a value is the number of its canonical bytes, and what is small has canonical bytes.
-use Rattle.std.proofs.Common.{◌≡◌, ℕ, ◌+◌, ◌-◌, ◌^◌, ◌<◌, ◌≤◌, min, Bool, true, false, ◌&&◌, List, [], ◌∷◌, ◌++◌, length, refl, ap, sym, ◌∙◌, arith, IsTrue}
+use Rattle.std.proofs.Common.{◌≡◌, ℕ, ◌+◌, ◌^◌, ◌<◌, ◌≤◌, Bool, true, false, ◌&&◌, List, [], ◌++◌, length, refl, arith}
 use Rattle.std.specs.Prelude.{nat_le}
 use Rattle.std.proofs.lemmas.Bool.{leb-true}
 use Rattle.std.proofs.lemmas.List.{length-append}
 use Rattle.pie_value.specs.declared.task.Task.{Task}
 use Rattle.pie_value.specs.Tree.{Tree, Trees, TUnit, TBool, TInt, TText, TPath, TList, TTuple, TNull, TBytes, Nil, Cons, items_of, count_of}
-use Rattle.pie_value.specs.Size.{size_of, sizes_of, depth_of, deepest_of, capped_64}
+use Rattle.pie_value.specs.Size.{size_of, sizes_of, depth_of, deepest_of}
 use Rattle.pie_value.specs.Canonical.{be32, counted, enc, encs, enc_items, enc_task, HasShortParts, HaveShortParts, IsEncodable, IsEncodableTask}
 use Rattle.pie_value.specs.Limits.{task_size, is_small, is_small_task}
 use Rattle.pie_value.proofs.Elements.{count_of_items}

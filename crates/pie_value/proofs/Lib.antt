@@ -10,3 +10,4 @@ pub mod Decoded
 pub mod Lengths
 pub mod Orders
 pub mod Escapes
+mod Examples

@@ -7,6 +7,9 @@ pub mod Canonical
 pub mod Reading
 pub mod Order
 pub mod Shown
+pub mod BuiltinTexts
+pub mod BuiltinItems
+pub mod Builtins
 pub mod Limits
 pub mod Values
 pub mod Falls

@@ -1,13 +1,11 @@
 -- The order of canonical bytes.
-use Rattle.std.specs.Prelude.{◌≡◌, ℕ, Bool, List, [], ◌∷◌, ◌++◌, cond}
+use Rattle.std.specs.Prelude.{◌≡◌, ℕ, List, [], ◌∷◌, ◌++◌, cond}
 use Rattle.std.specs.Int.{w64, to_be_bytes, cast_unsigned}
 use Rattle.std.specs.declared.cmp.Ordering.{Ordering}
-use Rattle.std.specs.declared.cmp.Ordering.TheVariants.{Less, Equal, Greater}
 use Rattle.std.specs.Ordering.{nat_cmp, ordering_then}
 use Rattle.std.specs.Cmp.Lexicographic.{slice_cmp}
-use Rattle.pie_value.specs.declared.task.Task.{Task}
 use Rattle.pie_value.specs.Tree.{Tree, Trees, TUnit, TBool, TInt, TText, TPath, TList, TTuple, TNull, TBytes}
-use Rattle.pie_value.specs.Canonical.{counted, enc, encs, enc_items, enc_task, HasShortParts, HaveShortParts}
+use Rattle.pie_value.specs.Canonical.{counted, enc, encs, enc_items, HasShortParts, HaveShortParts}
 
 -- byte by byte; what ends first comes first
 abbrev pub byte_order : List ℕ → List ℕ → Ordering
