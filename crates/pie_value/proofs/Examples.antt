@@ -7,7 +7,8 @@ use Rattle.pie_value.specs.Tree.{Tree, TBool, TInt, TText, TPath, TList, TTuple,
 use Rattle.pie_value.specs.Canonical.{be32, enc}
 use Rattle.pie_value.specs.Shown.{shown}
 use Rattle.pie_value.specs.BuiltinItems.{text_list}
-use Rattle.pie_value.specs.Builtins.{Answered, answer_of}
+use Rattle.pie_value.specs.BuiltinForms.{Answered}
+use Rattle.pie_value.specs.Builtins.{answer_of}
 
 abbrev answers : Tree → Answered
 answers t = Ok t

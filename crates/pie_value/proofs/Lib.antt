@@ -11,3 +11,4 @@ pub mod Lengths
 pub mod Orders
 pub mod Escapes
 mod Examples
+pub mod TypeElements

@@ -1,6 +1,6 @@
 -- What each built-in function answers: a value or a fault. Another number of arguments, or arguments of other kinds,
 -- are the fault Unknown; a new value that passes the limits is the fault Big.
-use Rattle.std.specs.Prelude.{ℕ, Bool, true, false, cond, ◌&&◌, nat_le, List, [], ◌∷◌, ◌++◌, length, map, reverse, take, drop, codes, slice_get, Option, Some, None, option_map, is_some, Result, Ok, Err, ℤ, pos, negsuc}
+use Rattle.std.specs.Prelude.{ℕ, Bool, true, false, cond, List, [], ◌∷◌, ◌++◌, length, map, reverse, codes, slice_get, Option, Some, None, option_map, is_some, Ok, Err, ℤ, pos}
 use Rattle.std.specs.Int.{int_gap}
 use Rattle.std.specs.List.{after_last}
 use Rattle.std.specs.Str.{is_utf8}
@@ -9,78 +9,14 @@ use Rattle.std.specs.Ordering.{nat_cmp, int_cmp}
 use Rattle.std.specs.Cmp.Lexicographic.{slice_cmp}
 use Rattle.hex.specs.Hex.{encode_lower}
 use Rattle.sha2.specs.Sha256.{sha256}
-use Rattle.pie_base.specs.declared.fault.FaultKind.{FaultKind}
-use Rattle.pie_base.specs.declared.fault.FaultKind.TheVariants.{BadPath, Big, Null as NullFault, Range as RangeFault, Unknown}
+use Rattle.pie_base.specs.declared.fault.FaultKind.TheVariants.{BadPath, Null as NullFault, Range as RangeFault, Unknown}
 use Rattle.pie_base.specs.Path.{is_path, is_slash, parent_of}
 use Rattle.pie_value.specs.declared.builtin.Builtin.{Builtin}
 use Rattle.pie_value.specs.declared.builtin.Builtin.TheVariants.{Path, Join, Name, Parent, ToText, ParseInt, Len, Trim, Find, Contains, Starts, Ends, Replace, Split, Lines, JoinText, Slice, Sha256, At, Range, Reverse, Sort, Flatten, Some as SomeOf, Get, IsNull, ToBytes, FromBytes, SliceBytes}
 use Rattle.pie_value.specs.Tree.{Tree, Trees, TBool, TInt, TText, TPath, TList, TNull, TBytes, items_of, list_of, count_of}
-use Rattle.pie_value.specs.Limits.{is_small}
+use Rattle.pie_value.specs.BuiltinForms.{Answered, made, made_number, made_or_null, given, of_one, of_two, of_three, of_text, of_two_texts, of_path, of_list, at_place, cut_out}
 use Rattle.pie_value.specs.BuiltinTexts.{starts_with, ends_with, first_place, pieces, with_between, replaced, lines_of, trimmed, is_between_characters, int_spelt}
 use Rattle.pie_value.specs.BuiltinItems.{all_as, as_int, as_text, as_path, as_bytes, as_list, sorted_by, ints_from, all_joined, text_list}
-
--- a value or a fault
-abbrev pub Answered : Type 0
-Answered = Result Tree FaultKind
-
--- a new value, which has to keep the limits
-abbrev pub made : Tree → Answered
-made t = cond (is_small t) (Ok t) (Err Big)
-
--- a number as a new value
-abbrev pub made_number : ℕ → Answered
-made_number n = made (TInt (pos n))
-
--- an optional value, null where there is none
-abbrev pub made_or_null : Option Tree → Answered
-made_or_null None = made TNull
-made_or_null (Some t) = made t
-
--- what is asked of an argument, which is of no such kind otherwise
-abbrev pub given : {A : Type 0} → Option A → (A → Answered) → Answered
-given None answer = Err Unknown
-given (Some a) answer = answer a
-
--- one argument
-abbrev pub of_one : (Tree → Answered) → List Tree → Answered
-of_one answer (t ∷ []) = answer t
-of_one answer ts = Err Unknown
-
--- two arguments
-abbrev pub of_two : (Tree → Tree → Answered) → List Tree → Answered
-of_two answer (t ∷ u ∷ []) = answer t u
-of_two answer ts = Err Unknown
-
--- three arguments
-abbrev pub of_three : (Tree → Tree → Tree → Answered) → List Tree → Answered
-of_three answer (t ∷ u ∷ v ∷ []) = answer t u v
-of_three answer ts = Err Unknown
-
--- one text
-abbrev pub of_text : (List ℕ → Answered) → List Tree → Answered
-of_text answer = of_one (λ t. given (as_text t) answer)
-
--- two texts
-abbrev pub of_two_texts : (List ℕ → List ℕ → Answered) → List Tree → Answered
-of_two_texts answer = of_two (λ t u. given (as_text t) (λ s. given (as_text u) (answer s)))
-
--- one path
-abbrev pub of_path : (List ℕ → Answered) → List Tree → Answered
-of_path answer = of_one (λ t. given (as_path t) answer)
-
--- one list
-abbrev pub of_list : (Trees → Answered) → List Tree → Answered
-of_list answer = of_one (λ t. given (as_list t) answer)
-
--- a place, which a number below 0 is not
-abbrev pub at_place : ℤ → (ℕ → Answered) → Answered
-at_place (pos n) answer = answer n
-at_place (negsuc n) answer = Err RangeFault
-
--- the bytes from one place up to before another, where the places are in order and pass a test
-abbrev pub cut_out : (List ℕ → Tree) → (ℕ → Bool) → List ℕ → ℤ → ℤ → Answered
-cut_out value may_cut s from to = at_place from (λ i. at_place to (λ j.
-    cond (nat_le i j && nat_le j (length s) && may_cut i && may_cut j) (made (value (drop i (take j s)))) (Err RangeFault)))
 
 -- a text that has to be a path
 abbrev pub path_or_fault : List ℕ → Answered

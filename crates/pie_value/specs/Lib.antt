@@ -5,10 +5,12 @@ pub mod Held
 pub mod Size
 pub mod Canonical
 pub mod Reading
+pub mod Agreement
 pub mod Order
 pub mod Shown
 pub mod BuiltinTexts
 pub mod BuiltinItems
+pub mod BuiltinForms
 pub mod Builtins
 pub mod Limits
 pub mod Values
@@ -18,3 +20,4 @@ pub mod Types
 pub mod TypeCodes
 pub mod TypeTrees
 pub mod TypeFalls
+pub mod HasType

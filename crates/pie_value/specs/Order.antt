@@ -1,10 +1,10 @@
 -- The order of canonical bytes.
-use Rattle.std.specs.Prelude.{◌≡◌, ℕ, List, [], ◌∷◌, ◌++◌, cond}
+use Rattle.std.specs.Prelude.{◌≡◌, ℕ, ◌<◌, ◌^◌, length, List, [], ◌∷◌, ◌++◌, cond}
 use Rattle.std.specs.Int.{w64, to_be_bytes, cast_unsigned}
 use Rattle.std.specs.declared.cmp.Ordering.{Ordering}
 use Rattle.std.specs.Ordering.{nat_cmp, ordering_then}
 use Rattle.std.specs.Cmp.Lexicographic.{slice_cmp}
-use Rattle.pie_value.specs.Tree.{Tree, Trees, TUnit, TBool, TInt, TText, TPath, TList, TTuple, TNull, TBytes}
+use Rattle.pie_value.specs.Tree.{Tree, Trees, TUnit, TBool, TInt, TText, TPath, TList, TTuple, TNull, TBytes, count_of}
 use Rattle.pie_value.specs.Canonical.{counted, enc, encs, enc_items, HasShortParts, HaveShortParts}
 
 -- byte by byte; what ends first comes first
@@ -50,3 +50,12 @@ Orders t u o = HasShortParts t → HasShortParts u → Decides (enc t) (enc u) o
 -- an answer is the order of items, where no part is too long
 abbrev pub OrdersItems : Trees → Trees → Ordering → Type 0
 OrdersItems ts us o = HaveShortParts ts → HaveShortParts us → Decides (encs ts) (encs us) o
+
+-- an answer is the order of two texts behind their lengths, where neither is too long
+abbrev pub OrdersTexts : List ℕ → List ℕ → Ordering → Type 0
+OrdersTexts s t o = length s < 2 ^ 32 → length t < 2 ^ 32 → Decides (counted s) (counted t) o
+
+-- an answer is the order of items behind their number, where no part is too long
+abbrev pub OrdersLists : Trees → Trees → Ordering → Type 0
+OrdersLists ts us o =
+    count_of ts < 2 ^ 32 → count_of us < 2 ^ 32 → HaveShortParts ts → HaveShortParts us → Decides (enc_items ts) (enc_items us) o

@@ -1,11 +1,11 @@
 -- What is read from bytes: a value or a task and the bytes after it, or the first fault from the left.
-use Rattle.std.specs.Prelude.{◌≡◌, ℕ, zero, suc, ℤ, ◌≤◌, ◌==◌, Bool, true, false, List, [], ◌∷◌, ◌++◌, length, take, drop, cond, nat_le, ◌&&◌, Result, Ok, Err, Option, Some, None}
+use Rattle.std.specs.Prelude.{ℕ, zero, suc, ℤ, ◌==◌, Bool, true, false, List, [], ◌∷◌, ◌++◌, length, take, drop, cond, nat_le, ◌&&◌, Result, Ok, Err, Option, Some, None}
 use Rattle.std.specs.Int.{w32, w64, from_be_bytes, cast_signed}
 use Rattle.std.specs.Str.{is_utf8}
 use Rattle.pie_base.specs.Path.{is_path}
 use Rattle.pie_value.specs.declared.task.Task.{Task}
 use Rattle.pie_value.specs.declared.value_fault.ValueFault.{ValueFault}
-use Rattle.pie_value.specs.declared.value_fault.ValueFault.TheVariants.{Short, BadTag, BadText, Rest, TooDeep, OutOfMemory}
+use Rattle.pie_value.specs.declared.value_fault.ValueFault.TheVariants.{Short, BadTag, BadText, Rest, TooDeep}
 use Rattle.pie_value.specs.declared.reader.Tag.{Tag}
 use Rattle.pie_value.specs.declared.reader.Tag.TheVariants.{Unit as TagUnit, Bool as TagBool, Int as TagInt, Text as TagText, Path as TagPath, List as TagList, Tuple as TagTuple, Null as TagNull, Bytes as TagBytes}
 use Rattle.pie_value.specs.Tree.{Tree, TUnit, TBool, TInt, TText, TPath, TList, TTuple, TNull, TBytes, items_of}
@@ -114,21 +114,3 @@ abbrev pub task_front : List ℕ → Parsed Task
 task_front bs =
     then_on (tested_of is_utf8 bs) (λ name after.
     then_on (items_front value_front after) (λ ts rest. Ok (record { func = name; args = ts }, rest)))
-
--- an answer is what is read, want of memory left free
-abbrev pub Agrees : {A B : Type 0} → (A → B) → Result A ValueFault → List ℕ → Parsed B → Type 0
-Agrees f (Ok a) rest p = p ≡ Ok (f a, rest)
-Agrees f (Err OutOfMemory) rest p = Unit {0}
-Agrees f (Err e) rest p = p ≡ Err e
-
--- an answer is what is read and how many bytes it takes
-abbrev pub AgreesInFront : {A B : Type 0} → (A → B) → Result (A × ℕ) ValueFault → List ℕ → Parsed B → Type 0
-AgreesInFront f (Ok a) bs p = (p ≡ Ok (f a.0, drop a.1 bs)) × (a.1 ≤ length bs)
-AgreesInFront f (Err OutOfMemory) bs p = Unit {0}
-AgreesInFront f (Err e) bs p = p ≡ Err e
-
--- an answer that refuses the bytes, which want of memory isn't
-abbrev pub Refuses : {A : Type 0} → Result A ValueFault → Type 0
-Refuses (Ok a) = ⊥
-Refuses (Err OutOfMemory) = ⊥
-Refuses (Err e) = Unit {0}

@@ -3,6 +3,7 @@
 
 mod blob;
 mod builtin;
+mod decoding;
 mod event;
 mod limits;
 mod order;
@@ -12,6 +13,7 @@ mod shown;
 mod stamp;
 mod task;
 mod ty;
+mod typing;
 mod value;
 mod value_fault;
 mod verdict;
@@ -19,8 +21,8 @@ mod writer;
 
 pub use blob::Blob;
 pub use builtin::Builtin;
+pub use decoding::{decode, decode_front, decode_task_front};
 pub use event::{Answer, By, Event, How};
-pub use reader::{decode, decode_front, decode_task_front};
 pub use shown::{show, show_task};
 pub use stamp::Stamp;
 pub use task::Task;

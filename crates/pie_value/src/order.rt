@@ -4,7 +4,7 @@ ghost use Rattle.std.specs.Prelude.{◌≡◌, ◌<◌, ◌^◌, ◌∷◌, [], 
 ghost use Rattle.pie_value.specs.Tree.{items_of, count_of};
 ghost use Rattle.pie_value.specs.Values.{tree_of, trees_of};
 ghost use Rattle.pie_value.specs.Canonical.{be32, counted, enc_items, enc_task, HaveShortParts, IsEncodableTask};
-ghost use Rattle.pie_value.specs.Order.{byte_order, Decides, tag_number, OrdersContents, Orders, OrdersItems};
+ghost use Rattle.pie_value.specs.Order.{byte_order, Decides, tag_number, OrdersContents, Orders, OrdersItems, OrdersTexts, OrdersLists};
 
 use crate::{Items, Task, Value};
 use pie_base::Text;
@@ -57,7 +57,7 @@ fn contents_order(a: &Value, b: &Value) -> Ordering
 #[cycle(ordering)]
 #[tactic(auto, using(crate::proofs::Orders::items_second, crate::proofs::Orders::items_first, crate::proofs::Elements::count_of_trees))]
 fn items_order(a: &Items, b: &Items) -> Ordering
-    ensures { count_of (items_of a.now) < 2 ^ 32 → count_of (items_of b.now) < 2 ^ 32 → HaveShortParts (items_of a.now) → HaveShortParts (items_of b.now) → Decides (enc_items (items_of a.now)) (enc_items (items_of b.now)) result }
+    ensures { OrdersLists (items_of a.now) (items_of b.now) result }
 {
     let a = a.as_slice();
     let b = b.as_slice();
@@ -84,14 +84,14 @@ fn values_order(a: &[Value], b: &[Value]) -> Ordering
 }
 
 fn text_order(a: &Text, b: &Text) -> Ordering
-    ensures { length a.now < 2 ^ 32 → length b.now < 2 ^ 32 → Decides (counted a.now) (counted b.now) result }
+    ensures { OrdersTexts a.now b.now result }
 {
     counted_order(a.as_str().as_bytes(), b.as_str().as_bytes())
 }
 
 #[tactic(auto, using(crate::proofs::Orders::counted_second, crate::proofs::Orders::counted_first))]
 fn counted_order(a: &[u8], b: &[u8]) -> Ordering
-    ensures { length a.now < 2 ^ 32 → length b.now < 2 ^ 32 → Decides (counted a.now) (counted b.now) result }
+    ensures { OrdersTexts a.now b.now result }
 {
     match a.len().cmp(&b.len()) {
         Ordering::Equal => bytes_order(a, b),

@@ -1,43 +1,14 @@
-//! Reading canonical bytes. Rule: docs/FORMATS.md, "Values". Bytes are read once from the left, so the first
-//! fault met is the one at the least place.
-ghost use Rattle.std.specs.Prelude.{◌≡◌, ℕ, ◌-◌, ◌==◌, [], length, take, IfOk, MatchOption, true, false};
+//! A reader of canonical bytes, which goes once from the left.
+ghost use Rattle.std.specs.Prelude.{◌≡◌, ◌-◌, ◌==◌, [], length, MatchOption, true, false};
 ghost use Rattle.std.specs.Str.{is_utf8};
-ghost use Rattle.pie_value.specs.Tree.{Tree};
 ghost use Rattle.pie_value.specs.Values.{tree_of};
-ghost use Rattle.pie_value.specs.Canonical.{IsCanonical, IsCanonicalTask};
-ghost use Rattle.pie_value.specs.Reading.{Agrees, AgreesInFront, Refuses, byte_of, bytes_of, number_of, int_of, counted_of, tested_of, is_path_text, tag_at, tag_of, flag_of, tagged, items_front, value_within, value_front, value_whole, task_front};
+ghost use Rattle.pie_value.specs.Agreement.{Agrees, AgreesInFront};
+ghost use Rattle.pie_value.specs.Reading.{byte_of, bytes_of, number_of, int_of, counted_of, tested_of, is_path_text, tag_at, tag_of, flag_of, tagged, items_front, value_within, value_front, value_whole, task_front};
 
 use crate::{Blob, Items, Task, Value, ValueFault};
 use pie_base::{MAX_DEPTH, Path, PathError, Text};
 use std::alloc::Global;
 use std::marker::Model;
-
-/// The value whose canonical bytes these are.
-pub fn decode(alloc: Global, bytes: &[u8]) -> Result<Value, ValueFault>
-    ensures answer { Agrees tree_of result [] (value_whole bytes.now) }
-    ensures canonical { IfOk result (λ value. IsCanonical (tree_of value) bytes.now) }
-    ensures refused { Refuses result → (t : Tree) → ¬ (IsCanonical t bytes.now) }
-{
-    Reader::whole(alloc, bytes)
-}
-
-/// The value whose canonical bytes stand in front, and how many these are. Bytes after them are no fault.
-pub fn decode_front(alloc: Global, bytes: &[u8]) -> Result<(Value, usize), ValueFault>
-    ensures answer { AgreesInFront tree_of result bytes.now (value_front bytes.now) }
-    ensures canonical { IfOk result (λ found. IsCanonical (tree_of found.0) (take found.1 bytes.now)) }
-    ensures refused { Refuses result → (t : Tree) (n : ℕ) → ¬ (IsCanonical t (take n bytes.now)) }
-{
-    Reader::value_in_front(alloc, bytes)
-}
-
-/// The task whose canonical bytes stand in front, and how many these are. Bytes after them are no fault.
-pub fn decode_task_front(alloc: Global, bytes: &[u8]) -> Result<(Task, usize), ValueFault>
-    ensures answer { AgreesInFront (λ t. t) result bytes.now (task_front bytes.now) }
-    ensures canonical { IfOk result (λ found. IsCanonicalTask found.0 (take found.1 bytes.now)) }
-    ensures refused { Refuses result → (t : Task) (n : ℕ) → ¬ (IsCanonicalTask t (take n bytes.now)) }
-{
-    Reader::task_in_front(alloc, bytes)
-}
 
 // The kinds of value, in the order of their tags.
 #[derive(Clone, Copy)]
@@ -55,7 +26,7 @@ enum Tag {
 
 // Bytes that are still to be read. Contracts see the list of them.
 #[derive(Drop)]
-struct Reader<'a> {
+pub(crate) struct Reader<'a> {
     rest: &'a [u8],
 }
 
@@ -68,7 +39,7 @@ impl<'a> Model for Reader<'a> {
 }
 
 impl<'a> Reader<'a> {
-    fn whole(alloc: Global, bytes: &'a [u8]) -> Result<Value, ValueFault>
+    pub(crate) fn whole(alloc: Global, bytes: &'a [u8]) -> Result<Value, ValueFault>
         ensures { Agrees tree_of result [] (value_whole bytes.now) }
     {
         let mut reader = Reader { rest: bytes };
@@ -80,7 +51,10 @@ impl<'a> Reader<'a> {
         }
     }
 
-    fn value_in_front(alloc: Global, bytes: &'a [u8]) -> Result<(Value, usize), ValueFault>
+    pub(crate) fn value_in_front(
+        alloc: Global,
+        bytes: &'a [u8],
+    ) -> Result<(Value, usize), ValueFault>
         ensures { AgreesInFront tree_of result bytes.now (value_front bytes.now) }
     {
         let mut reader = Reader { rest: bytes };
@@ -89,7 +63,7 @@ impl<'a> Reader<'a> {
         Ok((value, len))
     }
 
-    fn task_in_front(alloc: Global, bytes: &'a [u8]) -> Result<(Task, usize), ValueFault>
+    pub(crate) fn task_in_front(alloc: Global, bytes: &'a [u8]) -> Result<(Task, usize), ValueFault>
         ensures { AgreesInFront (λ t. t) result bytes.now (task_front bytes.now) }
     {
         let mut reader = Reader { rest: bytes };

@@ -205,6 +205,19 @@ fn a_copied_tuple_type_has_its_parts(rt: HostRuntime) -> Result<(), Fail> {
     let part = Part::new(rt.alloc(), Ty::Text)?;
     let parts = Parts::new(rt.alloc(), vec![in rt.alloc(); Ty::Int, Ty::List(part)]?)?;
     let copy = parts.copy()?;
-    assert_eq!(rt; copy.as_slice().len(), 2);
+    assert!(rt; Ty::Tuple(copy).same(&Ty::Tuple(parts)));
+    Ok(())
+}
+
+#[test]
+fn null_has_a_type_that_can_be_null(rt: HostRuntime) -> Result<(), Fail> {
+    let ty = Ty::Nullable(Part::new(rt.alloc(), Ty::Int)?);
+    for (value, wanted) in [
+        (Value::Null, true),
+        (Value::Int(1), true),
+        (Value::Unit, false),
+    ] {
+        assert_eq!(rt; value.has_type(&ty), wanted);
+    }
     Ok(())
 }

@@ -1,8 +1,7 @@
 //! Values, and the items of lists and tuples.
 ghost use Rattle.std.specs.Prelude.{◌≡◌, ◌+◌, max, length, [], ◌∷◌, ◌++◌, IfOk, OnOk, OnErr};
 ghost use Rattle.pie_value.specs.Tree.{items_of};
-ghost use Rattle.pie_value.specs.Values.{tree_of, trees_of};
-ghost use Rattle.pie_value.specs.Shared.{behind};
+ghost use Rattle.pie_value.specs.Values.{tree_of, trees_of, held};
 ghost use Rattle.pie_value.specs.Canonical.{enc};
 ghost use Rattle.pie_value.specs.Size.{size_of, sizes_of, depth_of, deepest_of, capped_64, capped_32};
 
@@ -50,12 +49,11 @@ impl Model for Items {
 
     ghost coded = { coded_trees };
 
-    ghost use Rattle.pie_value.specs.Shared.{behind};
-    ghost use Rattle.pie_value.specs.Values.{trees_of};
+    ghost use Rattle.pie_value.specs.Values.{held};
 
-    ghost view = { λ a. behind (λ rc. trees_of rc.value.items) a.values };
+    ghost view = { λ a. held a.values };
 
-    ghost invariant = { λ a. Measures (behind (λ rc. trees_of rc.value.items) a.values) a.bytes a.deepest };
+    ghost invariant = { λ a. Measures (held a.values) a.bytes a.deepest };
 
     ghost size = { weight };
 
@@ -185,7 +183,7 @@ fn counted(len: usize) -> u64
 }
 
 fn slice_of(values: &Option<Rc<Vec<Value>>>) -> &[Value]
-    ensures { trees_of result.now ≡ behind (λ rc. trees_of rc.value.items) values.now }
+    ensures { trees_of result.now ≡ held values.now }
 {
     match values {
         Some(values) => values.as_slice(),
@@ -199,8 +197,8 @@ fn append(
     alloc: Global,
     value: Value,
 ) -> Result<(), OutOfMemory>
-    ensures pushed { OnOk result (behind (λ rc. trees_of rc.value.items) shared.new ≡ behind (λ rc. trees_of rc.value.items) shared.old ++ tree_of value ∷ []) }
-    ensures unchanged { OnErr result (behind (λ rc. trees_of rc.value.items) shared.new ≡ behind (λ rc. trees_of rc.value.items) shared.old) }
+    ensures pushed { OnOk result (held shared.new ≡ held shared.old ++ tree_of value ∷ []) }
+    ensures unchanged { OnErr result (held shared.new ≡ held shared.old) }
 {
     if let Some(pointer) = shared {
         if let Some(values) = Rc::get_mut(pointer) {

@@ -7,7 +7,7 @@ ghost use Rattle.pie_value.specs.Values.{tree_of, trees_of};
 ghost use Rattle.pie_value.specs.Canonical.{be32, counted, enc, encs, enc_items, enc_task, HasShortParts, HaveShortParts, HasTrueLeaves, HaveTrueLeaves, IsEncodable, IsEncodableTask, IsCanonical, IsCanonicalTask};
 ghost use Rattle.pie_value.specs.Reading.{value_whole, task_front};
 
-use crate::{Items, Task, Value};
+use crate::{Items, Task, Value, size};
 use pie_base::OutOfMemory;
 use std::alloc::Global;
 
@@ -19,7 +19,7 @@ pub fn encode(alloc: Global, value: &Value) -> Result<Vec<u8>, OutOfMemory>
     ensures canonical { IfOk result (λ bytes. IsCanonical (tree_of value.now) bytes.items) }
     ensures read_back { IfOk result (λ bytes. value_whole bytes.items ≡ Ok (tree_of value.now, [])) }
 {
-    let mut out = Vec::new(alloc);
+    let mut out = Vec::with_capacity(alloc, size(value) as usize)?;
     put(&mut out, value)?;
     Ok(out)
 }
@@ -32,7 +32,7 @@ pub fn encode_task(alloc: Global, task: &Task) -> Result<Vec<u8>, OutOfMemory>
     ensures canonical { IfOk result (λ bytes. IsCanonicalTask task.now bytes.items) }
     ensures read_back { IfOk result (λ bytes. task_front bytes.items ≡ Ok (task.now, [])) }
 {
-    let mut out = Vec::new(alloc);
+    let mut out = Vec::with_capacity(alloc, task.size() as usize)?;
     put_counted(&mut out, task.func.as_str().as_bytes())?;
     put_items(&mut out, &task.args)?;
     Ok(out)
