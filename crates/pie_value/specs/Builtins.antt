@@ -1,6 +1,7 @@
 -- What each built-in function answers: a value or a fault. Another number of arguments, or arguments of other kinds,
 -- are the fault Unknown; a new value that passes the limits is the fault Big.
-use Rattle.std.specs.Prelude.{ℕ, Bool, true, false, cond, List, [], ◌∷◌, ◌++◌, length, map, reverse, codes, slice_get, Option, Some, None, option_map, is_some, Ok, Err, ℤ, pos}
+use Rattle.std.specs.Prelude.{ℕ, Bool, true, false, cond, List, [], ◌∷◌, ◌++◌, length, map, reverse, codes, slice_get, Option, Some, None}
+use Rattle.std.specs.Prelude.{option_map, is_some, Ok, Err, ℤ, pos}
 use Rattle.std.specs.Int.{int_gap}
 use Rattle.std.specs.List.{after_last}
 use Rattle.std.specs.Str.{is_utf8}
@@ -12,10 +13,15 @@ use Rattle.sha2.specs.Sha256.{sha256}
 use Rattle.pie_base.specs.declared.fault.FaultKind.TheVariants.{BadPath, Null as NullFault, Range as RangeFault, Unknown}
 use Rattle.pie_base.specs.Path.{is_path, is_slash, parent_of}
 use Rattle.pie_value.specs.declared.builtin.Builtin.{Builtin}
-use Rattle.pie_value.specs.declared.builtin.Builtin.TheVariants.{Path, Join, Name, Parent, ToText, ParseInt, Len, Trim, Find, Contains, Starts, Ends, Replace, Split, Lines, JoinText, Slice, Sha256, At, Range, Reverse, Sort, Flatten, Some as SomeOf, Get, IsNull, ToBytes, FromBytes, SliceBytes}
+use Rattle.pie_value.specs.declared.builtin.Builtin.TheVariants.{Path, Join, Name, Parent, ToText, ParseInt, Len, Trim, Find, Contains}
+use Rattle.pie_value.specs.declared.builtin.Builtin.TheVariants.{Starts, Ends, Replace, Split, Lines, JoinText, Slice, Sha256, At, Range}
+use Rattle.pie_value.specs.declared.builtin.Builtin.TheVariants.{Reverse, Sort, Flatten, Some as SomeOf, Get, IsNull, ToBytes, FromBytes}
+use Rattle.pie_value.specs.declared.builtin.Builtin.TheVariants.{SliceBytes}
 use Rattle.pie_value.specs.Tree.{Tree, Trees, TBool, TInt, TText, TPath, TList, TNull, TBytes, items_of, list_of, count_of}
-use Rattle.pie_value.specs.BuiltinForms.{Answered, made, made_number, made_or_null, given, of_one, of_two, of_three, of_text, of_two_texts, of_path, of_list, at_place, cut_out}
-use Rattle.pie_value.specs.BuiltinTexts.{starts_with, ends_with, first_place, pieces, with_between, replaced, lines_of, trimmed, is_between_characters, int_spelt}
+use Rattle.pie_value.specs.BuiltinForms.{Answered, made, made_number, made_or_null, given, of_one, of_two, of_three, of_text, of_two_texts}
+use Rattle.pie_value.specs.BuiltinForms.{of_path, of_list, at_place, cut_out}
+use Rattle.pie_value.specs.BuiltinTexts.{starts_with, ends_with, first_place, pieces, with_between, replaced, lines_of, trimmed}
+use Rattle.pie_value.specs.BuiltinTexts.{is_between_characters, int_spelt}
 use Rattle.pie_value.specs.BuiltinItems.{all_as, as_int, as_text, as_path, as_bytes, as_list, sorted_by, ints_from, all_joined, text_list}
 
 -- a text that has to be a path

@@ -3,7 +3,8 @@ use Rattle.std.proofs.Common.{ℕ, ◌≤◌, max, List, [], ◌∷◌, arith}
 use Rattle.std.specs.Prelude.{Some, None}
 use denote.Param.Weighed.{most}
 use Rattle.pie_value.specs.declared.value.Value.{Value}
-use Rattle.pie_value.specs.declared.value.Value.TheVariants.{Unit as VUnit, Bool as VBool, Int as VInt, Text as VText, Path as VPath, List as VList, Tuple as VTuple, Null as VNull, Bytes as VBytes}
+use Rattle.pie_value.specs.declared.value.Value.TheVariants.{Unit as VUnit, Bool as VBool, Int as VInt, Text as VText, Path as VPath}
+use Rattle.pie_value.specs.declared.value.Value.TheVariants.{List as VList, Tuple as VTuple, Null as VNull, Bytes as VBytes}
 use Rattle.pie_value.specs.declared.value.Items.TheInside.{Inside}
 use Rattle.pie_value.specs.declared.value.Items.TheDeep.{deep-Value, deep-Items}
 use Rattle.pie_value.specs.Tree.{mass, weight}

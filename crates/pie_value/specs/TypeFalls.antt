@@ -2,7 +2,8 @@
 use Rattle.std.proofs.Common.{ℕ, ◌≤◌, max, List, [], ◌∷◌, arith}
 use denote.Param.Weighed.{most}
 use Rattle.pie_value.specs.declared.ty.Ty.{Ty}
-use Rattle.pie_value.specs.declared.ty.Ty.TheVariants.{Unit as VUnit, Bool as VBool, Int as VInt, Text as VText, Path as VPath, List as VList, Tuple as VTuple, Nullable as VNullable, Bytes as VBytes}
+use Rattle.pie_value.specs.declared.ty.Ty.TheVariants.{Unit as VUnit, Bool as VBool, Int as VInt, Text as VText, Path as VPath}
+use Rattle.pie_value.specs.declared.ty.Ty.TheVariants.{List as VList, Tuple as VTuple, Nullable as VNullable, Bytes as VBytes}
 use Rattle.pie_value.specs.declared.ty.Part.TheInside as part
 use Rattle.pie_value.specs.declared.ty.Parts.TheInside as parts
 use Rattle.pie_value.specs.declared.ty.Part.TheDeep.{deep-Ty, deep-Part, deep-Parts}

@@ -1,7 +1,8 @@
 -- The tree of a type of the program.
 use Rattle.std.specs.Prelude.{List, map}
 use Rattle.pie_value.specs.declared.ty.Ty.{Ty}
-use Rattle.pie_value.specs.declared.ty.Ty.TheVariants.{Unit as VUnit, Bool as VBool, Int as VInt, Text as VText, Path as VPath, List as VList, Tuple as VTuple, Nullable as VNullable, Bytes as VBytes}
+use Rattle.pie_value.specs.declared.ty.Ty.TheVariants.{Unit as VUnit, Bool as VBool, Int as VInt, Text as VText, Path as VPath}
+use Rattle.pie_value.specs.declared.ty.Ty.TheVariants.{List as VList, Tuple as VTuple, Nullable as VNullable, Bytes as VBytes}
 use Rattle.pie_value.specs.Types.{TyTree, UnitTy, BoolTy, IntTy, TextTy, PathTy, ListTy, TupleTy, NullableTy, BytesTy, parts_of}
 
 -- the tree of a type

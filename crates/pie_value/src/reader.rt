@@ -3,7 +3,8 @@ ghost use Rattle.std.specs.Prelude.{◌≡◌, ◌-◌, ◌==◌, [], length, Ma
 ghost use Rattle.std.specs.Str.{is_utf8};
 ghost use Rattle.pie_value.specs.Values.{tree_of};
 ghost use Rattle.pie_value.specs.Agreement.{Agrees, AgreesInFront};
-ghost use Rattle.pie_value.specs.Reading.{byte_of, bytes_of, number_of, int_of, counted_of, tested_of, is_path_text, tag_at, tag_of, flag_of, tagged, items_front, value_within, value_front, value_whole, task_front};
+ghost use Rattle.pie_value.specs.Reading.{byte_of, bytes_of, number_of, int_of, counted_of, tested_of, is_path_text, tag_at, tag_of};
+ghost use Rattle.pie_value.specs.Reading.{flag_of, tagged, items_front, value_within, value_front, value_whole, task_front};
 
 use crate::{Blob, Items, Task, Value, ValueFault};
 use pie_base::{MAX_DEPTH, Path, PathError, Text};

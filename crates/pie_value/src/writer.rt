@@ -4,7 +4,8 @@
 ghost use Rattle.std.specs.Prelude.{◌≡◌, ℕ, ◌+◌, ◌<◌, ◌^◌, List, [], ◌∷◌, ◌++◌, length, IfOk, OnOk};
 ghost use Rattle.pie_value.specs.Tree.{items_of};
 ghost use Rattle.pie_value.specs.Values.{tree_of, trees_of};
-ghost use Rattle.pie_value.specs.Canonical.{be32, counted, enc, encs, enc_items, enc_task, HasShortParts, HaveShortParts, HasTrueLeaves, HaveTrueLeaves, IsEncodable, IsEncodableTask, IsCanonical, IsCanonicalTask};
+ghost use Rattle.pie_value.specs.Canonical.{be32, counted, enc, encs, enc_items, enc_task, HasShortParts, HaveShortParts, HasTrueLeaves};
+ghost use Rattle.pie_value.specs.Canonical.{HaveTrueLeaves, IsEncodable, IsEncodableTask, IsCanonical, IsCanonicalTask};
 ghost use Rattle.pie_value.specs.Reading.{value_whole, task_front};
 
 use crate::{Items, Task, Value, size};
