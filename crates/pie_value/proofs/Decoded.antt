@@ -1,5 +1,6 @@
 -- What the answers of the readers say of canonical bytes.
-use Rattle.std.proofs.Common.{◌≡◌, ℕ, ◌-◌, ◌^◌, ◌<◌, ◌≤◌, List, [], ◌∷◌, ◌++◌, length, take, drop, Result, Ok, Err, IfOk, refl, sym, ap, subst, ◌∙◌, append_assoc, append-nil, arith}
+use Rattle.std.proofs.Common.{◌≡◌, ℕ, ◌-◌, ◌^◌, ◌<◌, ◌≤◌, List, [], ◌∷◌, ◌++◌, length, take, drop, Result, Ok, Err, IfOk, refl}
+use Rattle.std.proofs.Common.{sym, ap, subst, ◌∙◌, append_assoc, append-nil, arith}
 use Rattle.std.specs.Str.{is_utf8}
 use Rattle.std.proofs.lemmas.Str.{IsUtf8-from_is_utf8, is_utf8-from_IsUtf8}
 use Rattle.std.proofs.lemmas.List.{length-append, length-drop, take-append-drop}
@@ -124,7 +125,8 @@ task_canonical : (bs : List ℕ) (t : Task) (rest : List ℕ) → IsBytes bs →
     → Takes bs (enc_task t) rest × ((text : List ℕ) → text ≡ enc_task t → IsCanonicalTask t text)
 unfolding value_front
 task_canonical bs t rest fits e =
-    let h = then_ok (tested_of is_utf8 bs) (λ name after. then_on (items_front value_front after) (λ ts left. Ok (record { func = name; args = ts }, left))) t rest e in
+    let h = then_ok (tested_of is_utf8 bs)
+    (λ name after. then_on (items_front value_front after) (λ ts left. Ok (record { func = name; args = ts }, left))) t rest e in
     let p = tested_takes is_utf8 bs h.0 h.1 fits h.2 in
     let k = then_ok (items_front value_front h.1) (λ ts left. Ok (record { func = h.0; args = ts }, left)) t rest h.3 in
     let q = front_read 64 value_front (value_read 64) h.1 k.0 k.1 p.0.rest_fits k.2 in
@@ -155,7 +157,8 @@ task_again t text rest c =
     ∙ ap (λ (x : List Tree). Ok (x, rest)) (list_of_items t.args) in
     ap (λ (x : List ℕ). task_front (x ++ rest)) c.bytes
     ∙ ap task_front (append_assoc (counted t.func) (enc_items (items_of t.args)) rest)
-    ∙ ap (λ (p : Parsed (List ℕ)). then_on p (λ name after. then_on (items_front value_front after) (λ ts left. made (record { func = name; args = ts }, left))))
+    ∙ ap (λ (p : Parsed (List ℕ)). then_on p (λ name after. then_on (items_front value_front after) (λ ts left.
+    made (record { func = name; args = ts }, left))))
     (tested_again is_utf8 t.func (enc_items (items_of t.args) ++ rest) c.encodable.short_name (is_utf8-from_IsUtf8 t.func c.name))
     ∙ ap (λ (p : Parsed (List Tree)). then_on p (λ ts left. made (record { func = t.func; args = ts }, left))) args
 

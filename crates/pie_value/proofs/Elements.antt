@@ -2,7 +2,9 @@
 use Rattle.std.proofs.Common.{◌≡◌, ℕ, zero, suc, ◌+◌, ◌<◌, List, [], ◌∷◌, length, get_or, drop, refl, ap, sym, ◌∙◌, arith}
 use Rattle.std.proofs.lemmas.List.{drop_more}
 use Rattle.pie_value.specs.declared.value.Value.{Value}
-use Rattle.pie_value.specs.declared.value.Value.TheVariants.{Unit as VUnit, Bool as VBool, Int as VInt, Text as VText, Path as VPath, List as VList, Tuple as VTuple, Null as VNull, Bytes as VBytes}
+use Rattle.pie_value.specs.declared.value.Value.TheVariants.{Unit as VUnit, Bool as VBool, Int as VInt, Text as VText}
+use Rattle.pie_value.specs.declared.value.Value.TheVariants.{Path as VPath, List as VList, Tuple as VTuple, Null as VNull}
+use Rattle.pie_value.specs.declared.value.Value.TheVariants.{Bytes as VBytes}
 use Rattle.pie_value.specs.Tree.{Tree, items_of, list_of, count_of, mass, weight}
 use Rattle.pie_value.specs.Values.{tree_of, trees_of}
 

@@ -2,7 +2,8 @@
 use Rattle.std.proofs.Common.{◌≡◌, ℕ, true, List, [], ◌∷◌, Ok, Err, pos, negsuc, refl}
 use Rattle.std.specs.Prelude.{codes}
 use Rattle.pie_base.specs.declared.fault.FaultKind.TheVariants.{BadPath, Null as NullFault, Range as RangeFault, Unknown}
-use Rattle.pie_value.specs.declared.builtin.Builtin.TheVariants.{Join, Name, Parent, ParseInt, Len, Trim, Find, Replace, Split, Lines, Slice, At, Range, Sort, Get}
+use Rattle.pie_value.specs.declared.builtin.Builtin.TheVariants.{Join, Name, Parent, ParseInt, Len, Trim, Find, Replace, Split}
+use Rattle.pie_value.specs.declared.builtin.Builtin.TheVariants.{Lines, Slice, At, Range, Sort, Get}
 use Rattle.pie_value.specs.Tree.{Tree, TBool, TInt, TText, TPath, TList, TTuple, TNull, Nil, Cons}
 use Rattle.pie_value.specs.Canonical.{be32, enc}
 use Rattle.pie_value.specs.Shown.{shown}
@@ -17,7 +18,8 @@ answers t = Ok t
 abbrev text : List ℕ → Tree
 text s = TText s
 
-overlapping_occurrences_are_passed_over : answer_of Replace (text (codes "aaa") ∷ text (codes "aa") ∷ text (codes "b") ∷ []) ≡ answers (text (codes "ba"))
+overlapping_occurrences_are_passed_over : answer_of Replace (text (codes "aaa") ∷ text (codes "aa") ∷ text (codes "b") ∷ [])
+    ≡ answers (text (codes "ba"))
 overlapping_occurrences_are_passed_over = refl
 
 an_empty_separator_replaces_nothing : answer_of Replace (text (codes "ab") ∷ text [] ∷ text (codes "x") ∷ []) ≡ answers (text (codes "ab"))
@@ -86,13 +88,15 @@ an_empty_segment_is_no_path = refl
 both_ends_are_trimmed : answer_of Trim (text (codes " \t a b\n ") ∷ []) ≡ answers (text (codes "a b"))
 both_ends_are_trimmed = refl
 
-integers_are_sorted : answer_of Sort (TList (Cons (TInt (pos 2)) (Cons (TInt (negsuc 0)) (Cons (TInt (pos 1)) Nil))) ∷ []) ≡ answers (TList (Cons (TInt (negsuc 0)) (Cons (TInt (pos 1)) (Cons (TInt (pos 2)) Nil))))
+integers_are_sorted : answer_of Sort (TList (Cons (TInt (pos 2)) (Cons (TInt (negsuc 0)) (Cons (TInt (pos 1)) Nil))) ∷ [])
+    ≡ answers (TList (Cons (TInt (negsuc 0)) (Cons (TInt (pos 1)) (Cons (TInt (pos 2)) Nil))))
 integers_are_sorted = refl
 
 kinds_are_not_sorted_together : answer_of Sort (TList (Cons (TInt (pos 2)) (Cons TNull Nil)) ∷ []) ≡ Err Unknown
 kinds_are_not_sorted_together = refl
 
-a_range_stops_before_its_end : answer_of Range (TInt (negsuc 0) ∷ TInt (pos 2) ∷ []) ≡ answers (TList (Cons (TInt (negsuc 0)) (Cons (TInt (pos 0)) (Cons (TInt (pos 1)) Nil))))
+a_range_stops_before_its_end : answer_of Range (TInt (negsuc 0) ∷ TInt (pos 2) ∷ [])
+    ≡ answers (TList (Cons (TInt (negsuc 0)) (Cons (TInt (pos 0)) (Cons (TInt (pos 1)) Nil))))
 a_range_stops_before_its_end = refl
 
 past_the_end_is_out_of_range : answer_of At (TList Nil ∷ TInt (pos 0) ∷ []) ≡ Err RangeFault

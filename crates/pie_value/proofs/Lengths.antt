@@ -6,7 +6,8 @@ use Rattle.std.proofs.lemmas.List.{length-append}
 use Rattle.pie_value.specs.declared.task.Task.{Task}
 use Rattle.pie_value.specs.Tree.{Tree, Trees, TUnit, TBool, TInt, TText, TPath, TList, TTuple, TNull, TBytes, Nil, Cons, items_of, count_of}
 use Rattle.pie_value.specs.Size.{size_of, sizes_of, depth_of, deepest_of}
-use Rattle.pie_value.specs.Canonical.{be32, counted, enc, encs, enc_items, enc_task, HasShortParts, HaveShortParts, IsEncodable, IsEncodableTask}
+use Rattle.pie_value.specs.Canonical.{be32, counted, enc, encs, enc_items, enc_task, HasShortParts, HaveShortParts, IsEncodable}
+use Rattle.pie_value.specs.Canonical.{IsEncodableTask}
 use Rattle.pie_value.specs.Limits.{task_size, is_small, is_small_task}
 use Rattle.pie_value.proofs.Elements.{count_of_items}
 

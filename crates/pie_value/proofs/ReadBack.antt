@@ -1,17 +1,22 @@
 -- What is read is a canonical text, and each canonical text is read.
-use Rattle.std.proofs.Common.{◌≡◌, ℕ, zero, suc, ◌+◌, ◌^◌, ◌<◌, ◌≤◌, Bool, true, false, ◌&&◌, List, [], ◌∷◌, ◌++◌, length, Ok, Err, refl, sym, ap, subst, ◌∙◌, append_assoc, arith}
+use Rattle.std.proofs.Common.{◌≡◌, ℕ, zero, suc, ◌+◌, ◌^◌, ◌<◌, ◌≤◌, Bool, true, false, ◌&&◌, List, [], ◌∷◌, ◌++◌, length, Ok}
+use Rattle.std.proofs.Common.{Err, refl, sym, ap, subst, ◌∙◌, append_assoc, arith}
 use Rattle.std.specs.Str.{is_utf8}
 use Rattle.std.proofs.lemmas.Str.{IsUtf8-from_is_utf8}
 use Rattle.pie_base.specs.Path.{is_path}
 use Rattle.pie_value.specs.declared.value_fault.ValueFault.TheVariants.{TooDeep}
 use Rattle.pie_value.specs.declared.reader.Tag.{Tag}
-use Rattle.pie_value.specs.declared.reader.Tag.TheVariants.{Unit as TagUnit, Bool as TagBool, Int as TagInt, Text as TagText, Path as TagPath, List as TagList, Tuple as TagTuple, Null as TagNull, Bytes as TagBytes}
+use Rattle.pie_value.specs.declared.reader.Tag.TheVariants.{Unit as TagUnit, Bool as TagBool, Int as TagInt, Text as TagText}
+use Rattle.pie_value.specs.declared.reader.Tag.TheVariants.{Path as TagPath, List as TagList, Tuple as TagTuple, Null as TagNull}
+use Rattle.pie_value.specs.declared.reader.Tag.TheVariants.{Bytes as TagBytes}
 use Rattle.pie_value.specs.Tree.{Tree, Trees, TUnit, TBool, TInt, TText, TPath, TList, TTuple, TNull, TBytes, items_of, count_of}
 use Rattle.pie_value.specs.Size.{depth_of, deepest_of}
 use Rattle.pie_value.specs.Canonical.{be32, enc, encs, enc_items, HasShortParts, HaveShortParts, HasTrueLeaves, HaveTrueLeaves}
-use Rattle.pie_value.specs.Reading.{Parsed, tag_of, flag_of, int_of, number_of, counted_of, tested_of, is_path_text, values_of, items_front, tagged, value_within}
+use Rattle.pie_value.specs.Reading.{Parsed, tag_of, flag_of, int_of, number_of, counted_of, tested_of, is_path_text, values_of}
+use Rattle.pie_value.specs.Reading.{items_front, tagged, value_within}
 use Rattle.pie_value.proofs.Elements.{count_of_items}
-use Rattle.pie_value.proofs.Taking.{IsBytes, then_ok, same_value, same_rest, Takes, Takes-then, tag_byte, tag_takes, flag_takes, number_takes, int_takes, counted_takes, tested_takes}
+use Rattle.pie_value.proofs.Taking.{IsBytes, then_ok, same_value, same_rest, Takes, Takes-then, tag_byte, tag_takes, flag_takes}
+use Rattle.pie_value.proofs.Taking.{number_takes, int_takes, counted_takes, tested_takes}
 
 -- ---- what is read is a canonical text
 
@@ -50,7 +55,12 @@ values_read d value reads zero ts bs us rest fits e = record {
   more = [];
   is = sym (same_value ts us bs rest e) ∙ append_nil ts;
   count = refl;
-  items = record { takes = record { parts = same_rest ts us bs rest e; rest_fits = subst IsBytes (same_rest ts us bs rest e) fits }; deep = omega arith; short = tt; leaves = tt };
+  items = record {
+    takes = record { parts = same_rest ts us bs rest e; rest_fits = subst IsBytes (same_rest ts us bs rest e) fits };
+    deep = omega arith;
+    short = tt;
+    leaves = tt;
+  };
 }
 values_read d value reads (suc n) ts bs us rest fits e =
     let h = then_ok (value bs) (λ t after. values_of value n (ts ++ t ∷ []) after) us rest e in
@@ -121,38 +131,80 @@ tagged_read d value reads TagBool bs mid t rest p e =
     let h = then_ok (flag_of mid) (λ b after. Ok (TBool b, after)) t rest e in
     let q = flag_takes mid h.0 h.1 p.rest_fits h.2 in
     renamed (d + 1) bs (TBool h.0) t rest (same_value (TBool h.0) t h.1 rest h.3)
-    (record { takes = subst (Takes bs (enc (TBool h.0))) (same_rest (TBool h.0) t h.1 rest h.3) (with_tag TagBool bs mid _ h.1 p q); deep = omega arith; short = tt; leaves = tt })
+    (record {
+      takes = subst (Takes bs (enc (TBool h.0))) (same_rest (TBool h.0) t h.1 rest h.3)
+          (with_tag TagBool bs mid _ h.1 p q);
+      deep = omega arith;
+      short = tt;
+      leaves = tt;
+    })
 tagged_read d value reads TagInt bs mid t rest p e =
     let h = then_ok (int_of mid) (λ n after. Ok (TInt n, after)) t rest e in
     let q = int_takes mid h.0 h.1 p.rest_fits h.2 in
     renamed (d + 1) bs (TInt h.0) t rest (same_value (TInt h.0) t h.1 rest h.3)
-    (record { takes = subst (Takes bs (enc (TInt h.0))) (same_rest (TInt h.0) t h.1 rest h.3) (with_tag TagInt bs mid _ h.1 p q.0); deep = omega arith; short = tt; leaves = q.1 })
+    (record {
+      takes = subst (Takes bs (enc (TInt h.0))) (same_rest (TInt h.0) t h.1 rest h.3)
+          (with_tag TagInt bs mid _ h.1 p q.0);
+      deep = omega arith;
+      short = tt;
+      leaves = q.1;
+    })
 tagged_read d value reads TagText bs mid t rest p e =
     let h = then_ok (tested_of is_utf8 mid) (λ s after. Ok (TText s, after)) t rest e in
     let q = tested_takes is_utf8 mid h.0 h.1 p.rest_fits h.2 in
     renamed (d + 1) bs (TText h.0) t rest (same_value (TText h.0) t h.1 rest h.3)
-    (record { takes = subst (Takes bs (enc (TText h.0))) (same_rest (TText h.0) t h.1 rest h.3) (with_tag TagText bs mid _ h.1 p q.0); deep = omega arith; short = q.1; leaves = IsUtf8-from_is_utf8 h.0 q.2 })
+    (record {
+      takes = subst (Takes bs (enc (TText h.0))) (same_rest (TText h.0) t h.1 rest h.3)
+          (with_tag TagText bs mid _ h.1 p q.0);
+      deep = omega arith;
+      short = q.1;
+      leaves = IsUtf8-from_is_utf8 h.0 q.2;
+    })
 tagged_read d value reads TagPath bs mid t rest p e =
     let h = then_ok (tested_of is_path_text mid) (λ s after. Ok (TPath s, after)) t rest e in
     let q = tested_takes is_path_text mid h.0 h.1 p.rest_fits h.2 in
     let both = both_true (is_utf8 h.0) (is_path h.0) q.2 in
     renamed (d + 1) bs (TPath h.0) t rest (same_value (TPath h.0) t h.1 rest h.3)
-    (record { takes = subst (Takes bs (enc (TPath h.0))) (same_rest (TPath h.0) t h.1 rest h.3) (with_tag TagPath bs mid _ h.1 p q.0); deep = omega arith; short = q.1; leaves = (IsUtf8-from_is_utf8 h.0 both.0, both.1) })
+    (record {
+      takes = subst (Takes bs (enc (TPath h.0))) (same_rest (TPath h.0) t h.1 rest h.3)
+          (with_tag TagPath bs mid _ h.1 p q.0);
+      deep = omega arith;
+      short = q.1;
+      leaves = (IsUtf8-from_is_utf8 h.0 both.0, both.1);
+    })
 tagged_read d value reads TagList bs mid t rest p e =
     let h = then_ok (items_front value mid) (λ ts after. Ok (TList (items_of ts), after)) t rest e in
     let q = front_read d value reads mid h.0 h.1 p.rest_fits h.2 in
     renamed (d + 1) bs (TList (items_of h.0)) t rest (same_value (TList (items_of h.0)) t h.1 rest h.3)
-    (record { takes = subst (Takes bs (enc (TList (items_of h.0)))) (same_rest (TList (items_of h.0)) t h.1 rest h.3) (with_tag TagList bs mid _ h.1 p q.takes); deep = omega (arith, q.deep); short = (q.few, q.short); leaves = q.leaves })
+    (record {
+      takes = subst (Takes bs (enc (TList (items_of h.0)))) (same_rest (TList (items_of h.0)) t h.1 rest h.3)
+          (with_tag TagList bs mid _ h.1 p q.takes);
+      deep = omega (arith, q.deep);
+      short = (q.few, q.short);
+      leaves = q.leaves;
+    })
 tagged_read d value reads TagTuple bs mid t rest p e =
     let h = then_ok (items_front value mid) (λ ts after. Ok (TTuple (items_of ts), after)) t rest e in
     let q = front_read d value reads mid h.0 h.1 p.rest_fits h.2 in
     renamed (d + 1) bs (TTuple (items_of h.0)) t rest (same_value (TTuple (items_of h.0)) t h.1 rest h.3)
-    (record { takes = subst (Takes bs (enc (TTuple (items_of h.0)))) (same_rest (TTuple (items_of h.0)) t h.1 rest h.3) (with_tag TagTuple bs mid _ h.1 p q.takes); deep = omega (arith, q.deep); short = (q.few, q.short); leaves = q.leaves })
+    (record {
+      takes = subst (Takes bs (enc (TTuple (items_of h.0)))) (same_rest (TTuple (items_of h.0)) t h.1 rest h.3)
+          (with_tag TagTuple bs mid _ h.1 p q.takes);
+      deep = omega (arith, q.deep);
+      short = (q.few, q.short);
+      leaves = q.leaves;
+    })
 tagged_read d value reads TagBytes bs mid t rest p e =
     let h = then_ok (counted_of mid) (λ s after. Ok (TBytes s, after)) t rest e in
     let q = counted_takes mid h.0 h.1 p.rest_fits h.2 in
     renamed (d + 1) bs (TBytes h.0) t rest (same_value (TBytes h.0) t h.1 rest h.3)
-    (record { takes = subst (Takes bs (enc (TBytes h.0))) (same_rest (TBytes h.0) t h.1 rest h.3) (with_tag TagBytes bs mid _ h.1 p q.0); deep = omega arith; short = q.1; leaves = tt })
+    (record {
+      takes = subst (Takes bs (enc (TBytes h.0))) (same_rest (TBytes h.0) t h.1 rest h.3)
+          (with_tag TagBytes bs mid _ h.1 p q.0);
+      deep = omega arith;
+      short = q.1;
+      leaves = tt;
+    })
 
 pub value_read : (d : ℕ) → IsReader d (value_within d)
 value_read zero bs t rest fits e =

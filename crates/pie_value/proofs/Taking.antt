@@ -1,5 +1,7 @@
 -- A part that is read is the part that was written, and what was written is read again.
-use Rattle.std.proofs.Common.{◌≡◌, ℕ, ◌+◌, ◌^◌, ◌<◌, ◌≤◌, Bool, true, false, cond, List, [], ◌∷◌, ◌++◌, length, get_or, take, drop, Option, Some, None, Ok, Err, refl, sym, ap, subst, ◌∙◌, append_assoc, arith, inl, inr, ℤ, FitsSigned}
+use Rattle.std.proofs.Common.{◌≡◌, ℕ, ◌+◌, ◌^◌, ◌<◌, ◌≤◌, Bool, true, false, cond, List, [], ◌∷◌, ◌++◌, length, get_or, take}
+use Rattle.std.proofs.Common.{drop, Option, Some, None, Ok, Err, refl, sym, ap, subst, ◌∙◌, append_assoc, arith, inl, inr, ℤ}
+use Rattle.std.proofs.Common.{FitsSigned}
 use Rattle.std.specs.Prelude.{nat_le, ◌==◌, ◌⊎◌}
 use Rattle.std.specs.Int.{w32, w64, from_be_bytes, to_be_bytes, cast_unsigned, cast_signed}
 use Rattle.std.proofs.lemmas.Bool.{cases_lt, leb-true, le-leb, eqb-true}
@@ -11,9 +13,12 @@ use Rattle.std.proofs.Math.Facts.{sfits_to_z, Fits-of_lt, Fits-of_z, Fits-lt-pow
 use Rattle.pie_value.specs.declared.value_fault.ValueFault.{ValueFault}
 use Rattle.pie_value.specs.declared.value_fault.ValueFault.TheVariants.{Short, BadText}
 use Rattle.pie_value.specs.declared.reader.Tag.{Tag}
-use Rattle.pie_value.specs.declared.reader.Tag.TheVariants.{Unit as TagUnit, Bool as TagBool, Int as TagInt, Text as TagText, Path as TagPath, List as TagList, Tuple as TagTuple, Null as TagNull, Bytes as TagBytes}
+use Rattle.pie_value.specs.declared.reader.Tag.TheVariants.{Unit as TagUnit, Bool as TagBool, Int as TagInt, Text as TagText}
+use Rattle.pie_value.specs.declared.reader.Tag.TheVariants.{Path as TagPath, List as TagList, Tuple as TagTuple, Null as TagNull}
+use Rattle.pie_value.specs.declared.reader.Tag.TheVariants.{Bytes as TagBytes}
 use Rattle.pie_value.specs.Canonical.{be32, counted}
-use Rattle.pie_value.specs.Reading.{Parsed, then_on, byte_of, bytes_of, number_of, int_of, counted_of, tested_of, known, tag_at, flag_at, tag_of, flag_of}
+use Rattle.pie_value.specs.Reading.{Parsed, then_on, byte_of, bytes_of, number_of, int_of, counted_of, tested_of, known, tag_at}
+use Rattle.pie_value.specs.Reading.{flag_at, tag_of, flag_of}
 
 abbrev pub IsBytes : List ℕ → Type 0
 IsBytes bytes = (i : ℕ) → get_or bytes i 0 < 256

@@ -1,11 +1,15 @@
 -- What was written is read again.
-use Rattle.std.proofs.Common.{◌≡◌, ℕ, suc, ◌+◌, ◌-◌, ◌^◌, ◌<◌, ◌≤◌, Bool, true, false, cond, List, [], ◌∷◌, ◌++◌, Ok, refl, sym, ap, ◌∙◌, append_assoc, arith, IsTrue, ℤ}
+use Rattle.std.proofs.Common.{◌≡◌, ℕ, suc, ◌+◌, ◌-◌, ◌^◌, ◌<◌, ◌≤◌, Bool, true, false, cond, List, [], ◌∷◌, ◌++◌, Ok, refl, sym}
+use Rattle.std.proofs.Common.{ap, ◌∙◌, append_assoc, arith, IsTrue, ℤ}
 use Rattle.std.specs.Str.{IsUtf8, is_utf8}
 use Rattle.std.proofs.lemmas.Str.{is_utf8-from_IsUtf8}
 use Rattle.std.proofs.lemmas.Bool.{and_from}
 use Rattle.pie_base.specs.Path.{is_path}
-use Rattle.pie_value.specs.declared.reader.Tag.TheVariants.{Unit as TagUnit, Bool as TagBool, Int as TagInt, Text as TagText, Path as TagPath, List as TagList, Tuple as TagTuple, Null as TagNull, Bytes as TagBytes}
-use Rattle.pie_value.specs.Tree.{Tree, Trees, TUnit, TBool, TInt, TText, TPath, TList, TTuple, TNull, TBytes, Nil, Cons, items_of, list_of, count_of}
+use Rattle.pie_value.specs.declared.reader.Tag.TheVariants.{Unit as TagUnit, Bool as TagBool, Int as TagInt, Text as TagText}
+use Rattle.pie_value.specs.declared.reader.Tag.TheVariants.{Path as TagPath, List as TagList, Tuple as TagTuple, Null as TagNull}
+use Rattle.pie_value.specs.declared.reader.Tag.TheVariants.{Bytes as TagBytes}
+use Rattle.pie_value.specs.Tree.{Tree, Trees, TUnit, TBool, TInt, TText, TPath, TList, TTuple, TNull, TBytes, Nil, Cons, items_of}
+use Rattle.pie_value.specs.Tree.{list_of, count_of}
 use Rattle.pie_value.specs.Size.{depth_of, deepest_of}
 use Rattle.pie_value.specs.Canonical.{be32, counted, enc, encs, enc_items, HasShortParts, HaveShortParts, HasTrueLeaves, HaveTrueLeaves}
 use Rattle.pie_value.specs.Reading.{Parsed, then_on, flag_of, is_path_text, values_of, items_front, value_within}
@@ -69,11 +73,13 @@ mutual
       ∙ ap (λ (p : Parsed (List ℕ)). then_on p (λ x after. found (TPath x, after))) (tested_again is_path_text bs rest short (path_again bs leaves.0 leaves.1))
   value_again d (TList ts) rest deep short leaves =
       value_goes d (5 ∷ (enc_items ts ++ rest)) TagList (enc_items ts ++ rest) (not_zero d (deepest_of ts) deep) refl
-      ∙ ap (λ (p : Parsed (List Tree)). then_on p (λ x after. found (TList (items_of x), after))) (front_by (value_within (d - 1)) ts rest short.0 (items_again (d - 1) ts [] rest (omega arith) short.1 leaves))
+      ∙ ap (λ (p : Parsed (List Tree)). then_on p (λ x after. found (TList (items_of x), after)))
+      (front_by (value_within (d - 1)) ts rest short.0 (items_again (d - 1) ts [] rest (omega arith) short.1 leaves))
       ∙ ap (λ (us : Trees). found (TList us, rest)) (items_of_list ts)
   value_again d (TTuple ts) rest deep short leaves =
       value_goes d (6 ∷ (enc_items ts ++ rest)) TagTuple (enc_items ts ++ rest) (not_zero d (deepest_of ts) deep) refl
-      ∙ ap (λ (p : Parsed (List Tree)). then_on p (λ x after. found (TTuple (items_of x), after))) (front_by (value_within (d - 1)) ts rest short.0 (items_again (d - 1) ts [] rest (omega arith) short.1 leaves))
+      ∙ ap (λ (p : Parsed (List Tree)). then_on p (λ x after. found (TTuple (items_of x), after)))
+      (front_by (value_within (d - 1)) ts rest short.0 (items_again (d - 1) ts [] rest (omega arith) short.1 leaves))
       ∙ ap (λ (us : Trees). found (TTuple us, rest)) (items_of_list ts)
   value_again d TNull rest deep short leaves = value_goes d (7 ∷ rest) TagNull rest (one_deep d deep) refl
   value_again d (TBytes bs) rest deep short leaves =

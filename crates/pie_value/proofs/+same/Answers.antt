@@ -18,5 +18,6 @@ value::Value::same-returns-in-List-List t c =
 
 pub value::Value::same-returns-in-Tuple-Tuple : goal.value::Value::same-returns-in-Tuple-Tuple
 value::Value::same-returns-in-Tuple-Tuple t c =
-    let e = trees_decided c.in-Tuple-Tuple.a c.in-Tuple-Tuple.b _ _ c.as_slice-in-Tuple-Tuple.ensures c.as_slice-in-Tuple-Tuple-2.ensures c.same_values-in-Tuple-Tuple.ensures in
+    let e = trees_decided c.in-Tuple-Tuple.a c.in-Tuple-Tuple.b
+    _ _ c.as_slice-in-Tuple-Tuple.ensures c.as_slice-in-Tuple-Tuple-2.ensures c.same_values-in-Tuple-Tuple.ensures in
     (λ h. let k = e.0 h in cc, λ h. e.1 (cc))

@@ -23,5 +23,6 @@ ty::Ty::same-returns-in-Tuple-Tuple t c =
 
 pub ty::Ty::same-returns-in-Nullable-Nullable : goal.ty::Ty::same-returns-in-Nullable-Nullable
 ty::Ty::same-returns-in-Nullable-Nullable t c =
-    let e = ty_decided c.in-Nullable-Nullable.a c.in-Nullable-Nullable.b _ _ c.get-in-Nullable-Nullable.ensures c.get-in-Nullable-Nullable-2.ensures c.same-in-Nullable-Nullable.ensures in
+    let e = ty_decided c.in-Nullable-Nullable.a c.in-Nullable-Nullable.b
+    _ _ c.get-in-Nullable-Nullable.ensures c.get-in-Nullable-Nullable-2.ensures c.same-in-Nullable-Nullable.ensures in
     (λ h. let k = e.0 h in cc, λ h. e.1 (cc))
