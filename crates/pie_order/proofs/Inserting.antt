@@ -38,36 +38,37 @@ true_or_false false = inr refl
 pub insert_agrees : (rows : List Row) (old new : List ℕ) (marks : List Bool) (low high from to : ℕ) → NeedsBelow rows → Agrees rows old → IsBelow rows old low to marks → slice_index old from ≡ low → slice_index old to ≡ high → low ≤ high → from < length old → to < length old → get_or marks from false ≡ false → IsShifted marks low high old new → Agrees rows new × StandsBefore new to from
 insert_agrees rows old new marks low high from to needs agrees below is_low is_high le from_in to_in unmarked shifted =
     let closed : (x y : ℕ) → Calls rows x y → low ≤ slice_index old y → IsMarked marks x → IsMarked marks y =
-            λ x y calls l is. let led = below.only x is in below.each y (led.0, led.1, leads_on (λ a b. Calls rows a b × (low ≤ slice_index old b)) led.0 x y led.2 (calls, l)) in
+    λ x y calls l is. let led = below.only x is in below.each y (led.0, led.1, leads_on (λ a b. Calls rows a b × (low ≤ slice_index old b)) led.0 x y led.2 (calls, l)) in
     let to_marked : IsMarked marks to = below.each to (to, contains_here to [], itself) in
     let keeps : (x y : ℕ) → Calls rows x y → slice_index new y < slice_index new x =
-            λ x y calls.
-                let less : slice_index old y < slice_index old x = agrees.each x y calls in
-                let x_in : x < length old = omega (arith, agrees.as_many, caller_below rows x y calls) in
-                let y_in : y < length old = omega (arith, agrees.as_many, All-contains (λ n. n < length rows) (row_at rows x).needs y (needs_below_at rows x needs) calls) in
-                elim (cases_lt (slice_index old y) low) [
-                  | inl y_below ↦
-                      let y_same = shifted.outside y y_in (inl y_below) in
-                      elim (cases_lt (slice_index old x) low) [
-                        | inl x_below ↦ omega (arith, y_same, shifted.outside x x_in (inl x_below), less)
-                        | inr x_from ↦ elim (cases_lt high (slice_index old x)) [
-                            | inl x_above ↦ omega (arith, y_same, shifted.outside x x_in (inr x_above), less)
-                            | inr x_to ↦ omega (arith, y_same, (shifted.within x x_in x_from x_to).0, y_below)
-                          ]
-                      ]
-                  | inr y_from ↦ elim (cases_lt high (slice_index old y)) [
-                      | inl y_above ↦ omega (arith, shifted.outside y y_in (inr y_above), shifted.outside x x_in (inr (omega (arith, less, y_above))), less)
-                      | inr y_to ↦ elim (cases_lt high (slice_index old x)) [
-                          | inl x_above ↦ omega (arith, shifted.outside x x_in (inr x_above), (shifted.within y y_in y_from y_to).1, x_above)
-                          | inr x_to ↦ elim (true_or_false (get_or marks x false)) [
-                              | inl x_marked ↦ shifted.first_kept y x y_in x_in y_from less x_to (closed x y calls y_from x_marked) x_marked
-                              | inr x_not ↦ elim (true_or_false (get_or marks y false)) [
-                                  | inl y_marked ↦ shifted.first_before y x y_in x_in y_from y_to (omega (arith, y_from, less)) x_to y_marked x_not
-                                  | inr y_not ↦ shifted.rest_kept y x y_in x_in y_from less x_to y_not x_not
-                                ]
-                            ]
-                        ]
-                    ]
-                ] in
-    (record { as_many = shifted.sized ∙ agrees.as_many; each = keeps },
-     shifted.first_before to from to_in from_in (omega (arith, is_high, le)) (omega (arith, is_high)) (omega (arith, is_low)) (omega (arith, is_low, le)) to_marked unmarked)
+    λ x y calls.
+    let less : slice_index old y < slice_index old x = agrees.each x y calls in
+    let x_in : x < length old = omega (arith, agrees.as_many, caller_below rows x y calls) in
+    let y_in : y < length old = omega (arith, agrees.as_many, All-contains (λ n. n < length rows) (row_at rows x).needs y (needs_below_at rows x needs) calls) in
+    elim (cases_lt (slice_index old y) low) [
+      | inl y_below ↦
+          let y_same = shifted.outside y y_in (inl y_below) in
+          elim (cases_lt (slice_index old x) low) [
+            | inl x_below ↦ omega (arith, y_same, shifted.outside x x_in (inl x_below), less)
+            | inr x_from ↦ elim (cases_lt high (slice_index old x)) [
+              | inl x_above ↦ omega (arith, y_same, shifted.outside x x_in (inr x_above), less)
+              | inr x_to ↦ omega (arith, y_same, (shifted.within x x_in x_from x_to).0, y_below)
+            ]
+          ]
+      | inr y_from ↦ elim (cases_lt high (slice_index old y)) [
+        | inl y_above ↦ omega (arith, shifted.outside y y_in (inr y_above), shifted.outside x x_in (inr (omega (arith, less, y_above))), less)
+        | inr y_to ↦ elim (cases_lt high (slice_index old x)) [
+          | inl x_above ↦ omega (arith, shifted.outside x x_in (inr x_above), (shifted.within y y_in y_from y_to).1, x_above)
+          | inr x_to ↦ elim (true_or_false (get_or marks x false)) [
+            | inl x_marked ↦ shifted.first_kept y x y_in x_in y_from less x_to (closed x y calls y_from x_marked) x_marked
+            | inr x_not ↦ elim (true_or_false (get_or marks y false)) [
+              | inl y_marked ↦ shifted.first_before y x y_in x_in y_from y_to (omega (arith, y_from, less)) x_to y_marked x_not
+              | inr y_not ↦ shifted.rest_kept y x y_in x_in y_from less x_to y_not x_not
+            ]
+          ]
+        ]
+      ]
+    ] in (
+      record { as_many = shifted.sized ∙ agrees.as_many; each = keeps },
+      shifted.first_before to from to_in from_in (omega (arith, is_high, le)) (omega (arith, is_high)) (omega (arith, is_low)) (omega (arith, is_low, le)) to_marked unmarked,
+    )

@@ -4,6 +4,8 @@
 mod cycle;
 mod order;
 mod shift;
+#[cfg(test)]
+mod tests;
 mod within;
 
 pub use order::Order;

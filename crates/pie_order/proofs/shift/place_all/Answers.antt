@@ -30,6 +30,7 @@ after-done-requires c = omega (arith, c.loop-i.invariant.0, at_most (marked_at c
 pub loop-i-preserved : goal.loop-i-preserved
 loop-i-preserved c =
     let test = marked_at c.args.marks.now c.args.window.now in
-    let e = to_is c.args.marks.now c.args.window.now c.args.low c.args.first c.loop-i.i c.loop-i.done c.place_of-place.result c.place_of-place.ensures c.loop-i.invariant.0 c.requires.first in
-    (c.after-done.ensures ∙ ap (λ n. cond (test c.loop-i.i) (n + 1) n) c.loop-i.invariant.0 ∙ sym (ap (firsts test) (add-one c.loop-i.i)),
-     places_one c.args.marks.now c.args.window.now c.args.low c.args.tasks.now.items c.args.places.now.items c.loop-i.tasks.items c.loop-i.places.items c.loop-i.i c.place_of-place.result c.requires.inverse c.requires.window c.loop-i-test.true e c.loop-i.invariant.1)
+    let e = to_is c.args.marks.now c.args.window.now c.args.low c.args.first c.loop-i.i c.loop-i.done c.place_of-place.result c.place_of-place.ensures c.loop-i.invariant.0 c.requires.first in (
+      c.after-done.ensures ∙ ap (λ n. cond (test c.loop-i.i) (n + 1) n) c.loop-i.invariant.0 ∙ sym (ap (firsts test) (add-one c.loop-i.i)),
+      places_one c.args.marks.now c.args.window.now c.args.low c.args.tasks.now.items c.args.places.now.items c.loop-i.tasks.items c.loop-i.places.items c.loop-i.i c.place_of-place.result c.requires.inverse c.requires.window c.loop-i-test.true e c.loop-i.invariant.1,
+    )

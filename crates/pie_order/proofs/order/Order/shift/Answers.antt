@@ -20,4 +20,4 @@ returns-clause-shifted c =
     let is : window ≡ take (c.args.high + 1 - c.args.low) (drop c.args.low tasks) = c.deref-3.ensures.value ∙ c.in_ok-window.ensures.items ∙ ap (λ (ts : List ℕ). take (c.args.high + 1 - c.args.low) (drop c.args.low ts)) c.deref.ensures.value in
     let win = is_window tasks window c.args.low c.args.high c.requires.low high_in is in
     subst (λ (old : List ℕ). IsShifted c.args.marks.now c.args.low c.args.high old c.place_all.new.places.items) c.self.view_is
-        (is_shifted c.args.marks.now window c.args.low c.args.high tasks c.self.inside.places.items c.place_all.new.tasks.items c.place_all.new.places.items c.self.invariant win.0 win.1 c.place_all.ensures)
+    (is_shifted c.args.marks.now window c.args.low c.args.high tasks c.self.inside.places.items c.place_all.new.tasks.items c.place_all.new.places.items c.self.invariant win.0 win.1 c.place_all.ensures)
