@@ -1,0 +1,6 @@
+//! The tasks that are scheduled.
+#![tactic(auto)]
+
+mod candidates;
+
+pub use candidates::Candidates;

@@ -1,0 +1,8 @@
+use Rattle.std.proofs.Common.{length}
+use Rattle.pie_script.proofs.changes.read_changes.Given as goal
+
+abbrev pub invariant-loop-text : goal.invariant-loop-text
+invariant-loop-text l = Unit
+
+abbrev pub decreases-loop-text : goal.decreases-loop-text
+decreases-loop-text l = length l.lines
