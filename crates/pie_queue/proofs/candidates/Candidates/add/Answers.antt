@@ -6,4 +6,4 @@ use Rattle.pie_queue.proofs.candidates.Candidates.add.Goals as goal
 pub returns-clause-joins : goal.returns-clause-joins
 returns-clause-joins c =
     subst (λ (old : List ℕ). Joins old c.insert.new.self.keys c.args.no.0) c.self.view_is
-        (joins c.self.inside.members c.insert.new.self c.args.no.0 (λ q. c.in_ok-insert.ensures.updates.0 q))
+    (joins c.self.inside.members c.insert.new.self c.args.no.0 (λ q. c.in_ok-insert.ensures.updates.0 q))
