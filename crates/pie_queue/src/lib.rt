@@ -2,5 +2,7 @@
 #![tactic(auto)]
 
 mod candidates;
+#[cfg(test)]
+mod tests;
 
 pub use candidates::Candidates;
