@@ -1,1 +1,16 @@
+pub mod Answered
+pub mod ExprComplete
+pub mod ExprSound
+pub mod FunctionsComplete
+pub mod FunctionsSound
+pub mod Hits
+pub mod Nesting
+pub mod Patterns
+pub mod PieceLoop
 pub mod Ranks
+pub mod Readings
+pub mod Shorter
+pub mod Strength
+pub mod Turning
+pub mod TypesComplete
+pub mod TypesSound

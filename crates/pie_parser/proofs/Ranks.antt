@@ -4,7 +4,7 @@ use Rattle.pie_parser.specs.declared.chain.Level.{Level}
 use Rattle.pie_parser.specs.declared.chain.Level.TheVariants.{Or, And, Sum, Product}
 
 abbrev pub rank_of : Level → ℕ
-rank_of Or = 16
-rank_of And = 13
-rank_of Sum = 9
-rank_of Product = 6
+rank_of Or = 23
+rank_of And = 19
+rank_of Sum = 14
+rank_of Product = 10

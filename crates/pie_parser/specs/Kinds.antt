@@ -1,4 +1,7 @@
 -- The kind of a token, without its contents.
+use Rattle.std.specs.Prelude.{Bool}
+use denote.Enum.Bare.{sameb}
+use Rattle.pie_parser.specs.contracts.kind.Kind.{the_type}
 use Rattle.pie_lexer.specs.declared.token.TokenKind.{TokenKind}
 use Rattle.pie_lexer.specs.declared.token.TokenKind.TheVariants as tokens
 use Rattle.pie_parser.specs.declared.kind.Kind.{Kind}
@@ -62,3 +65,7 @@ kind_of_token tokens.Or = kinds.Or
 kind_of_token tokens.Question = kinds.Question
 kind_of_token tokens.Arrow = kinds.Arrow
 kind_of_token tokens.Dot = kinds.Dot
+
+-- two kinds are one
+abbrev pub is : Kind → Kind → Bool
+is k j = sameb the_type k j

@@ -1,22 +1,47 @@
 //! Reading blocks.
+ghost use Rattle.std.specs.Prelude.{◌≡◌, ◌<◌, [], ◌∷◌};
+ghost use Rattle.pie_parser.specs.Places.{Agrees};
+ghost use Rattle.pie_parser.specs.ExprReading as reads;
+ghost use Rattle.pie_parser.specs.ExprReading.{around};
+ghost use Rattle.pie_parser.specs.TreeView.{block_of};
+ghost use Rattle.pie_parser.specs.Pieces.{PieceTurns, pieces_of};
+
 use crate::error::Fault;
-use crate::kind::Kind;
+use crate::kind::{Kind, is};
 use crate::reader::{Reader, Room};
 use crate::{Block, Expr, Line};
 use std::alloc::Global;
 
+// A piece of a block: a line, or the expression that ends it.
+#[derive(Drop)]
+pub enum Piece {
+    Line(Line),
+    Last(Expr),
+}
+
+// The lines of a block, and the expression that ends it.
+#[derive(Drop)]
+pub struct Pieces {
+    pub lines: Vec<Line>,
+    pub last: Option<Expr>,
+}
+
 impl<'a> Reader<'a> {
     // block = "{" { "val" name "=" expr ";" | expr ";" } [ expr ] "}"
     #[cycle(expr)]
-    pub fn block(&mut self, alloc: Global, room: Room) -> Result<Block, Fault> {
+    pub fn block(&mut self, alloc: Global, room: Room) -> Result<Block, Fault>
+        ensures { Agrees block_of result self.new (reads.block (around room) self.old) }
+    {
         let at = self.start();
-        let inner = self.open(Kind::OpenBrace, room)?;
-        let mut lines = Vec::new(alloc);
-        let last = self.lines(alloc, inner, &mut lines)?;
+        self.open(Kind::OpenBrace, room.brackets)?;
+        let pieces = self.pieces(alloc, room)?;
         self.want(Kind::CloseBrace)?;
+        let end = self.past();
+        let lines = pieces.lines;
+        let last = pieces.last;
         Ok(Block {
             at,
-            end: self.past,
+            end,
             lines,
             last,
         })
@@ -24,41 +49,65 @@ impl<'a> Reader<'a> {
 
     // { "val" name "=" expr ";" | expr ";" } [ expr ]
     #[cycle(expr)]
-    fn lines(
-        &mut self,
-        alloc: Global,
-        room: Room,
-        lines: &mut Vec<Line>,
-    ) -> Result<Option<Expr>, Fault> {
-        for _ in 0..self.rest.len() {
-            match self.peek() {
-                Kind::CloseBrace => return Ok(None),
-                Kind::Val => {
-                    let line = self.val(alloc, room)?;
-                    lines.push(line)?;
+    #[tactic(auto, using(crate::proofs::PieceLoop::line_goes_on, crate::proofs::PieceLoop::last_ends, crate::proofs::PieceLoop::stops, crate::proofs::PieceLoop::fails, crate::proofs::PieceLoop::runs_out))]
+    fn pieces(&mut self, alloc: Global, room: Room) -> Result<Pieces, Fault>
+        requires { 0 < room.brackets }
+        ensures { Agrees pieces_of result self.new (reads.all_pieces (around room) self.old) }
+    {
+        let mut lines = Vec::new(alloc);
+        for _ in 0..self.left() {
+            match self.piece(alloc, room)? {
+                Some(Piece::Line(line)) => lines.push(line)?,
+                Some(Piece::Last(value)) => {
+                    let last = Some(value);
+                    return Ok(Pieces { lines, last });
                 }
-                _ => {
-                    let value = self.expr(alloc, room)?;
-                    if self.peek() != Kind::Semicolon {
-                        return Ok(Some(value));
-                    }
-                    self.pass();
-                    lines.push(Line::Expr(value))?;
+                None => {
+                    let last = None;
+                    return Ok(Pieces { lines, last });
                 }
             }
         }
-        Ok(None)
+        let last = None;
+        Ok(Pieces { lines, last })
+    }
+
+    // A line of a block, or the expression that ends it; nothing at its closing brace.
+    #[cycle(expr)]
+    fn piece(&mut self, alloc: Global, room: Room) -> Result<Option<Piece>, Fault>
+        requires { 0 < room.brackets }
+        ensures { PieceTurns result self.old self.new (reads.piece (around room) self.old) }
+    {
+        match self.peek() {
+            Kind::CloseBrace => Ok(None),
+            Kind::Val => {
+                let line = self.val(alloc, room)?;
+                Ok(Some(Piece::Line(line)))
+            }
+            _ => {
+                let value = self.inner(alloc, room, false)?;
+                if is(self.peek(), Kind::Semicolon) {
+                    self.pass();
+                    return Ok(Some(Piece::Line(Line::Expr(value))));
+                }
+                Ok(Some(Piece::Last(value)))
+            }
+        }
     }
 
     // "val" name "=" expr ";"
     #[cycle(expr)]
-    fn val(&mut self, alloc: Global, room: Room) -> Result<Line, Fault> {
+    fn val(&mut self, alloc: Global, room: Room) -> Result<Line, Fault>
+        requires { 0 < room.brackets }
+        ensures { Agrees (λ l. l) result self.new (reads.val (around room) self.old) }
+    {
         let at = self.start();
         self.want(Kind::Val)?;
         let name = self.name()?;
         self.want(Kind::Assign)?;
-        let value = self.expr(alloc, room)?;
+        let value = self.inner(alloc, room, false)?;
         self.want(Kind::Semicolon)?;
-        Ok(Line::Val(at, self.past, name, value))
+        let end = self.past();
+        Ok(Line::Val(at, end, name, value))
     }
 }

@@ -1,6 +1,12 @@
 //! Reading calls and effects.
+ghost use Rattle.std.specs.Prelude.{◌≡◌, ◌<◌, [], ◌∷◌};
+ghost use Rattle.pie_parser.specs.Places.{Agrees};
+ghost use Rattle.pie_parser.specs.ExprReading as reads;
+ghost use Rattle.pie_parser.specs.ExprReading.{around};
+ghost use Rattle.pie_parser.specs.Tests.{effect_at};
+
 use crate::error::Fault;
-use crate::kind::Kind;
+use crate::kind::{Kind, is};
 use crate::reader::{Reader, Room};
 use crate::{CallKind, EffectKind, Expr, Form, Name};
 use std::alloc::Global;
@@ -8,18 +14,20 @@ use std::alloc::Global;
 impl<'a> Reader<'a> {
     // name | name "(" [ args ] ")"
     #[cycle(expr)]
-    pub fn name_or_call(&mut self, alloc: Global, room: Room) -> Result<Expr, Fault> {
+    pub fn name_or_call(&mut self, alloc: Global, room: Room) -> Result<Expr, Fault>
+        ensures { Agrees (λ t. t) result self.new (reads.name_or_call (around room) self.old) }
+    {
         let name = self.name()?;
         let at = name.at;
-        if self.peek() != Kind::OpenRound {
-            let end = name.end;
-            let form = Form::Name(name.text);
-            return Ok(Expr { at, end, form });
+        if is(self.peek(), Kind::OpenRound) {
+            return self.call(alloc, room, at, CallKind::Plain, name);
         }
-        self.call(alloc, room, at, CallKind::Plain, name)
+        let end = name.end;
+        let form = Form::Name(name.text);
+        Ok(Expr { at, end, form })
     }
 
-    // "(" [ args ] ")", behind the name of a call
+    // The arguments of a call that began at a place.
     #[cycle(expr)]
     fn call(
         &mut self,
@@ -28,75 +36,74 @@ impl<'a> Reader<'a> {
         at: usize,
         kind: CallKind,
         name: Name,
-    ) -> Result<Expr, Fault> {
+    ) -> Result<Expr, Fault>
+        ensures { Agrees (λ t. t) result self.new (reads.call (around room) at kind name self.old) }
+    {
         let args = self.arguments(alloc, room)?;
+        let end = self.past();
         let form = Form::Call(kind, name, args);
-        Ok(Expr {
-            at,
-            end: self.past,
-            form,
-        })
+        Ok(Expr { at, end, form })
     }
 
     // "(" [ expr { "," expr } ] ")"
     #[cycle(expr)]
-    fn arguments(&mut self, alloc: Global, room: Room) -> Result<Vec<Expr>, Fault> {
-        let inner = self.open(Kind::OpenRound, room)?;
-        let mut args = Vec::new(alloc);
-        if self.peek() == Kind::CloseRound {
+    fn arguments(&mut self, alloc: Global, room: Room) -> Result<Vec<Expr>, Fault>
+        ensures { Agrees (λ v. v.items) result self.new (reads.arguments (around room) self.old) }
+    {
+        self.open(Kind::OpenRound, room.brackets)?;
+        if is(self.peek(), Kind::CloseRound) {
             self.pass();
-            return Ok(args);
+            return Ok(Vec::new(alloc));
         }
-        let first = self.expr(alloc, inner)?;
-        args.push(first)?;
-        self.more(alloc, inner, &mut args)?;
+        let first = self.inner(alloc, room, false)?;
+        let args = self.listed(alloc, room, first)?;
         self.want(Kind::CloseRound)?;
         Ok(args)
     }
 
     // ("path" | "exists" | "digest" | "list") "(" expr ")"
     #[cycle(expr)]
-    pub fn effect(&mut self, alloc: Global, room: Room) -> Result<Expr, Fault> {
+    pub fn effect(&mut self, alloc: Global, room: Room) -> Result<Expr, Fault>
+        ensures { Agrees (λ t. t) result self.new (reads.effect (around room) self.old) }
+    {
         let at = self.start();
         let Some(kind) = effect_of(self.peek()) else {
             return Err(Fault::Expected);
         };
         self.pass();
-        let inner = self.open(Kind::OpenRound, room)?;
-        let operand = Box::new(alloc, self.expr(alloc, inner)?)?;
+        self.open(Kind::OpenRound, room.brackets)?;
+        let operand = self.inner(alloc, room, false)?;
         self.want(Kind::CloseRound)?;
-        let form = Form::Effect(kind, operand);
-        Ok(Expr {
-            at,
-            end: self.past,
-            form,
-        })
+        let end = self.past();
+        let form = Form::Effect(kind, Box::new(alloc, operand)?);
+        Ok(Expr { at, end, form })
     }
 
     // "read" "(" expr [ "by" ("hash" | "mark") ] ")"
     #[cycle(expr)]
-    pub fn read(&mut self, alloc: Global, room: Room) -> Result<Expr, Fault> {
+    pub fn read(&mut self, alloc: Global, room: Room) -> Result<Expr, Fault>
+        ensures { Agrees (λ t. t) result self.new (reads.read (around room) self.old) }
+    {
         let at = self.start();
         self.want(Kind::Read)?;
-        let inner = self.open(Kind::OpenRound, room)?;
-        let path = Box::new(alloc, self.expr(alloc, inner.for_read())?)?;
+        self.open(Kind::OpenRound, room.brackets)?;
+        let path = self.inner(alloc, room, true)?;
         let kind = self.by_of_read()?;
         self.want(Kind::CloseRound)?;
-        let form = Form::Effect(kind, path);
-        Ok(Expr {
-            at,
-            end: self.past,
-            form,
-        })
+        let end = self.past();
+        let form = Form::Effect(kind, Box::new(alloc, path)?);
+        Ok(Expr { at, end, form })
     }
 
     // [ "by" ("hash" | "mark") ], where a `require` in front may have passed a `by mark`
-    fn by_of_read(&mut self) -> Result<EffectKind, Fault> {
+    fn by_of_read(&mut self) -> Result<EffectKind, Fault>
+        ensures { Agrees (λ k. k) result self.new (reads.by_of_read self.old) }
+    {
         if self.marked {
             self.marked = false;
             return Ok(EffectKind::ReadByMark);
         }
-        if self.peek() != Kind::By {
+        if !is(self.peek(), Kind::By) {
             return Ok(EffectKind::Read);
         }
         self.pass();
@@ -111,67 +118,66 @@ impl<'a> Reader<'a> {
 
     // "write" "(" expr "," expr ")"
     #[cycle(expr)]
-    pub fn write(&mut self, alloc: Global, room: Room) -> Result<Expr, Fault> {
+    pub fn write(&mut self, alloc: Global, room: Room) -> Result<Expr, Fault>
+        ensures { Agrees (λ t. t) result self.new (reads.write (around room) self.old) }
+    {
         let at = self.start();
         self.want(Kind::Write)?;
-        let inner = self.open(Kind::OpenRound, room)?;
-        let path = Box::new(alloc, self.expr(alloc, inner)?)?;
+        self.open(Kind::OpenRound, room.brackets)?;
+        let path = self.inner(alloc, room, false)?;
         self.want(Kind::Comma)?;
-        let value = Box::new(alloc, self.expr(alloc, inner)?)?;
+        let value = self.inner(alloc, room, false)?;
         self.want(Kind::CloseRound)?;
-        let form = Form::Write(path, value);
-        Ok(Expr {
-            at,
-            end: self.past,
-            form,
-        })
+        let end = self.past();
+        let form = Form::Write(Box::new(alloc, path)?, Box::new(alloc, value)?);
+        Ok(Expr { at, end, form })
     }
 
     // "fail" type "(" expr ")"
     #[cycle(expr)]
-    pub fn fail(&mut self, alloc: Global, room: Room) -> Result<Expr, Fault> {
+    pub fn fail(&mut self, alloc: Global, room: Room) -> Result<Expr, Fault>
+        ensures { Agrees (λ t. t) result self.new (reads.fail (around room) self.old) }
+    {
         let at = self.start();
         self.want(Kind::Fail)?;
-        let kind = self.written_type(alloc, room)?;
-        let inner = self.open(Kind::OpenRound, room)?;
-        let text = Box::new(alloc, self.expr(alloc, inner)?)?;
+        let kind = self.written_type(alloc, room.brackets)?;
+        self.open(Kind::OpenRound, room.brackets)?;
+        let text = self.inner(alloc, room, false)?;
         self.want(Kind::CloseRound)?;
-        let form = Form::Fail(kind, text);
-        Ok(Expr {
-            at,
-            end: self.past,
-            form,
-        })
+        let end = self.past();
+        let form = Form::Fail(kind, Box::new(alloc, text)?);
+        Ok(Expr { at, end, form })
     }
 
     // "require" name "(" [ args ] ")" [ "by" "hash" ]
     #[cycle(expr)]
-    pub fn require(&mut self, alloc: Global, room: Room) -> Result<Expr, Fault> {
+    pub fn require(&mut self, alloc: Global, room: Room) -> Result<Expr, Fault>
+        ensures { Agrees (λ t. t) result self.new (reads.require (around room) self.old) }
+    {
         let at = self.start();
         self.want(Kind::Require)?;
         let name = self.name()?;
         let args = self.arguments(alloc, room)?;
-        let kind = self.by_of_require(room)?;
+        let kind = self.by_of_require(room.in_read)?;
+        let end = self.past();
         let form = Form::Call(kind, name, args);
-        Ok(Expr {
-            at,
-            end: self.past,
-            form,
-        })
+        Ok(Expr { at, end, form })
     }
 
     // [ "by" "hash" ]; a `by mark` is passed where it belongs to the `read` around
-    fn by_of_require(&mut self, room: Room) -> Result<CallKind, Fault> {
-        if self.peek() != Kind::By {
+    fn by_of_require(&mut self, in_read: bool) -> Result<CallKind, Fault>
+        ensures { Agrees (λ k. k) result self.new (reads.by_of_require in_read self.old) }
+    {
+        if !is(self.peek(), Kind::By) {
             return Ok(CallKind::Require);
         }
-        let past = self.past;
+        let past = self.past();
         self.pass();
-        if self.peek() == Kind::Hash {
+        if is(self.peek(), Kind::Hash) {
             self.pass();
             return Ok(CallKind::RequireByHash);
         }
-        if !room.in_read {
+        if !in_read {
             return Err(Fault::Expected);
         }
         self.want(Kind::Mark)?;
@@ -182,7 +188,9 @@ impl<'a> Reader<'a> {
 
     // "run" name "(" [ args ] ")"
     #[cycle(expr)]
-    pub fn run(&mut self, alloc: Global, room: Room) -> Result<Expr, Fault> {
+    pub fn run(&mut self, alloc: Global, room: Room) -> Result<Expr, Fault>
+        ensures { Agrees (λ t. t) result self.new (reads.run (around room) self.old) }
+    {
         let at = self.start();
         self.want(Kind::Run)?;
         let name = self.name()?;
@@ -191,7 +199,9 @@ impl<'a> Reader<'a> {
 }
 
 // The keyword before one expression that is this token.
-fn effect_of(kind: Kind) -> Option<EffectKind> {
+fn effect_of(kind: Kind) -> Option<EffectKind>
+    ensures { result ≡ effect_at kind }
+{
     match kind {
         Kind::Path => Some(EffectKind::Path),
         Kind::Exists => Some(EffectKind::Exists),

@@ -1,6 +1,6 @@
 //! The kind of a token, without its contents.
 ghost use Rattle.std.specs.Prelude.{◌≡◌};
-ghost use Rattle.pie_parser.specs.Kinds.{kind_of_token};
+ghost use Rattle.pie_parser.specs.Kinds.{kind_of_token, is};
 
 use pie_lexer::TokenKind;
 
@@ -131,4 +131,11 @@ pub fn kind_of(token: &TokenKind) -> Kind
         TokenKind::Arrow => Kind::Arrow,
         TokenKind::Dot => Kind::Dot,
     }
+}
+
+// Whether two kinds are one.
+pub fn is(kind: Kind, other: Kind) -> bool
+    ensures { result ≡ is kind other }
+{
+    kind == other
 }

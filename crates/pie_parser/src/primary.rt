@@ -1,14 +1,23 @@
 //! Reading what operators stand on: literals, names, brackets and conditions.
+ghost use Rattle.std.specs.Prelude.{◌≡◌, ◌<◌, [], ◌∷◌};
+ghost use Rattle.pie_parser.specs.Places.{Agrees};
+ghost use Rattle.pie_parser.specs.ExprReading as reads;
+ghost use Rattle.pie_parser.specs.ExprReading.{around};
+ghost use Rattle.pie_parser.specs.Turns.{Turns};
+
 use crate::error::Fault;
-use crate::kind::Kind;
+use crate::kind::{Kind, is};
 use crate::reader::{Reader, Room};
 use crate::{Expr, Form, Literal};
 use pie_lexer::TokenKind;
 use std::alloc::Global;
 
 impl<'a> Reader<'a> {
+    // prim
     #[cycle(expr)]
-    pub fn primary(&mut self, alloc: Global, room: Room) -> Result<Expr, Fault> {
+    pub fn primary(&mut self, alloc: Global, room: Room) -> Result<Expr, Fault>
+        ensures { Agrees (λ t. t) result self.new (reads.primary (around room) self.old) }
+    {
         match self.peek() {
             Kind::Name => self.name_or_call(alloc, room),
             Kind::Null => self.null(alloc, room),
@@ -27,20 +36,21 @@ impl<'a> Reader<'a> {
     }
 
     // int | text | "true" | "false" | "unit"
-    fn literal(&mut self) -> Result<Expr, Fault> {
+    fn literal(&mut self) -> Result<Expr, Fault>
+        ensures { Agrees (λ t. t) result self.new (reads.literal self.old) }
+    {
         let at = self.start();
         let literal = self.literal_here()?;
         self.pass();
+        let end = self.past();
         let form = Form::Literal(literal);
-        Ok(Expr {
-            at,
-            end: self.past,
-            form,
-        })
+        Ok(Expr { at, end, form })
     }
 
     // The literal that is the next token.
-    fn literal_here(&self) -> Result<Literal, Fault> {
+    fn literal_here(&self) -> Result<Literal, Fault>
+        ensures { Agrees (λ l. l) result self.now (reads.literal_here self.now) }
+    {
         if self.marked {
             return Err(Fault::Expected);
         }
@@ -58,132 +68,146 @@ impl<'a> Reader<'a> {
     }
 
     // "null" plain
-    fn null(&mut self, alloc: Global, room: Room) -> Result<Expr, Fault> {
+    fn null(&mut self, alloc: Global, room: Room) -> Result<Expr, Fault>
+        ensures { Agrees (λ t. t) result self.new (reads.null (around room) self.old) }
+    {
         let at = self.start();
         self.want(Kind::Null)?;
-        let form = Form::Null(self.plain_type(alloc, room)?);
-        Ok(Expr {
-            at,
-            end: self.past,
-            form,
-        })
+        let kind = self.plain_type(alloc, room.brackets)?;
+        let end = self.past();
+        let form = Form::Null(kind);
+        Ok(Expr { at, end, form })
     }
 
     // "empty" type
-    fn empty(&mut self, alloc: Global, room: Room) -> Result<Expr, Fault> {
+    fn empty(&mut self, alloc: Global, room: Room) -> Result<Expr, Fault>
+        ensures { Agrees (λ t. t) result self.new (reads.empty (around room) self.old) }
+    {
         let at = self.start();
         self.want(Kind::Empty)?;
-        let form = Form::Empty(self.written_type(alloc, room)?);
-        Ok(Expr {
-            at,
-            end: self.past,
-            form,
-        })
+        let kind = self.written_type(alloc, room.brackets)?;
+        let end = self.past();
+        let form = Form::Empty(kind);
+        Ok(Expr { at, end, form })
     }
 
     // "(" expr ")" | "(" expr "," expr { "," expr } ")"
     #[cycle(expr)]
-    fn rounds(&mut self, alloc: Global, room: Room) -> Result<Expr, Fault> {
+    fn rounds(&mut self, alloc: Global, room: Room) -> Result<Expr, Fault>
+        ensures { Agrees (λ t. t) result self.new (reads.rounds (around room) self.old) }
+    {
         let at = self.start();
-        let inner = self.open(Kind::OpenRound, room)?;
-        let first = self.expr(alloc, inner)?;
-        if self.peek() != Kind::Comma {
+        self.open(Kind::OpenRound, room.brackets)?;
+        let first = self.inner(alloc, room, false)?;
+        if !is(self.peek(), Kind::Comma) {
             self.want(Kind::CloseRound)?;
             return Ok(first);
         }
-        let mut items = Vec::new(alloc);
-        items.push(first)?;
-        self.more(alloc, inner, &mut items)?;
+        let items = self.listed(alloc, room, first)?;
         self.want(Kind::CloseRound)?;
+        let end = self.past();
         let form = Form::Tuple(items);
-        Ok(Expr {
-            at,
-            end: self.past,
-            form,
-        })
+        Ok(Expr { at, end, form })
     }
 
-    // { "," expr }
+    // { "," expr }, behind a first
     #[cycle(expr)]
-    pub fn more(&mut self, alloc: Global, room: Room, items: &mut Vec<Expr>) -> Result<(), Fault> {
-        for _ in 0..self.rest.len() {
-            if self.peek() != Kind::Comma {
-                return Ok(());
-            }
-            self.pass();
-            let item = self.expr(alloc, room)?;
+    #[tactic(auto, using(crate::proofs::Turning::goes_on, crate::proofs::Turning::stops, crate::proofs::Turning::fails, crate::proofs::Turning::runs_out))]
+    pub fn listed(&mut self, alloc: Global, room: Room, first: Expr) -> Result<Vec<Expr>, Fault>
+        requires { 0 < room.brackets }
+        ensures { Agrees (λ v. v.items) result self.new (reads.listed (around room) first self.old) }
+    {
+        let mut items = Vec::new(alloc);
+        items.push(first)?;
+        for _ in 0..self.left() {
+            let Some(item) = self.another(alloc, room)? else {
+                return Ok(items);
+            };
             items.push(item)?;
         }
-        Ok(())
+        Ok(items)
+    }
+
+    // "," expr
+    #[cycle(expr)]
+    fn another(&mut self, alloc: Global, room: Room) -> Result<Option<Expr>, Fault>
+        requires { 0 < room.brackets }
+        ensures { Turns result self.old self.new (reads.another (around room) self.old) }
+    {
+        if !is(self.peek(), Kind::Comma) {
+            return Ok(None);
+        }
+        self.pass();
+        let item = self.inner(alloc, room, false)?;
+        Ok(Some(item))
     }
 
     // "[" expr { "," expr } "]" | "[" expr "for" name "in" expr "]"
     #[cycle(expr)]
-    fn squares(&mut self, alloc: Global, room: Room) -> Result<Expr, Fault> {
+    fn squares(&mut self, alloc: Global, room: Room) -> Result<Expr, Fault>
+        ensures { Agrees (λ t. t) result self.new (reads.squares (around room) self.old) }
+    {
         let at = self.start();
-        let inner = self.open(Kind::OpenSquare, room)?;
-        let first = self.expr(alloc, inner)?;
-        if self.peek() == Kind::For {
-            return self.each(alloc, inner, at, first);
+        self.open(Kind::OpenSquare, room.brackets)?;
+        let first = self.inner(alloc, room, false)?;
+        if is(self.peek(), Kind::For) {
+            return self.each(alloc, room, at, first);
         }
-        let mut items = Vec::new(alloc);
-        items.push(first)?;
-        self.more(alloc, inner, &mut items)?;
+        let items = self.listed(alloc, room, first)?;
         self.want(Kind::CloseSquare)?;
+        let end = self.past();
         let form = Form::List(items);
-        Ok(Expr {
-            at,
-            end: self.past,
-            form,
-        })
+        Ok(Expr { at, end, form })
     }
 
     // "for" name "in" expr "]", behind the item of a comprehension
     #[cycle(expr)]
-    fn each(&mut self, alloc: Global, room: Room, at: usize, item: Expr) -> Result<Expr, Fault> {
+    fn each(&mut self, alloc: Global, room: Room, at: usize, item: Expr) -> Result<Expr, Fault>
+        requires { 0 < room.brackets }
+        ensures { Agrees (λ t. t) result self.new (reads.each (around room) at item self.old) }
+    {
         self.want(Kind::For)?;
         let name = self.name()?;
         self.want(Kind::In)?;
-        let list = self.expr(alloc, room)?;
+        let list = self.inner(alloc, room, false)?;
         self.want(Kind::CloseSquare)?;
+        let end = self.past();
         let form = Form::Each(Box::new(alloc, item)?, name, Box::new(alloc, list)?);
-        Ok(Expr {
-            at,
-            end: self.past,
-            form,
-        })
+        Ok(Expr { at, end, form })
     }
 
     // "if" expr block [ "else" block ]
     #[cycle(expr)]
-    fn condition(&mut self, alloc: Global, room: Room) -> Result<Expr, Fault> {
+    fn condition(&mut self, alloc: Global, room: Room) -> Result<Expr, Fault>
+        ensures { Agrees (λ t. t) result self.new (reads.condition (around room) self.old) }
+    {
         let at = self.start();
         if room.conditions == 0 {
             return Err(Fault::OutOfMemory);
         }
         self.want(Kind::If)?;
-        let inner = Room {
-            brackets: room.brackets,
-            conditions: room.conditions - 1,
-            in_read: false,
-        };
-        let test = Box::new(alloc, self.expr(alloc, inner)?)?;
-        let then = Box::new(alloc, self.block(alloc, room)?)?;
-        if self.peek() != Kind::Else {
+        let test = self.test(alloc, room)?;
+        self.branches(alloc, room, at, test)
+    }
+
+    // block [ "else" block ], behind the test of a condition
+    #[cycle(expr)]
+    fn branches(&mut self, alloc: Global, room: Room, at: usize, test: Expr) -> Result<Expr, Fault>
+        ensures { Agrees (λ t. t) result self.new (reads.branches (around room) at test self.old) }
+    {
+        let test = Box::new(alloc, test)?;
+        let then = self.block(alloc, room)?;
+        let then = Box::new(alloc, then)?;
+        if !is(self.peek(), Kind::Else) {
+            let end = self.past();
             let form = Form::If(test, then, None);
-            return Ok(Expr {
-                at,
-                end: self.past,
-                form,
-            });
+            return Ok(Expr { at, end, form });
         }
         self.pass();
-        let otherwise = Box::new(alloc, self.block(alloc, room)?)?;
+        let otherwise = self.block(alloc, room)?;
+        let otherwise = Box::new(alloc, otherwise)?;
+        let end = self.past();
         let form = Form::If(test, then, Some(otherwise));
-        Ok(Expr {
-            at,
-            end: self.past,
-            form,
-        })
+        Ok(Expr { at, end, form })
     }
 }

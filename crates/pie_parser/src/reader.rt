@@ -1,10 +1,13 @@
 //! A reader over the tokens that are left.
-ghost use Rattle.std.specs.Prelude.{◌≡◌, ◌+◌, IfOk};
+ghost use Rattle.std.specs.Prelude.{◌≡◌, ◌<◌, length, OnOk};
+ghost use Rattle.pie_parser.specs.Places as places;
+ghost use Rattle.pie_parser.specs.Places.{Agrees};
 
 use crate::error::Fault;
-use crate::kind::{Kind, kind_of};
+use crate::kind::{Kind, is, kind_of};
 use crate::{Index, Name};
 use pie_lexer::{Token, TokenKind};
+use std::marker::Model;
 
 // How much may still be opened, and whether a `by mark` here belongs to a `read` around.
 #[derive(Clone, Copy)]
@@ -12,20 +15,6 @@ pub struct Room {
     pub brackets: u32,
     pub conditions: u32,
     pub in_read: bool,
-}
-
-impl Room {
-    // The same, for what a `read` takes.
-    pub fn for_read(self) -> Room
-        ensures brackets { result.brackets ≡ self.brackets }
-        ensures conditions { result.conditions ≡ self.conditions }
-    {
-        Room {
-            brackets: self.brackets,
-            conditions: self.conditions,
-            in_read: true,
-        }
-    }
 }
 
 // The tokens that are left, and the end of the one before. After an error it stands where the error is.
@@ -37,9 +26,19 @@ pub struct Reader<'a> {
     pub marked: bool,
 }
 
+impl<'a> Model for Reader<'a> {
+    ghost use Rattle.pie_parser.specs.At.{At};
+
+    ghost Value = { At };
+
+    ghost view = { λ r. record { past = r.past; rest = r.rest.now; marked = r.marked } };
+}
+
 impl<'a> Reader<'a> {
     // The kind of the next token.
-    pub fn peek(&self) -> Kind {
+    pub fn peek(&self) -> Kind
+        ensures { result ≡ places.next self.now }
+    {
         if self.marked {
             return Kind::Marked;
         }
@@ -50,15 +49,33 @@ impl<'a> Reader<'a> {
     }
 
     // Where the next token begins; behind the last token, where that one ends.
-    pub fn start(&self) -> usize {
+    pub fn start(&self) -> usize
+        ensures { result ≡ places.start self.now }
+    {
         match self.rest {
             [token, ..] => token.at,
             [] => self.past,
         }
     }
 
+    // The end of the token before.
+    pub fn past(&self) -> usize
+        ensures { result ≡ self.now.past }
+    {
+        self.past
+    }
+
+    // How many tokens are left.
+    pub fn left(&self) -> usize
+        ensures { result ≡ length self.now.rest }
+    {
+        self.rest.len()
+    }
+
     // Goes past the next token.
-    pub fn pass(&mut self) {
+    pub fn pass(&mut self)
+        ensures { self.new ≡ places.passed self.old }
+    {
         if let [token, rest @ ..] = self.rest {
             self.past = token.end;
             self.rest = rest;
@@ -66,8 +83,10 @@ impl<'a> Reader<'a> {
     }
 
     // Goes past a token of this kind.
-    pub fn want(&mut self, kind: Kind) -> Result<(), Fault> {
-        if self.peek() != kind {
+    pub fn want(&mut self, kind: Kind) -> Result<(), Fault>
+        ensures { Agrees (λ _. places.done) result self.new (places.want kind self.old) }
+    {
+        if !is(self.peek(), kind) {
             return Err(Fault::Expected);
         }
         self.pass();
@@ -75,26 +94,24 @@ impl<'a> Reader<'a> {
     }
 
     // Goes past an opening bracket of this kind, inside which there is less room.
-    pub fn open(&mut self, kind: Kind, room: Room) -> Result<Room, Fault>
-        ensures brackets { IfOk result (λ inner. inner.brackets + 1 ≡ room.brackets) }
-        ensures conditions { IfOk result (λ inner. inner.conditions ≡ room.conditions) }
+    pub fn open(&mut self, kind: Kind, room: u32) -> Result<(), Fault>
+        ensures opened { Agrees (λ _. places.done) result self.new (places.open_bracket kind room self.old) }
+        ensures room { OnOk result (0 < room) }
     {
-        if self.peek() != kind {
+        if !is(self.peek(), kind) {
             return Err(Fault::Expected);
         }
-        if room.brackets == 0 {
+        if room == 0 {
             return Err(Fault::TooDeep);
         }
         self.pass();
-        Ok(Room {
-            brackets: room.brackets - 1,
-            conditions: room.conditions,
-            in_read: false,
-        })
+        Ok(())
     }
 
     // A name.
-    pub fn name(&mut self) -> Result<Name, Fault> {
+    pub fn name(&mut self) -> Result<Name, Fault>
+        ensures { Agrees (λ n. n) result self.new (places.name self.old) }
+    {
         if self.marked {
             return Err(Fault::Expected);
         }
@@ -115,7 +132,9 @@ impl<'a> Reader<'a> {
     }
 
     // The number of a projection.
-    pub fn index(&mut self) -> Result<Index, Fault> {
+    pub fn index(&mut self) -> Result<Index, Fault>
+        ensures { Agrees (λ n. n) result self.new (places.index self.old) }
+    {
         if self.marked {
             return Err(Fault::Expected);
         }

@@ -12,6 +12,7 @@ pub struct Pipeline {
 }
 
 /// A function and the bytes that it takes, from `func` to the end of its body.
+/// Contracts see a plain tree.
 #[derive(Drop)]
 pub struct Function {
     pub at: usize,
@@ -20,6 +21,19 @@ pub struct Function {
     pub params: Vec<Param>,
     pub result: Type,
     pub body: Block,
+}
+
+impl Model for Function {
+    ghost use Rattle.pie_parser.specs.FunctionTrees.{FunctionTree};
+    ghost use Rattle.pie_parser.specs.FunctionCodes.{coded_function};
+
+    ghost Value = { FunctionTree };
+
+    ghost coded = { coded_function };
+
+    ghost use Rattle.pie_parser.specs.TreeView.{block_of};
+
+    ghost view = { λ f. record { at = f.at; end = f.end; name = f.name; params = f.params.items; result = f.result; body = block_of f.body } };
 }
 
 /// A parameter and the bytes that it takes, from its name to the end of its type.

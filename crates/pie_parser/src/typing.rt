@@ -1,31 +1,37 @@
 //! Reading types.
+ghost use Rattle.std.specs.Prelude.{◌≡◌, ◌<◌, [], ◌∷◌};
+ghost use Rattle.pie_parser.specs.Places.{Agrees};
+ghost use Rattle.pie_parser.specs.Turns.{Turns, all_behind};
+ghost use Rattle.pie_parser.specs.TypeReading as reads;
+
 use crate::error::Fault;
-use crate::kind::Kind;
-use crate::reader::{Reader, Room};
+use crate::kind::{Kind, is};
+use crate::reader::Reader;
 use crate::{PlainType, Type, TypeForm};
 use std::alloc::Global;
 
 impl<'a> Reader<'a> {
-    // type = plain [ "?" ]
+    // type = plain [ "?" ], where so many brackets may be opened still
     #[cycle(typing)]
-    pub fn written_type(&mut self, alloc: Global, room: Room) -> Result<Type, Fault> {
+    pub fn written_type(&mut self, alloc: Global, room: u32) -> Result<Type, Fault>
+        ensures { Agrees (λ t. t) result self.new (reads.written_type room (reads.inner_type room) self.old) }
+    {
         let at = self.start();
         let plain = self.plain_type(alloc, room)?;
-        if self.peek() != Kind::Question {
+        if !is(self.peek(), Kind::Question) {
             return Ok(plain);
         }
         self.pass();
+        let end = self.past();
         let form = TypeForm::Nullable(Box::new(alloc, plain)?);
-        Ok(Type {
-            at,
-            end: self.past,
-            form,
-        })
+        Ok(Type { at, end, form })
     }
 
     // plain = "unit" | "bool" | "int" | "text" | "path" | name | "[" type "]" | "(" type "," type { "," type } ")"
     #[cycle(typing)]
-    pub fn plain_type(&mut self, alloc: Global, room: Room) -> Result<Type, Fault> {
+    pub fn plain_type(&mut self, alloc: Global, room: u32) -> Result<Type, Fault>
+        ensures { Agrees (λ t. t) result self.new (reads.plain_type room (reads.inner_type room) self.old) }
+    {
         match self.peek() {
             Kind::OpenSquare => self.list_type(alloc, room),
             Kind::OpenRound => self.tuple_type(alloc, room),
@@ -34,7 +40,10 @@ impl<'a> Reader<'a> {
         }
     }
 
-    fn named_type(&mut self) -> Result<Type, Fault> {
+    // name
+    fn named_type(&mut self) -> Result<Type, Fault>
+        ensures { Agrees (λ t. t) result self.new (reads.named_type self.old) }
+    {
         let name = self.name()?;
         let form = TypeForm::Named(name.text);
         Ok(Type {
@@ -44,76 +53,104 @@ impl<'a> Reader<'a> {
         })
     }
 
-    fn keyword_type(&mut self) -> Result<Type, Fault> {
+    // "unit" | "bool" | "int" | "text" | "path"
+    fn keyword_type(&mut self) -> Result<Type, Fault>
+        ensures { Agrees (λ t. t) result self.new (reads.keyword_type self.old) }
+    {
         let Some(plain) = plain_of(self.peek()) else {
             return Err(Fault::Expected);
         };
         let at = self.start();
         self.pass();
+        let end = self.past();
         let form = TypeForm::Plain(plain);
-        Ok(Type {
-            at,
-            end: self.past,
-            form,
-        })
+        Ok(Type { at, end, form })
     }
 
+    // A type inside a bracket.
     #[cycle(typing)]
-    fn list_type(&mut self, alloc: Global, room: Room) -> Result<Type, Fault> {
+    fn inner_type(&mut self, alloc: Global, room: u32) -> Result<Type, Fault>
+        requires { 0 < room }
+        ensures { Agrees (λ t. t) result self.new (reads.inner_type room self.old) }
+    {
+        self.written_type(alloc, room - 1)
+    }
+
+    // "[" type "]"
+    #[cycle(typing)]
+    fn list_type(&mut self, alloc: Global, room: u32) -> Result<Type, Fault>
+        ensures { Agrees (λ t. t) result self.new (reads.list_type room (reads.inner_type room) self.old) }
+    {
         let at = self.start();
-        let inner = self.open(Kind::OpenSquare, room)?;
-        let item = self.written_type(alloc, inner)?;
+        self.open(Kind::OpenSquare, room)?;
+        let item = self.inner_type(alloc, room)?;
         self.want(Kind::CloseSquare)?;
+        let end = self.past();
         let form = TypeForm::List(Box::new(alloc, item)?);
-        Ok(Type {
-            at,
-            end: self.past,
-            form,
-        })
+        Ok(Type { at, end, form })
     }
 
+    // "(" type "," type { "," type } ")"
     #[cycle(typing)]
-    fn tuple_type(&mut self, alloc: Global, room: Room) -> Result<Type, Fault> {
+    fn tuple_type(&mut self, alloc: Global, room: u32) -> Result<Type, Fault>
+        ensures { Agrees (λ t. t) result self.new (reads.tuple_type room (reads.inner_type room) self.old) }
+    {
         let at = self.start();
-        let inner = self.open(Kind::OpenRound, room)?;
-        let mut items = Vec::new(alloc);
-        let first = self.written_type(alloc, inner)?;
-        items.push(first)?;
+        self.open(Kind::OpenRound, room)?;
+        let first = self.inner_type(alloc, room)?;
         self.want(Kind::Comma)?;
-        let second = self.written_type(alloc, inner)?;
-        items.push(second)?;
-        self.more_types(alloc, inner, &mut items)?;
+        let second = self.inner_type(alloc, room)?;
+        let items = self.more_types(alloc, room, first, second)?;
         self.want(Kind::CloseRound)?;
+        let end = self.past();
         let form = TypeForm::Tuple(items);
-        Ok(Type {
-            at,
-            end: self.past,
-            form,
-        })
+        Ok(Type { at, end, form })
     }
 
-    // { "," type }
+    // { "," type }, behind two
     #[cycle(typing)]
+    #[tactic(auto, using(crate::proofs::Turning::goes_on, crate::proofs::Turning::stops, crate::proofs::Turning::fails, crate::proofs::Turning::runs_out))]
     fn more_types(
         &mut self,
         alloc: Global,
-        room: Room,
-        items: &mut Vec<Type>,
-    ) -> Result<(), Fault> {
-        for _ in 0..self.rest.len() {
-            if self.peek() != Kind::Comma {
-                return Ok(());
-            }
-            self.pass();
-            let item = self.written_type(alloc, room)?;
+        room: u32,
+        first: Type,
+        second: Type,
+    ) -> Result<Vec<Type>, Fault>
+        requires { 0 < room }
+        ensures { Agrees (λ v. v.items) result self.new (all_behind (first ∷ second ∷ []) (reads.another_type room (reads.inner_type room)) self.old) }
+    {
+        let mut items = Vec::new(alloc);
+        items.push(first)?;
+        items.push(second)?;
+        for _ in 0..self.left() {
+            let Some(item) = self.another_type(alloc, room)? else {
+                return Ok(items);
+            };
             items.push(item)?;
         }
-        Ok(())
+        Ok(items)
+    }
+
+    // "," type
+    #[cycle(typing)]
+    fn another_type(&mut self, alloc: Global, room: u32) -> Result<Option<Type>, Fault>
+        requires { 0 < room }
+        ensures { Turns result self.old self.new (reads.another_type room (reads.inner_type room) self.old) }
+    {
+        if !is(self.peek(), Kind::Comma) {
+            return Ok(None);
+        }
+        self.pass();
+        let item = self.inner_type(alloc, room)?;
+        Ok(Some(item))
     }
 }
 
 // The type that is this keyword.
-fn plain_of(kind: Kind) -> Option<PlainType> {
+fn plain_of(kind: Kind) -> Option<PlainType>
+    ensures { result ≡ reads.plain_at kind }
+{
     match kind {
         Kind::UnitWord => Some(PlainType::Unit),
         Kind::BoolWord => Some(PlainType::Bool),
