@@ -1,2 +1,4 @@
 pub mod TakingLemmas
 pub mod Splitting
+pub mod LineLemmas
+pub mod ReadingLemmas

@@ -42,7 +42,18 @@ is_script_path path = is_path path && not (is_under_store path) && not (same_tex
 abbrev pub with_path : (List ℕ → Line) → List ℕ → Line
 with_path made path = cond (is_script_path path) (made path) (Wrong BadPath)
 
--- whether a line begins with a word
+-- what stands after a word at the front of a text
+abbrev pub after_word : List ℕ → List ℕ → Option (List ℕ)
+after_word [] text = Some text
+after_word (w ∷ word) [] = None
+after_word (w ∷ word) (b ∷ text) = cond (w == b) (after_word word text) None
+
+-- the line that a word makes of the path after it, or another line where the word isn't there
+abbrev pub with_word : (List ℕ → Line) → Option (List ℕ) → Line → Line
+with_word made None other = other
+with_word made (Some path) other = with_path made path
+
+-- whether a line begins with a byte
 abbrev pub has_word : List ℕ → List ℕ → Bool
 has_word word text = starts_with (λ a b. a == b) text word
 
@@ -51,13 +62,18 @@ abbrev pub content_line : List ℕ → Line
 content_line text =
     cond (has_word (codes "|") text) (Content (drop 1 text ++ 10 ∷ [])) (cond (has_word (codes ">") text) (Content (drop 1 text)) (Wrong BadWord))
 
--- a line of a script that is text
+-- a line of a script that is text: `put`, `del` or `change` and a path, `build`, or content
+abbrev pub build_line : List ℕ → Line
+build_line text = cond (same_text text (codes "build")) Build (content_line text)
+
+abbrev pub change_or : List ℕ → Line
+change_or text = with_word Change (after_word (codes "change ") text) (build_line text)
+
+abbrev pub del_or : List ℕ → Line
+del_or text = with_word Del (after_word (codes "del ") text) (change_or text)
+
 abbrev pub word_line : List ℕ → Line
-word_line text =
-    cond (has_word (codes "put ") text) (with_path Put (drop 4 text))
-    (cond (has_word (codes "del ") text) (with_path Del (drop 4 text))
-    (cond (has_word (codes "change ") text) (with_path Change (drop 7 text))
-    (cond (same_text text (codes "build")) Build (content_line text))))
+word_line text = with_word Put (after_word (codes "put ") text) (del_or text)
 
 -- a line of a script
 abbrev pub script_line : List ℕ → Line

@@ -1,12 +1,13 @@
 -- What reading one line or one path answers.
-use Rattle.std.specs.Prelude.{◌≡◌, ℕ, true, false, List, [], ◌∷◌, ◌++◌, drop, Some, Result, Ok, Err}
+use Rattle.std.specs.Prelude.{◌≡◌, ℕ, true, false, List, [], ◌∷◌, ◌++◌, drop, Option, Some, None, Result, Ok, Err}
+use denote.Ref.{Bor}
 use Rattle.std.specs.Str.{is_utf8}
 use Rattle.pie_base.specs.Path.{is_path}
 use Rattle.pie_script.specs.declared.fault.InputFault.{InputFault}
 use Rattle.pie_script.specs.declared.fault.InputFault.TheVariants as fault
 use Rattle.pie_script.specs.declared.line.Read.{Read}
 use Rattle.pie_script.specs.declared.line.Read.TheVariants as read
-use Rattle.pie_script.specs.Line.{Line, Blank, Content, Put, Del, Change, Build, is_script_path, content_line, word_line, script_line}
+use Rattle.pie_script.specs.Line.{Line, Blank, Content, Put, Del, Change, Build, is_script_path, script_line}
 use Rattle.pie_script.specs.Steps.{first_wrong}
 
 -- reading a text as a path
@@ -55,14 +56,11 @@ IsRead (Err (fault.BadPath at)) line text n = first_wrong n (line ∷ []) ≡ So
 IsRead (Err (fault.BadWord at)) line text n = first_wrong n (line ∷ []) ≡ Some (fault.BadWord at)
 IsRead (Err fault.TooLong) line text n = ⊥
 
--- reading a content line
-abbrev pub ContentRead : Result Read InputFault → List ℕ → ℕ → Type 0
-ContentRead result text n = IsRead result (content_line text) text n
-
--- reading a line that is text
-abbrev pub WordRead : Result Read InputFault → List ℕ → ℕ → Type 0
-WordRead result text n = IsRead result (word_line text) text n
-
 -- reading a line of a script
 abbrev pub LineRead : Result Read InputFault → List ℕ → ℕ → Type 0
 LineRead result text n = IsRead result (script_line text) text n
+
+-- what stands after a word, if the word is there
+abbrev pub StandsAfter : Option (Bor (List ℕ)) → Option (List ℕ) → Type 0
+StandsAfter None rest = rest ≡ None
+StandsAfter (Some found) rest = rest ≡ Some found.now

@@ -1,6 +1,8 @@
 //! What one line is.
-
-ghost use Rattle.pie_script.specs.LineReads.{PathNamed, ContentRead};
+ghost use Rattle.std.specs.Prelude.{◌≡◌, true};
+ghost use Rattle.pie_base.specs.Path.{is_path};
+ghost use Rattle.pie_script.specs.Line.{after_word, build_line, change_or, content_line, del_or, word_line};
+ghost use Rattle.pie_script.specs.LineReads.{IsRead, LineRead, PathNamed, PathRead, ScriptPathRead, StandsAfter};
 
 use crate::InputFault;
 use pie_base::{Path, PathError};
@@ -24,7 +26,9 @@ pub(crate) enum Read {
 }
 
 /// The path that a text is.
-pub(crate) fn path_in(alloc: Global, text: &[u8], line: u32) -> Result<Path, InputFault> {
+pub(crate) fn path_in(alloc: Global, text: &[u8], line: u32) -> Result<Path, InputFault>
+    ensures { PathRead result text.now line }
+{
     match str::from_utf8(text) {
         Ok(text) => named(alloc, text, line),
         Err(_) => Err(InputFault::NotText(line)),
@@ -44,30 +48,61 @@ fn named(alloc: Global, text: &str, line: u32) -> Result<Path, InputFault>
 }
 
 /// What a line of a script is.
-pub(crate) fn read_line(alloc: Global, text: &[u8], line: u32) -> Result<Read, InputFault> {
+pub(crate) fn read_line(alloc: Global, text: &[u8], line: u32) -> Result<Read, InputFault>
+    ensures { LineRead result text.now line }
+{
     if text.is_empty() {
         return Ok(Read::Blank);
     }
     match str::from_utf8(text) {
-        Ok(_) => read_word(alloc, text, line),
+        Ok(text) => read_put(alloc, text, line),
         Err(_) => Err(InputFault::NotText(line)),
     }
 }
 
-// A word and a path, the word `build`, or content.
-fn read_word(alloc: Global, text: &[u8], line: u32) -> Result<Read, InputFault> {
-    if text.starts_with(b"put ") {
-        let path = script_path(alloc, &text[4..], line)?;
-        return Ok(Read::Put(path));
+// `put` and a path, or any other line.
+fn read_put(alloc: Global, text: &str, line: u32) -> Result<Read, InputFault>
+    ensures { IsRead result (word_line text.now) text.now line }
+{
+    match after(text, "put ") {
+        Some(path) => match script_path(alloc, path, line) {
+            Ok(path) => Ok(Read::Put(path)),
+            Err(fault) => Err(fault),
+        },
+        None => read_del(alloc, text, line),
     }
-    if text.starts_with(b"del ") {
-        let path = script_path(alloc, &text[4..], line)?;
-        return Ok(Read::Del(path));
+}
+
+// `del` and a path, or any line but a put.
+fn read_del(alloc: Global, text: &str, line: u32) -> Result<Read, InputFault>
+    ensures { IsRead result (del_or text.now) text.now line }
+{
+    match after(text, "del ") {
+        Some(path) => match script_path(alloc, path, line) {
+            Ok(path) => Ok(Read::Del(path)),
+            Err(fault) => Err(fault),
+        },
+        None => read_change(alloc, text, line),
     }
-    if text.starts_with(b"change ") {
-        let path = script_path(alloc, &text[7..], line)?;
-        return Ok(Read::Change(path));
+}
+
+// `change` and a path, or `build`, or content.
+fn read_change(alloc: Global, text: &str, line: u32) -> Result<Read, InputFault>
+    ensures { IsRead result (change_or text.now) text.now line }
+{
+    match after(text, "change ") {
+        Some(path) => match script_path(alloc, path, line) {
+            Ok(path) => Ok(Read::Change(path)),
+            Err(fault) => Err(fault),
+        },
+        None => read_build(text.as_bytes(), line),
     }
+}
+
+// `build`, or content.
+fn read_build(text: &[u8], line: u32) -> Result<Read, InputFault>
+    ensures { IsRead result (build_line text.now) text.now line }
+{
     if text == b"build".as_slice() {
         return Ok(Read::Build);
     }
@@ -75,7 +110,7 @@ fn read_word(alloc: Global, text: &[u8], line: u32) -> Result<Read, InputFault> 
 }
 
 fn read_content(text: &[u8], line: u32) -> Result<Read, InputFault>
-    ensures { ContentRead result text.now line }
+    ensures { IsRead result (content_line text.now) text.now line }
 {
     if text.starts_with(b"|") {
         return Ok(Read::Content(true));
@@ -86,10 +121,19 @@ fn read_content(text: &[u8], line: u32) -> Result<Read, InputFault>
     Err(InputFault::BadWord(line))
 }
 
+// What stands after a word.
+fn after<'a>(text: &'a str, word: &str) -> Option<&'a str>
+    ensures { StandsAfter result (after_word word.now text.now) }
+{
+    text.strip_prefix(word)
+}
+
 // A path that a script may name.
-fn script_path(alloc: Global, text: &[u8], line: u32) -> Result<Path, InputFault> {
-    let path = path_in(alloc, text, line)?;
-    if path.under_store() || text == b"out".as_slice() {
+fn script_path(alloc: Global, text: &str, line: u32) -> Result<Path, InputFault>
+    ensures { ScriptPathRead result text.now line }
+{
+    let path = named(alloc, text, line)?;
+    if path.under_store() || text.as_bytes() == b"out".as_slice() {
         return Err(InputFault::BadPath(line));
     }
     Ok(path)

@@ -14,16 +14,18 @@ use std::marker::Model;
 use std::mem;
 
 /// The steps of a script, in their order. Rule: docs/FORMATS.md, "Scripts".
-pub fn read_script(alloc: Global, bytes: &[u8]) -> Result<Vec<Step>, InputFault> {
+pub fn read_script(alloc: Global, bytes: &[u8]) -> Result<Vec<Step>, InputFault>
+    ensures { Reads (λ found. map plain found.items) steps result (script_lines bytes.now) (length bytes.now) }
+{
     if bytes.len() > MAX_INPUT_BYTES {
         return Err(InputFault::TooLong);
     }
     let mut lines = Lines::new(bytes);
     let mut script = Script::new(alloc);
-    let mut line: u32 = 1;
+    let mut line = 1;
     while let Some(text) = lines.next_line() {
         script.take(alloc, text, line)?;
-        line = line.saturating_add(1);
+        line += 1;
     }
     script.close(alloc)?;
     Ok(script.into_steps())
@@ -74,29 +76,32 @@ impl Script {
     }
 
     // One more line is taken.
-    fn take(&mut self, alloc: Global, text: &[u8], line: u32) -> Result<(), InputFault> {
-        match read_line(alloc, text, line)? {
-            Read::Blank => Ok(()),
-            Read::Content(newline) => {
+    fn take(&mut self, alloc: Global, text: &[u8], line: u32) -> Result<(), InputFault>
+        ensures { ReadsOne result (placed_one (is_some self.old.under) (script_line text.now)) line (self.new ≡ taken (script_line text.now) self.old) }
+    {
+        match read_line(alloc, text, line) {
+            Ok(Read::Blank) => Ok(()),
+            Ok(Read::Content(newline)) => {
                 self.add(text, newline, line)?;
                 Ok(())
             }
-            Read::Put(path) => {
+            Ok(Read::Put(path)) => {
                 self.open(alloc, path)?;
                 Ok(())
             }
-            Read::Del(path) => {
+            Ok(Read::Del(path)) => {
                 self.push(alloc, Step::Del(path))?;
                 Ok(())
             }
-            Read::Change(path) => {
+            Ok(Read::Change(path)) => {
                 self.push(alloc, Step::Change(path))?;
                 Ok(())
             }
-            Read::Build => {
+            Ok(Read::Build) => {
                 self.push(alloc, Step::Build)?;
                 Ok(())
             }
+            Err(fault) => Err(fault),
         }
     }
 
