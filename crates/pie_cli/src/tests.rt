@@ -3,6 +3,7 @@ use crate::run;
 use pie_base::{Path, Status};
 use pie_files::{Files, MemFiles, MemSink, MemSource, SureFiles};
 use std::alloc::Global;
+use std::process::Abort;
 use std::test::Fail;
 
 const PIPELINE: &str =
@@ -147,24 +148,23 @@ fn each_refusal_is_told_and_changes_nothing(rt: HostRuntime) -> Result<(), Fail>
     Ok(())
 }
 
+fn prints_the_usage_line(rt: &impl Abort, alloc: Global, words: &[&str]) -> Result<(), Fail> {
+    let usage =
+        "usage: pie check, fresh [--json], build [--json], replay [--json], demo SEED SIZE, topdown [--json], scan, auto, cached\n";
+    let mut files = SureFiles::new(alloc);
+    let (status, text) = run_words(alloc, words, &mut files)?;
+    assert_eq!(rt; status, Status::Usage);
+    assert!(rt; text.as_str() == usage, "{text}");
+    assert!(rt; files.log().is_empty());
+    Ok(())
+}
+
 #[test]
 fn other_words_print_the_usage_line(rt: HostRuntime) -> Result<(), Fail> {
     let alloc = rt.alloc();
-    let usage =
-        "usage: pie check, fresh [--json], build [--json], replay [--json], demo SEED SIZE, topdown [--json], scan, auto, cached\n";
-    let cases = [
-        ["frob", "x"].as_slice(),
-        ["fresh", "fresh"].as_slice(),
-        [].as_slice(),
-    ];
-    for words in cases {
-        let mut files = SureFiles::new(alloc);
-        let (status, text) = run_words(alloc, words, &mut files)?;
-        assert_eq!(rt; status, Status::Usage);
-        assert!(rt; text.as_str() == usage, "{text}");
-        assert!(rt; files.log().is_empty());
-    }
-    Ok(())
+    prints_the_usage_line(&rt, alloc, &["frob", "x"])?;
+    prints_the_usage_line(&rt, alloc, &["fresh", "fresh"])?;
+    prints_the_usage_line(&rt, alloc, &[])
 }
 
 #[test]
