@@ -1,3 +1,4 @@
 pub mod Names
-pub mod Signatures
 pub mod Wanted
+pub mod Answered
+pub mod Signatures

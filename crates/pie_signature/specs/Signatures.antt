@@ -2,10 +2,11 @@
 use Rattle.std.specs.Prelude.{ℕ, cond, List, [], ◌∷◌, length, slice_get, Option, Some, None}
 use Rattle.pie_value.specs.declared.builtin.Builtin.{Builtin}
 use Rattle.pie_value.specs.declared.builtin.Builtin.TheVariants as builtins
-use Rattle.pie_value.specs.Types.{TyTree, UnitTy, BoolTy, IntTy, TextTy, PathTy, ListTy, TupleTy, NullableTy, BytesTy}
+use Rattle.pie_value.specs.Types.{TyTree}
 use Rattle.pie_signature.specs.declared.wanted.Wanted.{Wanted}
 use Rattle.pie_signature.specs.declared.wanted.Wanted.TheVariants as wants
-use Rattle.pie_signature.specs.Wanted.{fits, named, present_of}
+use Rattle.pie_signature.specs.Answered.{answer_of, answered}
+use Rattle.pie_signature.specs.Wanted.{fits, named}
 
 -- what each argument of a built-in function has to be, in order
 abbrev pub wanted_of : Builtin → List Wanted
@@ -52,39 +53,6 @@ misfit_at (Some wanted) t = cond (fits wanted t) None (Some (named wanted t))
 abbrev pub misfit_of : Builtin → ℕ → TyTree → Option TyTree
 misfit_of which i t = misfit_at (slice_get (wanted_of which) i) t
 
--- the type of a list's items
-abbrev pub item_of : TyTree → TyTree
-item_of (ListTy t) = t
-item_of t = t
-
 -- the type of the answer, from the type of the first argument
 abbrev pub answer_type_of : Builtin → TyTree → TyTree
-answer_type_of builtins.Path t = PathTy
-answer_type_of builtins.Join t = PathTy
-answer_type_of builtins.Name t = TextTy
-answer_type_of builtins.Parent t = NullableTy PathTy
-answer_type_of builtins.ToText t = TextTy
-answer_type_of builtins.ParseInt t = NullableTy IntTy
-answer_type_of builtins.Len t = IntTy
-answer_type_of builtins.Trim t = TextTy
-answer_type_of builtins.Find t = NullableTy IntTy
-answer_type_of builtins.Contains t = BoolTy
-answer_type_of builtins.Starts t = BoolTy
-answer_type_of builtins.Ends t = BoolTy
-answer_type_of builtins.Replace t = TextTy
-answer_type_of builtins.Split t = ListTy TextTy
-answer_type_of builtins.Lines t = ListTy TextTy
-answer_type_of builtins.JoinText t = TextTy
-answer_type_of builtins.Slice t = TextTy
-answer_type_of builtins.Sha256 t = TextTy
-answer_type_of builtins.At t = item_of t
-answer_type_of builtins.Range t = ListTy IntTy
-answer_type_of builtins.Reverse t = t
-answer_type_of builtins.Sort t = t
-answer_type_of builtins.Flatten t = item_of t
-answer_type_of builtins.Some t = NullableTy t
-answer_type_of builtins.Get t = present_of t
-answer_type_of builtins.IsNull t = BoolTy
-answer_type_of builtins.ToBytes t = BytesTy
-answer_type_of builtins.FromBytes t = NullableTy TextTy
-answer_type_of builtins.SliceBytes t = BytesTy
+answer_type_of which t = answered (answer_of which) t

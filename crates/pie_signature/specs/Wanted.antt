@@ -1,5 +1,5 @@
 -- What an argument of a built-in function has to be: which types fit, and which one a refusal names.
-use Rattle.std.specs.Prelude.{Bool, true, false}
+use Rattle.std.specs.Prelude.{Bool, true, false, not}
 use Rattle.pie_value.specs.Types.{TyTree, UnitTy, BoolTy, IntTy, TextTy, PathTy, ListTy, TupleTy, NullableTy, BytesTy}
 use Rattle.pie_signature.specs.declared.wanted.Wanted.{Wanted}
 use Rattle.pie_signature.specs.declared.wanted.Wanted.TheVariants as wants
@@ -50,11 +50,6 @@ is_measurable BytesTy = true
 is_measurable (ListTy t) = true
 is_measurable t = false
 
--- a type whose values can't be null
-abbrev pub is_present : TyTree → Bool
-is_present (NullableTy t) = false
-is_present t = true
-
 -- a type whose values can be null
 abbrev pub is_nullable : TyTree → Bool
 is_nullable (NullableTy t) = true
@@ -77,7 +72,7 @@ fits wants.Measurable = is_measurable
 fits wants.Sortable = list_where has_order
 fits wants.List = is_list
 fits wants.Lists = list_where is_list
-fits wants.Present = is_present
+fits wants.Present = λ t. not (is_nullable t)
 fits wants.Nullable = is_nullable
 
 -- a type without its mark of null

@@ -1,13 +1,16 @@
 //! The names and signatures of the built-in functions.
 #![tactic(auto)]
 
+mod answer;
+mod kinds;
 mod naming;
 mod parts;
 mod signature;
 mod wanted;
 
+pub use answer::{Answered, answer_type};
 pub use naming::builtin_named;
-pub use signature::{answer_type, arity, misfit, wanted_at};
+pub use signature::{arity, misfit, wanted_at};
 pub use wanted::Wanted;
 
 #[cfg(test)]

@@ -2,42 +2,12 @@
 ghost use Rattle.std.specs.Prelude.{◌≡◌, IfOk};
 ghost use Rattle.pie_value.specs.Types.{ListTy, NullableTy};
 ghost use Rattle.pie_value.specs.TypeTrees.{ty_tree};
-ghost use Rattle.pie_signature.specs.Wanted.{has_order, is_list, is_text, present_of};
-ghost use Rattle.pie_signature.specs.Signatures.{item_of};
+ghost use Rattle.pie_signature.specs.Wanted.{present_of};
+ghost use Rattle.pie_signature.specs.Answered.{item_of};
 
 use pie_base::OutOfMemory;
 use pie_value::{Part, Ty};
 use std::alloc::Global;
-
-// Whether it is the type of texts.
-pub fn is_text(ty: &Ty) -> bool
-    ensures { result ≡ is_text (ty_tree ty.now) }
-{
-    match ty {
-        Ty::Text => true,
-        _ => false,
-    }
-}
-
-// Whether its values are compared by size.
-pub fn has_order(ty: &Ty) -> bool
-    ensures { result ≡ has_order (ty_tree ty.now) }
-{
-    match ty {
-        Ty::Int | Ty::Text | Ty::Path => true,
-        _ => false,
-    }
-}
-
-// Whether its values are lists.
-pub fn is_list(ty: &Ty) -> bool
-    ensures { result ≡ is_list (ty_tree ty.now) }
-{
-    match ty {
-        Ty::List(_) => true,
-        _ => false,
-    }
-}
 
 // The type of lists of a type.
 pub fn list_of(alloc: Global, item: Ty) -> Result<Ty, OutOfMemory>

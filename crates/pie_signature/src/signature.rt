@@ -1,10 +1,9 @@
 //! The signatures of the built-in functions. Rule: docs/LANGUAGE.md, "Built-in functions".
 ghost use Rattle.std.specs.Prelude.{◌≡◌, IfOk, Some, option_map, slice_get};
 ghost use Rattle.pie_value.specs.TypeTrees.{ty_tree};
-ghost use Rattle.pie_signature.specs.Signatures.{answer_type_of, arity_of, misfit_at, misfit_of, wanted_of};
+ghost use Rattle.pie_signature.specs.Signatures.{arity_of, misfit_at, misfit_of, wanted_of};
 
 use crate::Wanted;
-use crate::parts::{item, list_of, nullable, present};
 use pie_base::OutOfMemory;
 use pie_value::{Builtin, Ty};
 use std::alloc::Global;
@@ -109,27 +108,4 @@ fn unmet(alloc: Global, wanted: Wanted, found: &Ty) -> Result<Option<Ty>, OutOfM
     }
     let ty = wanted.named(alloc, found)?;
     Ok(Some(ty))
-}
-
-/// The type of the answer, from the type of the first argument.
-pub fn answer_type(alloc: Global, which: Builtin, first: &Ty) -> Result<Ty, OutOfMemory>
-    ensures { IfOk result (λ ty. ty_tree ty ≡ answer_type_of which (ty_tree first.now)) }
-{
-    match which {
-        Builtin::Path | Builtin::Join => Ok(Ty::Path),
-        Builtin::Parent => nullable(alloc, Ty::Path),
-        Builtin::ParseInt | Builtin::Find => nullable(alloc, Ty::Int),
-        Builtin::FromBytes => nullable(alloc, Ty::Text),
-        Builtin::Len => Ok(Ty::Int),
-        Builtin::Contains | Builtin::Starts | Builtin::Ends | Builtin::IsNull => Ok(Ty::Bool),
-        Builtin::Split | Builtin::Lines => list_of(alloc, Ty::Text),
-        Builtin::Range => list_of(alloc, Ty::Int),
-        Builtin::At | Builtin::Flatten => item(first),
-        Builtin::Reverse | Builtin::Sort => first.copy(),
-        Builtin::Some => nullable(alloc, first.copy()?),
-        Builtin::Get => present(first),
-        Builtin::ToBytes | Builtin::SliceBytes => Ok(Ty::Bytes),
-        Builtin::Name | Builtin::ToText | Builtin::Trim | Builtin::Replace => Ok(Ty::Text),
-        Builtin::JoinText | Builtin::Slice | Builtin::Sha256 => Ok(Ty::Text),
-    }
 }

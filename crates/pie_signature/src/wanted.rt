@@ -3,7 +3,11 @@ ghost use Rattle.std.specs.Prelude.{◌≡◌, IfOk};
 ghost use Rattle.pie_value.specs.TypeTrees.{ty_tree};
 ghost use Rattle.pie_signature.specs.Wanted.{fits, named};
 
-use crate::parts::{has_order, is_list, is_text, list_of, nullable, present};
+use crate::kinds::{
+    holds_lists, holds_ordered, holds_texts, is_bytes, is_int, is_list, is_measurable, is_nullable,
+    is_path, is_printable, is_text,
+};
+use crate::parts::{list_of, nullable, present};
 use pie_base::OutOfMemory;
 use pie_value::Ty;
 use std::alloc::Global;
@@ -42,21 +46,19 @@ impl Wanted {
     pub fn fits(self, found: &Ty) -> bool
         ensures { result ≡ fits self (ty_tree found.now) }
     {
-        match (self, found) {
-            (Wanted::Text, Ty::Text) => true,
-            (Wanted::Int, Ty::Int) => true,
-            (Wanted::Path, Ty::Path) => true,
-            (Wanted::Bytes, Ty::Bytes) => true,
-            (Wanted::Texts, Ty::List(part)) => is_text(part.get()),
-            (Wanted::Printable, Ty::Int | Ty::Bool | Ty::Path) => true,
-            (Wanted::Measurable, Ty::Text | Ty::Bytes | Ty::List(_)) => true,
-            (Wanted::Sortable, Ty::List(part)) => has_order(part.get()),
-            (Wanted::List, Ty::List(_)) => true,
-            (Wanted::Lists, Ty::List(part)) => is_list(part.get()),
-            (Wanted::Present, Ty::Nullable(_)) => false,
-            (Wanted::Present, _) => true,
-            (Wanted::Nullable, Ty::Nullable(_)) => true,
-            _ => false,
+        match self {
+            Wanted::Text => is_text(found),
+            Wanted::Int => is_int(found),
+            Wanted::Path => is_path(found),
+            Wanted::Bytes => is_bytes(found),
+            Wanted::Texts => holds_texts(found),
+            Wanted::Printable => is_printable(found),
+            Wanted::Measurable => is_measurable(found),
+            Wanted::Sortable => holds_ordered(found),
+            Wanted::List => is_list(found),
+            Wanted::Lists => holds_lists(found),
+            Wanted::Present => !is_nullable(found),
+            Wanted::Nullable => is_nullable(found),
         }
     }
 
