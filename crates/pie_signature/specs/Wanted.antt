@@ -1,6 +1,6 @@
 -- What an argument of a built-in function has to be: which types fit, and which one a refusal names.
 use Rattle.std.specs.Prelude.{Bool, true, false, not}
-use Rattle.pie_value.specs.Types.{TyTree, UnitTy, BoolTy, IntTy, TextTy, PathTy, ListTy, TupleTy, NullableTy, BytesTy}
+use Rattle.pie_value.specs.Types.{TyTree, BoolTy, IntTy, TextTy, PathTy, ListTy, NullableTy, BytesTy}
 use Rattle.pie_signature.specs.declared.wanted.Wanted.{Wanted}
 use Rattle.pie_signature.specs.declared.wanted.Wanted.TheVariants as wants
 
