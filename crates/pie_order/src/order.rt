@@ -1,6 +1,8 @@
 //! An order that is kept under insertion.
-ghost use Rattle.std.specs.Prelude.{◌≡◌, ◌+◌, ◌<◌, ◌≤◌, ◌++◌, ◌∷◌, [], ◌↔◌, IsTrue, length, slice_index, IfOk, OnOk, OnErr, MatchOption};
+ghost use Rattle.std.specs.Prelude.{◌≡◌, ◌+◌, ◌<◌, ◌≤◌, ◌++◌, ◌∷◌, [], ◌↔◌, IsTrue, length, slice_index, IfOk, IfSome, OnOk, OnErr, MatchOption};
+ghost use Rattle.pie_graph.specs.Numbers.{numbers};
 ghost use Rattle.pie_reach.specs.Reaches.{Reaches};
+ghost use Rattle.pie_order.specs.Cycles.{IsCycle, WouldCall};
 ghost use Rattle.pie_order.specs.Places.{StandsBefore, AreApart, Agrees, numbers_below};
 ghost use Rattle.pie_order.specs.Shifts.{IsShifted, IsBelow};
 
@@ -111,7 +113,8 @@ impl Order {
     }
 
     /// Makes a required task stand before the task that requires it, with every other edge as it is.
-    /// Where the required task reaches the other, the order stays, and the cycle is answered.
+    /// Where the required task reaches the other, the order stays, and the cycle that the new edge would close is
+    /// answered, each task once, the least first.
     pub fn insert<R: TaskRows>(
         &mut self,
         alloc: Global,
@@ -123,6 +126,7 @@ impl Order {
         requires from { from.0 < length self.old }
         requires to { to.0 < length self.old }
         ensures inserted { IfOk result (λ found. MatchOption found (Agrees (R.rows rows.now) self.new × StandsBefore self.new to.0 from.0) (λ cycle. (self.new ≡ self.old) × Reaches (R.rows rows.now) to.0 from.0)) }
+        ensures cycle { IfOk result (λ found. IfSome found (λ cycle. IsCycle (WouldCall (R.rows rows.now) from.0 to.0) (numbers cycle.items))) }
         ensures unchanged { OnErr result (self.new ≡ self.old) }
     {
         let _count = rows.count();
@@ -133,7 +137,7 @@ impl Order {
         }
         let marks = below(alloc, rows, self.places.as_slice(), low, to)?;
         if marks[from.0 as usize] {
-            let cycle = cycle_of(alloc, rows, from, to)?;
+            let cycle = cycle_of(alloc, rows, self.places.as_slice(), from, to)?;
             return Ok(Some(cycle));
         }
         self.shift(alloc, &marks, low, high)?;

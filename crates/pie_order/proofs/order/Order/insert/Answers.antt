@@ -23,3 +23,9 @@ returns-clause-inserted g c =
     c.if-high-low.false c.requires.from c.requires.to
     (mark_read marks c.args.from.0 c.index.result.now within c.index.ensures ∙ c.if-index.false)
     (subst (λ (ms : List Bool). IsShifted ms c.index-low.result.now c.index-high.result.now old c.shift.new.self) c.deref.ensures.value c.in_ok-shift.ensures.shifted)
+
+pub cycle_of-requires-clause-reaches : goal.cycle_of-requires-clause-reaches
+cycle_of-requires-clause-reaches g c =
+    let marks = c.in_ok-marks.marks.items in
+    let within : c.args.from.0 < length marks = omega (arith, c.in_ok-marks.ensures.sized, c.requires.from, c.requires.agrees.as_many) in
+    cycle_reaches (g.R.TaskRows.rows c.args.rows.now) c.as_slice.result.now c.index-low.result.now c.args.to.0 c.args.from.0 marks c.in_ok-marks.ensures (mark_read marks c.args.from.0 c.index.result.now within c.index.ensures ∙ c.if-index.true)
