@@ -1,3 +1,4 @@
+pub mod AgreeSteps
 pub mod CycleSteps
 pub mod Inserting
 pub mod Numbering

@@ -1,6 +1,7 @@
 //! An order in which each task stands after all that it requires.
 #![tactic(auto)]
 
+mod agreeing;
 mod cycle;
 mod order;
 mod shift;

@@ -6,6 +6,7 @@ ghost use Rattle.pie_order.specs.Cycles.{IsCycle, WouldCall};
 ghost use Rattle.pie_order.specs.Places.{StandsBefore, AreApart, Agrees, numbers_below};
 ghost use Rattle.pie_order.specs.Shifts.{IsShifted, IsBelow};
 
+use crate::agreeing::all_agree;
 use crate::cycle::cycle_of;
 use crate::shift::{count_marked, place_all};
 use crate::within::Within;
@@ -65,6 +66,16 @@ impl Order {
         ensures { result.now ≡ self.now }
     {
         self.places.as_slice()
+    }
+
+    /// Whether there are as many tasks as rows, and each required task stands before those that require it.
+    pub fn agrees<R: TaskRows>(&self, rows: &R) -> bool
+        ensures { IsTrue result ↔ Agrees (R.rows rows.now) self.now }
+    {
+        if self.places.len() != rows.count() as usize {
+            return false;
+        }
+        all_agree(rows, self.places.as_slice())
     }
 
     /// Appends the next number.

@@ -1,0 +1,7 @@
+use Rattle.std.proofs.Common.{ℕ, ◌<◌}
+use Rattle.pie_graph.specs.Rows.{Calls}
+use Rattle.pie_order.specs.Places.{StandsBefore}
+use Rattle.pie_order.proofs.agreeing.all_agree.Given as goal
+
+abbrev pub invariant-loop-caller : goal.invariant-loop-caller
+invariant-loop-caller g l = (a b : ℕ) → a < l.caller → Calls (g.R.TaskRows.rows l.rows) a b → StandsBefore l.places b a
