@@ -1,5 +1,5 @@
 -- A way by required tasks, and the ring that a new edge makes of it.
-use Rattle.std.proofs.Common.{◌≡◌, ◌⊎◌, ℕ, ◌<◌, ◌≤◌, ◌+◌, ◌-◌, Bool, true, false, List, [], ◌∷◌, ◌++◌, length, get_or, take, drop, refl, sym, ap, ◌∙◌, inl, inr, subst, arith}
+use Rattle.std.proofs.Common.{◌≡◌, ◌⊎◌, ℕ, ◌<◌, ◌≤◌, ◌+◌, Bool, List, [], ◌∷◌, ◌++◌, length, get_or, refl, sym, ap, ◌∙◌, inl, inr, subst, arith}
 use Rattle.std.specs.Prelude.{slice_index}
 use Rattle.std.specs.List.{Contains}
 use Rattle.std.proofs.lemmas.Bool.{cases_lt}
@@ -13,9 +13,9 @@ use Rattle.pie_reach.specs.Reaches.{Leads, Reaches}
 use Rattle.pie_reach.specs.Reaches.Leads.{itself, step}
 use Rattle.pie_reach.specs.Walks.{IsClosure}
 use Rattle.pie_reach.proofs.Meets.{alone}
-use Rattle.pie_reach.proofs.WalkSteps.{leads_on, turned}
+use Rattle.pie_reach.proofs.WalkSteps.{turned}
 use Rattle.pie_order.specs.Places.{Agrees}
-use Rattle.pie_order.specs.Cycles.{WouldCall, IsRing, IsLeastAt, IsCycle, IsTrail, IsLeading}
+use Rattle.pie_order.specs.Cycles.{IsTrail, IsLeading}
 
 -- nothing stands before the first task
 pub leading_starts : (rows : List Row) (places : List ℕ) (start : ℕ) → IsLeading rows places start [] start

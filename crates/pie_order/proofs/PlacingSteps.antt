@@ -1,10 +1,9 @@
 -- Placing one task after another.
-use Rattle.std.proofs.Common.{◌≡◌, ◌⊎◌, ◌≢◌, ℕ, zero, suc, ◌<◌, ◌≤◌, ◌+◌, ◌-◌, Bool, true, false, cond, List, [], ◌∷◌, length, get_or, set, take, drop, refl, sym, ap, ◌∙◌, inl, inr, subst, arith, length-set}
+use Rattle.std.proofs.Common.{◌≡◌, ◌⊎◌, ◌≢◌, ℕ, ◌<◌, ◌≤◌, ◌+◌, ◌-◌, Bool, false, cond, List, length, get_or, set, take, drop, refl, sym, ap, ◌∙◌, inl, inr, subst, arith, length-set}
 use Rattle.std.specs.Prelude.{slice_index}
 use Rattle.std.proofs.lemmas.Bool.{cases_lt}
-use Rattle.std.proofs.lemmas.Bool.Decides.{eqb_tells}
 use Rattle.std.proofs.lemmas.List.{get_or-set_same, get_or-set_other, get_or-take, get_or-drop, get_or_default, length-take, length-drop}
-use Rattle.pie_graph.specs.Numbers.{IsMarked, AllBelow}
+use Rattle.pie_graph.specs.Numbers.{AllBelow}
 use Rattle.pie_order.specs.Shifts.{firsts, target, marked_at, Inverse, Placing, IsWindow, IsShifted}
 use Rattle.pie_order.proofs.Targets.{at_most, target_in, target_apart, target_onto, pass_keeps, fail_keeps, pass_first}
 

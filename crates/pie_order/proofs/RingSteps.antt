@@ -1,11 +1,11 @@
 -- A way whose end goes back to its start is a ring, and a ring that is turned stays one.
-use Rattle.std.proofs.Common.{◌≡◌, ◌⊎◌, ℕ, zero, suc, ◌<◌, ◌≤◌, ◌+◌, ◌-◌, List, [], ◌∷◌, ◌++◌, length, take, drop, refl, sym, ap, ◌∙◌, inl, inr, subst, arith}
+use Rattle.std.proofs.Common.{◌≡◌, ◌⊎◌, ℕ, zero, suc, ◌<◌, ◌≤◌, ◌+◌, ◌-◌, List, ◌++◌, length, take, drop, refl, sym, ap, ◌∙◌, inl, inr, subst, arith}
 use Rattle.std.specs.Prelude.{slice_index}
 use Rattle.std.proofs.lemmas.Bool.{cases_lt}
 use Rattle.std.proofs.lemmas.List.{length-append, length-map, map-append, drop-map, take-map, length-take-le, length-drop, get_or-take, get_or-drop, get_or-append-add, get_or_append_left}
 use Rattle.pie_graph.specs.declared.edges.TaskNo.{TaskNo}
 use Rattle.pie_graph.specs.Numbers.{numbers}
-use Rattle.pie_graph.specs.Rows.{Row, Calls}
+use Rattle.pie_graph.specs.Rows.{Row}
 use Rattle.pie_order.specs.Places.{Agrees}
 use Rattle.pie_order.specs.Cycles.{WouldCall, IsRing, IsLeastAt, IsCycle, IsTrail}
 

@@ -1,7 +1,6 @@
 -- The cycle that a new edge would close.
 use Rattle.std.specs.Prelude.{◌≡◌, ℕ, ◌+◌, ◌<◌, ◌≤◌, ◌⊎◌, List, length, slice_index}
 use Rattle.pie_graph.specs.Rows.{Row, Calls}
-use Rattle.pie_order.specs.Places.{StandsBefore}
 
 -- a task requires another, or would by a new edge
 abbrev pub WouldCall : List Row → ℕ → ℕ → ℕ → ℕ → Type 0

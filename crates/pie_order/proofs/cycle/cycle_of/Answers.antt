@@ -1,4 +1,4 @@
-use Rattle.std.proofs.Common.{◌≡◌, List, Bool, sym, subst}
+use Rattle.std.proofs.Common.{List, Bool, sym, subst}
 use Rattle.pie_graph.specs.Numbers.{IsMarked}
 use Rattle.pie_order.proofs.CycleSteps.{start_marked}
 use Rattle.pie_order.proofs.RingSteps.{cycle_made}

@@ -1,9 +1,9 @@
-use Rattle.std.proofs.Common.{◌≡◌, ◌∙◌, ◌⊎◌, ◌<◌, ℕ, List, sym, ap, subst, arith, length, inl, inr}
+use Rattle.std.proofs.Common.{◌<◌, ℕ, List, sym, ap, subst, arith, length, inl, inr}
 use Rattle.std.specs.List.{Contains}
 use Rattle.std.proofs.lemmas.Bool.{eqb-true, eq-eqb}
 use Rattle.std.proofs.lemmas.List.{length_push}
 use Rattle.std.proofs.lemmas.List.Elements.{All-contains}
-use Rattle.pie_graph.specs.Numbers.{numbers, IsMarked}
+use Rattle.pie_graph.specs.Numbers.{numbers}
 use Rattle.pie_graph.specs.Rows.{Calls}
 use Rattle.pie_order.specs.Cycles.{IsTrail, IsLeading}
 use Rattle.pie_order.proofs.CycleSteps.{leading_ends, leading_steps, goes_on, pushed_number}

@@ -1,6 +1,5 @@
-use Rattle.std.proofs.Common.{◌≡◌, ◌∙◌, ap, sym, cond, length, ◌+◌, arith, add-one}
-use Rattle.std.specs.Prelude.{slice_index}
-use Rattle.pie_order.specs.Shifts.{firsts, marked_at, target}
+use Rattle.std.proofs.Common.{◌∙◌, ap, sym, cond, length, ◌+◌, arith, add-one}
+use Rattle.pie_order.specs.Shifts.{firsts, marked_at}
 use Rattle.pie_order.proofs.PlacingSteps.{to_is, in_bounds, places_one}
 use Rattle.pie_order.proofs.Targets.{at_most}
 use Rattle.pie_order.proofs.shift.place_all.Goals as goal

@@ -1,4 +1,4 @@
-use Rattle.std.proofs.Common.{◌≡◌, length}
+use Rattle.std.proofs.Common.{◌≡◌}
 use Rattle.pie_order.specs.Shifts.{firsts, marked_at, Placing}
 use Rattle.pie_order.proofs.shift.place_all.Given as goal
 

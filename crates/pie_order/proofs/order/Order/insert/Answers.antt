@@ -1,4 +1,4 @@
-use Rattle.std.proofs.Common.{◌≡◌, ◌∙◌, ◌<◌, ℕ, Bool, List, length, ap, sym, subst, refl, arith}
+use Rattle.std.proofs.Common.{◌≡◌, ◌∙◌, ◌<◌, ℕ, Bool, List, length, subst, refl, arith}
 use Rattle.pie_order.specs.Shifts.{IsBelow, IsShifted}
 use Rattle.pie_order.proofs.Inserting.{cycle_reaches, mark_read, place_read, insert_agrees}
 use Rattle.pie_order.proofs.order.Order.insert.Goals as goal

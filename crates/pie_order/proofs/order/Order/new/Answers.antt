@@ -1,4 +1,4 @@
-use Rattle.std.proofs.Common.{◌∙◌, ap, length, arith}
+use Rattle.std.proofs.Common.{ap, length, arith}
 use Rattle.pie_order.proofs.Numbering.{numbers_more, length-numbers_below}
 use Rattle.pie_order.proofs.order.Order.new.Goals as goal
 
