@@ -1,9 +1,21 @@
 //! The types of a pipeline: each expression has one, and what has none is refused at its place.
 #![tactic(auto)]
 
+mod block;
+mod call;
+mod callee;
+mod chain;
 mod checking;
+mod declaring;
 mod error;
+mod expr;
 mod headings;
+mod kinds;
+mod matching;
+mod part;
+mod scope;
+#[cfg(test)]
+mod tests;
 mod typed;
 mod written;
 

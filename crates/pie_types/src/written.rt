@@ -1,12 +1,21 @@
 //! Types as they are written.
-use crate::{TypeError, TypeFault, TypeKind};
+ghost use Rattle.std.specs.Prelude.{◌≡◌};
+ghost use Rattle.pie_value.specs.TypeTrees.{ty_tree, ty_trees};
+ghost use Rattle.pie_parser.specs.TypeView.{types_of};
+ghost use Rattle.pie_types.specs.Faults.{Agrees};
+ghost use Rattle.pie_types.specs.Written.{named_type, plain_type, written, written_each};
+
+use crate::matching::refusal;
+use crate::{TypeError, TypeKind};
 use pie_parser::{PlainType, Type, TypeForm};
 use pie_value::{Part, Parts, Ty};
 use std::alloc::Global;
 
 // The type that is written here. A name other than `bytes` is refused.
 #[cycle(written)]
-pub fn written(alloc: Global, ty: &Type) -> Result<Ty, TypeError> {
+pub fn written(alloc: Global, ty: &Type) -> Result<Ty, TypeError>
+    ensures { Agrees ty_tree result (written ty.now) }
+{
     match &ty.form {
         TypeForm::Plain(plain) => Ok(plain_type(*plain)),
         TypeForm::Named(name) => named_type(ty.at, ty.end, name.as_str()),
@@ -27,7 +36,10 @@ pub fn written(alloc: Global, ty: &Type) -> Result<Ty, TypeError> {
 
 // The types that are written here, one after another.
 #[cycle(written)]
-fn written_each(alloc: Global, items: &[Type]) -> Result<Vec<Ty>, TypeError> {
+#[tactic(auto, using(crate::proofs::Steps::written_turn, crate::proofs::Steps::onto_nothing, crate::proofs::Left::type_mass_at))]
+fn written_each(alloc: Global, items: &[Type]) -> Result<Vec<Ty>, TypeError>
+    ensures { Agrees (λ types. ty_trees types.items) result (written_each (types_of items.now)) }
+{
     let mut types = Vec::new(alloc);
     for item in items {
         let ty = written(alloc, item)?;
@@ -36,7 +48,10 @@ fn written_each(alloc: Global, items: &[Type]) -> Result<Vec<Ty>, TypeError> {
     Ok(types)
 }
 
-fn plain_type(plain: PlainType) -> Ty {
+// The type that a keyword names.
+fn plain_type(plain: PlainType) -> Ty
+    ensures { ty_tree result ≡ plain_type plain }
+{
     match plain {
         PlainType::Unit => Ty::Unit,
         PlainType::Bool => Ty::Bool,
@@ -46,10 +61,12 @@ fn plain_type(plain: PlainType) -> Ty {
     }
 }
 
-fn named_type(at: usize, end: usize, name: &str) -> Result<Ty, TypeError> {
+// The type that a name stands for.
+fn named_type(at: usize, end: usize, name: &str) -> Result<Ty, TypeError>
+    ensures { Agrees ty_tree result (named_type at end name.now) }
+{
     if name == "bytes" {
         return Ok(Ty::Bytes);
     }
-    let kind = TypeKind::UnknownName;
-    Err(TypeError::Fault(TypeFault { kind, at, end }))
+    Err(refusal(TypeKind::UnknownName, at, end))
 }
