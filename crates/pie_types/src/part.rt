@@ -11,9 +11,7 @@ use pie_parser::Index;
 use pie_value::{Part, Parts, Ty};
 use std::alloc::Global;
 
-// Items of items. What the first number is taken of stands at these bytes, and what a later one is
-// taken of at the number itself.
-#[tactic(auto, using(crate::proofs::Steps::projected_turn))]
+// Items of items. Where the first number finds no tuple, what stands at these bytes is refused.
 pub fn projected(
     alloc: Global,
     ty: Ty,
@@ -23,13 +21,20 @@ pub fn projected(
 ) -> Result<Ty, TypeError>
     ensures { Agrees ty_tree result (spec.projected at end (ty_tree ty) indices.now) }
 {
+    match indices.split_first() {
+        None => Ok(ty),
+        Some((first, rest)) => further(alloc, item_of(alloc, &ty, at, end, *first)?, rest),
+    }
+}
+
+// Items of items. A number that finds no tuple is refused itself.
+#[tactic(auto, using(crate::proofs::Steps::further_turn))]
+fn further(alloc: Global, ty: Ty, indices: &[Index]) -> Result<Ty, TypeError>
+    ensures { Agrees ty_tree result (spec.further (ty_tree ty) indices.now) }
+{
     let mut ty = ty;
-    let mut at = at;
-    let mut end = end;
     for index in indices {
-        ty = item_of(alloc, &ty, at, end, *index)?;
-        at = index.at;
-        end = index.end;
+        ty = item_of(alloc, &ty, index.at, index.end, *index)?;
     }
     Ok(ty)
 }
