@@ -1,8 +1,6 @@
 -- Why observations of one kind that are separate and have one stamp have one answer: the laws of the stampers.
-use Rattle.std.proofs.Common.{◌≡◌, ℕ, List, [], Result, Ok, refl, sym, ap, subst, ◌∙◌}
-use Rattle.std.specs.Prelude.{Option, None, Some, false, true}
-use Rattle.pie_files.specs.declared.files.Found.{Found}
-use Rattle.pie_value.specs.declared.value.Value.{Value}
+use Rattle.std.proofs.Common.{◌≡◌, ℕ, List, [], refl, sym, ap, subst, ◌∙◌}
+use Rattle.std.specs.Prelude.{None, Some, false, true}
 use Rattle.pie_value.specs.declared.stamp.Stamp.{Stamp}
 use Rattle.pie_value.specs.declared.stamp.Stamp.TheVariants.{Absent, Present, Hash, Mark, Whole, Done}
 use Rattle.pie_value.specs.Tree.{Tree, TUnit, TBool, TInt, TText, TPath, TList, TTuple, TNull, TBytes, items_of, list_of}
@@ -14,7 +12,7 @@ use Rattle.pie_value.proofs.Elements.{list_of_items}
 use Rattle.sha2.specs.Sha256.{sha256}
 use Rattle.pie_stamp.specs.declared.observed.Observed.{Observed}
 use Rattle.pie_stamp.specs.declared.observed.Observed.TheVariants.{File, Entries, Output}
-use Rattle.pie_stamp.specs.Observations.{OfOneKind, Separate, SeparateByMark, HasBytes, HasMark}
+use Rattle.pie_stamp.specs.Observations.{OfOneKind, Separate, SeparateByMark}
 use Rattle.pie_stamp.specs.Observations.{Answered, Presence, Contents, Listing, Given, Success, told_by, presence_by, success_by}
 use Rattle.pie_stamp.specs.Stamps.{StampsPresence, StampsHash, StampsMark, StampsWhole, StampsDone}
 

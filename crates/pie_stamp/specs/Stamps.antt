@@ -1,5 +1,5 @@
 -- The stamp table: which stamp each kind of stamper gives an observation.
-use Rattle.std.specs.Prelude.{◌≡◌, ℕ, List, Option, None, Some}
+use Rattle.std.specs.Prelude.{◌≡◌, ℕ, List, None, Some}
 use Rattle.sha2.specs.Sha256.{sha256}
 use Rattle.pie_value.specs.declared.stamp.Stamp.{Stamp}
 use Rattle.pie_value.specs.declared.stamp.Stamp.TheVariants.{Absent, Present, Hash, Mark, Whole, Done}

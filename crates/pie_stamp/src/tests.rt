@@ -10,24 +10,34 @@ const HASH_OF_ABC: [u8; 32] = [
     0xb0, 0x03, 0x61, 0xa3, 0x96, 0x17, 0x7a, 0x9c, 0xb4, 0x10, 0xff, 0x61, 0xf2, 0x00, 0x15, 0xad,
 ];
 
-fn file(alloc: Global, bytes: &[u8], mark: u64) -> Result<Observed, Fail> {
-    Ok(Observed::File(Some(Found {
-        bytes: bytes.to_vec(alloc)?,
-        mark,
-    })))
+fn found(alloc: Global, bytes: &[u8], mark: u64) -> Result<Found, Fail> {
+    let bytes = bytes.to_vec(alloc)?;
+    Ok(Found { bytes, mark })
 }
 
 #[test]
 fn a_file_is_stamped_by_its_presence_its_bytes_or_its_mark(rt: HostRuntime) -> Result<(), Fail> {
     let alloc = rt.alloc();
-    let abc = file(alloc, b"abc", 7)?;
-    assert!(rt; ByHash.stamp(alloc, &abc)?.same(&Stamp::Hash(HASH_OF_ABC)));
-    assert!(rt; ByPresence.stamp(alloc, &abc)?.same(&Stamp::Present));
-    assert!(rt; ByMark.stamp(alloc, &abc)?.same(&Stamp::Mark(7)));
+    let abc = Observed::File(Some(found(alloc, b"abc", 7)?));
+    let hash = ByHash.stamp(alloc, &abc)?;
+    let presence = ByPresence.stamp(alloc, &abc)?;
+    let mark = ByMark.stamp(alloc, &abc)?;
+    assert!(rt; hash.same(&Stamp::Hash(HASH_OF_ABC)));
+    assert!(rt; presence.same(&Stamp::Present));
+    assert!(rt; mark.same(&Stamp::Mark(7)));
+    Ok(())
+}
+
+#[test]
+fn what_is_not_there_is_absent(rt: HostRuntime) -> Result<(), Fail> {
+    let alloc = rt.alloc();
     let none = Observed::File(None);
-    assert!(rt; ByHash.stamp(alloc, &none)?.same(&Stamp::Absent));
-    assert!(rt; ByPresence.stamp(alloc, &none)?.same(&Stamp::Absent));
-    assert!(rt; ByMark.stamp(alloc, &none)?.same(&Stamp::Absent));
+    let hash = ByHash.stamp(alloc, &none)?;
+    let presence = ByPresence.stamp(alloc, &none)?;
+    let mark = ByMark.stamp(alloc, &none)?;
+    assert!(rt; hash.same(&Stamp::Absent));
+    assert!(rt; presence.same(&Stamp::Absent));
+    assert!(rt; mark.same(&Stamp::Absent));
     Ok(())
 }
 
