@@ -1,6 +1,6 @@
 -- The directory that a map in memory stands for.
-use Rattle.std.specs.Prelude.{◌≡◌, ◌||◌, ℕ, Bool, List, map, Option}
-use Rattle.std.specs.Option.{option_to_list}
+use Rattle.std.specs.Prelude.{◌≡◌, ◌||◌, ℕ, Bool, List, [], ◌∷◌, map, Option}
+use Rattle.std.specs.Option.{option_to_list, option_map_or}
 use Rattle.std.specs.List.{list_any}
 use Rattle.std.specs.Ordering.{nat_cmp, eq_by_cmp}
 use Rattle.std.specs.Cmp.Lexicographic.{slice_cmp}
@@ -24,6 +24,15 @@ directory_of entries = fin.from_entries (map entry_of entries)
 -- how the logic stores a directory
 abbrev pub directory_code : Coded Directory
 directory_code = fin.code (coded_list coded_ℕ) (coded× (coded_list coded_ℕ) coded_ℕ)
+
+-- a directory whose file at a path is that of another one, or none where the other has none
+abbrev pub with_same : Directory → Directory → List ℕ → Directory
+with_same from d path = option_map_or (λ file. fin.insert d path file) (fin.get from path) (fin.remove d path)
+
+-- the same of several paths, one after another
+abbrev pub with_all : Directory → Directory → List (List ℕ) → Directory
+with_all from d [] = d
+with_all from d (path ∷ paths) = with_all from (with_same from d path) paths
 
 -- a path is among these, as far as the order of paths tells
 abbrev pub is_among : List ℕ → List (List ℕ) → Bool

@@ -3,8 +3,11 @@ pub mod Directory
 pub mod Failures
 pub mod Faults
 pub mod Held
+pub mod Images
 pub mod MemFiles
 pub mod MemStreams
 pub mod Memory
+pub mod Story
+pub mod StoryLaws
 pub mod Streams
 pub mod SureFiles

@@ -63,6 +63,16 @@ impl Files for DirFiles {
 
     ghost faults = { λ s. s.faults };
 
+    ghost images = { λ _ _. Unit {0} };
+
+    ghost moment = { λ _. 0 };
+
+    ghost left_since = { λ _ _ _. Unit {0} };
+
+    ghost counts_now = { λ files t c le now. now };
+
+    ghost only_now = { λ files c left. left };
+
     fn read(&mut self, path: &Path) -> Result<Option<Found>, FilesError> {
         let answer = self.disk.read(path);
         self.counted(answer)

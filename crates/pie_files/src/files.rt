@@ -1,9 +1,10 @@
 //! The files of a project, as a trait: what a build may ask of the outside.
-ghost use Rattle.std.specs.Prelude.{◌≡◌, List, ℕ, Option, Some, IfSome, IfOk, OnOk, IsErrOf};
+ghost use Rattle.std.specs.Prelude.{◌≡◌, ◌≤◌, List, ℕ, Option, Some, IfSome, IfOk, OnOk, IsErrOf};
 ghost use Rattle.std.specs.Option.{option_map};
 ghost use Rattle.pie_files.specs.declared.files.Call.{Call};
 ghost use Rattle.pie_files.specs.Directory.{Directory, file_at, with_file, without_file, files_under, entries_of};
 ghost use Rattle.pie_files.specs.Calls.{Called, IsWrite, Wrote, MayHaveWritten, MayHaveRemoved};
+ghost use Rattle.pie_files.specs.Images.{MayLeave, Stays, MayWrite, MayRemove, Only};
 
 use pie_base::{OutOfMemory, Path};
 use std::alloc::{AllocError, AllocFailed};
@@ -78,10 +79,20 @@ pub trait Files {
     /// How often the outside has failed. It never falls.
     ghost faults: { Self → ℕ };
 
+    /// What a crash now may leave, where the directory is told.
+    ghost images: { Self → Directory → Type 0 };
+
+    /// A count of moments. It never falls.
+    ghost moment: { Self → ℕ };
+
+    /// What a crash at this moment or a later one may have left, where the directory is told.
+    ghost left_since: { Self → ℕ → Directory → Type 0 };
+
     /// The file at a path, or `None` where there is none.
     fn read(&mut self, path: &Path) -> Result<Option<Found>, FilesError>
         ensures found { IfSome (holds self.old) (λ d. IfOk result (λ found. option_map (λ f. (f.bytes.items, f.mark)) found ≡ file_at d path.now)) }
         ensures same { holds self.new ≡ holds self.old }
+        ensures crash { MayLeave holds moment left_since images Stays self.old self.new }
         ensures called { Called asked faults (λ c. c ≡ Call.Read path.now) self.old self.new result };
 
     /// The entries of a directory in path order: the paths right below it at which or below which
@@ -89,12 +100,14 @@ pub trait Files {
     fn names(&mut self, dir: &Path) -> Result<Vec<Path>, FilesError>
         ensures listed { IfSome (holds self.old) (λ d. IfOk result (λ paths. paths.items ≡ entries_of d dir.now)) }
         ensures same { holds self.new ≡ holds self.old }
+        ensures crash { MayLeave holds moment left_since images Stays self.old self.new }
         ensures called { Called asked faults (λ c. c ≡ Call.Names dir.now) self.old self.new result };
 
     /// The files below a directory, at any depth, in path order.
     fn all_under(&mut self, dir: &Path) -> Result<Vec<Path>, FilesError>
         ensures listed { IfSome (holds self.old) (λ d. IfOk result (λ paths. paths.items ≡ files_under d dir.now)) }
         ensures same { holds self.new ≡ holds self.old }
+        ensures crash { MayLeave holds moment left_since images Stays self.old self.new }
         ensures called { Called asked faults (λ c. c ≡ Call.AllUnder dir.now) self.old self.new result };
 
     /// Makes the file hold these bytes, with some mark.
@@ -103,6 +116,7 @@ pub trait Files {
         ensures written { OnOk result (Wrote holds asked path.now bytes.now self.old self.new) }
         ensures failed { IsErrOf result FilesError.Failed → IfSome (holds self.old) (λ d. MayHaveWritten d path.now (holds self.new)) }
         ensures unchanged { IsErrOf result FilesError.OutOfMemory → holds self.new ≡ holds self.old }
+        ensures crash { MayLeave holds moment left_since images (MayWrite path.now) self.old self.new }
         ensures called { Called asked faults (IsWrite path.now result) self.old self.new result };
 
     /// Takes the file away. To remove what isn't there changes nothing.
@@ -111,10 +125,19 @@ pub trait Files {
         ensures removed { IfSome (holds self.old) (λ d. OnOk result (holds self.new ≡ Some (without_file d path.now))) }
         ensures failed { IsErrOf result FilesError.Failed → IfSome (holds self.old) (λ d. MayHaveRemoved d path.now (holds self.new)) }
         ensures unchanged { IsErrOf result FilesError.OutOfMemory → holds self.new ≡ holds self.old }
+        ensures crash { MayLeave holds moment left_since images (MayRemove path.now) self.old self.new }
         ensures called { Called asked faults (λ c. c ≡ Call.Remove path.now) self.old self.new result };
 
     /// Makes what was done so far outlast a crash.
     fn sync(&mut self) -> Result<(), FilesError>
         ensures same { holds self.new ≡ holds self.old }
+        ensures durable { IfSome (holds self.old) (λ d. OnOk result (Only d (images self.new))) }
+        ensures crash { MayLeave holds moment left_since images Stays self.old self.new }
         ensures called { Called asked faults (λ c. c ≡ Call.Sync) self.old self.new result };
+
+    /// What a crash may leave now it may have left since each earlier moment.
+    ghost counts_now: { (files : Self) (t : ℕ) (c : Directory) → t ≤ moment files → images files c → left_since files t c };
+
+    /// What it may have left since now it may leave now.
+    ghost only_now: { (files : Self) (c : Directory) → left_since files (moment files) c → images files c };
 }

@@ -3,7 +3,7 @@ ghost use Rattle.std.specs.Prelude.{◌≡◌, [], ◌∷◌, ◌++◌, if◌the
 ghost use Rattle.std.specs.Option.{option_map, option_copied};
 ghost use Rattle.std.specs.FinMap as fin;
 ghost use Rattle.pie_files.specs.Directory.{file_at, with_file, without_file, files_under, entries_of, in_path_order};
-ghost use Rattle.pie_files.specs.Held.{content_of, Gains};
+ghost use Rattle.pie_files.specs.Held.{content_of, with_same, Gains};
 ghost use Rattle.pie_base.specs.Path.{is_below, entry_on_way};
 
 use crate::Found;
@@ -43,6 +43,17 @@ impl Held {
         Held {
             files: BTreeMap::new(alloc),
         }
+    }
+
+    /// The same files.
+    pub(crate) fn copy(&self, alloc: Global) -> Result<Held, OutOfMemory>
+        ensures { IfOk result (λ copy. copy ≡ self.now) }
+    {
+        let mut copy = Held::new(alloc);
+        for path in self.files.keys() {
+            copy_file(alloc, self, &mut copy, path)?;
+        }
+        Ok(copy)
     }
 
     /// The file at a path.
@@ -88,6 +99,24 @@ impl Held {
             note_entry(alloc, &mut entries, dir, path)?;
         }
         listed(alloc, &entries)
+    }
+}
+
+// Makes a path hold in a copy what it holds.
+fn copy_file(alloc: Global, from: &Held, copy: &mut Held, path: &Path) -> Result<(), OutOfMemory>
+    ensures { OnOk result (copy.new ≡ with_same from.now copy.old path.now) }
+{
+    match from.get(path) {
+        Some(found) => {
+            let bytes = found.bytes.to_vec(alloc)?;
+            let mark = found.mark;
+            let path = path.copy()?;
+            copy.insert(path, Found { bytes, mark })
+        }
+        None => {
+            copy.remove(path);
+            Ok(())
+        }
     }
 }
 

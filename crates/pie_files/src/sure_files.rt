@@ -2,12 +2,17 @@
 ghost use Rattle.std.specs.Prelude.{◌≡◌, ◌++◌, ◌<◌, [], ◌∷◌, Some, OnOk, OnErr, IfOk, vec_len, vec_capacity};
 ghost use Rattle.std.specs.Option.{option_map};
 ghost use Rattle.std.specs.FinMap as fin;
-ghost use Rattle.pie_files.specs.Directory.{file_at, with_file};
-ghost use Rattle.pie_files.specs.Held.{content_of};
+ghost use Rattle.pie_files.specs.Directory.{Directory, file_at, with_file, without_file};
+ghost use Rattle.pie_files.specs.Held.{content_of, directory_code};
 ghost use Rattle.pie_files.specs.Memory.{asked_of};
+ghost use Rattle.pie_files.specs.Images.{Follows, Only, Sets};
+ghost use Rattle.pie_files.specs.Story.{picked, after_all, picked_image};
+ghost use Rattle.pie_files.specs.declared.pick.Pick.TheVariants.{All};
+ghost use Rattle.std.specs.Coded.{Coded-set};
 
+use crate::crashed::crashed;
 use crate::held::Held;
-use crate::{Call, Files, FilesError, Found};
+use crate::{Call, Files, FilesError, Found, Pick};
 use pie_base::{OutOfMemory, Path};
 use std::alloc::Global;
 
@@ -31,53 +36,85 @@ pub enum Logged {
 #[derive(Drop)]
 pub struct SureFiles {
     pub(crate) alloc: Global,
+    // The directory at first, which outlasts a crash.
+    pub(crate) began: Held,
     pub(crate) held: Held,
     pub(crate) log: Vec<Logged>,
     pub(crate) writes: u64,
+    ghost told: { held ≡ after_all began log.items } by { Coded-set directory_code _ _ },
 }
 
 impl SureFiles {
-    ghost use Rattle.pie_files.specs.SureFiles.{held_by, asked_by};
+    ghost use Rattle.pie_files.specs.SureFiles.{held_by, began_by, story_by, asked_by, images_by};
 
     /// No file.
     pub fn new(alloc: Global) -> SureFiles
         ensures empty { held_by result ≡ fin.empty }
         ensures asked { asked_by result ≡ [] }
+        ensures rest { Only (held_by result) (images_by result) }
     {
         SureFiles {
             alloc,
+            began: Held::new(alloc),
             held: Held::new(alloc),
             log: Vec::new(alloc),
             writes: 0,
         }
     }
 
-    /// Sets a file, with this mark; it counts as no call.
+    /// Sets a file, with this mark; it counts as no call, and every image has it.
     pub fn put(&mut self, path: &Path, bytes: &[u8], mark: u64) -> Result<(), OutOfMemory>
         ensures set { OnOk result (held_by self.new ≡ with_file (held_by self.old) path.now bytes.now mark) }
+        ensures images { OnOk result (Follows (Sets path.now bytes.now mark) (images_by self.old) (images_by self.new)) }
         ensures unchanged { OnErr result (held_by self.new ≡ held_by self.old) }
+        ensures images_unchanged { OnErr result ((c : Directory) → images_by self.new c → images_by self.old c) }
         ensures asked { asked_by self.new ≡ asked_by self.old }
     {
-        let logged = Logged::Put(path.copy()?, bytes.to_vec(self.alloc)?, mark);
-        self.set(path, bytes, mark, logged)
+        let kept = copied(self.alloc, bytes)?;
+        let put = Logged::Put(path.copy()?, kept, mark);
+        self.set(path, bytes, mark, put)?;
+        Ok(())
     }
 
     /// All that has happened, oldest first.
-    pub fn log(&self) -> &[Logged] {
+    pub fn log(&self) -> &[Logged]
+        ensures { result.now ≡ story_by self.now }
+    {
         self.log.as_slice()
     }
 
-    /// Notes a call that fails and changes nothing.
-    pub(crate) fn note_failed(&mut self, call: Call) -> Result<(), OutOfMemory>
+    /// Files that hold one image which a crash now may leave.
+    pub(crate) fn crash(&self, pick: Pick) -> Result<SureFiles, OutOfMemory>
+        ensures held { IfOk result (λ left. held_by left ≡ picked_image pick (began_by self.now) (story_by self.now)) }
+        ensures began { IfOk result (λ left. began_by left ≡ held_by left) }
+        ensures story { IfOk result (λ left. story_by left ≡ []) }
+    {
+        let began = crashed(self.alloc, &self.began, self.log.as_slice(), pick)?;
+        let held = began.copy(self.alloc)?;
+        Ok(SureFiles {
+            alloc: self.alloc,
+            began,
+            held,
+            log: Vec::new(self.alloc),
+            writes: 0,
+        })
+    }
+
+    /// Notes a call that changes nothing: a look, or one that failed.
+    #[tactic(auto, using(crate::proofs::Leaving::after_more, crate::proofs::Asked::asked_push))]
+    pub(crate) fn note_asked(&mut self, call: Call) -> Result<(), OutOfMemory>
         ensures held { held_by self.new ≡ held_by self.old }
-        ensures noted { OnOk result (asked_by self.new ≡ asked_by self.old ++ call ∷ []) }
-        ensures unchanged { OnErr result (asked_by self.new ≡ asked_by self.old) }
+        ensures began { began_by self.new ≡ began_by self.old }
+        ensures noted { OnOk result (story_by self.new ≡ story_by self.old ++ Logged.Asked call ∷ []) }
+        ensures asked { OnOk result (asked_by self.new ≡ asked_by self.old ++ call ∷ []) }
+        ensures unchanged { OnErr result (story_by self.new ≡ story_by self.old) }
+        ensures asked_unchanged { OnErr result (asked_by self.new ≡ asked_by self.old) }
     {
         note(&mut self.log, Logged::Asked(call))
     }
 
     // Sets a file and logs it; takes all its memory before it changes anything.
-    #[tactic(auto, using(crate::proofs::Asked::asked_push))]
+    #[tactic(auto, using(crate::proofs::Leaving::after_more, crate::proofs::Asked::asked_push))]
     fn set(
         &mut self,
         path: &Path,
@@ -85,9 +122,13 @@ impl SureFiles {
         mark: u64,
         logged: Logged,
     ) -> Result<(), OutOfMemory>
+        requires { picked All (held_by self.old) logged ≡ with_file (held_by self.old) path.now bytes.now mark }
         ensures set { OnOk result (held_by self.new ≡ with_file (held_by self.old) path.now bytes.now mark) }
-        ensures noted { OnOk result (asked_by self.new ≡ asked_by self.old ++ asked_of (logged ∷ [])) }
+        ensures began { began_by self.new ≡ began_by self.old }
+        ensures noted { OnOk result (story_by self.new ≡ story_by self.old ++ logged ∷ []) }
+        ensures asked { OnOk result (asked_by self.new ≡ asked_by self.old ++ asked_of (logged ∷ [])) }
         ensures unchanged { OnErr result ((held_by self.new ≡ held_by self.old) × (asked_by self.new ≡ asked_by self.old)) }
+        ensures story { OnErr result (story_by self.new ≡ story_by self.old) }
     {
         let found = Found {
             bytes: bytes.to_vec(self.alloc)?,
@@ -98,6 +139,31 @@ impl SureFiles {
         self.held.insert(path, found)?;
         push_reserved(&mut self.log, logged);
         Ok(())
+    }
+
+    // Takes a file away and logs it.
+    #[tactic(auto, using(crate::proofs::Leaving::after_more))]
+    fn take_away(&mut self, path: &Path) -> Result<(), OutOfMemory>
+        ensures taken { OnOk result (held_by self.new ≡ without_file (held_by self.old) path.now) }
+        ensures began { began_by self.new ≡ began_by self.old }
+        ensures noted { OnOk result (story_by self.new ≡ story_by self.old ++ Logged.Removed path.now ∷ []) }
+        ensures unchanged { OnErr result ((held_by self.new ≡ held_by self.old) × (story_by self.new ≡ story_by self.old)) }
+    {
+        let logged = Logged::Removed(path.copy()?);
+        note(&mut self.log, logged)?;
+        self.held.remove(path);
+        Ok(())
+    }
+
+    // Notes a sync that succeeds.
+    #[tactic(auto, using(crate::proofs::Leaving::after_more))]
+    fn note_synced(&mut self) -> Result<(), OutOfMemory>
+        ensures held { held_by self.new ≡ held_by self.old }
+        ensures began { began_by self.new ≡ began_by self.old }
+        ensures noted { OnOk result (story_by self.new ≡ story_by self.old ++ Logged.Synced ∷ []) }
+        ensures unchanged { OnErr result (story_by self.new ≡ story_by self.old) }
+    {
+        note(&mut self.log, Logged::Synced)
     }
 
     // A copy of the file at a path.
@@ -114,11 +180,16 @@ impl SureFiles {
     }
 }
 
+fn copied(alloc: Global, bytes: &[u8]) -> Result<Vec<u8>, OutOfMemory>
+    ensures { IfOk result (λ copy. copy.items ≡ bytes.now) }
+{
+    Ok(bytes.to_vec(alloc)?)
+}
+
 // Adds to the log, or leaves it as it is.
-#[tactic(auto, using(crate::proofs::Asked::asked_push))]
 fn note(log: &mut Vec<Logged>, logged: Logged) -> Result<(), OutOfMemory>
-    ensures noted { OnOk result (asked_of log.new.items ≡ asked_of log.old.items ++ asked_of (logged ∷ [])) }
-    ensures unchanged { OnErr result (asked_of log.new.items ≡ asked_of log.old.items) }
+    ensures noted { OnOk result (log.new.items ≡ log.old.items ++ logged ∷ []) }
+    ensures unchanged { OnErr result (log.new.items ≡ log.old.items) }
 {
     log.push(logged)?;
     Ok(())
@@ -134,7 +205,8 @@ fn push_reserved(log: &mut Vec<Logged>, logged: Logged)
 
 impl Files for SureFiles {
     ghost use Rattle.std.specs.Prelude.{Some};
-    ghost use Rattle.pie_files.specs.SureFiles.{held_by, asked_by};
+    ghost use Rattle.pie_files.specs.SureFiles.{held_by, asked_by, images_by, moment_by, left_since_by};
+    ghost use Rattle.pie_files.specs.StoryLaws.{counts_now, only_now};
 
     ghost holds = { λ s. Some (held_by s) };
 
@@ -142,43 +214,53 @@ impl Files for SureFiles {
 
     ghost faults = { λ _. 0 };
 
+    ghost images = { images_by };
+
+    ghost moment = { moment_by };
+
+    ghost left_since = { left_since_by };
+
+    ghost counts_now = { λ s. counts_now s.began s.log.items };
+
+    ghost only_now = { λ s. only_now s.began s.log.items };
+
     fn read(&mut self, path: &Path) -> Result<Option<Found>, FilesError> {
         let call = Call::Read(path.copy()?);
         let found = self.copy_of(path)?;
-        note(&mut self.log, Logged::Asked(call))?;
+        self.note_asked(call)?;
         Ok(found)
     }
 
     fn names(&mut self, dir: &Path) -> Result<Vec<Path>, FilesError> {
         let call = Call::Names(dir.copy()?);
         let paths = self.held.names(self.alloc, dir)?;
-        note(&mut self.log, Logged::Asked(call))?;
+        self.note_asked(call)?;
         Ok(paths)
     }
 
     fn all_under(&mut self, dir: &Path) -> Result<Vec<Path>, FilesError> {
         let call = Call::AllUnder(dir.copy()?);
         let paths = self.held.all_under(self.alloc, dir)?;
-        note(&mut self.log, Logged::Asked(call))?;
+        self.note_asked(call)?;
         Ok(paths)
     }
 
     fn write(&mut self, path: &Path, bytes: &[u8]) -> Result<(), FilesError> {
         let mark = self.writes.saturating_add(1);
-        let logged = Logged::Wrote(path.copy()?, bytes.to_vec(self.alloc)?, mark);
+        let kept = bytes.to_vec(self.alloc)?;
+        let logged = Logged::Wrote(path.copy()?, kept, mark);
         self.set(path, bytes, mark, logged)?;
         self.writes = mark;
         Ok(())
     }
 
     fn remove(&mut self, path: &Path) -> Result<(), FilesError> {
-        note(&mut self.log, Logged::Removed(path.copy()?))?;
-        self.held.remove(path);
+        self.take_away(path)?;
         Ok(())
     }
 
     fn sync(&mut self) -> Result<(), FilesError> {
-        note(&mut self.log, Logged::Synced)?;
+        self.note_synced()?;
         Ok(())
     }
 }

@@ -1,6 +1,6 @@
 //! The objects in memory and the adapters, each once.
 use crate::{
-    Call, DirFiles, Files, FilesError, Found, Logged, MemFiles, MemSink, MemSource, Sink,
+    Call, DirFiles, Files, FilesError, Found, Logged, MemFiles, MemSink, MemSource, Pick, Sink,
     SinkError, Source, SourceError, StdSink, StdSource, SureFiles,
 };
 use pie_base::Path;
@@ -61,6 +61,48 @@ fn a_call_that_is_told_to_fails_and_changes_nothing(rt: HostRuntime) -> Result<(
     files.write(&page, b"three")?;
     assert!(rt; is_found(&files.read(&page)?, b"three", 2));
     assert_eq!(rt; files.log().len(), 5);
+    Ok(())
+}
+
+// Two files that outlast a crash; then one is written again and the other removed.
+fn unsynced(alloc: Global) -> Result<MemFiles, Fail> {
+    let mut files = MemFiles::new(alloc);
+    files.write(&path(alloc, "out/a")?, b"old")?;
+    files.write(&path(alloc, "out/b")?, b"other")?;
+    files.sync()?;
+    files.write(&path(alloc, "out/a")?, b"newer")?;
+    files.remove(&path(alloc, "out/b")?)?;
+    files.put(&path(alloc, "src/s")?, b"s", 70)?;
+    Ok(files)
+}
+
+#[test]
+fn a_crash_leaves_what_is_picked_since_the_last_sync(rt: HostRuntime) -> Result<(), Fail> {
+    let alloc = rt.alloc();
+    let files = unsynced(alloc)?;
+    let a = path(alloc, "out/a")?;
+    let b = path(alloc, "out/b")?;
+    let mut all = files.crash(Pick::All)?;
+    assert!(rt; is_found(&all.read(&a)?, b"newer", 3) && all.read(&b)?.is_none());
+    let mut nothing = files.crash(Pick::Nothing)?;
+    assert!(rt; is_found(&nothing.read(&a)?, b"old", 1));
+    assert!(rt; is_found(&nothing.read(&b)?, b"other", 2));
+    let mut torn = files.crash(Pick::Torn)?;
+    assert!(rt; is_found(&torn.read(&a)?, b"ne", 3) && torn.read(&b)?.is_none());
+    Ok(())
+}
+
+#[test]
+fn what_a_crash_left_is_safe_from_the_next_one(rt: HostRuntime) -> Result<(), Fail> {
+    let alloc = rt.alloc();
+    let files = unsynced(alloc)?;
+    let mut left = files.crash(Pick::Torn)?;
+    assert_eq!(rt; left.log().len(), 0);
+    left.write(&path(alloc, "out/c")?, b"c")?;
+    let mut again = left.crash(Pick::Nothing)?;
+    assert!(rt; is_found(&again.read(&path(alloc, "out/a")?)?, b"ne", 3));
+    assert!(rt; is_found(&again.read(&path(alloc, "src/s")?)?, b"s", 70));
+    assert!(rt; again.read(&path(alloc, "out/c")?)?.is_none());
     Ok(())
 }
 

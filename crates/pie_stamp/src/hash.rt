@@ -1,0 +1,14 @@
+//! The hash of bytes.
+ghost use Rattle.std.specs.Prelude.{◌≡◌};
+ghost use Rattle.sha2.specs.Sha256.{sha256};
+
+use sha2::{Digest, Sha256};
+
+/// The SHA-256 of the bytes.
+pub fn hash_of(bytes: &[u8]) -> [u8; 32]
+    ensures { result ≡ sha256 bytes.now }
+{
+    let mut hasher = Sha256::new();
+    hasher.update(bytes);
+    hasher.finalize()
+}
