@@ -1,0 +1,6 @@
+pub mod Kinds
+pub mod Codes
+pub mod Parts
+pub mod Canonical
+pub mod Reading
+pub mod Agreement
