@@ -15,14 +15,16 @@ left_more {X} bytes xs i x h e = ap (flat_map bytes) (drop_more xs i x h) ∙ ap
 
 pub all_more : {X : Type 0} (P : X → Type 0) (xs : List X) (i : ℕ) (x : X) → i < length xs → x ≡ get_or xs i x → P x → AllBelow P xs i
     → AllBelow P xs (i + 1)
-all_more {X} P xs i x h e p a = record { holds = λ k d lt.
-    elim (cases_lt k i) [
-      | inl below ↦ a.holds k d below
-      | inr above ↦
-        let same : k ≡ i = omega arith in
-        let y : x ≡ get_or xs k d = e ∙ get_or_default xs i x d h ∙ ap (λ (j : ℕ). get_or xs j d) (sym same) in
-        subst P y p
-    ] }
+all_more {X} P xs i x h e p a = record {
+  holds = λ k d lt.
+      elim (cases_lt k i) [
+        | inl below ↦ a.holds k d below
+        | inr above ↦
+            let same : k ≡ i = omega arith in
+            let y : x ≡ get_or xs k d = e ∙ get_or_default xs i x d h ∙ ap (λ (j : ℕ). get_or xs j d) (sym same) in
+            subst P y p
+      ];
+}
 
 pub all_done : {X : Type 0} (P : X → Type 0) (xs : List X) (i : ℕ) → length xs ≤ i → AllBelow P xs i → All P xs
 all_done P xs i h a k d lt = a.holds k d (omega arith)

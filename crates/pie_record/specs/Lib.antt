@@ -4,3 +4,5 @@ pub mod Parts
 pub mod Canonical
 pub mod Reading
 pub mod Agreement
+pub mod Names
+pub mod Records

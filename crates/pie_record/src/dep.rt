@@ -61,6 +61,10 @@ impl Dep {
     {
         let what = self.what.copy()?;
         let stamp = self.stamp.copy()?;
-        Ok(Dep { kind: self.kind, what, stamp })
+        Ok(Dep {
+            kind: self.kind,
+            what,
+            stamp,
+        })
     }
 }

@@ -67,6 +67,11 @@ impl TaskRecord {
         let deps = self.deps.copy(alloc)?;
         let writes = self.writes.copy(alloc)?;
         let outcome = self.outcome.copy(alloc)?;
-        Ok(TaskRecord { task, deps, writes, outcome })
+        Ok(TaskRecord {
+            task,
+            deps,
+            writes,
+            outcome,
+        })
     }
 }

@@ -1,11 +1,12 @@
 //! Writing the canonical bytes of records. Rule: docs/FORMATS.md, "Records".
-ghost use Rattle.std.specs.Prelude.{◌≡◌, ◌<◌, ◌^◌, ◌∷◌, [], ◌++◌, length, All, IfOk, OnOk};
+ghost use Rattle.std.specs.Prelude.{◌≡◌, ◌<◌, ◌^◌, ◌∷◌, [], ◌++◌, length, List, ℕ, Ok, All, IfOk, OnOk};
 ghost use Rattle.pie_value.specs.Values.{tree_of};
 ghost use Rattle.pie_value.specs.Canonical.{be32, counted, enc, enc_task, IsEncodable, IsEncodableTask, HasTrueLeaves};
 ghost use Rattle.pie_record.specs.Canonical.{be64, enc_on, contents, enc_stamp, enc_dep, enc_write, listed, enc_outcome, enc_record};
 ghost use Rattle.pie_record.specs.Canonical.{IsStorableOn, IsStorableStamp, IsStorableDep, IsStorableWrite, IsStorableOutcome, IsStorable};
 ghost use Rattle.pie_record.specs.Canonical.{IsTrueTask, IsTrueOn, IsTrueStamp, IsTrueDep, IsTrueWrite, IsTrueOutcome, IsTrueRecord, IsCanonicalRecord};
 ghost use Rattle.pie_record.specs.Kinds.{kind_byte, tag_byte, tag_of};
+ghost use Rattle.pie_record.specs.Reading.{record_at};
 ghost use Rattle.std.specs.List.{flat_map};
 
 use crate::tag::{byte_of_kind, byte_of_stamp};
@@ -15,10 +16,12 @@ use pie_value::{Stamp, Task, Value, encode, encode_task};
 use std::alloc::Global;
 
 /// The canonical bytes of a record.
+#[tactic(auto, using(crate::proofs::RecordCodec::canonical_again))]
 pub fn encode_record(alloc: Global, rec: &TaskRecord) -> Result<Vec<u8>, OutOfMemory>
     requires { IsStorable rec.now }
     ensures bytes { IfOk result (λ bytes. bytes.items ≡ enc_record rec.now) }
     ensures canonical { IfOk result (λ bytes. IsCanonicalRecord rec.now bytes.items) }
+    ensures read_back { IfOk result (λ bytes. (rest : List ℕ) → record_at (bytes.items ++ rest) ≡ Ok (rec.now, rest)) }
 {
     let mut out = Vec::new(alloc);
     put_record(&mut out, alloc, rec)?;
