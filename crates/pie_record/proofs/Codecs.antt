@@ -1,29 +1,28 @@
 -- The parts of a record: what is read is what was written, and what was written is read again.
-use Rattle.std.proofs.Common.{◌≡◌, ℕ, ◌+◌, ◌-◌, ◌^◌, ◌<◌, ◌≤◌, Bool, true, false, not, ◌&&◌, cond, List, [], ◌∷◌, ◌++◌, length, get_or, take, drop, Ok, Err}
-use Rattle.std.proofs.Common.{refl, sym, ap, subst, ◌∙◌, append_assoc, append-nil, arith, inl, inr}
-use Rattle.std.specs.Prelude.{IsTrue, Some, Option, nat_lt, ◌==◌, ◌⊎◌}
+use Rattle.std.proofs.Common.{◌≡◌, ℕ, ◌+◌, ◌-◌, ◌^◌, ◌<◌, true, not, ◌&&◌, cond, List, [], ◌∷◌, ◌++◌, length, drop, Ok, Err}
+use Rattle.std.proofs.Common.{refl, sym, ap, subst, ◌∙◌, arith}
+use Rattle.std.specs.Prelude.{IsTrue, nat_lt, ◌==◌}
 use Rattle.std.specs.Int.{w64, from_be_bytes, to_be_bytes}
 use Rattle.std.specs.Str.{is_utf8, IsUtf8}
 use Rattle.std.specs.List.{list_all}
 use Rattle.std.proofs.lemmas.Str.{IsUtf8-from_is_utf8, is_utf8-from_IsUtf8}
-use Rattle.std.proofs.lemmas.Bool.{leb-true, eqb-true}
-use Rattle.std.proofs.lemmas.List.{get_or-drop, take-append-drop, length-drop}
+use Rattle.std.proofs.lemmas.List.{get_or-drop, take-append-drop}
 use Rattle.std.proofs.lemmas.Nat.{be_bytes_8, from_be_bytes-to_be_bytes_8}
 use Rattle.pie_base.specs.Path.{is_path, is_out, is_segment, segments}
 use Rattle.pie_value.specs.declared.task.Task.{Task}
 use Rattle.pie_value.specs.declared.value.Value.{Value}
 use Rattle.pie_value.specs.Tree.{Tree}
 use Rattle.pie_value.specs.Values.{tree_of}
-use Rattle.pie_value.specs.Canonical.{be32, counted, enc, enc_task, IsEncodable, IsEncodableTask, HasTrueLeaves, IsCanonicalTask}
+use Rattle.pie_value.specs.Canonical.{be32, counted, enc, enc_task, IsEncodable, IsEncodableTask, HasTrueLeaves}
 use Rattle.pie_value.specs.Reading.{byte_of, bytes_of, number_of, counted_of, is_path_text, value_within, value_front, task_front}
-use Rattle.pie_value.proofs.Taking.{IsBytes, Takes, Takes-then, byte_takes, bytes_takes, bytes_again, number_takes, number_again, counted_takes, counted_again}
+use Rattle.pie_value.proofs.Taking.{IsBytes, Takes, byte_takes, bytes_takes, bytes_again, number_takes, number_again, counted_takes, counted_again}
 use Rattle.pie_value.proofs.ReadBack.{value_read}
 use Rattle.pie_value.proofs.WriteBack.{value_again}
 use Rattle.pie_value.proofs.Decoded.{task_counted, task_again, task_is_canonical}
-use Rattle.pie_record.specs.declared.record_fault.RecordFault.TheVariants.{BadPath}
+use Rattle.pie_record.specs.declared.record_fault.RecordFault.TheVariants.{BadPath, BadValue}
 use Rattle.pie_record.specs.Parts.{value_of}
 use Rattle.pie_record.specs.Canonical.{be64, IsTruePath, IsTrueTask}
-use Rattle.pie_record.specs.Reading.{Parsed, then_on, told, byte_at, bytes_at, number_at, mark_at, counted_at, path_at, out_path_at, task_at, value_at}
+use Rattle.pie_record.specs.Reading.{Parsed, then_on, told, byte_at, bytes_at, number_at, mark_at, counted_at, text_at, path_at, out_path_at, task_at, value_at}
 use Rattle.pie_record.proofs.Values.{value_back, tree_back}
 use Rattle.pie_record.proofs.Steps.{pair, same_value, same_rest, then_ok, told_ok, told_on, guard_ok, guard_on, both_true, both_on, Codec, last_ok}
 
@@ -117,6 +116,27 @@ out_path_again p rest h =
 
 pub out_path_codec : Codec out_path_at counted IsOutPath
 out_path_codec = record { taken = out_path_taken; again = out_path_again }
+
+abbrev pub FitsText : List ℕ → Type 0
+FitsText t = (length t < 2 ^ 32) × IsUtf8 t
+
+text_taken : (bs t rest : List ℕ) → IsBytes bs → text_at bs ≡ Ok (t, rest) → Takes bs (counted t) rest × FitsText t
+text_taken bs t rest fits e =
+    let h = then_ok (counted_at bs) (λ x after. cond (is_utf8 x) (Ok (x, after)) (Err BadValue)) t rest e in
+    let g = guard_ok (is_utf8 h.0) h.0 h.1 BadValue t rest h.3 in
+    let q = counted_takes bs h.0 h.1 fits (told_ok (counted_of bs) h.0 h.1 h.2) in (
+      subst (λ (x : List ℕ). Takes bs (counted x) rest) g.1 (subst (Takes bs (counted h.0)) g.2 q.0),
+      subst FitsText g.1 (q.1, IsUtf8-from_is_utf8 h.0 g.0),
+    )
+
+text_again : (t rest : List ℕ) → FitsText t → text_at (counted t ++ rest) ≡ Ok (t, rest)
+text_again t rest h =
+    ap (λ (q : Parsed (List ℕ)). then_on q (λ x after. cond (is_utf8 x) (pair x after) (Err BadValue)))
+    (told_on (counted_of (counted t ++ rest)) t rest (counted_again t rest h.0))
+    ∙ guard_on (is_utf8 t) t rest BadValue (is_utf8-from_IsUtf8 t h.1)
+
+pub text_codec : Codec text_at counted FitsText
+text_codec = record { taken = text_taken; again = text_again }
 
 -- ---- tasks and values
 

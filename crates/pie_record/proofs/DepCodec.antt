@@ -1,13 +1,10 @@
 -- Observations and writes: what is read is what was written, and what was written is read again.
-use Rattle.std.proofs.Common.{◌≡◌, ℕ, Bool, true, false, cond, List, [], ◌∷◌, ◌++◌, length, Ok, Err, refl, sym, ap, subst, ◌∙◌, append_assoc, inl, inr}
-use Rattle.std.specs.Prelude.{IsTrue, Some, Option, ◌==◌, ◌⊎◌}
+use Rattle.std.proofs.Common.{◌≡◌, ℕ, Bool, true, false, cond, List, [], ◌∷◌, ◌++◌, Ok, Err, refl, sym, ap, subst, ◌∙◌, inl, inr}
+use Rattle.std.specs.Prelude.{IsTrue, Some, Option, ◌==◌}
 use Rattle.std.proofs.lemmas.Bool.{eqb-true}
-use Rattle.pie_base.specs.Path.{is_out}
-use Rattle.pie_value.specs.declared.task.Task.{Task}
-use Rattle.pie_value.specs.declared.value.Value.{Value}
 use Rattle.pie_value.specs.declared.stamp.Stamp.{Stamp}
 use Rattle.pie_value.specs.declared.stamp.Stamp.TheVariants.{Absent, Present, Hash, Mark, Whole, Done}
-use Rattle.pie_value.specs.Canonical.{counted, enc_task}
+use Rattle.pie_value.specs.Canonical.{counted}
 use Rattle.pie_value.proofs.Taking.{IsBytes, Takes, Takes-then}
 use Rattle.pie_record.specs.declared.dep.Dep.{Dep}
 use Rattle.pie_record.specs.declared.dep.DepKind.{DepKind}
@@ -18,10 +15,10 @@ use Rattle.pie_record.specs.declared.tag.Tag.{Tag}
 use Rattle.pie_record.specs.declared.tag.Tag.TheVariants.{Absent as TagAbsent, Present as TagPresent, Hash as TagHash, Mark as TagMark}
 use Rattle.pie_record.specs.declared.tag.Tag.TheVariants.{Whole as TagWhole, Done as TagDone}
 use Rattle.pie_record.specs.declared.record_fault.RecordFault.TheVariants.{BadTag}
-use Rattle.pie_record.specs.Kinds.{kind_byte, kind_of_byte, tag_byte, tag_of_byte, tag_of, calls, file_allows, call_allows, allows}
+use Rattle.pie_record.specs.Kinds.{kind_byte, kind_of_byte, tag_byte, tag_of_byte, tag_of, calls, allows}
 use Rattle.pie_record.specs.Canonical.{enc_on, contents, enc_stamp, enc_dep, enc_write, IsStorableOn, IsStorableStamp, IsStorableDep, IsStorableWrite}
 use Rattle.pie_record.specs.Canonical.{IsTrueOn, IsTrueStamp, IsTrueDep, IsTrueWrite}
-use Rattle.pie_record.specs.Reading.{Parsed, then_on, byte_at, bytes_at, mark_at, path_at, out_path_at, task_at, value_at, known, kind_at, on_at}
+use Rattle.pie_record.specs.Reading.{Parsed, then_on, byte_at, bytes_at, out_path_at, known, kind_at, on_at}
 use Rattle.pie_record.specs.Reading.{any_tag_at, tag_at, stamped, dep_at, write_at}
 use Rattle.pie_record.proofs.Steps.{pair, same_value, same_rest, then_ok, guard_ok, guard_on, known_ok, choice, Codec, step, last, last_ok}
 use Rattle.pie_record.proofs.Codecs.{byte_codec, bytes_codec, mark_codec, path_codec, out_path_codec, task_codec, value_codec}

@@ -6,3 +6,4 @@ pub mod Codecs
 pub mod DepCodec
 pub mod RecordCodec
 pub mod Naming
+mod Examples

@@ -1,8 +1,8 @@
 -- Tasks by their canonical bytes.
-use Rattle.std.proofs.Common.{◌≡◌, ◌≢◌, ℕ, suc, ◌+◌, ◌<◌, ◌≤◌, ◌^◌, Bool, true, false, cond, List, [], ◌∷◌, ◌++◌, length, get_or, map, Ok, Err}
+use Rattle.std.proofs.Common.{◌≡◌, ◌≢◌, ℕ, suc, ◌<◌, ◌^◌, Bool, true, false, cond, List, [], ◌∷◌, ◌++◌, length, get_or, map}
 use Rattle.std.proofs.Common.{refl, sym, ap, subst, ◌∙◌, arith}
-use Rattle.std.specs.Prelude.{All, Contains, Option, Some, None, Vec, slice_get, nat_lt, ◌==◌, position}
-use Rattle.std.specs.List.{AllPairs, list_any, position_or_len}
+use Rattle.std.specs.Prelude.{Contains, Option, Some, None, Vec, slice_get, position}
+use Rattle.std.specs.List.{list_any, position_or_len}
 use Rattle.std.specs.Str.{bytes_eq}
 use Rattle.std.proofs.lemmas.Slice.Eq.{bytes_eq-Decides}
 use Rattle.std.proofs.lemmas.Bool.{ltb-false}
@@ -16,7 +16,7 @@ use Rattle.pie_value.specs.Canonical.{enc_task, IsCanonicalTask}
 use Rattle.pie_value.specs.Reading.{task_front}
 use Rattle.pie_value.proofs.Taking.{same_value}
 use Rattle.pie_value.proofs.Decoded.{task_again}
-use Rattle.pie_record.specs.Names.{AreNamed, AreDistinct, IsFree, IsPlace}
+use Rattle.pie_record.specs.Names.{AreNamed, IsFree, IsPlace}
 
 -- ---- where bytes stand
 

@@ -3,7 +3,7 @@ use Rattle.std.proofs.Common.{◌≡◌, ℕ, zero, suc, ◌-◌, ◌^◌, ◌<�
 use Rattle.std.proofs.Common.{append_assoc, append-nil, arith}
 use Rattle.std.specs.Prelude.{All}
 use Rattle.std.specs.List.{flat_map}
-use Rattle.std.proofs.lemmas.List.{take-append-drop, length-append}
+use Rattle.std.proofs.lemmas.List.{take-append-drop}
 use Rattle.std.proofs.lemmas.List.Elements.{All-nil, All-cons, All-head, All-tail}
 use Rattle.pie_value.specs.declared.task.Task.{Task}
 use Rattle.pie_value.specs.declared.value.Value.{Value}
@@ -15,13 +15,13 @@ use Rattle.pie_record.specs.declared.task_record.Outcome.TheVariants.{Done as Ga
 use Rattle.pie_record.specs.declared.task_record.TaskRecord.{TaskRecord}
 use Rattle.pie_record.specs.declared.record_fault.RecordFault.{RecordFault}
 use Rattle.pie_record.specs.declared.record_fault.RecordFault.TheVariants.{Short, BadTag, BadPath, BadValue, OutOfMemory}
-use Rattle.pie_record.specs.Canonical.{enc_dep, enc_write, listed, enc_outcome, enc_record, IsStorableDep, IsStorableWrite, IsStorableOutcome, IsStorable}
+use Rattle.pie_record.specs.Canonical.{enc_dep, enc_write, listed, enc_record, IsStorableDep, IsStorableWrite, IsStorableOutcome, IsStorable}
 use Rattle.pie_record.specs.Canonical.{IsTrueDep, IsTrueWrite, IsTrueRecord, IsCanonicalRecord}
 use Rattle.pie_record.specs.Reading.{Parsed, then_on, number_at, task_at, value_at, dep_at, write_at, many_at, list_at, record_at}
 use Rattle.pie_record.specs.Agreement.{AgreesInFront, Refuses}
 use Rattle.pie_record.proofs.Steps.{pair, same_value, same_rest, then_ok, Codec, step, last, last_ok}
 use Rattle.pie_record.proofs.Codecs.{number_codec, task_codec, value_codec, value_bytes}
-use Rattle.pie_record.proofs.DepCodec.{FitsDep, FitsWrite, dep_codec, write_codec}
+use Rattle.pie_record.proofs.DepCodec.{dep_codec, write_codec}
 
 -- ---- things behind their number
 

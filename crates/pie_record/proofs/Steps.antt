@@ -1,11 +1,10 @@
 -- What it says of the parts that reading them one after another succeeds.
-use Rattle.std.proofs.Common.{◌≡◌, ℕ, Bool, true, false, ◌&&◌, cond, List, [], ◌∷◌, ◌++◌, Ok, Err, refl, sym, ap, subst, ◌∙◌, append_assoc}
+use Rattle.std.proofs.Common.{◌≡◌, ℕ, Bool, true, false, ◌&&◌, cond, List, ◌++◌, Ok, Err, refl, ap, subst, ◌∙◌, append_assoc}
 use Rattle.std.specs.Prelude.{Option, Some, None, ◌⊎◌}
 use Rattle.std.proofs.Common.{inl, inr}
 use Rattle.pie_value.specs.Reading.{Parsed as Decoded}
-use Rattle.pie_value.proofs.Taking.{IsBytes, Takes, Takes-then}
+use Rattle.pie_value.proofs.Taking.{IsBytes, Takes}
 use Rattle.pie_record.specs.declared.record_fault.RecordFault.{RecordFault}
-use Rattle.pie_record.specs.declared.record_fault.RecordFault.TheVariants.{BadTag}
 use Rattle.pie_record.specs.Reading.{Parsed, then_on, told, known}
 
 abbrev pub pair : {A : Type 0} → A → List ℕ → Parsed A

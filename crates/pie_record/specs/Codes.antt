@@ -1,5 +1,5 @@
 -- How the logic stores observations: a map into plain data that is one to one.
-use Rattle.std.proofs.Common.{◌≡◌, ℕ, List, refl, ap, arith, inl, inr}
+use Rattle.std.proofs.Common.{◌≡◌, ℕ, List, refl, arith, inl, inr}
 use Rattle.std.specs.Prelude.{◌⊎◌}
 use base.Stored.{coded_unit, coded_via}
 use Rattle.std.specs.Coded.{Coded, code_by, coded×, coded⊎, coded_ℕ, coded_list}

@@ -1,5 +1,6 @@
 pub mod Kinds
 pub mod Codes
+pub mod RecordCodes
 pub mod Parts
 pub mod Canonical
 pub mod Reading

@@ -66,6 +66,10 @@ mark_at bs = then_on (bytes_at 8 bs) (λ ds rest. Ok (from_be_bytes w64 ds, rest
 abbrev pub counted_at : List ℕ → Parsed (List ℕ)
 counted_at bs = told (counted_of bs)
 
+-- a text behind its length
+abbrev pub text_at : List ℕ → Parsed (List ℕ)
+text_at bs = then_on (counted_at bs) (λ text rest. cond (is_utf8 text) (Ok (text, rest)) (Err BadValue))
+
 -- a path behind its length
 abbrev pub path_at : List ℕ → Parsed (List ℕ)
 path_at bs = then_on (counted_at bs) (λ path rest. cond (is_path_text path) (Ok (path, rest)) (Err BadPath))

@@ -24,7 +24,7 @@ fn front(alloc: Global, bytes: &[u8]) -> Result<(TaskRecord, usize), RecordFault
     ensures { AgreesInFront (λ r. r) result bytes.now (record_at bytes.now) }
 {
     let mut reader = Reader::new(bytes);
-    let rec = reader.record(alloc)?;
+    let rec = reader.parts(alloc)?;
     let len = bytes.len().saturating_sub(reader.left());
     Ok((rec, len))
 }

@@ -1,12 +1,14 @@
 //! A reader of canonical parts, which goes once from the left.
-ghost use Rattle.std.specs.Prelude.{◌≡◌, ◌-◌, List, length, MatchOption, true, false};
+ghost use Rattle.std.specs.Prelude.{◌≡◌, ◌-◌, List, length, IfOk, MatchOption, true, false};
 ghost use Rattle.std.specs.Str.{is_utf8};
 ghost use Rattle.pie_value.specs.Reading.{is_path_text};
+ghost use Rattle.pie_value.specs.Canonical.{enc_task, IsCanonicalTask};
+ghost use Rattle.pie_record.specs.Canonical.{enc_record, IsCanonicalRecord};
 ghost use Rattle.pie_record.specs.Agreement.{Agrees};
-ghost use Rattle.pie_record.specs.Reading.{told_fault, byte_at, bytes_at, number_at, mark_at, counted_at, path_at, task_at, value_at};
+ghost use Rattle.pie_record.specs.Reading.{told_fault, byte_at, bytes_at, number_at, mark_at, counted_at, path_at, text_at, task_at, value_at, record_at};
 
-use crate::RecordFault;
-use pie_base::{Path, PathError};
+use crate::{RecordFault, TaskRecord, decode_record};
+use pie_base::{Path, PathError, Text};
 use pie_value::{Task, Value, ValueFault, decode_front, decode_task_front};
 use std::alloc::Global;
 use std::marker::Model;
@@ -120,9 +122,23 @@ impl<'a> Reader<'a> {
         }
     }
 
+    /// A text behind its length.
+    #[tactic(auto, using(pie_value::proofs::TextTests::not_utf8, pie_value::proofs::TextTests::utf8))]
+    pub fn text(&mut self, alloc: Global) -> Result<Text, RecordFault>
+        ensures { Agrees (λ t. t) result self.new (text_at self.old) }
+    {
+        let bytes = self.counted()?;
+        let Some(text) = as_text(bytes) else {
+            return Err(RecordFault::BadValue);
+        };
+        let text = Text::new(alloc, text)?;
+        Ok(text)
+    }
+
     /// A task.
     pub fn task(&mut self, alloc: Global) -> Result<Task, RecordFault>
-        ensures { Agrees (λ t. t) result self.new (task_at self.old) }
+        ensures read { Agrees (λ t. t) result self.new (task_at self.old) }
+        ensures canonical { IfOk result (λ t. IsCanonicalTask t (enc_task t)) }
     {
         match decode_task_front(alloc, self.rest) {
             Ok((task, len)) => {
@@ -130,6 +146,20 @@ impl<'a> Reader<'a> {
                 Ok(task)
             }
             Err(fault) => Err(told(fault)),
+        }
+    }
+
+    /// A record.
+    pub fn record(&mut self, alloc: Global) -> Result<TaskRecord, RecordFault>
+        ensures read { Agrees (λ r. r) result self.new (record_at self.old) }
+        ensures canonical { IfOk result (λ r. IsCanonicalRecord r (enc_record r)) }
+    {
+        match decode_record(alloc, self.rest) {
+            Ok((rec, len)) => {
+                self.rest = &self.rest[len..];
+                Ok(rec)
+            }
+            Err(fault) => Err(fault),
         }
     }
 

@@ -132,8 +132,8 @@ impl<'a> Reader<'a> {
         Ok(Writes::new(writes))
     }
 
-    /// A record.
-    pub fn record(&mut self, alloc: Global) -> Result<TaskRecord, RecordFault>
+    // A record, part by part.
+    pub(crate) fn parts(&mut self, alloc: Global) -> Result<TaskRecord, RecordFault>
         ensures { Agrees (λ r. r) result self.new (record_at self.old) }
     {
         let task = self.task(alloc)?;

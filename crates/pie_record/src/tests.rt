@@ -91,3 +91,15 @@ fn a_record_that_is_cut_is_short(rt: HostRuntime) -> Result<(), Fail> {
     }
     Ok(())
 }
+
+#[test]
+fn a_task_keeps_its_number(rt: HostRuntime) -> Result<(), Fail> {
+    let alloc = rt.alloc();
+    let mut names = TaskNames::new(alloc);
+    for func in ["one", "two"] {
+        let task = task(alloc, func)?;
+        let absent = task.is_small() && names.number(&task)?.is_none();
+        assert!(rt; absent, "at {func}");
+    }
+    Ok(())
+}

@@ -1,4 +1,4 @@
-use Rattle.std.proofs.Common.{◌≡◌, ◌++◌, take, drop}
+use Rattle.std.proofs.Common.{◌≡◌, ◌++◌, drop}
 use Rattle.pie_record.proofs.lists.copied_writes.Given as goal
 
 abbrev pub invariant-loop-path : goal.invariant-loop-path

@@ -1,4 +1,4 @@
-use Rattle.std.proofs.Common.{◌≡◌, Bool, List, ◌++◌, ◌∷◌, [], ap, ◌∙◌, cond}
+use Rattle.std.proofs.Common.{Bool, ◌++◌, ◌∷◌, [], ap, ◌∙◌, cond}
 use Rattle.pie_record.proofs.Naming.{added}
 use Rattle.pie_record.proofs.names.add_bytes.Goals as goal
 

@@ -1,4 +1,4 @@
-use Rattle.std.proofs.Common.{List, subst}
+use Rattle.std.proofs.Common.{subst}
 use Rattle.std.specs.Prelude.{All}
 use Rattle.pie_record.specs.Canonical.{IsTrueDep, IsTrueWrite}
 use Rattle.pie_record.proofs.writer.put_record.Goals as goal

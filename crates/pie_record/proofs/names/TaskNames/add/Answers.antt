@@ -1,4 +1,4 @@
-use Rattle.std.proofs.Common.{◌≡◌, ◌<◌, ◌^◌, length}
+use Rattle.std.proofs.Common.{◌<◌, ◌^◌, length}
 use Rattle.std.specs.Prelude.{Contains}
 use Rattle.pie_record.proofs.Naming.{free_is, named_more}
 use Rattle.pie_record.proofs.names.TaskNames.add.Goals as goal

@@ -1,4 +1,3 @@
-use Rattle.std.proofs.Common.{◌≡◌}
 use Rattle.pie_value.specs.Canonical.{IsCanonicalTask}
 use Rattle.pie_record.proofs.Naming.{number_some, number_none}
 use Rattle.pie_record.proofs.names.TaskNames.number.Goals as goal
