@@ -1,0 +1,30 @@
+//! Reading a record. Rule: docs/FORMATS.md, "Records". Bytes are read once from the left, so the first fault
+//! met is the one at the least place.
+ghost use Rattle.std.specs.Prelude.{ℕ, take, IfOk};
+ghost use Rattle.pie_record.specs.declared.task_record.TaskRecord.{TaskRecord};
+ghost use Rattle.pie_record.specs.Canonical.{IsCanonicalRecord};
+ghost use Rattle.pie_record.specs.Agreement.{AgreesInFront, Refuses};
+ghost use Rattle.pie_record.specs.Reading.{record_at};
+
+use crate::reader::Reader;
+use crate::{RecordFault, TaskRecord};
+use std::alloc::Global;
+
+/// The record whose canonical bytes stand in front, and how many these are. Bytes after them are no fault.
+/// A number of observations or writes takes no memory of its own, so a forged one can't ask for much.
+pub fn decode_record(alloc: Global, bytes: &[u8]) -> Result<(TaskRecord, usize), RecordFault>
+    ensures answer { AgreesInFront (λ r. r) result bytes.now (record_at bytes.now) }
+    ensures canonical { IfOk result (λ found. IsCanonicalRecord found.0 (take found.1 bytes.now)) }
+    ensures refused { Refuses result → (r : TaskRecord) (n : ℕ) → ¬ (IsCanonicalRecord r (take n bytes.now)) }
+{
+    front(alloc, bytes)
+}
+
+fn front(alloc: Global, bytes: &[u8]) -> Result<(TaskRecord, usize), RecordFault>
+    ensures { AgreesInFront (λ r. r) result bytes.now (record_at bytes.now) }
+{
+    let mut reader = Reader::new(bytes);
+    let rec = reader.parts(alloc)?;
+    let len = bytes.len().saturating_sub(reader.left());
+    Ok((rec, len))
+}

@@ -1,0 +1,113 @@
+//! Numbers for tasks.
+ghost use Rattle.std.specs.Prelude.{◌≡◌, ◌+◌, ◌<◌, ◌^◌, length, List, [], ◌∷◌, ◌++◌, Contains, Some, slice_get, IfOk, OnOk, OnErr};
+ghost use Rattle.pie_value.specs.Canonical.{IsEncodableTask};
+ghost use Rattle.pie_record.specs.Names.{Numbers, AreDistinct, IsPlace, IsFree};
+
+use indexmap::IndexSet;
+use pie_base::OutOfMemory;
+use pie_graph::TaskNo;
+use pie_value::{Task, encode_task};
+use std::alloc::Global;
+use std::marker::Model;
+
+/// Distinct tasks in the order in which they were added, numbered from 0. Contracts see the list of them.
+// Looking a task up takes its canonical bytes; the tasks stand beside these in the same order.
+#[derive(Drop)]
+pub struct TaskNames {
+    alloc: Global,
+    bytes: IndexSet<Vec<u8>>,
+    tasks: Vec<Task>,
+}
+
+impl Model for TaskNames {
+    ghost use Rattle.std.specs.Prelude.{List};
+    ghost use Rattle.pie_value.specs.declared.task.Task.{Task};
+    ghost use Rattle.pie_value.specs.TaskCodes.{coded_tasks};
+    ghost use Rattle.pie_record.specs.Names.{AreNamed};
+
+    ghost Value = { List Task };
+
+    ghost coded = { coded_tasks };
+
+    ghost view = { λ n. n.tasks.items };
+
+    ghost invariant = { λ n. AreNamed n.bytes.keys n.tasks.items };
+}
+
+impl TaskNames {
+    /// No tasks.
+    pub fn new(alloc: Global) -> TaskNames
+        ensures { result ≡ [] }
+    {
+        TaskNames {
+            alloc,
+            bytes: IndexSet::new(alloc),
+            tasks: Vec::new(alloc),
+        }
+    }
+
+    /// The number of a task, or `None` where it is absent.
+    pub fn number(&self, task: &Task) -> Result<Option<TaskNo>, OutOfMemory>
+        requires { IsEncodableTask task.now }
+        ensures { IfOk result (λ no. Numbers self.now task.now no) }
+    {
+        let bytes = encode_task(self.alloc, task)?;
+        match place(&self.bytes, bytes.as_slice()) {
+            Some(at) => Ok(Some(TaskNo(at as u32))),
+            None => Ok(None),
+        }
+    }
+
+    /// Adds a task, with the next number.
+    pub fn add(&mut self, task: Task) -> Result<TaskNo, OutOfMemory>
+        requires encodable { IsEncodableTask task }
+        requires absent { ¬ (Contains self.old task) }
+        requires few { length self.old < 2 ^ 32 }
+        ensures added { OnOk result (self.new ≡ self.old ++ task ∷ []) }
+        ensures number { IfOk result (λ no. no.0 ≡ length self.old) }
+        ensures unchanged { OnErr result (self.new ≡ self.old) }
+    {
+        let bytes = encode_task(self.alloc, &task)?;
+        let no = TaskNo(self.tasks.len() as u32);
+        self.tasks.push(task)?;
+        match add_bytes(&mut self.bytes, bytes) {
+            Ok(()) => Ok(no),
+            Err(fault) => {
+                let _task = self.tasks.pop();
+                Err(fault)
+            }
+        }
+    }
+
+    /// The task with this number.
+    pub fn task(&self, no: TaskNo) -> &Task
+        requires { no.0 < length self.now }
+        ensures { slice_get self.now no.0 ≡ Some result.now }
+    {
+        &self.tasks[no.0 as usize]
+    }
+
+    /// The tasks in the order of their numbers.
+    pub fn as_slice(&self) -> &[Task]
+        ensures tasks { result.now ≡ self.now }
+        ensures distinct { AreDistinct self.now }
+    {
+        self.tasks.as_slice()
+    }
+}
+
+// Where these bytes stand.
+fn place(keys: &IndexSet<Vec<u8>>, bytes: &[u8]) -> Option<usize>
+    ensures { IsPlace keys.now.keys bytes.now result }
+{
+    keys.get_index_of(bytes)
+}
+
+fn add_bytes(keys: &mut IndexSet<Vec<u8>>, bytes: Vec<u8>) -> Result<(), OutOfMemory>
+    requires { IsFree keys.old.keys bytes.items }
+    ensures added { OnOk result (keys.new.keys ≡ keys.old.keys ++ bytes ∷ []) }
+    ensures unchanged { OnErr result (keys.new.keys ≡ keys.old.keys) }
+{
+    keys.insert(bytes)?;
+    Ok(())
+}

@@ -1,0 +1,21 @@
+//! The store: the text of what a build keeps for the next one, and the text of pending names.
+#![tactic(auto)]
+
+mod cause;
+mod decoding;
+mod frame;
+mod image;
+mod known;
+mod ranked;
+mod reading;
+mod store_fault;
+mod writer;
+
+pub use cause::Cause;
+pub use decoding::decode_store;
+pub use image::{Funcs, Rows, StoreImage};
+pub use store_fault::StoreFault;
+pub use writer::encode_store;
+
+#[cfg(test)]
+mod tests;
