@@ -1,0 +1,5 @@
+pub mod Complete
+pub mod OneRoot
+pub mod Readings
+pub mod Sound
+pub mod Turns
