@@ -1,0 +1,4 @@
+pub mod Names
+pub mod Wanted
+pub mod Answered
+pub mod Signatures
