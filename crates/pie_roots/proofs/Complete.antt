@@ -116,8 +116,8 @@ module _ (d : ℕ) (inner : List TokenKind → Parsed Tree) (inside : (t : Tree)
       let one : depth_of u ≤ d = omega arith in
       let others : deepest_of us ≤ d = omega arith in
       let all : listed inner (value_tokens u ++ tail) ≡ Some (list_of (Cons u us), kind_of s ∷ rest) =
-          after (inner (value_tokens u ++ tail)) (λ t r. more inner (length r) (t ∷ []) r) u tail (Some (list_of (Cons u us), kind_of s ∷ rest))
-          (inside u tail one p.0) (more_so (length tail) (u ∷ []) us s c rest (count_le us (kind_of s ∷ rest)) others p.1) in
+      after (inner (value_tokens u ++ tail)) (λ t r. more inner (length r) (t ∷ []) r) u tail (Some (list_of (Cons u us), kind_of s ∷ rest))
+      (inside u tail one p.0) (more_so (length tail) (u ∷ []) us s c rest (count_le us (kind_of s ∷ rest)) others p.1) in
       ap (items inner s) seam
       ∙ ap (λ b. cond b (Some ([], drop 1 (value_tokens u ++ tail))) (then_on (listed inner (value_tokens u ++ tail)) (λ ts a. then_on (want s a) (λ _ r. Some (ts, r))))) (not_closed s c u tail)
       ∙ after (listed inner (value_tokens u ++ tail)) (λ ts a. then_on (want s a) (λ _ r. Some (ts, r))) (list_of (Cons u us)) (kind_of s ∷ rest) (Some (list_of (Cons u us), rest)) all
@@ -164,4 +164,3 @@ task_so t e p =
     let end = λ (ts : List Tree) (rest : List TokenKind). ended (record { func = t.func; args = ts }) rest in
     after (items (value_within 64) CloseRound ks) end (list_of us) [] (Some (t, [])) (items_so 64 (value_within 64) (value_so 64) us CloseRound round [] e p)
     (ap (λ ts. ended (record { func = t.func; args = ts }) []) (list_of_items t.args))
-

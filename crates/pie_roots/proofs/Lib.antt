@@ -1,4 +1,5 @@
 pub mod Complete
+mod Examples
 pub mod OneRoot
 pub mod Readings
 pub mod Sound

@@ -62,9 +62,10 @@ same_tokens line ts us x y = let e = one_answer 0 line (Ok ts) (Ok us) x y in cc
 pub root_is : (line : List ℕ) (ts : List Token) (r : Root) → Lexes 0 line (Ok ts) → IsRootOf (kinds_of ts) r → IsRoot line r
 root_is line ts roots.Nothing x h = subst (λ (us : List Token). Lexes 0 line (Ok us)) (no_kinds ts h) x
 root_is line ts (roots.Task t) x h = (ts, x, h)
-root_is line ts roots.Bad x h =
-    (λ b. h.0 (ap kinds_of (same_tokens line ts [] x b)),
-    λ t n. h.1 t (subst (λ (us : List Token). Writes (kinds_of us) t) (sym (same_tokens line ts n.0 x n.1)) n.2))
+root_is line ts roots.Bad x h = (
+  λ b. h.0 (ap kinds_of (same_tokens line ts [] x b)),
+  λ t n. h.1 t (subst (λ (us : List Token). Writes (kinds_of us) t) (sym (same_tokens line ts n.0 x n.1)) n.2),
+)
 
 refused : (line : List ℕ) (ts : List Token) (e : LexError) → Lexes 0 line (Err e) → Lexes 0 line (Ok ts) → ⊥
 refused line ts e x y = let q = one_answer 0 line (Err e) (Ok ts) x y in absurd (cc)

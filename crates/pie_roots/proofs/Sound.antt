@@ -103,9 +103,9 @@ module _ (inner : List TokenKind → Parsed Tree) (inside : (ks : List TokenKind
             let m = more_sound (length f.1) (f.0 ∷ []) f.1 b.0 b.1 f.3 in
             let P : List Tree → List TokenKind → Type 0 = λ vs r. Listed close vs ks r in
             let whole : ks ≡ items_tokens (items_of (f.0 ∷ m.added)) ++ kind_of close ∷ w.1 =
-                v.tokens
-                ∙ ap (λ r. value_tokens f.0 ++ r) (m.tokens ∙ ap (λ r. more_tokens (items_of m.added) ++ r) (want_is close b.1 w.0 w.1 w.2))
-                ∙ sym (append_assoc (value_tokens f.0) (more_tokens (items_of m.added)) (kind_of close ∷ w.1)) in
+            v.tokens
+            ∙ ap (λ r. value_tokens f.0 ++ r) (m.tokens ∙ ap (λ r. more_tokens (items_of m.added) ++ r) (want_is close b.1 w.0 w.1 w.2))
+            ∙ sym (append_assoc (value_tokens f.0) (more_tokens (items_of m.added)) (kind_of close ∷ w.1)) in
             got P w.3 (subst (λ (vs : List Tree). Listed close vs ks w.1) (sym m.all) (record { tokens = whole; proper = (v.proper, m.proper) }))
       ]
 

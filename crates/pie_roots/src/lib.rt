@@ -5,5 +5,7 @@ mod fault;
 mod lead;
 mod reader;
 mod root;
+#[cfg(test)]
+mod tests;
 
 pub use root::{Root, read_root};
