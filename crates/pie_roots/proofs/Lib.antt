@@ -1,0 +1,6 @@
+pub mod Complete
+mod Examples
+pub mod OneRoot
+pub mod Readings
+pub mod Sound
+pub mod Turns
