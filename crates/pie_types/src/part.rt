@@ -11,9 +11,7 @@ use pie_parser::Index;
 use pie_value::{Part, Parts, Ty};
 use std::alloc::Global;
 
-// Items of items. What the first number is taken of stands at these bytes, and what a later one is
-// taken of at the number itself.
-#[tactic(auto, using(crate::proofs::Steps::projected_turn))]
+// Items of items of what stands at these bytes.
 pub fn projected(
     alloc: Global,
     ty: Ty,
@@ -23,13 +21,23 @@ pub fn projected(
 ) -> Result<Ty, TypeError>
     ensures { Agrees ty_tree result (spec.projected at end (ty_tree ty) indices.now) }
 {
+    match indices {
+        [first, rest @ ..] => {
+            let item = item_of(alloc, &ty, at, end, *first)?;
+            later_items(alloc, item, rest)
+        }
+        [] => Ok(ty),
+    }
+}
+
+// Items of items. A number that finds no tuple is refused itself.
+#[tactic(auto, using(crate::proofs::Steps::later_turn))]
+fn later_items(alloc: Global, ty: Ty, indices: &[Index]) -> Result<Ty, TypeError>
+    ensures { Agrees ty_tree result (spec.later_items (ty_tree ty) indices.now) }
+{
     let mut ty = ty;
-    let mut at = at;
-    let mut end = end;
     for index in indices {
-        ty = item_of(alloc, &ty, at, end, *index)?;
-        at = index.at;
-        end = index.end;
+        ty = item_of(alloc, &ty, index.at, index.end, *index)?;
     }
     Ok(ty)
 }
