@@ -5,3 +5,8 @@ pub mod Steps
 pub mod Found
 pub mod Params
 pub mod Find
+pub mod Inversions
+pub mod WrittenLaw
+pub mod Sound
+pub mod Complete
+pub mod WholeLaw

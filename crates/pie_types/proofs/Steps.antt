@@ -21,7 +21,7 @@ use Rattle.pie_types.specs.Written.{written, written_each}
 use Rattle.pie_types.specs.Scope.{Entry, entered, may_enter, with_name}
 use Rattle.pie_types.specs.Headings.{Heading, headings_from, heading_of, params_from, with_param}
 use Rattle.pie_types.specs.Forms.{fitting}
-use Rattle.pie_types.specs.Operators.{item_of, further}
+use Rattle.pie_types.specs.Operators.{item_of, later_items}
 use Rattle.pie_types.specs.Calls.{Callee, misfit, unless}
 use Rattle.pie_types.specs.Spans.{at_of, end_of}
 use Rattle.pie_types.specs.Checking as spec
@@ -131,8 +131,11 @@ pub bodies_turn : (hs : List Heading) (fs : List FunctionTree) (i : ℕ) (f : Fu
     → bodies hs (drop i fs) ≡ then_on (body_type hs f) (λ _. bodies hs (drop (i + 1) fs))
 bodies_turn hs fs i f h e = ap (bodies hs) (list_left fs i f h e)
 
-pub further_turn : (t : TyTree) (ns : List Index) (i : ℕ) (n : Index) → i < length ns → n ≡ get_or ns i n → further t (drop i ns) ≡ then_on (item_of n.at n.end t n) (λ u. further u (drop (i + 1) ns))
-further_turn t ns i n h e = ap (further t) (list_left ns i n h e)
+pub later_turn : (t : TyTree) (ns : List Index) (i : ℕ) (n : Index) → i < length ns → n ≡ get_or ns i n
+    → later_items t (drop i ns) ≡ then_on (item_of n.at n.end t n) (λ u. later_items u (drop (i + 1) ns))
+later_turn t ns i n h e = ap (later_items t) (list_left ns i n h e)
+
+-- ---- names that lines bring into scope
 
 pub then_inv : {A B : Type 0} (o : Outcome A) (k : A → Outcome B) (b : B) → then_on o k ≡ Ok b → (a : A) × (o ≡ Ok a) × (k a ≡ Ok b)
 then_inv (Ok a) k b h = (a, refl, h)

@@ -16,3 +16,4 @@ pub mod Whole
 pub mod WrittenRules
 pub mod Rules
 pub mod WholeRules
+pub mod Law

@@ -139,15 +139,15 @@ abbrev pub item_of : ℕ → ℕ → TyTree → Index → Outcome TyTree
 item_of i j (TupleTy ts) n = found_item n (numbered n.number ts)
 item_of i j t n = no_tuple i j t
 
--- items of items, behind a first one: a number that finds no tuple is refused itself
-abbrev pub further : TyTree → List Index → Outcome TyTree
-further t [] = Ok t
-further t (n ∷ ns) = then_on (item_of n.at n.end t n) (λ u. further u ns)
+-- items of items; a number that finds no tuple is refused itself
+abbrev pub later_items : TyTree → List Index → Outcome TyTree
+later_items t [] = Ok t
+later_items t (n ∷ ns) = then_on (item_of n.at n.end t n) (λ u. later_items u ns)
 
--- items of items: where the first number finds no tuple, what takes these bytes is refused
+-- items of what takes these bytes, which is refused where it is no tuple itself
 abbrev pub projected : ℕ → ℕ → TyTree → List Index → Outcome TyTree
 projected i j t [] = Ok t
-projected i j t (n ∷ ns) = then_on (item_of i j t n) (λ u. further u ns)
+projected i j t (n ∷ ns) = then_on (item_of i j t n) (λ u. later_items u ns)
 
 -- a list is expected in the place of what is none
 abbrev pub no_list : ℕ → ℕ → TyTree → Outcome TyTree

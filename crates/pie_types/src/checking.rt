@@ -1,8 +1,10 @@
 //! The one call: from a syntax tree to its types.
-ghost use Rattle.std.specs.Prelude.{◌≡◌};
+ghost use Rattle.std.specs.Prelude.{◌≡◌, IfOk};
 ghost use Rattle.pie_value.specs.TypeTrees.{ty_tree};
 ghost use Rattle.pie_types.specs.Faults.{Agrees};
 ghost use Rattle.pie_types.specs.Whole as spec;
+ghost use Rattle.pie_types.specs.WholeRules.{IsTyped};
+ghost use Rattle.pie_types.specs.Law.{NotRefused, OneType};
 
 use crate::block::expected_block;
 use crate::declaring::{headings_of, signature_of};
@@ -12,9 +14,19 @@ use pie_parser::{Function, Pipeline};
 use pie_value::Ty;
 use std::alloc::Global;
 
-/// The pipeline with its types: the headings of all functions are read in text order, and then
-/// the bodies. Rule: docs/LANGUAGE.md, "Types".
+/// The pipeline, where each of its expressions has a type; else the first refusal, where the headings
+/// of all functions come in text order before the bodies. Rule: docs/LANGUAGE.md, "Types".
 pub fn check(alloc: Global, pipeline: Pipeline) -> Result<Typed, TypeError>
+    ensures checked { Agrees (λ typed. typed) result (spec.checked pipeline.functions.items) }
+    ensures typed { IfOk result (λ typed. IsTyped typed) }
+    ensures all { IsTyped pipeline.functions.items → NotRefused result }
+    ensures one_type { OneType }
+{
+    checked(alloc, pipeline)
+}
+
+// The pipeline, or the first refusal.
+fn checked(alloc: Global, pipeline: Pipeline) -> Result<Typed, TypeError>
     ensures { Agrees (λ typed. typed) result (spec.checked pipeline.functions.items) }
 {
     let headings = headings_of(alloc, pipeline.functions.as_slice())?;

@@ -11,7 +11,7 @@ use pie_parser::Index;
 use pie_value::{Part, Parts, Ty};
 use std::alloc::Global;
 
-// Items of items. Where the first number finds no tuple, what stands at these bytes is refused.
+// Items of items of what stands at these bytes.
 pub fn projected(
     alloc: Global,
     ty: Ty,
@@ -21,16 +21,19 @@ pub fn projected(
 ) -> Result<Ty, TypeError>
     ensures { Agrees ty_tree result (spec.projected at end (ty_tree ty) indices.now) }
 {
-    match indices.split_first() {
-        None => Ok(ty),
-        Some((first, rest)) => further(alloc, item_of(alloc, &ty, at, end, *first)?, rest),
+    match indices {
+        [first, rest @ ..] => {
+            let item = item_of(alloc, &ty, at, end, *first)?;
+            later_items(alloc, item, rest)
+        }
+        [] => Ok(ty),
     }
 }
 
 // Items of items. A number that finds no tuple is refused itself.
-#[tactic(auto, using(crate::proofs::Steps::further_turn))]
-fn further(alloc: Global, ty: Ty, indices: &[Index]) -> Result<Ty, TypeError>
-    ensures { Agrees ty_tree result (spec.further (ty_tree ty) indices.now) }
+#[tactic(auto, using(crate::proofs::Steps::later_turn))]
+fn later_items(alloc: Global, ty: Ty, indices: &[Index]) -> Result<Ty, TypeError>
+    ensures { Agrees ty_tree result (spec.later_items (ty_tree ty) indices.now) }
 {
     let mut ty = ty;
     for index in indices {

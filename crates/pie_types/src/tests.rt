@@ -321,7 +321,7 @@ fn the_256th_name_is_one_too_many_unless_it_is_taken(rt: HostRuntime) {
 // A task with one argument or none.
 fn task(alloc: Global, name: &str, arg: Option<Value>) -> Result<Task, AllocError> {
     let func = Text::new(alloc, name).or(Err(AllocError))?;
-    let mut args = Items::new(alloc);
+    let mut args = Items::new();
     if let Some(value) = arg {
         args.push(alloc, value).or(Err(AllocError))?;
     }

@@ -6,6 +6,7 @@ ghost use Rattle.pie_value.specs.Types.{parts_of};
 ghost use Rattle.pie_value.specs.Values.{trees_of};
 ghost use Rattle.pie_types.specs.Shown.{entries_of, heading_tree};
 ghost use Rattle.pie_types.specs.Whole as spec;
+ghost use Rattle.pie_types.specs.WholeRules.{IsTyped};
 
 use crate::headings::{Heading, Headings};
 use crate::scope::Bound;
@@ -41,7 +42,7 @@ impl Typed {
     /// The tree that was checked.
     pub fn pipeline(&self) -> &Pipeline
         ensures tree { result.now.functions.items ≡ self.now }
-        ensures typed { spec.checked self.now ≡ Ok self.now }
+        ensures typed { IsTyped self.now }
     {
         &self.pipeline
     }
