@@ -2,3 +2,4 @@ pub mod Left
 pub mod Rebuilt
 pub mod Report
 pub mod Run
+pub mod Check

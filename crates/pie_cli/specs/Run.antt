@@ -1,5 +1,5 @@
 -- What a run of the program says.
-use Rattle.std.specs.Prelude.{◌≡◌, ◌⊎◌, ℕ, Bool, true, false, List, [], ◌∷◌, ◌++◌, take, Option, Some, IfSome, codes, map, String, string_bytes}
+use Rattle.std.specs.Prelude.{◌≡◌, ◌⊎◌, ℕ, Bool, true, false, ◌||◌, List, [], ◌∷◌, ◌++◌, take, Option, Some, IfSome, codes, map, String, string_bytes}
 use Rattle.std.specs.declared.alloc.Global.{Global}
 use Rattle.pie_base.specs.Path.{same_text}
 use Rattle.pie_base.specs.declared.status.Status.{Status}
@@ -14,6 +14,16 @@ abbrev pub is_fresh : List (List ℕ) → Bool
 is_fresh [] = false
 is_fresh (word ∷ []) = same_text word (codes "fresh")
 is_fresh (word ∷ other ∷ words) = false
+
+-- the words are the one word `check`
+abbrev pub is_check : List (List ℕ) → Bool
+is_check [] = false
+is_check (word ∷ []) = same_text word (codes "check")
+is_check (word ∷ other ∷ words) = false
+
+-- the words are a command that runs
+abbrev pub is_command : List (List ℕ) → Bool
+is_command words = is_fresh words || is_check words
 
 -- words as texts
 abbrev pub texts_of : List (String Global) → List (List ℕ)

@@ -1,8 +1,10 @@
 //! The program: words in, a report and a status out.
 #![tactic(auto)]
 
+mod check;
 mod commit;
 mod print;
+mod reason;
 mod rebuild;
 mod report;
 mod top;

@@ -3,13 +3,16 @@ ghost use Rattle.std.specs.Prelude.{◌≡◌, ◌≢◌, true, false, IfSome, s
 ghost use Rattle.pie_files.specs.Faults.{Rose};
 ghost use Rattle.pie_files.specs.Streams.{StaysSure};
 ghost use Rattle.pie_fresh.specs.Build.{build_of};
+ghost use Rattle.pie_project.specs.Looking.{Asks, front_calls};
+ghost use Rattle.pie_cli.specs.Check.{HasChecked, PrintsCheckFront};
 ghost use Rattle.pie_cli.specs.Left.{KeepsOutside};
 ghost use Rattle.pie_cli.specs.Report.{report_of, usage_text, files_fault_text};
-ghost use Rattle.pie_cli.specs.Run.{is_fresh, texts_of, is_answer, is_told, HasBuilt, Gains, GainsFront, PrintsFront, Shows};
+ghost use Rattle.pie_cli.specs.Run.{is_check, is_command, is_fresh, texts_of, is_answer, is_told, HasBuilt, Gains, GainsFront, PrintsFront, Shows};
 
+use crate::check::check;
 use crate::print::print_text;
 use crate::rebuild::{Report, rebuild};
-use crate::words::words_are_fresh;
+use crate::words::{words_are_check, words_are_fresh};
 use pie_base::Status;
 use pie_files::{Files, FilesError, Sink, SinkError, Source};
 use std::alloc::Global;
@@ -36,11 +39,19 @@ pub fn run<F: Files, I: Source, K: Sink>(
     ensures front { is_fresh (texts_of words.now) ≡ true → IfSome (F.holds files.old) (λ d. PrintsFront d (K.held out.old) (K.held out.new)) }
     ensures outside { KeepsOutside (F.holds files.old) (F.holds files.new) }
 
+    // A check, where the directory and the output are told.
+    ensures checked { is_check (texts_of words.now) ≡ true → is_answer result ≡ true
+        → IfSome (F.holds files.old) (λ d. HasChecked d (K.held out.old) (K.held out.new) result) }
+    ensures check_front { is_check (texts_of words.now) ≡ true
+        → IfSome (F.holds files.old) (λ d. PrintsCheckFront d (K.held out.old) (K.held out.new)) }
+    ensures check_same { is_check (texts_of words.now) ≡ true → F.holds files.new ≡ F.holds files.old }
+    ensures check_asks { is_check (texts_of words.now) ≡ true → Asks front_calls (F.asked files.old) (F.asked files.new) }
+
     // Words that are no command.
-    ensures usage { is_fresh (texts_of words.now) ≡ false → is_answer result ≡ true
+    ensures usage { is_command (texts_of words.now) ≡ false → is_answer result ≡ true
         → (result ≡ Status.Usage) × Gains (K.held out.old) (K.held out.new) usage_text }
-    ensures usage_front { is_fresh (texts_of words.now) ≡ false → GainsFront (K.held out.old) (K.held out.new) usage_text }
-    ensures nothing_asked { is_fresh (texts_of words.now) ≡ false → files.new ≡ files.old }
+    ensures usage_front { is_command (texts_of words.now) ≡ false → GainsFront (K.held out.old) (K.held out.new) usage_text }
+    ensures nothing_asked { is_command (texts_of words.now) ≡ false → files.new ≡ files.old }
 
     // The cause of each status that is no answer; want of memory alone has none.
     ensures files { result ≡ Status.Files
@@ -53,10 +64,12 @@ pub fn run<F: Files, I: Source, K: Sink>(
     ensures input { input.new ≡ input.old }
 {
     if words_are_fresh(words) {
-        run_fresh(alloc, files, out)
-    } else {
-        show(out, USAGE, Status::Usage)
+        return run_fresh(alloc, files, out);
     }
+    if words_are_check(words) {
+        return run_check(alloc, files, out);
+    }
+    show(out, USAGE, Status::Usage)
 }
 
 // A clean build, with its report.
@@ -76,6 +89,27 @@ fn run_fresh<F: Files, K: Sink>(alloc: Global, files: &mut F, out: &mut K) -> St
     ensures sure { StaysSure K.sure K.faults out.old out.new }
 {
     match rebuild(alloc, files) {
+        Ok(report) => show_report(out, report),
+        Err(FilesError::Failed) => show(out, "files fault\n", Status::Files),
+        Err(FilesError::OutOfMemory) => Status::Memory,
+    }
+}
+
+// A check, with its report.
+fn run_check<F: Files, K: Sink>(alloc: Global, files: &mut F, out: &mut K) -> Status
+    ensures checked { is_answer result ≡ true → IfSome (F.holds files.old) (λ d. HasChecked d (K.held out.old) (K.held out.new) result) }
+    ensures front { IfSome (F.holds files.old) (λ d. PrintsCheckFront d (K.held out.old) (K.held out.new)) }
+    ensures same { F.holds files.new ≡ F.holds files.old }
+    ensures asks { Asks front_calls (F.asked files.old) (F.asked files.new) }
+    ensures files { result ≡ Status.Files
+        → Rose (F.faults files.old) (F.faults files.new) × Gains (K.held out.old) (K.held out.new) files_fault_text }
+    ensures output { result ≡ Status.Output → Rose (K.faults out.old) (K.faults out.new) }
+    ensures no_input { result ≢ Status.Input }
+    ensures steady { is_answer result ≡ true → (F.faults files.new ≡ F.faults files.old) × (K.faults out.new ≡ K.faults out.old) }
+    ensures output_steady { result ≡ Status.Files → K.faults out.new ≡ K.faults out.old }
+    ensures sure { StaysSure K.sure K.faults out.old out.new }
+{
+    match check(alloc, files) {
         Ok(report) => show_report(out, report),
         Err(FilesError::Failed) => show(out, "files fault\n", Status::Files),
         Err(FilesError::OutOfMemory) => Status::Memory,

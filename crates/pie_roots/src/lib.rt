@@ -3,9 +3,14 @@
 
 mod fault;
 mod lead;
+mod lines;
+mod list;
 mod reader;
 mod root;
+mod roots_fault;
 #[cfg(test)]
 mod tests;
 
+pub use list::read_roots;
 pub use root::{Root, read_root};
+pub use roots_fault::RootsFault;

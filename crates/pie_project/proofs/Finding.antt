@@ -1,0 +1,164 @@
+-- What a stage answers, told by the stage behind it.
+use Rattle.std.proofs.Common.{◌≡◌, ◌≤◌, ◌<◌, ℕ, List, length, Option, Some, None, Result, Ok, Err, refl, sym, subst, ap, ◌∙◌}
+use Rattle.std.specs.Prelude.{IfSome}
+use Rattle.std.specs.Option.{option_map}
+use Rattle.std.specs.Str.{IsUtf8}
+use Rattle.pie_files.specs.Directory.{Directory}
+use Rattle.pie_files.specs.declared.files.FilesError.{FilesError}
+use Rattle.pie_files.specs.declared.files.FilesError.TheVariants as files
+use Rattle.pie_lexer.specs.declared.token.Token.{Token}
+use Rattle.pie_lexer.specs.declared.error.LexError.{LexError}
+use Rattle.pie_lexer.specs.declared.error.LexError.TheVariants as lexer
+use Rattle.pie_lexer.specs.Answers.{IsAnswer}
+use Rattle.pie_lexer.specs.Tokens.{Lexes}
+use Rattle.pie_parser.specs.declared.error.ParseError.{ParseError}
+use Rattle.pie_parser.specs.declared.error.ParseError.TheVariants as parser
+use Rattle.pie_parser.specs.FunctionTrees.{FunctionTree}
+use Rattle.pie_parser.specs.FunctionGrammar.{IsPipeline}
+use Rattle.pie_parser.specs.FunctionReading as parsing
+use Rattle.pie_types.specs.Whole.{number_from}
+use Rattle.pie_value.specs.declared.task.Task.{Task}
+use Rattle.pie_roots.specs.declared.roots_fault.RootsFault.{RootsFault}
+use Rattle.pie_roots.specs.declared.roots_fault.RootsFault.TheVariants as roots
+use Rattle.pie_roots.specs.RootLists as lists
+use Rattle.pie_project.specs.declared.fault.BuildError.{BuildError}
+use Rattle.pie_project.specs.declared.fault.BuildError.TheVariants as errors
+use Rattle.pie_project.specs.Errors.{files_error, lexer_error, parser_error, reader_error}
+use Rattle.pie_project.specs.Refusals.{Refusal, OfPipeline, OfRoots, Absent, Says}
+use Rattle.pie_project.specs.Fronts.{most, Checked, Front, tree_says, TokensSay, tree, expected, too_deep, TextSays, tokens, no_token, BytesSay, pipeline_too_long, pipeline_no_text, pipeline_text}
+use Rattle.pie_project.specs.Fronts.{RootsSay, roots_found, roots_too_long, roots_no_text, bad_root, TypedSays, no_roots, with_roots}
+use Rattle.pie_project.specs.Fronts.{PipelineSays, bad_pipeline, good_pipeline, ProjectSays, no_pipeline, with_pipeline, CheckSays, counts, counts_of}
+use Rattle.pie_project.specs.declared.fault.RootsReason.TheVariants as reasons
+use Rattle.pie_project.specs.Looking.{file_bytes, pipeline_path, roots_path}
+use Rattle.pie_project.proofs.Told.{told, told_both}
+
+-- what is said of an answer, told by what more is said
+pub says_more : {A B : Type 0} (view : A → B) (P Q : Result B Refusal → Type 0) (result : Result A BuildError) → ((r : Result B Refusal) → P r → Q r) → Says view P result → Says view Q result
+says_more view P Q (Ok a) f h = f (Ok (view a)) h
+says_more view P Q (Err (errors.Pipeline x)) f h = f _ h
+says_more view P Q (Err (errors.Roots x)) f h = f _ h
+says_more view P Q (Err errors.Files) f h = tt
+says_more view P Q (Err errors.OutOfMemory) f h = tt
+
+-- of a fault of the files nothing is said
+pub says_failed : {A B : Type 0} (view : A → B) (P : Result B Refusal → Type 0) (e : FilesError) → Says {A = A} view P (Err (files_error e))
+says_failed view P files.Failed = tt
+says_failed view P files.OutOfMemory = tt
+
+pub tree_so : (ts : List Token) (fs : List FunctionTree) → IsPipeline ts fs → parsing.Reads (Ok fs) ts → (r : Checked) → r ≡ tree_says fs → TokensSay ts r
+tree_so ts fs p q r e = subst (λ (s : Checked). TokensSay ts s) (sym e) (tree p q)
+
+pub parser_refuses : {A : Type 0} (view : A → List FunctionTree) (ts : List Token) (e : ParseError) → parsing.Reads (Err e) ts → Says {A = A} view (TokensSay ts) (Err (parser_error e))
+parser_refuses view ts (parser.Expected i) h = expected h
+parser_refuses view ts (parser.TooDeep i) h = too_deep h
+parser_refuses view ts parser.OutOfMemory h = tt
+
+pub lexer_refuses : {A V : Type 0} (view : A → List FunctionTree) (seen : V → List Token) (text : List ℕ) (e : LexError) → IsAnswer {A = V} seen (Err e) text → Says {A = A} view (TextSays text) (Err (lexer_error e))
+lexer_refuses view seen text (lexer.BadChar i) h = no_token h
+lexer_refuses view seen text (lexer.OpenText i) h = no_token h
+lexer_refuses view seen text (lexer.BadEscape i) h = no_token h
+lexer_refuses view seen text (lexer.WideInt i) h = no_token h
+lexer_refuses view seen text lexer.OutOfMemory h = tt
+
+pub reader_refuses : {A V : Type 0} (view : A → List FunctionTree × List Task) (seen : V → List Task) (fs : List FunctionTree) (bytes : List ℕ) (e : RootsFault)
+    → lists.Reads {A = V} (number_from 0 fs) seen (Err e) bytes → Says {A = A} view (RootsSay fs bytes) (Err (reader_error e))
+reader_refuses view seen fs bytes roots.TooLong h = roots_too_long h
+reader_refuses view seen fs bytes roots.NotText h = roots_no_text h
+reader_refuses view seen fs bytes (roots.BadRoot n) h = bad_root h
+reader_refuses view seen fs bytes roots.OutOfMemory h = tt
+
+-- a refusal of the pipeline is one of the project
+pub refuses_all : {A B : Type 0} (view : A → List FunctionTree) (whole : B → List FunctionTree × List Task) (d : Directory) (bytes : List ℕ) (e : BuildError)
+    → Says {A = A} view (BytesSay bytes) (Err e) → Says {A = B} whole (PipelineSays d bytes) (Err e)
+refuses_all view whole d bytes (errors.Pipeline f) h = bad_pipeline h
+refuses_all view whole d bytes (errors.Roots r) h = bad_pipeline h
+refuses_all view whole d bytes errors.Files h = tt
+refuses_all view whole d bytes errors.OutOfMemory h = tt
+
+-- a refusal of the project is one of its check
+pub refuses_check : {A B : Type 0} (view : A → List FunctionTree × List Task) (whole : B → ℕ × ℕ) (d : Directory) (e : BuildError)
+    → Says {A = A} view (ProjectSays d) (Err e) → Says {A = B} whole (CheckSays d) (Err e)
+refuses_check view whole d (errors.Pipeline f) h = counts h
+refuses_check view whole d (errors.Roots r) h = counts h
+refuses_check view whole d errors.Files h = tt
+refuses_check view whole d errors.OutOfMemory h = tt
+
+pub counts_so : (d : Directory) (f : Front) → ProjectSays d f → (r : Result (ℕ × ℕ) Refusal) → r ≡ counts_of f → CheckSays d r
+counts_so d f h r e = subst (λ (s : Result (ℕ × ℕ) Refusal). CheckSays d s) (sym e) (counts h)
+
+-- the bytes of a file that is there
+bytes_of : {V : Type 0} (view : V → List ℕ) (o : Option V) (v : V) (b : Option (List ℕ)) → o ≡ Some v → option_map view o ≡ b → b ≡ Some (view v)
+bytes_of view o v b e h = sym h ∙ ap (option_map view) e
+
+no_bytes : {V : Type 0} (view : V → List ℕ) (o : Option V) (b : Option (List ℕ)) → o ≡ None → option_map view o ≡ b → b ≡ None
+no_bytes view o b e h = sym h ∙ ap (option_map view) e
+
+-- roots that are there
+pub roots_there : {A V : Type 0} (seen : A → List FunctionTree × List Task) (view : V → List ℕ) (holds : Option Directory) (o : Option V) (v : V) (slice : List ℕ) (fs : List FunctionTree) (result : Result A BuildError)
+    → IfSome holds (λ d. option_map view o ≡ file_bytes d roots_path) → o ≡ Some v → slice ≡ view v → Says seen (RootsSay fs slice) result → IfSome holds (λ d. Says seen (TypedSays d fs) result)
+roots_there seen view holds o v slice fs result h e s q =
+    told holds (λ (d : Directory). option_map view o ≡ file_bytes d roots_path) (λ (d : Directory). Says seen (TypedSays d fs) result)
+    (λ d f. says_more seen (RootsSay fs slice) (TypedSays d fs) result (λ r x. with_roots (bytes_of view o v (file_bytes d roots_path) e f ∙ ap (λ b. Some b) (sym s)) x) q) h
+
+-- no roots
+pub roots_away : {V : Type 0} (view : V → List ℕ) (holds : Option Directory) (o : Option V) (fs : List FunctionTree)
+    → IfSome holds (λ d. option_map view o ≡ file_bytes d roots_path) → o ≡ None → IfSome holds (λ d. TypedSays d fs (Err (OfRoots reasons.Absent)))
+roots_away view holds o fs h e =
+    told holds (λ (d : Directory). option_map view o ≡ file_bytes d roots_path) (λ (d : Directory). TypedSays d fs (Err (OfRoots reasons.Absent)))
+    (λ d f. no_roots (no_bytes view o (file_bytes d roots_path) e f)) h
+
+-- a pipeline that is there
+pub pipeline_there : {A V : Type 0} (seen : A → List FunctionTree × List Task) (view : V → List ℕ) (holds after : Option Directory) (o : Option V) (v : V) (result : Result A BuildError)
+    → IfSome holds (λ d. option_map view o ≡ file_bytes d pipeline_path) → o ≡ Some v → after ≡ holds → IfSome after (λ d. Says seen (PipelineSays d (view v)) result) → IfSome holds (λ d. Says seen (ProjectSays d) result)
+pipeline_there seen view holds after o v result h e s q =
+    told_both holds (λ (d : Directory). option_map view o ≡ file_bytes d pipeline_path) (λ (d : Directory). Says seen (PipelineSays d (view v)) result) (λ (d : Directory). Says seen (ProjectSays d) result)
+    (λ d f x. says_more seen (PipelineSays d (view v)) (ProjectSays d) result (λ r y. with_pipeline (bytes_of view o v (file_bytes d pipeline_path) e f) y) x)
+    h (subst (λ (k : Option Directory). IfSome k (λ d. Says seen (PipelineSays d (view v)) result)) s q)
+
+-- no pipeline
+pub pipeline_away : {V : Type 0} (view : V → List ℕ) (holds : Option Directory) (o : Option V)
+    → IfSome holds (λ d. option_map view o ≡ file_bytes d pipeline_path) → o ≡ None → IfSome holds (λ d. ProjectSays d (Err (OfPipeline Absent)))
+pipeline_away view holds o h e =
+    told holds (λ (d : Directory). option_map view o ≡ file_bytes d pipeline_path) (λ (d : Directory). ProjectSays d (Err (OfPipeline Absent)))
+    (λ d f. no_pipeline (no_bytes view o (file_bytes d pipeline_path) e f)) h
+
+-- what is told of any directory
+pub of_any : (holds : Option Directory) (P : Directory → Type 0) → ((d : Directory) → P d) → IfSome holds P
+of_any None P f = tt
+of_any (Some d) P f = f d
+
+-- a pipeline that is checked, and what stands behind it
+pub pipeline_good : {A : Type 0} (seen : A → List FunctionTree × List Task) (holds : Option Directory) (slice bytes : List ℕ) (fs : List FunctionTree) (result : Result A BuildError) → slice ≡ bytes
+    → BytesSay slice (Ok fs) → IfSome holds (λ d. Says seen (TypedSays d fs) result) → IfSome holds (λ d. Says seen (PipelineSays d bytes) result)
+pipeline_good seen holds slice bytes fs result s b q =
+    told holds (λ (d : Directory). Says seen (TypedSays d fs) result) (λ (d : Directory). Says seen (PipelineSays d bytes) result)
+    (λ d x. says_more seen (TypedSays d fs) (PipelineSays d bytes) result (λ r y. good_pipeline (subst (λ (k : List ℕ). BytesSay k (Ok fs)) s b) y) x) q
+
+-- a pipeline that is refused
+pub pipeline_bad : (A B : Type 0) (view : A → List FunctionTree) (seen : B → List FunctionTree × List Task) (holds : Option Directory) (slice bytes : List ℕ) (e : BuildError) → slice ≡ bytes
+    → Says {A = A} view (BytesSay slice) (Err e) → IfSome holds (λ d. Says {A = B} seen (PipelineSays d bytes) (Err e))
+pipeline_bad A B view seen holds slice bytes e s h =
+    of_any holds (λ (d : Directory). Says {A = B} seen (PipelineSays d bytes) (Err e))
+    (λ d. refuses_all view seen d bytes e (subst (λ (k : List ℕ). Says {A = A} view (BytesSay k) (Err e)) s h))
+
+-- the counts of a project, or its refusal
+pub counts_good : {A : Type 0} (seen : A → ℕ × ℕ) (holds : Option Directory) (f : Front) (result : Result A BuildError) → IfSome holds (λ d. ProjectSays d f)
+    → Says seen (λ (r : Result (ℕ × ℕ) Refusal). r ≡ counts_of f) result → IfSome holds (λ d. Says seen (CheckSays d) result)
+counts_good seen holds f result h q =
+    told holds (λ (d : Directory). ProjectSays d f) (λ (d : Directory). Says seen (CheckSays d) result)
+    (λ d x. says_more seen (λ (r : Result (ℕ × ℕ) Refusal). r ≡ counts_of f) (CheckSays d) result (λ r e. counts_so d f x r e) q) h
+
+pub counts_bad : (A B : Type 0) (view : A → List FunctionTree × List Task) (seen : B → ℕ × ℕ) (holds : Option Directory) (e : BuildError)
+    → IfSome holds (λ d. Says {A = A} view (ProjectSays d) (Err e)) → IfSome holds (λ d. Says {A = B} seen (CheckSays d) (Err e))
+counts_bad A B view seen holds e h =
+    told holds (λ (d : Directory). Says {A = A} view (ProjectSays d) (Err e)) (λ (d : Directory). Says {A = B} seen (CheckSays d) (Err e)) (λ d x. refuses_check view seen d e x) h
+
+-- bytes that are a text
+pub text_so : {A : Type 0} (view : A → List FunctionTree) (bytes text : List ℕ) (result : Result A BuildError) → length bytes ≤ most → text ≡ bytes → IsUtf8 bytes → Says view (TextSays text) result → Says view (BytesSay bytes) result
+text_so view bytes text result l e u h =
+    says_more view (TextSays text) (BytesSay bytes) result (λ r x. pipeline_text l u (subst (λ (k : List ℕ). TextSays k r) e x)) h
+
+-- a text that has tokens
+pub tokens_so : {A : Type 0} (view : A → List FunctionTree) (text : List ℕ) (ts slice : List Token) (result : Result A BuildError) → Lexes 0 text (Ok ts) → slice ≡ ts → Says view (TokensSay slice) result → Says view (TextSays text) result
+tokens_so view text ts slice result x e h =
+    says_more view (TokensSay slice) (TextSays text) result (λ r y. tokens x (subst (λ (k : List Token). TokensSay k r) e y)) h

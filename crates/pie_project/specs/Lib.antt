@@ -1,0 +1,5 @@
+pub mod Errors
+pub mod Fronts
+pub mod Looking
+pub mod Projects
+pub mod Refusals

@@ -1,0 +1,34 @@
+//! The roots of a project, from their bytes.
+ghost use Rattle.std.specs.Prelude.{◌≡◌, IsErrOf};
+ghost use Rattle.pie_project.specs.Errors.{reader_error};
+ghost use Rattle.pie_project.specs.Fronts.{RootsSay};
+ghost use Rattle.pie_project.specs.Projects.{front_of};
+ghost use Rattle.pie_project.specs.Refusals.{Says};
+
+use crate::{BuildError, Project, RootsReason};
+use pie_roots::{RootsFault, read_roots};
+use pie_types::Typed;
+use std::alloc::Global;
+
+/// The project with this pipeline and the roots that these bytes are.
+pub(crate) fn with_roots(alloc: Global, typed: Typed, bytes: &[u8]) -> Result<Project, BuildError>
+    ensures found { Says front_of (RootsSay typed bytes.now) result }
+    ensures no_fault { IsErrOf result BuildError.Files → ⊥ }
+{
+    match read_roots(alloc, &typed, bytes) {
+        Ok(roots) => Ok(Project { typed, roots }),
+        Err(fault) => Err(roots_error(fault)),
+    }
+}
+
+// A refusal of the roots, or want of memory.
+fn roots_error(fault: RootsFault) -> BuildError
+    ensures { result ≡ reader_error fault }
+{
+    match fault {
+        RootsFault::TooLong => BuildError::Roots(RootsReason::TooLong),
+        RootsFault::NotText => BuildError::Roots(RootsReason::NotText),
+        RootsFault::BadRoot(line) => BuildError::Roots(RootsReason::Line(line)),
+        RootsFault::OutOfMemory => BuildError::OutOfMemory,
+    }
+}
