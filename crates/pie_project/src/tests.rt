@@ -96,11 +96,7 @@ fn a_project_is_counted_or_refused_at_its_first_fault(rt: HostRuntime) -> Result
         (SITE, "\n// a\nsite()\npage(\"src/a\")\nnope()", "line 4"),
         (SITE, "site() site()", "line 1"),
         ("func main() -> int { \"a\" }", "nope()", "Mismatch 21"),
-        (
-            "func f( $",
-            "",
-            "BadChar 8",
-        ),
+        ("func f( $", "", "BadChar 8"),
         ("func f() -> int { 1 + }", "", "Expected 22"),
         (
             "func m(b: bytes) -> int { len(b) }",
