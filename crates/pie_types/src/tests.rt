@@ -271,7 +271,10 @@ fn each_form_is_accepted_where_the_rules_type_it(rt: HostRuntime) {
     let alloc = rt.alloc();
     let cases = [
         "",
-        "func page(src: path) -> path { val body = get(read(src)); val foot = require footer(); val target = join(path(\"out\"), name(src)); write(target, body + foot); target } func footer() -> text { trim(get(read(path(\"inc/foot\")))) } func site() -> int { len([require page(p) for p in list(path(\"src\"))]) }",
+        "func page(src: path) -> path { val body = get(read(src)); val foot = require footer();
+           val target = join(path(\"out\"), name(src)); write(target, body + foot); target }
+         func footer() -> text { trim(get(read(path(\"inc/foot\")))) }
+         func site() -> int { len([require page(p) for p in list(path(\"src\"))]) }",
         "func f(len: int, f: text) -> text { f }",
         "func bytes(b: bytes) -> bytes? { read_bytes(path(\"a\")) }",
         "func f() -> [int] { [1] + [2] + empty int }",
