@@ -6,7 +6,8 @@ use Rattle.pie_types.proofs.typed.Typed.find.Goals as goal
 pub returns : goal.returns
 returns c =
     let h = heading_tree c.in_ok-heading.heading.now in
-    c.number.ensures ∙ find_same _ _ _ c.args.task.now _ h c.self.view_is c.as_str-name.ensures c.self.invariant.0 c.in_ok-heading.ensures c.if-not-takes.ensures
+    let n = c.as_str-name.ensures in
+    c.number.ensures ∙ find_same _ _ _ c.args.task.now _ h c.self.view_is n c.self.invariant.0 c.in_ok-heading.ensures c.if-not-takes.ensures
 
 pub returns-in_err-heading : goal.returns-in_err-heading
 returns-in_err-heading c =
