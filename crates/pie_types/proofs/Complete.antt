@@ -1,23 +1,25 @@
 -- What has a type by the rules has it by the definition.
-use Rattle.std.proofs.Common.{◌≡◌, ℕ, ◌+◌, Bool, true, false, cond, List, [], ◌∷◌, ap, sym, ◌∙◌, refl, subst, rules, arith}
-use Rattle.std.specs.Prelude.{Ok, Err, Some, None, ◌<◌, nat_lt, ◌==◌, length}
-use Rattle.std.specs.Option.{is_some}
-use Rattle.pie_value.specs.Types.{TyTree, TyTrees, UnitTy, BoolTy, IntTy, TextTy, PathTy, ListTy, TupleTy, NullableTy, parts_of}
-use Rattle.pie_parser.specs.Plain.{Tree, TLiteral, TName, TNull, TEmpty, TChain, TCompare, TPrefix, TProject, TTuple, TList, TEach, TIf, TCall, TEffect, TWrite, TFail, Trees, Nil, Cons, Steps, NoStep, AStep, BlockTree, TBlock, LineTrees, NoLine, ValLine, ExprLine, LastTree, NoLast, ALast, ElseTree, NoElse, AnElse}
+use Rattle.std.proofs.Common.{◌≡◌, ℕ, ◌+◌, Bool, true, cond, List, ap, sym, ◌∙◌, refl, rules}
+use Rattle.std.specs.Prelude.{Ok, ◌<◌, nat_lt, ◌==◌, length}
+use Rattle.pie_value.specs.Types.{TyTree, UnitTy, BoolTy, IntTy, TextTy, PathTy, ListTy}
+use Rattle.pie_parser.specs.Plain.{Tree}
+use Rattle.pie_parser.specs.Plain.{Trees, Steps, BlockTree, LineTrees}
 use Rattle.pie_parser.specs.declared.tree.Index.{Index}
 use Rattle.pie_parser.specs.declared.tree.Name.{Name}
 use Rattle.pie_parser.specs.declared.tree.Comparison.{Comparison}
 use Rattle.pie_types.specs.Faults.{Outcome, then_on}
-use Rattle.pie_types.specs.Written.{written}
-use Rattle.pie_types.specs.Scope.{Entry, type_in, may_enter, entered, with_name}
+use Rattle.pie_types.specs.Scope.{Entry, may_enter, entered, with_name}
 use Rattle.pie_types.specs.Headings.{Heading}
 use Rattle.pie_types.specs.Spans.{at_of, end_of, answer_at, answer_end}
-use Rattle.pie_types.specs.Operators.{same_type, where_fits, matched, passing, literal_type, all_plus, is_addable, operands_type, is_equality, is_ordered, first_operand, left_operand, prefix_type, item_of, later_items, projected, items_type, effect_takes, effect_gives, is_writable}
-use Rattle.pie_types.specs.Calls.{Callee, callee_of, known, taken, right_number, misfit, unless, answer}
-use Rattle.pie_types.specs.Forms.{fitting, block_fitting, within}
-use Rattle.pie_types.specs.Checking.{type_of, operands, types_of, list_items, more_items, arguments, branches, block_type, after_lines, last_type, count}
+use Rattle.pie_types.specs.Operators.{where_fits, matched, passing, is_addable, operands_type, is_ordered}
+use Rattle.pie_types.specs.Operators.{first_operand, left_operand, prefix_type, later_items, projected, effect_takes}
+use Rattle.pie_types.specs.Operators.{is_writable}
+use Rattle.pie_types.specs.Calls.{Callee, taken, right_number}
+use Rattle.pie_types.specs.Forms.{fitting, block_fitting}
+use Rattle.pie_types.specs.Checking.{type_of, operands, types_of, more_items, arguments, block_type, after_lines, count}
 use Rattle.pie_types.specs.Rules as rule
-use Rattle.pie_types.specs.Rules.{HasType, StepsHave, AllHave, HaveTypes, Fit, BlockHas, LinesBring, Leads, stays, goes, IsFresh, fresh, OperandsHave, in_sum, in_other, LeftHas, of_any, by_size}
+use Rattle.pie_types.specs.Rules.{HasType, StepsHave, AllHave, HaveTypes, Fit, BlockHas, LinesBring, Leads, stays, goes, IsFresh, fresh, OperandsHave, in_sum}
+use Rattle.pie_types.specs.Rules.{in_other, LeftHas, of_any, by_size}
 use Rattle.pie_types.proofs.SameType.{same_self}
 use Rattle.pie_types.proofs.WrittenLaw.{written_complete}
 use Rattle.pie_types.proofs.Inversions.{ok_inj}
@@ -36,9 +38,11 @@ passes : (test : TyTree → Bool) (w : TyTree) (i j : ℕ) (t : TyTree) → test
 passes test w i j t h = ap (λ (b : Bool). where_fits b w i j t) h
 
 first_is : (ss : Steps) (t : TyTree) (i j : ℕ) → OperandsHave ss t → first_operand ss i j t ≡ Ok t
-first_is _ _ i j (in_sum {ss = ss} {t = t} p a) = ap (λ (b : Bool). cond b (passing is_addable IntTy i j t) (matched (operands_type ss) i j t)) p ∙ passes is_addable IntTy i j t a
+first_is _ _ i j (in_sum {ss = ss} {t = t} p a) = ap (λ (b : Bool). cond b (passing is_addable IntTy i j t) (matched (operands_type ss) i j t)) p
+    ∙ passes is_addable IntTy i j t a
 first_is _ _ i j (in_other {ss = ss} p) =
-    ap (λ (b : Bool). cond b (passing is_addable IntTy i j (operands_type ss)) (matched (operands_type ss) i j (operands_type ss))) p ∙ matched_self (operands_type ss) i j
+    ap (λ (b : Bool). cond b (passing is_addable IntTy i j (operands_type ss)) (matched (operands_type ss) i j (operands_type ss))) p
+    ∙ matched_self (operands_type ss) i j
 
 left_is : (c : Comparison) (t : TyTree) (i j : ℕ) → LeftHas c t → left_operand c i j t ≡ Ok t
 left_is _ _ i j (of_any {c = c} {t = t} p) = ap (λ (b : Bool). cond b (Ok t) (passing is_ordered IntTy i j t)) p
@@ -73,7 +77,8 @@ mutual
   complete hs sc _ _ (rule.name {n = n} h) = rw h refl
   complete hs sc _ _ (rule.null {w = w} {t = t} h) = rw (written_complete w t h) refl
   complete hs sc _ _ (rule.empty {w = w} {t = t} h) = rw (written_complete w t h) refl
-  complete hs sc _ _ (rule.chain {a = a} {ss = ss} {t = t} h f s) = rw (complete hs sc a t h, first_is ss t (at_of a) (end_of a) f) (operands_complete hs sc ss t s)
+  complete hs sc _ _ (rule.chain {a = a} {ss = ss} {t = t} h f s) = rw (complete hs sc a t h, first_is ss t (at_of a) (end_of a) f)
+      (operands_complete hs sc ss t s)
   complete hs sc _ _ (rule.compare {c = c} {a = a} {b = b} {t = t} h f k) =
       rw (complete hs sc a t h, left_is c t (at_of a) (end_of a) f, fitting_self t b (type_of hs sc b) (complete hs sc b t k)) refl
   complete hs sc _ _ (rule.prefix {p = p} {a = a} h) = fitting_self (prefix_type p) a (type_of hs sc a) (complete hs sc a (prefix_type p) h)
@@ -83,19 +88,26 @@ mutual
   complete hs sc _ _ (rule.each {a = a} {b = b} {n = n} {t = t} {u = u} h f k) =
       rw (complete hs sc b (ListTy t) h, entered_is n t sc f, complete hs (with_name sc n.text t) a u k) refl
   complete hs sc _ _ (rule.if_alone {a = a} {b = b} h k) =
-      rw (fitting_self BoolTy a (type_of hs sc a) (complete hs sc a BoolTy h), block_complete hs sc b UnitTy k) (matched_self UnitTy (answer_at b) (answer_end b))
+      rw (fitting_self BoolTy a (type_of hs sc a) (complete hs sc a BoolTy h), block_complete hs sc b UnitTy k)
+      (matched_self UnitTy (answer_at b) (answer_end b))
   complete hs sc _ _ (rule.if_else {a = a} {b = b} {o = o} {t = t} h k l) =
-      rw (fitting_self BoolTy a (type_of hs sc a) (complete hs sc a BoolTy h), block_complete hs sc b t k) (block_fitting_self t o (block_type hs sc o) (block_complete hs sc o t l))
+      rw (fitting_self BoolTy a (type_of hs sc a) (complete hs sc a BoolTy h), block_complete hs sc b t k)
+      (block_fitting_self t o (block_type hs sc o) (block_complete hs sc o t l))
   complete hs sc _ _ (rule.call {i = i} {j = j} {k = k} {n = n} {es = es} {c = c} {ts = ts} f m h g) =
       rw (f, right_number_is i j c (count es) m, arguments_complete hs sc c 0 es ts h g) refl
   complete hs sc _ _ (rule.effect {k = k} {a = a} h) = rw (fitting_self (effect_takes k) a (type_of hs sc a) (complete hs sc a (effect_takes k) h)) refl
   complete hs sc _ _ (rule.write {a = a} {b = b} {t = t} h k f) =
       rw (fitting_self PathTy a (type_of hs sc a) (complete hs sc a PathTy h), complete hs sc b t k, passes is_writable TextTy (at_of b) (end_of b) t f) refl
-  complete hs sc _ _ (rule.fail {w = w} {a = a} {t = t} d h) = rw (written_complete w t d, fitting_self TextTy a (type_of hs sc a) (complete hs sc a TextTy h)) refl
+  complete hs sc _ _ (rule.fail {w = w} {a = a} {t = t} d h) = rw (
+    written_complete w t d,
+    fitting_self TextTy a (type_of hs sc a)
+        (complete hs sc a TextTy h),
+  ) refl
 
   operands_complete : (hs : List Heading) (sc : List Entry) (ss : Steps) (t : TyTree) → StepsHave hs sc ss t → operands hs sc t ss ≡ Ok t
   operands_complete hs sc _ _ rule.no_step = refl
-  operands_complete hs sc _ _ (rule.a_step {e = e} {ss = ss} {t = t} h k) = rw (fitting_self t e (type_of hs sc e) (complete hs sc e t h)) (operands_complete hs sc ss t k)
+  operands_complete hs sc _ _ (rule.a_step {e = e} {ss = ss} {t = t} h k) =
+      rw (fitting_self t e (type_of hs sc e) (complete hs sc e t h)) (operands_complete hs sc ss t k)
 
   types_complete : (hs : List Heading) (sc : List Entry) (es : Trees) (ts : List TyTree) → HaveTypes hs sc es ts → types_of hs sc es ≡ Ok ts
   types_complete hs sc _ _ rule.no_part = refl
@@ -103,9 +115,11 @@ mutual
 
   more_complete : (hs : List Heading) (sc : List Entry) (es : Trees) (t : TyTree) → AllHave hs sc es t → more_items hs sc t es ≡ Ok t
   more_complete hs sc _ _ rule.no_item = refl
-  more_complete hs sc _ _ (rule.an_item {e = e} {es = es} {t = t} h k) = rw (fitting_self t e (type_of hs sc e) (complete hs sc e t h)) (more_complete hs sc es t k)
+  more_complete hs sc _ _ (rule.an_item {e = e} {es = es} {t = t} h k) =
+      rw (fitting_self t e (type_of hs sc e) (complete hs sc e t h)) (more_complete hs sc es t k)
 
-  arguments_complete : (hs : List Heading) (sc : List Entry) (c : Callee) (n : ℕ) (es : Trees) (ts : List TyTree) → HaveTypes hs sc es ts → Fit c n ts → arguments hs sc c n es ≡ Ok ts
+  arguments_complete : (hs : List Heading) (sc : List Entry) (c : Callee) (n : ℕ) (es : Trees) (ts : List TyTree) → HaveTypes hs sc es ts → Fit c n ts
+      → arguments hs sc c n es ≡ Ok ts
   arguments_complete hs sc c n _ _ rule.no_part f = refl
   arguments_complete hs sc c n _ _ (rule.a_part {e = e} {es = es} {t = t} {ts = ts} h k) (rule.an_argument m f) =
       rw (complete hs sc e t h, m, arguments_complete hs sc c (n + 1) es ts k f) refl

@@ -1,6 +1,6 @@
 -- Finding functions by their names.
 use Rattle.std.proofs.Common.{◌≡◌, ℕ, zero, suc, ◌+◌, ◌<◌, ◌≤◌, Bool, true, false, cond, List, [], ◌∷◌, ◌++◌, length, get_or, ap, sym, ◌∙◌, refl, arith}
-use Rattle.std.specs.Prelude.{Option, Some, None, slice_get, option_map, map, bytes_eq}
+use Rattle.std.specs.Prelude.{Option, Some, None, slice_get, option_map, bytes_eq}
 use Rattle.std.specs.Prelude.{String}
 use Rattle.std.specs.BTreeMap.{BTreeMap, get_by_text}
 use Rattle.std.proofs.lemmas.List.{length-map, map-append}
@@ -59,10 +59,13 @@ append_by true k next all other h = refl
 append_by false k next all other h = h
 
 -- a name has the place that it had, or the last one
-pub place_append : (k : ℕ) (q : List ℕ) (hs : List Heading) (h : Heading) → place_from k q (hs ++ h ∷ []) ≡ kept (place_from k q hs) (cond (bytes_eq q h.name) (Some (k + length hs)) None)
+pub place_append : (k : ℕ) (q : List ℕ) (hs : List Heading) (h : Heading)
+    → place_from k q (hs ++ h ∷ []) ≡ kept (place_from k q hs) (cond (bytes_eq q h.name) (Some (k + length hs)) None)
 place_append k q [] h = ap (λ (n : ℕ). cond (bytes_eq q h.name) (Some n) None) (let d : k ≡ k + 0 = omega arith in d)
-place_append k q (g ∷ hs) h = append_by (bytes_eq q g.name) k (place_from (k + 1) q hs) (place_from (k + 1) q (hs ++ h ∷ [])) (cond (bytes_eq q h.name) (Some (k + length (g ∷ hs))) None)
-    (place_append (k + 1) q hs h ∙ ap (λ (n : ℕ). kept (place_from (k + 1) q hs) (cond (bytes_eq q h.name) (Some n) None)) (let d : (k + 1) + length hs ≡ k + length (g ∷ hs) = omega arith in d))
+place_append k q (g ∷ hs) h = append_by (bytes_eq q g.name) k (place_from (k + 1) q hs) (place_from (k + 1) q (hs ++ h ∷ []))
+    (cond (bytes_eq q h.name) (Some (k + length (g ∷ hs))) None)
+    (place_append (k + 1) q hs h ∙ ap (λ (n : ℕ). kept (place_from (k + 1) q hs) (cond (bytes_eq q h.name) (Some n) None))
+    (let d : (k + 1) + length hs ≡ k + length (g ∷ hs) = omega arith in d))
 
 row_at : (hs : List DHeading) (n : ℕ) (d : DHeading) → n < length hs → slice_get (heading_trees hs) n ≡ Some (heading_tree (get_or hs n d))
 row_at [] n d l = absurd (omega arith)
@@ -75,7 +78,8 @@ no_row (h ∷ hs) zero l = absurd (omega arith)
 no_row (h ∷ hs) (suc n) l = no_row hs n (omega arith)
 
 -- the row at the place of a name is its function
-pub at_row : (q : List ℕ) (hs : List DHeading) (n : ℕ) (h : DHeading) → n < length hs → h ≡ get_or hs n h → place_from 0 q (heading_trees hs) ≡ Some n → Some (heading_tree h) ≡ function_in q (heading_trees hs)
+pub at_row : (q : List ℕ) (hs : List DHeading) (n : ℕ) (h : DHeading) → n < length hs → h ≡ get_or hs n h → place_from 0 q (heading_trees hs) ≡ Some n
+    → Some (heading_tree h) ≡ function_in q (heading_trees hs)
 at_row q hs n h l e p = ap (λ (g : DHeading). Some (heading_tree g)) e ∙ sym (row_at hs n h l) ∙ at_place q (heading_trees hs) n p
 
 -- no place is past the rows
@@ -103,7 +107,8 @@ pub one_more_place : {Z : Type 0} (old new : BTreeMap (String Z) ℕ) (hs : List
     → ((q : List ℕ) → get_by_text new q ≡ kept (get_by_text old q) (cond (bytes_eq q bs) (Some n) None))
     → (q : List ℕ) → get_by_text new q ≡ place_from 0 q (heading_trees (hs ++ h ∷ []))
 one_more_place old new hs h n bs b e was now q =
-    let m : n ≡ 0 + length (heading_trees hs) = e ∙ sym (length-map hs heading_tree) ∙ (let d : length (heading_trees hs) ≡ 0 + length (heading_trees hs) = omega arith in d) in
+    let m : n ≡ 0 + length (heading_trees hs) = e ∙ sym (length-map hs heading_tree)
+    ∙ (let d : length (heading_trees hs) ≡ 0 + length (heading_trees hs) = omega arith in d) in
     now q ∙ ap (λ (cs : List ℕ). kept (get_by_text old q) (cond (bytes_eq q cs) (Some n) None)) b
     ∙ ap (λ (o : Option ℕ). kept o (cond (bytes_eq q h.name) (Some n) None)) (was q)
     ∙ ap (λ (m : ℕ). kept (place_from 0 q (heading_trees hs)) (cond (bytes_eq q h.name) (Some m) None)) m

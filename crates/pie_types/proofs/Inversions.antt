@@ -1,16 +1,17 @@
 -- What an answer says of the parts that it comes from.
-use Rattle.std.proofs.Common.{◌≡◌, ℕ, Bool, true, false, cond, List, [], ◌∷◌, ap, sym, ◌∙◌, refl, subst, rules, arith}
-use Rattle.std.specs.Prelude.{◌<◌, nat_lt, length, Option, Some, None, Result, Ok, Err, codes, bytes_eq, ◌==◌}
+use Rattle.std.proofs.Common.{◌≡◌, ℕ, Bool, true, false, cond, List, [], ◌∷◌, ap, sym, ◌∙◌, refl, subst, rules}
+use Rattle.std.specs.Prelude.{◌<◌, nat_lt, length, Option, Some, None, Ok, Err, ◌==◌}
 use Rattle.std.specs.Option.{is_some}
 use Rattle.pie_value.specs.Types.{TyTree, TyTrees, UnitTy, BoolTy, IntTy, TextTy, PathTy, ListTy, TupleTy, NullableTy, BytesTy}
 use Rattle.pie_parser.specs.Plain.{Tree, Steps, BlockTree}
 use Rattle.pie_parser.specs.declared.tree.Index.{Index}
 use Rattle.pie_parser.specs.declared.tree.Name.{Name}
 use Rattle.pie_parser.specs.declared.tree.Comparison.{Comparison}
-use Rattle.pie_types.specs.Faults.{Outcome, Refused, then_on}
+use Rattle.pie_types.specs.Faults.{Outcome, Refused}
 use Rattle.pie_types.specs.Scope.{Entry, type_in, may_enter, entered, with_name}
 use Rattle.pie_types.specs.Spans.{at_of, end_of, answer_at, answer_end}
-use Rattle.pie_types.specs.Operators.{same_type, where_fits, matched, passing, name_type, all_plus, is_addable, operands_type, first_operand, is_equality, is_ordered, left_operand, found_item, item_of, numbered, later_items, projected, items_type}
+use Rattle.pie_types.specs.Operators.{same_type, where_fits, matched, passing, name_type, all_plus, is_addable, operands_type, first_operand, is_equality}
+use Rattle.pie_types.specs.Operators.{is_ordered, left_operand, found_item, item_of, numbered, later_items, projected, items_type}
 use Rattle.pie_types.specs.Forms.{fitting, block_fitting}
 use Rattle.pie_types.specs.Calls.{Callee, known, taken, right_number, unless}
 use Rattle.pie_types.specs.Rules.{Leads, stays, goes, IsFresh, fresh, OperandsHave, in_sum, in_other, LeftHas, of_any, by_size}
@@ -59,7 +60,8 @@ pub name_inv : (i j : ℕ) (o : Option TyTree) (t : TyTree) → name_type i j o 
 name_inv i j None t h = cc
 name_inv i j (Some u) t h = cc
 
-first_by : (b : Bool) (ss : Steps) (i j : ℕ) (t u : TyTree) → all_plus ss ≡ b → cond b (passing is_addable IntTy i j t) (matched (operands_type ss) i j t) ≡ Ok u → OperandsHave ss u × (t ≡ u)
+first_by : (b : Bool) (ss : Steps) (i j : ℕ) (t u : TyTree) → all_plus ss ≡ b
+    → cond b (passing is_addable IntTy i j t) (matched (operands_type ss) i j t) ≡ Ok u → OperandsHave ss u × (t ≡ u)
 first_by true ss i j t u e h =
     let p = passing_inv is_addable IntTy i j t u h in
     (in_sum e (ap is_addable (sym p.1) ∙ p.0), p.1)
@@ -70,7 +72,8 @@ first_by false ss i j t u e h =
 pub first_inv : (ss : Steps) (i j : ℕ) (t u : TyTree) → first_operand ss i j t ≡ Ok u → OperandsHave ss u × (t ≡ u)
 first_inv ss i j t u h = first_by (all_plus ss) ss i j t u refl h
 
-left_by : (b : Bool) (c : Comparison) (i j : ℕ) (t u : TyTree) → is_equality c ≡ b → cond b (Ok t) (passing is_ordered IntTy i j t) ≡ Ok u → LeftHas c u × (t ≡ u)
+left_by : (b : Bool) (c : Comparison) (i j : ℕ) (t u : TyTree) → is_equality c ≡ b → cond b (Ok t) (passing is_ordered IntTy i j t) ≡ Ok u
+    → LeftHas c u × (t ≡ u)
 left_by true c i j t u e h = (of_any e, ok_inj t u h)
 left_by false c i j t u e h =
     let p = passing_inv is_ordered IntTy i j t u h in

@@ -1,11 +1,10 @@
 -- What is left of lists from a place on: the part there, and the rest.
 use Rattle.std.proofs.Common.{◌≡◌, ℕ, zero, suc, ◌+◌, ◌<◌, ◌≤◌, List, [], ◌∷◌, length, get_or, drop, ap, sym, ◌∙◌, refl, arith}
-use Rattle.std.proofs.lemmas.List.{drop_more, drop_all}
-use Rattle.std.specs.Prelude.{map, take}
-use Rattle.pie_value.specs.TypeTrees.{ty_tree}
-use Rattle.pie_parser.specs.PlainTypes.{TypeTree, ConsT, NilT}
+use Rattle.std.proofs.lemmas.List.{drop_more}
+use Rattle.std.specs.Prelude.{take}
+use Rattle.pie_parser.specs.PlainTypes.{TypeTree, ConsT}
 use Rattle.pie_parser.specs.TypeView.{types_of, type_mass, types_mass}
-use Rattle.pie_parser.specs.Plain.{Tree, Trees, Nil, Cons, Steps, NoStep, AStep, NoLine}
+use Rattle.pie_parser.specs.Plain.{Tree, Cons, AStep, NoLine}
 use Rattle.pie_parser.specs.declared.tree.Step.{Step}
 use Rattle.pie_parser.specs.declared.tree.Line.{Line}
 use Rattle.pie_parser.specs.declared.tree.Line.TheVariants as lines
@@ -21,7 +20,8 @@ list_left {X} xs i x h e = drop_more xs i x h ∙ ap (λ (y : X). y ∷ drop (i 
 pub trees_left : (es : List Tree) (i : ℕ) (e : Tree) → i < length es → e ≡ get_or es i e → trees_of (drop i es) ≡ Cons e (trees_of (drop (i + 1) es))
 trees_left es i e h p = ap trees_of (list_left es i e h p)
 
-pub steps_left : (ss : List Step) (i : ℕ) (s : Step) → i < length ss → s ≡ get_or ss i s → steps_of (drop i ss) ≡ AStep s.operator s.operand (steps_of (drop (i + 1) ss))
+pub steps_left : (ss : List Step) (i : ℕ) (s : Step) → i < length ss → s ≡ get_or ss i s
+    → steps_of (drop i ss) ≡ AStep s.operator s.operand (steps_of (drop (i + 1) ss))
 steps_left ss i s h p = ap steps_of (list_left ss i s h p)
 
 pub lines_left : (ls : List Line) (i : ℕ) (l : Line) → i < length ls → l ≡ get_or ls i l → lines_of (drop i ls) ≡ line_before l (lines_of (drop (i + 1) ls))
@@ -30,7 +30,8 @@ lines_left ls i l h p = ap lines_of (list_left ls i l h p)
 pub types_left : (ts : List TypeTree) (i : ℕ) (t : TypeTree) → i < length ts → t ≡ get_or ts i t → types_of (drop i ts) ≡ ConsT t (types_of (drop (i + 1) ts))
 types_left ts i t h p = ap types_of (list_left ts i t h p)
 
-pub entries_left : (bs : List Bound) (i : ℕ) (b : Bound) → i < length bs → b ≡ get_or bs i b → entries_of (drop i bs) ≡ entry_of b ∷ entries_of (drop (i + 1) bs)
+pub entries_left : (bs : List Bound) (i : ℕ) (b : Bound) → i < length bs → b ≡ get_or bs i b
+    → entries_of (drop i bs) ≡ entry_of b ∷ entries_of (drop (i + 1) bs)
 entries_left bs i b h p = ap entries_of (list_left bs i b h p)
 
 -- each part weighs less than all of them

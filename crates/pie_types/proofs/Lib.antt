@@ -10,3 +10,4 @@ pub mod WrittenLaw
 pub mod Sound
 pub mod Complete
 pub mod WholeLaw
+pub mod Examples

@@ -3,7 +3,7 @@ use Rattle.std.proofs.Common.{◌≡◌, ◌≢◌, ℕ, ◌+◌, ◌<◌, Bool,
 use Rattle.pie_value.specs.Tree.{Tree, items_of}
 use Rattle.pie_value.specs.declared.value.Value.{Value}
 use Rattle.pie_value.specs.Values.{tree_of, trees_of}
-use Rattle.pie_value.specs.Types.{TyTree, MoreTy, parts_of}
+use Rattle.pie_value.specs.Types.{MoreTy, parts_of}
 use Rattle.pie_value.specs.TypeTrees.{ty_tree}
 use Rattle.pie_value.specs.HasType.{has_type, have_types}
 use Rattle.pie_value.proofs.Elements.{trees_left}
@@ -21,7 +21,8 @@ pub fit_turn : (params : List Bound) (values : List Value) (i : ℕ) (b : Bound)
     → b ≡ get_or params i b → v ≡ get_or values i v → fit_from i params values ≡ (has_type (ty_tree b.ty) (tree_of v) && fit_from (i + 1) params values)
 fit_turn params values i b v hp hv ep ev =
     ap (λ (es : List Entry). have_types (parts_of (types_in es)) (items_of (trees_of (drop i values)))) (entries_left params i b hp ep)
-    ∙ ap (λ (vs : List Tree). have_types (MoreTy (ty_tree b.ty) (parts_of (types_in (entries_of (drop (i + 1) params))))) (items_of vs)) (trees_left values i v hv ev)
+    ∙ ap (λ (vs : List Tree). have_types (MoreTy (ty_tree b.ty) (parts_of (types_in (entries_of (drop (i + 1) params))))) (items_of vs))
+    (trees_left values i v hv ev)
 
 and_false : (a b : Bool) → b ≡ false → (a && b) ≡ false
 and_false true b h = h

@@ -1,14 +1,17 @@
 -- What has a type by the definition has it by the rules.
-use Rattle.std.proofs.Common.{◌≡◌, ℕ, ◌+◌, List, [], ◌∷◌, ap, sym, ◌∙◌, refl, subst}
-use Rattle.std.specs.Prelude.{Ok, Err}
+use Rattle.std.proofs.Common.{◌≡◌, ℕ, ◌+◌, List, [], ◌∷◌, sym, ◌∙◌, subst}
+use Rattle.std.specs.Prelude.{Ok}
 use Rattle.pie_value.specs.Types.{TyTree, UnitTy, BoolTy, TextTy, PathTy, ListTy, TupleTy, NullableTy, parts_of}
-use Rattle.pie_parser.specs.Plain.{Tree, TLiteral, TName, TNull, TEmpty, TChain, TCompare, TPrefix, TProject, TTuple, TList, TEach, TIf, TCall, TEffect, TWrite, TFail, Trees, Nil, Cons, Steps, NoStep, AStep, BlockTree, TBlock, LineTrees, NoLine, ValLine, ExprLine, LastTree, NoLast, ALast, ElseTree, NoElse, AnElse}
+use Rattle.pie_parser.specs.Plain.{Tree, TLiteral, TName, TNull, TEmpty, TChain, TCompare, TPrefix, TProject, TTuple, TList, TEach, TIf, TCall, TEffect}
+use Rattle.pie_parser.specs.Plain.{TWrite, TFail, Trees, Nil, Cons, Steps, NoStep, AStep, BlockTree, TBlock, LineTrees, NoLine, ValLine, ExprLine}
+use Rattle.pie_parser.specs.Plain.{NoLast, ALast, ElseTree, NoElse, AnElse}
 use Rattle.pie_types.specs.Faults.{Outcome, then_on}
 use Rattle.pie_types.specs.Written.{written}
 use Rattle.pie_types.specs.Scope.{Entry, type_in, entered, with_name}
 use Rattle.pie_types.specs.Headings.{Heading}
 use Rattle.pie_types.specs.Spans.{at_of, end_of, answer_at, answer_end}
-use Rattle.pie_types.specs.Operators.{matched, passing, literal_type, first_operand, left_operand, prefix_type, projected, items_type, effect_takes, effect_gives, is_writable}
+use Rattle.pie_types.specs.Operators.{passing, literal_type, first_operand, left_operand, prefix_type, projected, items_type, effect_takes}
+use Rattle.pie_types.specs.Operators.{effect_gives, is_writable}
 use Rattle.pie_types.specs.Calls.{Callee, callee_of, known, right_number, misfit, unless, answer}
 use Rattle.pie_types.specs.Forms.{fitting, within}
 use Rattle.pie_types.specs.Checking.{type_of, operands, types_of, list_items, more_items, arguments, branches, block_type, after_lines, last_type, count}
@@ -16,7 +19,8 @@ use Rattle.pie_types.specs.Rules as rules
 use Rattle.pie_types.specs.Rules.{HasType, StepsHave, AllHave, HaveTypes, Fit, BlockHas, LinesBring}
 use Rattle.pie_types.proofs.Steps.{then_inv}
 use Rattle.pie_types.proofs.WrittenLaw.{written_sound}
-use Rattle.pie_types.proofs.Inversions.{ok_inj, matched_inv, passing_inv, fitting_inv, block_fitting_inv, name_inv, first_inv, left_inv, projected_sound, items_inv, entered_sound, known_inv, right_number_inv, unless_inv}
+use Rattle.pie_types.proofs.Inversions.{ok_inj, matched_inv, passing_inv, fitting_inv, block_fitting_inv, name_inv, first_inv, left_inv, projected_sound}
+use Rattle.pie_types.proofs.Inversions.{items_inv, entered_sound, known_inv, right_number_inv, unless_inv}
 
 mutual
   pub sound : (hs : List Heading) (sc : List Entry) (e : Tree) (t : TyTree) → type_of hs sc e ≡ Ok t → HasType hs sc e t
@@ -35,12 +39,14 @@ mutual
       let s = operands_sound hs sc q.0 ss t q.2 in
       subst (HasType hs sc (TChain i j a ss)) s.0 (rules.chain (subst (HasType hs sc a) f.1 (sound hs sc a p.0 p.1)) f.0 s.1)
   sound hs sc (TCompare i j c a b) t h =
-      let p = then_inv (type_of hs sc a) (λ t. then_on (left_operand c (at_of a) (end_of a) t) (λ u. then_on (fitting u b (type_of hs sc b)) (λ _. Ok BoolTy))) t h in
+      let p = then_inv (type_of hs sc a) (λ t. then_on (left_operand c (at_of a) (end_of a) t)
+      (λ u. then_on (fitting u b (type_of hs sc b)) (λ _. Ok BoolTy))) t h in
       let q = then_inv (left_operand c (at_of a) (end_of a) p.0) (λ u. then_on (fitting u b (type_of hs sc b)) (λ _. Ok BoolTy)) t p.2 in
       let f = left_inv c (at_of a) (end_of a) p.0 q.0 q.1 in
       let r = then_inv (fitting q.0 b (type_of hs sc b)) (λ _. Ok BoolTy) t q.2 in
       let g = fitting_inv q.0 b (type_of hs sc b) r.0 r.1 in
-      subst (HasType hs sc (TCompare i j c a b)) (ok_inj BoolTy t r.2) (rules.compare (subst (HasType hs sc a) f.1 (sound hs sc a p.0 p.1)) f.0 (sound hs sc b q.0 g.0))
+      subst (HasType hs sc (TCompare i j c a b)) (ok_inj BoolTy t r.2) (rules.compare (subst (HasType hs sc a) f.1 (sound hs sc a p.0 p.1)) f.0
+      (sound hs sc b q.0 g.0))
   sound hs sc (TPrefix i j p a) t h =
       let g = fitting_inv (prefix_type p) a (type_of hs sc a) t h in
       subst (HasType hs sc (TPrefix i j p a)) g.1 (rules.prefix (sound hs sc a (prefix_type p) g.0))
@@ -69,7 +75,8 @@ mutual
       let q = then_inv (block_type hs sc b) (λ t. branches hs sc t b o) t p.2 in
       branches_sound hs sc i j a b o q.0 t (sound hs sc a BoolTy g.0) (block_sound hs sc b q.0 q.1) q.2
   sound hs sc (TCall i j k n es) t h =
-      let p = then_inv (known n (callee_of hs k n.text)) (λ c. then_on (right_number i j c (count es)) (λ _. then_on (arguments hs sc c 0 es) (λ ts. Ok (answer k c ts)))) t h in
+      let p = then_inv (known n (callee_of hs k n.text)) (λ c. then_on (right_number i j c (count es))
+      (λ _. then_on (arguments hs sc c 0 es) (λ ts. Ok (answer k c ts)))) t h in
       let q = then_inv (right_number i j p.0 (count es)) (λ _. then_on (arguments hs sc p.0 0 es) (λ ts. Ok (answer k p.0 ts))) t p.2 in
       let r = then_inv (arguments hs sc p.0 0 es) (λ ts. Ok (answer k p.0 ts)) t q.2 in
       let s = arguments_sound hs sc p.0 0 es r.0 r.1 in
@@ -80,7 +87,8 @@ mutual
       let g = fitting_inv (effect_takes k) a (type_of hs sc a) p.0 p.1 in
       subst (HasType hs sc (TEffect i j k a)) (ok_inj (effect_gives k) t p.2) (rules.effect (sound hs sc a (effect_takes k) g.0))
   sound hs sc (TWrite i j a b) t h =
-      let p = then_inv (fitting PathTy a (type_of hs sc a)) (λ _. then_on (type_of hs sc b) (λ t. then_on (passing is_writable TextTy (at_of b) (end_of b) t) (λ _. Ok UnitTy))) t h in
+      let p = then_inv (fitting PathTy a (type_of hs sc a)) (λ _. then_on (type_of hs sc b)
+      (λ t. then_on (passing is_writable TextTy (at_of b) (end_of b) t) (λ _. Ok UnitTy))) t h in
       let g = fitting_inv PathTy a (type_of hs sc a) p.0 p.1 in
       let q = then_inv (type_of hs sc b) (λ t. then_on (passing is_writable TextTy (at_of b) (end_of b) t) (λ _. Ok UnitTy)) t p.2 in
       let r = then_inv (passing is_writable TextTy (at_of b) (end_of b) q.0) (λ _. Ok UnitTy) t q.2 in
@@ -107,7 +115,8 @@ mutual
       let q = then_inv (types_of hs sc es) (λ us. Ok (p.0 ∷ us)) ts p.2 in
       subst (HaveTypes hs sc (Cons e es)) (ok_inj (p.0 ∷ q.0) ts q.2) (rules.a_part (sound hs sc e p.0 p.1) (types_sound hs sc es q.0 q.1))
 
-  list_sound : (hs : List Heading) (sc : List Entry) (i j k l : ℕ) (es : Trees) (t : TyTree) → list_items hs sc i j es ≡ Ok t → HasType hs sc (TList k l es) (ListTy t)
+  list_sound : (hs : List Heading) (sc : List Entry) (i j k l : ℕ) (es : Trees) (t : TyTree) → list_items hs sc i j es ≡ Ok t
+      → HasType hs sc (TList k l es) (ListTy t)
   list_sound hs sc i j k l Nil t h = let f : ⊥ = cc in absurd f
   list_sound hs sc i j k l (Cons e es) t h =
       let p = then_inv (type_of hs sc e) (λ t. more_items hs sc t es) t h in
@@ -122,10 +131,12 @@ mutual
       let r = more_sound hs sc w es t p.2 in
       (r.0, rules.an_item (sound hs sc e w g.0) r.1)
 
-  arguments_sound : (hs : List Heading) (sc : List Entry) (c : Callee) (n : ℕ) (es : Trees) (ts : List TyTree) → arguments hs sc c n es ≡ Ok ts → HaveTypes hs sc es ts × Fit c n ts
+  arguments_sound : (hs : List Heading) (sc : List Entry) (c : Callee) (n : ℕ) (es : Trees) (ts : List TyTree) → arguments hs sc c n es ≡ Ok ts
+      → HaveTypes hs sc es ts × Fit c n ts
   arguments_sound hs sc c n Nil ts h = (subst (HaveTypes hs sc Nil) (ok_inj [] ts h) rules.no_part, subst (Fit c n) (ok_inj [] ts h) rules.no_argument)
   arguments_sound hs sc c n (Cons e es) ts h =
-      let p = then_inv (type_of hs sc e) (λ t. then_on (unless (misfit c n t) (at_of e) (end_of e) t) (λ _. then_on (arguments hs sc c (n + 1) es) (λ us. Ok (t ∷ us)))) ts h in
+      let p = then_inv (type_of hs sc e) (λ t. then_on (unless (misfit c n t) (at_of e) (end_of e) t)
+      (λ _. then_on (arguments hs sc c (n + 1) es) (λ us. Ok (t ∷ us)))) ts h in
       let q = then_inv (unless (misfit c n p.0) (at_of e) (end_of e) p.0) (λ _. then_on (arguments hs sc c (n + 1) es) (λ us. Ok (p.0 ∷ us))) ts p.2 in
       let r = then_inv (arguments hs sc c (n + 1) es) (λ us. Ok (p.0 ∷ us)) ts q.2 in
       let s = arguments_sound hs sc c (n + 1) es r.0 r.1 in

@@ -1,11 +1,11 @@
 -- One turn of each loop, on the definitions.
-use Rattle.std.proofs.Common.{◌≡◌, ℕ, ◌+◌, ◌<◌, List, [], ◌∷◌, ◌++◌, length, get_or, drop, ap, sym, ◌∙◌, refl, arith, append_assoc}
-use Rattle.std.specs.Prelude.{Result, Ok, Err, Option, Some, None, take}
+use Rattle.std.proofs.Common.{◌≡◌, ℕ, ◌+◌, ◌<◌, List, [], ◌∷◌, ◌++◌, length, get_or, drop, ap, sym, ◌∙◌, refl, append_assoc}
+use Rattle.std.specs.Prelude.{Ok, Err, Option, Some, None, take}
 use Rattle.std.proofs.lemmas.List.{append-nil, take_at}
 use Rattle.pie_value.specs.Types.{TyTree}
 use Rattle.pie_parser.specs.PlainTypes.{TypeTree}
 use Rattle.pie_parser.specs.TypeView.{types_of}
-use Rattle.pie_parser.specs.Plain.{Tree, Steps, LineTrees, NoLine, ValLine, ExprLine}
+use Rattle.pie_parser.specs.Plain.{Tree, LineTrees, NoLine, ValLine, ExprLine}
 use Rattle.pie_parser.specs.declared.tree.Name.{Name}
 use Rattle.pie_parser.specs.FunctionTrees.{FunctionTree}
 use Rattle.pie_parser.specs.declared.tree.Step.{Step}
@@ -16,7 +16,7 @@ use Rattle.pie_parser.specs.declared.tree.Line.TheVariants as lines
 use Rattle.pie_parser.specs.TreeView.{trees_of, steps_of, lines_of, line_before}
 use Rattle.pie_types.specs.declared.error.TypeError.{TypeError}
 use Rattle.pie_types.specs.declared.error.TypeError.TheVariants as errors
-use Rattle.pie_types.specs.Faults.{Outcome, Refused, then_on, Agrees, refused_of}
+use Rattle.pie_types.specs.Faults.{Outcome, then_on, Agrees}
 use Rattle.pie_types.specs.Written.{written, written_each}
 use Rattle.pie_types.specs.Scope.{Entry, entered, may_enter, with_name}
 use Rattle.pie_types.specs.Headings.{Heading, headings_from, heading_of, params_from, with_param}
@@ -30,7 +30,8 @@ use Rattle.pie_types.specs.Whole.{bodies, body_type}
 use Rattle.pie_types.proofs.Left.{list_left, trees_left, steps_left, lines_left, types_left}
 
 -- what goes on after a refusal is that refusal
-pub fails_so : {A B C D : Type 0} (f : A → B) (g : C → D) (e : TypeError) (p : Outcome B) (k : B → Outcome D) (q : Outcome D) → q ≡ then_on p k → Agrees f (Err e) p → Agrees g (Err e) q
+pub fails_so : {A B C D : Type 0} (f : A → B) (g : C → D) (e : TypeError) (p : Outcome B) (k : B → Outcome D) (q : Outcome D) → q ≡ then_on p k
+    → Agrees f (Err e) p → Agrees g (Err e) q
 fails_so f g (errors.Fault e) p k q h a = h ∙ ap (λ o. then_on o k) a
 fails_so f g errors.OutOfMemory p k q h a = tt
 
@@ -45,7 +46,8 @@ then_then (Err e) k m = refl
 -- ---- parts that are all of one type
 
 pub operands_turn : (hs : List Heading) (sc : List Entry) (w : TyTree) (ss : List Step) (i : ℕ) (s : Step) → i < length ss → s ≡ get_or ss i s
-    → spec.operands hs sc w (steps_of (drop i ss)) ≡ then_on (fitting w s.operand (spec.type_of hs sc s.operand)) (λ _. spec.operands hs sc w (steps_of (drop (i + 1) ss)))
+    → spec.operands hs sc w (steps_of (drop i ss)) ≡ then_on (fitting w s.operand (spec.type_of hs sc s.operand))
+    (λ _. spec.operands hs sc w (steps_of (drop (i + 1) ss)))
 operands_turn hs sc w ss i s h p = ap (spec.operands hs sc w) (steps_left ss i s h p)
 
 pub more_items_turn : (hs : List Heading) (sc : List Entry) (w : TyTree) (es : List Tree) (i : ℕ) (e : Tree) → i < length es → e ≡ get_or es i e
@@ -67,7 +69,8 @@ onto_nothing (Ok more) = refl
 onto_nothing (Err e) = refl
 
 pub types_turn : (hs : List Heading) (sc : List Entry) (done : List TyTree) (es : List Tree) (i : ℕ) (e : Tree) → i < length es → e ≡ get_or es i e
-    → onto done (spec.types_of hs sc (trees_of (drop i es))) ≡ then_on (spec.type_of hs sc e) (λ t. onto (done ++ t ∷ []) (spec.types_of hs sc (trees_of (drop (i + 1) es))))
+    → onto done (spec.types_of hs sc (trees_of (drop i es))) ≡ then_on (spec.type_of hs sc e)
+    (λ t. onto (done ++ t ∷ []) (spec.types_of hs sc (trees_of (drop (i + 1) es))))
 types_turn hs sc done es i e h p =
     ap (λ ts. onto done (spec.types_of hs sc ts)) (trees_left es i e h p)
     ∙ then_then (spec.type_of hs sc e) _ _
@@ -78,23 +81,29 @@ fitting_more : (o : Outcome TyTree) (done : List TyTree) (t : TyTree) (rest : Ou
 fitting_more (Ok u) done t rest = onto_more done t rest
 fitting_more (Err e) done t rest = refl
 
-pub arguments_turn : (hs : List Heading) (sc : List Entry) (c : Callee) (done : List TyTree) (es : List Tree) (i : ℕ) (e : Tree) → i < length es → e ≡ get_or es i e
+pub arguments_turn : (hs : List Heading) (sc : List Entry) (c : Callee) (done : List TyTree) (es : List Tree) (i : ℕ) (e : Tree) → i < length es
+    → e ≡ get_or es i e
     → onto done (spec.arguments hs sc c i (trees_of (drop i es)))
-    ≡ then_on (spec.type_of hs sc e) (λ t. then_on (unless (misfit c i t) (at_of e) (end_of e) t) (λ _. onto (done ++ t ∷ []) (spec.arguments hs sc c (i + 1) (trees_of (drop (i + 1) es)))))
+    ≡ then_on (spec.type_of hs sc e) (λ t. then_on (unless (misfit c i t) (at_of e) (end_of e) t)
+    (λ _. onto (done ++ t ∷ []) (spec.arguments hs sc c (i + 1) (trees_of (drop (i + 1) es)))))
 arguments_turn hs sc c done es i e h p =
     ap (λ ts. onto done (spec.arguments hs sc c i ts)) (trees_left es i e h p)
     ∙ then_then (spec.type_of hs sc e)
-    (λ t. then_on (unless (misfit c i t) (at_of e) (end_of e) t) (λ _. then_on (spec.arguments hs sc c (i + 1) (trees_of (drop (i + 1) es))) (λ (ts : List TyTree). Ok (t ∷ ts))))
+    (λ t. then_on (unless (misfit c i t) (at_of e) (end_of e) t) (λ _. then_on (spec.arguments hs sc c (i + 1) (trees_of (drop (i + 1) es)))
+    (λ (ts : List TyTree). Ok (t ∷ ts))))
     (λ (more : List TyTree). Ok (done ++ more))
-    ∙ ap (then_on (spec.type_of hs sc e)) (λ j t. fitting_more (unless (misfit c i t) (at_of e) (end_of e) t) done t (spec.arguments hs sc c (i + 1) (trees_of (drop (i + 1) es))) j)
+    ∙ ap (then_on (spec.type_of hs sc e)) (λ j t. fitting_more (unless (misfit c i t) (at_of e) (end_of e) t) done t
+    (spec.arguments hs sc c (i + 1) (trees_of (drop (i + 1) es))) j)
 
 unless_same : (o : Option TyTree) (i j : ℕ) (t u : TyTree) → unless o i j t ≡ Ok u → u ≡ t
 unless_same None i j t u h = cc
 unless_same (Some w) i j t u h = cc
 
-pub arguments_next : (hs : List Heading) (sc : List Entry) (c : Callee) (done : List TyTree) (es : List Tree) (i : ℕ) (e : Tree) (t u : TyTree) (whole : Outcome (List TyTree))
+pub arguments_next : (hs : List Heading) (sc : List Entry) (c : Callee) (done : List TyTree) (es : List Tree) (i : ℕ) (e : Tree) (t u : TyTree)
+    (whole : Outcome (List TyTree))
     → i < length es → e ≡ get_or es i e → spec.type_of hs sc e ≡ Ok t → unless (misfit c i t) (at_of e) (end_of e) t ≡ Ok u
-    → onto done (spec.arguments hs sc c i (trees_of (drop i es))) ≡ whole → onto (done ++ u ∷ []) (spec.arguments hs sc c (i + 1) (trees_of (drop (i + 1) es))) ≡ whole
+    → onto done (spec.arguments hs sc c i (trees_of (drop i es))) ≡ whole
+    → onto (done ++ u ∷ []) (spec.arguments hs sc c (i + 1) (trees_of (drop (i + 1) es))) ≡ whole
 arguments_next hs sc c done es i e t u whole h p typed fits so =
     let rest : TyTree → Outcome (List TyTree) = λ v. onto (done ++ v ∷ []) (spec.arguments hs sc c (i + 1) (trees_of (drop (i + 1) es))) in
     ap rest (unless_same (misfit c i t) (at_of e) (end_of e) t u fits)
@@ -111,7 +120,8 @@ written_turn done ws i w h p =
 
 -- ---- lines, parameters, functions and numbers
 
-lines_on : (hs : List Heading) (sc : List Entry) (l : Line) (ls : LineTrees) → spec.after_lines hs sc (line_before l ls) ≡ then_on (after_line hs sc l) (λ inner. spec.after_lines hs inner ls)
+lines_on : (hs : List Heading) (sc : List Entry) (l : Line) (ls : LineTrees)
+    → spec.after_lines hs sc (line_before l ls) ≡ then_on (after_line hs sc l) (λ inner. spec.after_lines hs inner ls)
 lines_on hs sc (lines.Val i j n e) ls = sym (then_then (spec.type_of hs sc e) (λ t. entered n t sc) (λ inner. spec.after_lines hs inner ls))
 lines_on hs sc (lines.Expr e) ls = sym (then_then (spec.type_of hs sc e) (λ _. Ok sc) (λ inner. spec.after_lines hs inner ls))
 
@@ -145,15 +155,20 @@ entered_more : (n : Name) (t : TyTree) (sc inner : List Entry) → entered n t s
 entered_more n t sc inner h = let p = then_inv (may_enter n sc) (λ _. Ok (with_name sc n.text t)) inner h in let q = p.2 in cc
 
 -- lines bring names behind those that are in scope
-lines_bring : (hs : List Heading) (sc : List Entry) (ls : LineTrees) (inner : List Entry) → spec.after_lines hs sc ls ≡ Ok inner → (more : List Entry) × (inner ≡ sc ++ more)
+lines_bring : (hs : List Heading) (sc : List Entry) (ls : LineTrees) (inner : List Entry) → spec.after_lines hs sc ls ≡ Ok inner
+    → (more : List Entry) × (inner ≡ sc ++ more)
 lines_bring hs sc NoLine inner h = ([], (let p : inner ≡ sc = cc in p) ∙ sym (append-nil sc))
 lines_bring hs sc (ValLine i j n e ls) inner h =
     let p = then_inv (spec.type_of hs sc e) (λ t. then_on (entered n t sc) (λ inner. spec.after_lines hs inner ls)) inner h in
     let q = then_inv (entered n p.0 sc) (λ inner. spec.after_lines hs inner ls) inner p.2 in
-    let r = lines_bring hs q.0 ls inner q.2 in
-    (record { name = n.text; ty = p.0 } ∷ r.0, r.1 ∙ ap (λ (es : List Entry). es ++ r.0) (entered_more n p.0 sc q.0 q.1) ∙ append_assoc sc (record { name = n.text; ty = p.0 } ∷ []) r.0)
+    let r = lines_bring hs q.0 ls inner q.2 in (
+      record { name = n.text; ty = p.0 } ∷ r.0,
+      r.1 ∙ ap (λ (es : List Entry). es ++ r.0) (entered_more n p.0 sc q.0 q.1)
+          ∙ append_assoc sc (record { name = n.text; ty = p.0 } ∷ []) r.0,
+    )
 lines_bring hs sc (ExprLine e ls) inner h =
     let p = then_inv (spec.type_of hs sc e) (λ _. spec.after_lines hs sc ls) inner h in lines_bring hs sc ls inner p.2
 
-pub lines_keep : (hs : List Heading) (sc : List Entry) (ls : LineTrees) (inner : List Entry) → spec.after_lines hs sc ls ≡ Ok inner → take (length sc) inner ≡ sc
+pub lines_keep : (hs : List Heading) (sc : List Entry) (ls : LineTrees) (inner : List Entry) → spec.after_lines hs sc ls ≡ Ok inner
+    → take (length sc) inner ≡ sc
 lines_keep hs sc ls inner h = let p = lines_bring hs sc ls inner h in ap (take (length sc)) p.1 ∙ take_at sc p.0 (length sc) refl

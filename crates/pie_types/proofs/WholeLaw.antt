@@ -1,21 +1,20 @@
 -- A pipeline is accepted exactly where the rules type it.
-use Rattle.std.proofs.Common.{◌≡◌, ℕ, Bool, true, false, cond, ◌||◌, List, [], ◌∷◌, ◌++◌, ap, sym, ◌∙◌, refl, subst}
-use Rattle.std.specs.Prelude.{Result, Ok, Err, Some, None, Option, IfOk}
+use Rattle.std.proofs.Common.{◌≡◌, ℕ, Bool, true, false, ◌||◌, List, [], ◌∷◌, ◌++◌, ap, sym, refl, subst}
+use Rattle.std.specs.Prelude.{Result, Ok, Err, IfOk}
 use Rattle.std.specs.Option.{is_some}
-use Rattle.pie_value.specs.Types.{TyTree}
 use Rattle.pie_parser.specs.FunctionTrees.{FunctionTree}
 use Rattle.pie_parser.specs.declared.tree.Param.{Param}
 use Rattle.pie_types.specs.declared.error.TypeError.{TypeError}
 use Rattle.pie_types.specs.declared.error.TypeError.TheVariants as errors
-use Rattle.pie_types.specs.Faults.{Outcome, then_on, Agrees}
+use Rattle.pie_types.specs.Faults.{then_on, Agrees}
 use Rattle.pie_types.specs.Written.{written}
 use Rattle.pie_types.specs.Scope.{Entry, may_enter, with_name}
 use Rattle.pie_types.specs.Headings.{Heading, is_builtin, function_in, may_be_named, with_param, params_from, signature_of, heading_of, headings_from}
 use Rattle.pie_types.specs.Forms.{block_fitting}
 use Rattle.pie_types.specs.Checking.{block_type}
 use Rattle.pie_types.specs.Whole.{body_type, bodies, checked}
-use Rattle.pie_types.specs.Rules.{IsFresh}
-use Rattle.pie_types.specs.WholeRules.{ParamsBring, no_param, a_param, Declares, AreDeclared, no_function, a_function, IsTypedFunction, typed_function, AreTyped, nothing, one_more, IsTyped, typed}
+use Rattle.pie_types.specs.WholeRules.{ParamsBring, no_param, a_param, Declares, AreDeclared, no_function, a_function, typed_function}
+use Rattle.pie_types.specs.WholeRules.{AreTyped, nothing, one_more, IsTyped, typed}
 use Rattle.pie_types.specs.Law.{NotRefused}
 use Rattle.pie_types.proofs.Steps.{then_inv}
 use Rattle.pie_types.proofs.Inversions.{ok_inj, cond_other, none_of, may_enter_sound, block_fitting_inv}
@@ -73,7 +72,8 @@ params_complete _ _ _ (a_param {es = es} {fs = fs} {p = p} {ps = ps} {t = t} f d
 
 signature_complete : (f : FunctionTree) (h : Heading) → Declares f h → signature_of f ≡ Ok h
 signature_complete f h d =
-    rw (params_complete [] f.params h.params d.params, written_complete f.result h.result d.result) (ap (λ (n : List ℕ). Ok (record { name = n; params = h.params; result = h.result })) (sym d.name))
+    rw (params_complete [] f.params h.params d.params, written_complete f.result h.result d.result)
+    (ap (λ (n : List ℕ). Ok (record { name = n; params = h.params; result = h.result })) (sym d.name))
 
 headings_complete : (done : List Heading) (fs : List FunctionTree) (hs : List Heading) → AreDeclared done fs hs → headings_from done fs ≡ Ok hs
 headings_complete _ _ _ no_function = refl
@@ -83,13 +83,15 @@ headings_complete _ _ _ (a_function {hs = hs} {gs = gs} {f = f} {fs = fs} {h = h
 bodies_complete : (hs : List Heading) (fs : List FunctionTree) → AreTyped hs fs → bodies hs fs ≡ Ok hs
 bodies_complete _ _ (nothing) = refl
 bodies_complete _ _ (one_more {hs = hs} {f = f} {fs = fs} (typed_function {h = h} d k) more) =
-    rw (signature_complete f h d, block_fitting_self h.result f.body (block_type hs h.params f.body) (block_complete hs h.params f.body h.result k)) (bodies_complete hs fs more)
+    rw (signature_complete f h d, block_fitting_self h.result f.body (block_type hs h.params f.body) (block_complete hs h.params f.body h.result k))
+    (bodies_complete hs fs more)
 
 pub checked_complete : (fs : List FunctionTree) → IsTyped fs → checked fs ≡ Ok fs
 checked_complete _ (typed {fs = fs} {hs = hs} d t) = rw (headings_complete [] fs hs d, bodies_complete hs fs t) refl
 
 -- what is accepted is typed
-pub answer_typed : (result : Result (List FunctionTree) TypeError) (fs : List FunctionTree) → Agrees (λ (gs : List FunctionTree). gs) result (checked fs) → IfOk result (λ gs. IsTyped gs)
+pub answer_typed : (result : Result (List FunctionTree) TypeError) (fs : List FunctionTree) → Agrees (λ (gs : List FunctionTree). gs) result (checked fs)
+    → IfOk result (λ gs. IsTyped gs)
 answer_typed (Ok gs) fs h =
     let a = then_inv (headings_from [] fs) (λ hs. then_on (bodies hs fs) (λ _. Ok fs)) gs h in
     let b = then_inv (bodies a.0 fs) (λ _. Ok fs) gs a.2 in
@@ -97,7 +99,8 @@ answer_typed (Ok gs) fs h =
 answer_typed (Err e) fs h = tt
 
 -- what is typed isn't refused
-pub answer_all : (result : Result (List FunctionTree) TypeError) (fs : List FunctionTree) → Agrees (λ (gs : List FunctionTree). gs) result (checked fs) → IsTyped fs → NotRefused result
+pub answer_all : (result : Result (List FunctionTree) TypeError) (fs : List FunctionTree) → Agrees (λ (gs : List FunctionTree). gs) result (checked fs)
+    → IsTyped fs → NotRefused result
 answer_all (Ok gs) fs h k = tt
 answer_all (Err (errors.Fault f)) fs h k = let p = checked_complete fs k in let q : ⊥ = cc in q
 answer_all (Err errors.OutOfMemory) fs h k = tt

@@ -1,10 +1,10 @@
 -- The type that is written is the one that is denoted.
-use Rattle.std.proofs.Common.{◌≡◌, ℕ, Bool, true, false, List, [], ◌∷◌, ap, sym, ◌∙◌, refl, subst}
-use Rattle.std.specs.Prelude.{Ok, Err, codes, bytes_eq}
+use Rattle.std.proofs.Common.{◌≡◌, List, [], ◌∷◌, refl, subst}
+use Rattle.std.specs.Prelude.{Ok, codes, bytes_eq}
 use Rattle.std.proofs.lemmas.Slice.Eq.{bytes_eq-Decides}
 use Rattle.pie_value.specs.Types.{TyTree, ListTy, TupleTy, NullableTy, BytesTy, parts_of}
 use Rattle.pie_parser.specs.PlainTypes.{TypeTree, PlainT, NamedT, ListT, TupleT, NullableT, TypeTrees, NilT, ConsT}
-use Rattle.pie_types.specs.Faults.{then_on, Outcome, Refused}
+use Rattle.pie_types.specs.Faults.{then_on}
 use Rattle.pie_types.specs.Written.{plain_type, written, written_each}
 use Rattle.pie_types.specs.WrittenRules.{Denotes, plain, bytes, list, tuple, nullable, DenoteEach, none, one_more}
 use Rattle.pie_types.proofs.Steps.{then_inv}

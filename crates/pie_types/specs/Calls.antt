@@ -80,4 +80,5 @@ answer k (OfFunction h) ts = function_answer k h
 
 -- a call: what it calls, then the number of its arguments, and then these
 abbrev pub of_call : List Heading → ℕ → ℕ → CallKind → Name → ℕ → (Callee → Outcome (List TyTree)) → Outcome TyTree
-of_call hs i j k n count arguments = then_on (known n (callee_of hs k n.text)) (λ c. then_on (right_number i j c count) (λ _. then_on (arguments c) (λ ts. Ok (answer k c ts))))
+of_call hs i j k n count arguments = then_on (known n (callee_of hs k n.text))
+    (λ c. then_on (right_number i j c count) (λ _. then_on (arguments c) (λ ts. Ok (answer k c ts))))

@@ -2,14 +2,20 @@
 -- `hs` are the headings of all functions, and `sc` are the names in scope.
 use Rattle.std.specs.Prelude.{ℕ, ◌+◌, List, [], ◌∷◌, Ok}
 use Rattle.pie_value.specs.Types.{TyTree, UnitTy}
-use Rattle.pie_parser.specs.Plain.{Tree, TLiteral, TName, TNull, TEmpty, TChain, TCompare, TPrefix, TProject, TTuple, TList, TEach, TIf, TCall, TEffect, TWrite, TFail, Trees, Nil, Cons, Steps, NoStep, AStep, BlockTree, TBlock, LineTrees, NoLine, ValLine, ExprLine, LastTree, NoLast, ALast, ElseTree, NoElse, AnElse}
+use Rattle.pie_parser.specs.Plain.{Tree, TLiteral, TName, TNull, TEmpty, TChain, TCompare, TPrefix, TProject, TTuple, TList, TEach, TIf, TCall, TEffect}
+use Rattle.pie_parser.specs.Plain.{TWrite, TFail, Trees, Nil, Cons, Steps, NoStep, AStep, BlockTree, TBlock, LineTrees, NoLine, ValLine, ExprLine, LastTree}
+use Rattle.pie_parser.specs.Plain.{NoLast, ALast, ElseTree, NoElse, AnElse}
+use Rattle.pie_parser.specs.declared.tree.Name.{Name}
+use Rattle.pie_parser.specs.declared.tree.Comparison.{Comparison}
+use Rattle.pie_parser.specs.declared.tree.CallKind.{CallKind}
 use Rattle.pie_types.specs.Faults.{Outcome, refuse, then_on, Arity}
 use Rattle.pie_types.specs.Scope.{Entry, entered}
 use Rattle.pie_types.specs.Headings.{Heading}
 use Rattle.pie_types.specs.Spans.{at_of, end_of, answer_at, answer_end}
 use Rattle.pie_types.specs.Operators.{matched, literal_type, prefix_type}
 use Rattle.pie_types.specs.Calls.{Callee, misfit, unless, of_call}
-use Rattle.pie_types.specs.Forms.{fitting, block_fitting, of_name, of_null, of_empty, of_chain, of_compare, of_project, of_tuple, of_list, of_each, of_if, of_effect, of_write, of_fail}
+use Rattle.pie_types.specs.Forms.{fitting, block_fitting, of_name, of_null, of_empty, of_chain, of_compare, of_project, of_tuple, of_list, of_each, of_if}
+use Rattle.pie_types.specs.Forms.{of_effect, of_write, of_fail}
 
 -- how many expressions there are
 abbrev pub count : Trees → ℕ
@@ -81,3 +87,26 @@ abbrev mutual
   pub last_type : List Heading → List Entry → LastTree → Outcome TyTree
   last_type hs sc NoLast = Ok UnitTy
   last_type hs sc (ALast e) = type_of hs sc e
+
+-- the types of forms, each from its parts
+
+abbrev pub chain_type : List Heading → List Entry → Tree → Steps → Outcome TyTree
+chain_type hs sc a ss = of_chain a (type_of hs sc a) ss (λ t. operands hs sc t ss)
+
+abbrev pub compare_type : List Heading → List Entry → Comparison → Tree → Tree → Outcome TyTree
+compare_type hs sc c a b = of_compare c a (type_of hs sc a) b (type_of hs sc b)
+
+abbrev pub each_type : List Heading → List Entry → Tree → Name → Tree → Outcome TyTree
+each_type hs sc a n b = of_each sc b (type_of hs sc b) n (λ inner. type_of hs inner a)
+
+abbrev pub if_type : List Heading → List Entry → Tree → BlockTree → ElseTree → Outcome TyTree
+if_type hs sc a b o = of_if a (type_of hs sc a) (block_type hs sc b) (λ t. branches hs sc t b o)
+
+abbrev pub call_type : List Heading → List Entry → ℕ → ℕ → CallKind → Name → Trees → Outcome TyTree
+call_type hs sc i j k n es = of_call hs i j k n (count es) (λ c. arguments hs sc c 0 es)
+
+abbrev pub write_type : List Heading → List Entry → Tree → Tree → Outcome TyTree
+write_type hs sc a b = of_write a (type_of hs sc a) b (type_of hs sc b)
+
+abbrev pub fitting_block : List Heading → List Entry → TyTree → BlockTree → Outcome TyTree
+fitting_block hs sc w b = block_fitting w b (block_type hs sc b)

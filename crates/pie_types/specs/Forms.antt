@@ -6,7 +6,6 @@ use Rattle.pie_parser.specs.Plain.{Tree, Steps, BlockTree}
 use Rattle.pie_parser.specs.declared.tree.Name.{Name}
 use Rattle.pie_parser.specs.declared.tree.Index.{Index}
 use Rattle.pie_parser.specs.declared.tree.Comparison.{Comparison}
-use Rattle.pie_parser.specs.declared.tree.Prefix.{Prefix}
 use Rattle.pie_parser.specs.declared.tree.EffectKind.{EffectKind}
 use Rattle.pie_types.specs.Faults.{Outcome, then_on}
 use Rattle.pie_types.specs.Written.{written}

@@ -2,13 +2,11 @@
 use Rattle.std.specs.Prelude.{◌≡◌, List, Result, Ok, Err}
 use Rattle.pie_value.specs.Types.{TyTree}
 use Rattle.pie_parser.specs.Plain.{Tree}
-use Rattle.pie_parser.specs.FunctionTrees.{FunctionTree}
 use Rattle.pie_types.specs.declared.error.TypeError.{TypeError}
 use Rattle.pie_types.specs.declared.error.TypeError.TheVariants.{Fault, OutOfMemory}
 use Rattle.pie_types.specs.Scope.{Entry}
 use Rattle.pie_types.specs.Headings.{Heading}
 use Rattle.pie_types.specs.Rules.{HasType}
-use Rattle.pie_types.specs.WholeRules.{IsTyped}
 
 -- a pipeline isn't refused
 abbrev pub NotRefused : {A : Type 0} → Result A TypeError → Type 0

@@ -1,8 +1,10 @@
 -- The rules of typing, one for each form. `hs` are the headings of all functions, and `sc` are the names in scope with their types.
-use Rattle.std.specs.Prelude.{◌≡◌, ℕ, ◌+◌, ◌<◌, Bool, true, false, List, [], ◌∷◌, length, Option, Some, None}
-use Rattle.pie_value.specs.Types.{TyTree, TyTrees, UnitTy, BoolTy, IntTy, TextTy, PathTy, ListTy, TupleTy, NullableTy, BytesTy, parts_of}
+use Rattle.std.specs.Prelude.{◌≡◌, ℕ, ◌+◌, ◌<◌, true, false, List, [], ◌∷◌, length, Some, None}
+use Rattle.pie_value.specs.Types.{TyTree, TyTrees, UnitTy, BoolTy, TextTy, PathTy, ListTy, TupleTy, NullableTy, parts_of}
 use Rattle.pie_parser.specs.PlainTypes.{TypeTree}
-use Rattle.pie_parser.specs.Plain.{Tree, TLiteral, TName, TNull, TEmpty, TChain, TCompare, TPrefix, TProject, TTuple, TList, TEach, TIf, TCall, TEffect, TWrite, TFail, Trees, Nil, Cons, Steps, NoStep, AStep, BlockTree, TBlock, LineTrees, NoLine, ValLine, ExprLine, LastTree, NoLast, ALast, ElseTree, NoElse, AnElse}
+use Rattle.pie_parser.specs.Plain.{Tree, TLiteral, TName, TNull, TEmpty, TChain, TCompare, TPrefix, TProject, TTuple, TList, TEach, TIf, TCall, TEffect}
+use Rattle.pie_parser.specs.Plain.{TWrite, TFail, Trees, Nil, Cons, Steps, NoStep, AStep, BlockTree, TBlock, LineTrees, NoLine, ValLine, ExprLine}
+use Rattle.pie_parser.specs.Plain.{NoLast, ALast, NoElse, AnElse}
 use Rattle.pie_parser.specs.declared.tree.Index.{Index}
 use Rattle.pie_parser.specs.declared.tree.Name.{Name}
 use Rattle.pie_parser.specs.declared.tree.Operator.{Operator}
@@ -14,7 +16,8 @@ use Rattle.pie_parser.specs.declared.tree.EffectKind.{EffectKind}
 use Rattle.pie_types.specs.WrittenRules.{Denotes}
 use Rattle.pie_types.specs.Scope.{Entry, type_in, with_name}
 use Rattle.pie_types.specs.Headings.{Heading}
-use Rattle.pie_types.specs.Operators.{literal_type, all_plus, is_addable, operands_type, is_equality, is_ordered, prefix_type, numbered, effect_takes, effect_gives, is_writable}
+use Rattle.pie_types.specs.Operators.{literal_type, all_plus, is_addable, operands_type, is_equality, is_ordered, prefix_type, numbered, effect_takes}
+use Rattle.pie_types.specs.Operators.{effect_gives, is_writable}
 use Rattle.pie_types.specs.Calls.{Callee, callee_of, taken, misfit, answer}
 use Rattle.pie_types.specs.Checking.{count}
 
@@ -53,22 +56,28 @@ mutual
         → HasType hs sc a t → OperandsHave ss t → StepsHave hs sc ss t → HasType hs sc (TChain i j a ss) t
     compare : {hs : List Heading} {sc : List Entry} {i j : ℕ} {c : Comparison} {a b : Tree} {t : TyTree}
         → HasType hs sc a t → LeftHas c t → HasType hs sc b t → HasType hs sc (TCompare i j c a b) BoolTy
-    prefix : {hs : List Heading} {sc : List Entry} {i j : ℕ} {p : Prefix} {a : Tree} → HasType hs sc a (prefix_type p) → HasType hs sc (TPrefix i j p a) (prefix_type p)
-    project : {hs : List Heading} {sc : List Entry} {i j : ℕ} {a : Tree} {ns : List Index} {t u : TyTree} → HasType hs sc a t → Leads t ns u → HasType hs sc (TProject i j a ns) u
-    tuple : {hs : List Heading} {sc : List Entry} {i j : ℕ} {es : Trees} {ts : List TyTree} → HaveTypes hs sc es ts → HasType hs sc (TTuple i j es) (TupleTy (parts_of ts))
+    prefix : {hs : List Heading} {sc : List Entry} {i j : ℕ} {p : Prefix} {a : Tree} → HasType hs sc a (prefix_type p)
+        → HasType hs sc (TPrefix i j p a) (prefix_type p)
+    project : {hs : List Heading} {sc : List Entry} {i j : ℕ} {a : Tree} {ns : List Index} {t u : TyTree} → HasType hs sc a t → Leads t ns u
+        → HasType hs sc (TProject i j a ns) u
+    tuple : {hs : List Heading} {sc : List Entry} {i j : ℕ} {es : Trees} {ts : List TyTree} → HaveTypes hs sc es ts
+        → HasType hs sc (TTuple i j es) (TupleTy (parts_of ts))
     list : {hs : List Heading} {sc : List Entry} {i j : ℕ} {e : Tree} {es : Trees} {t : TyTree}
         → HasType hs sc e t → AllHave hs sc es t → HasType hs sc (TList i j (Cons e es)) (ListTy t)
     each : {hs : List Heading} {sc : List Entry} {i j : ℕ} {a b : Tree} {n : Name} {t u : TyTree}
         → HasType hs sc b (ListTy t) → IsFresh n.text sc → HasType hs (with_name sc n.text t) a u → HasType hs sc (TEach i j a n b) (ListTy u)
-    if_alone : {hs : List Heading} {sc : List Entry} {i j : ℕ} {a : Tree} {b : BlockTree} → HasType hs sc a BoolTy → BlockHas hs sc b UnitTy → HasType hs sc (TIf i j a b NoElse) UnitTy
+    if_alone : {hs : List Heading} {sc : List Entry} {i j : ℕ} {a : Tree} {b : BlockTree} → HasType hs sc a BoolTy → BlockHas hs sc b UnitTy
+        → HasType hs sc (TIf i j a b NoElse) UnitTy
     if_else : {hs : List Heading} {sc : List Entry} {i j : ℕ} {a : Tree} {b o : BlockTree} {t : TyTree}
         → HasType hs sc a BoolTy → BlockHas hs sc b t → BlockHas hs sc o t → HasType hs sc (TIf i j a b (AnElse o)) t
     call : {hs : List Heading} {sc : List Entry} {i j : ℕ} {k : CallKind} {n : Name} {es : Trees} {c : Callee} {ts : List TyTree}
         → callee_of hs k n.text ≡ Some c → count es ≡ taken c → HaveTypes hs sc es ts → Fit c 0 ts → HasType hs sc (TCall i j k n es) (answer k c ts)
-    effect : {hs : List Heading} {sc : List Entry} {i j : ℕ} {k : EffectKind} {a : Tree} → HasType hs sc a (effect_takes k) → HasType hs sc (TEffect i j k a) (effect_gives k)
+    effect : {hs : List Heading} {sc : List Entry} {i j : ℕ} {k : EffectKind} {a : Tree} → HasType hs sc a (effect_takes k)
+        → HasType hs sc (TEffect i j k a) (effect_gives k)
     write : {hs : List Heading} {sc : List Entry} {i j : ℕ} {a b : Tree} {t : TyTree}
         → HasType hs sc a PathTy → HasType hs sc b t → is_writable t ≡ true → HasType hs sc (TWrite i j a b) UnitTy
-    fail : {hs : List Heading} {sc : List Entry} {i j : ℕ} {w : TypeTree} {a : Tree} {t : TyTree} → Denotes w t → HasType hs sc a TextTy → HasType hs sc (TFail i j w a) t
+    fail : {hs : List Heading} {sc : List Entry} {i j : ℕ} {w : TypeTree} {a : Tree} {t : TyTree} → Denotes w t → HasType hs sc a TextTy
+        → HasType hs sc (TFail i j w a) t
 
   -- each operand behind the first one has this type
   pub data StepsHave : List Heading → List Entry → Steps → TyTree → Type 0 where

@@ -1,6 +1,7 @@
 -- Where expressions and blocks stand.
 use Rattle.std.specs.Prelude.{ℕ}
-use Rattle.pie_parser.specs.Plain.{Tree, TLiteral, TName, TNull, TEmpty, TChain, TCompare, TPrefix, TProject, TTuple, TList, TEach, TIf, TCall, TEffect, TWrite, TFail, BlockTree, TBlock, LastTree, NoLast, ALast}
+use Rattle.pie_parser.specs.Plain.{Tree, TLiteral, TName, TNull, TEmpty, TChain, TCompare, TPrefix, TProject, TTuple, TList, TEach, TIf, TCall, TEffect}
+use Rattle.pie_parser.specs.Plain.{TWrite, TFail, BlockTree, TBlock, NoLast, ALast}
 
 -- the first byte of an expression
 abbrev pub at_of : Tree → ℕ

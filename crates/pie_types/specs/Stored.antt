@@ -23,7 +23,8 @@ abbrev pub heading_parts : Heading → List ℕ × (List Entry × TyTree)
 heading_parts h = (h.name, (h.params, h.result))
 
 abbrev pub coded_heading : Coded Heading
-coded_heading = coded_via (coded× (coded_list coded_ℕ) (coded× coded_scope coded_ty)) heading_parts (λ x y p i. record { name = (p i).0; params = (p i).1.0; result = (p i).1.1 })
+coded_heading = coded_via (coded× (coded_list coded_ℕ) (coded× coded_scope coded_ty)) heading_parts
+    (λ x y p i. record { name = (p i).0; params = (p i).1.0; result = (p i).1.1 })
 
 abbrev pub coded_headings : Coded (List Heading)
 coded_headings = coded_list coded_heading

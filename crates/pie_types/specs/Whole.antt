@@ -1,5 +1,5 @@
 -- A whole pipeline: the headings of all functions in text order, and then their bodies.
-use Rattle.std.specs.Prelude.{ℕ, ◌+◌, Bool, false, cond, List, [], ◌∷◌, map, bytes_eq, Option, Some, None, Ok, Err}
+use Rattle.std.specs.Prelude.{◌≡◌, ℕ, ◌+◌, Bool, false, cond, List, [], ◌∷◌, map, bytes_eq, Option, Some, None, Ok, Err}
 use Rattle.pie_value.specs.Types.{TyTree, parts_of}
 use Rattle.pie_value.specs.Tree.{items_of}
 use Rattle.pie_value.specs.HasType.{have_types}
@@ -23,6 +23,10 @@ bodies hs (f ∷ fs) = then_on (body_type hs f) (λ _. bodies hs fs)
 -- a pipeline that was checked, or the first refusal
 abbrev pub checked : List FunctionTree → Outcome (List FunctionTree)
 checked fs = then_on (headings_from [] fs) (λ hs. then_on (bodies hs fs) (λ _. Ok fs))
+
+-- a pipeline was checked, and its functions have these headings
+abbrev pub IsCheckedWith : List FunctionTree → List Heading → Type 0
+IsCheckedWith fs hs = (headings_from [] fs ≡ Ok hs) × (checked fs ≡ Ok fs)
 
 -- the types of parameters
 abbrev pub types_in : List Entry → List TyTree

@@ -1,7 +1,6 @@
 -- The rules of typing for functions and for a whole pipeline.
-use Rattle.std.specs.Prelude.{◌≡◌, Bool, false, List, [], ◌∷◌, ◌++◌, Option, None}
+use Rattle.std.specs.Prelude.{◌≡◌, false, List, [], ◌∷◌, ◌++◌, None}
 use Rattle.pie_value.specs.Types.{TyTree}
-use Rattle.pie_parser.specs.PlainTypes.{TypeTree}
 use Rattle.pie_parser.specs.FunctionTrees.{FunctionTree}
 use Rattle.pie_parser.specs.declared.tree.Param.{Param}
 use Rattle.pie_types.specs.WrittenRules.{Denotes}

@@ -4,7 +4,6 @@ ghost use Rattle.pie_value.specs.TypeTrees.{ty_tree};
 ghost use Rattle.pie_parser.specs.Plain.{AnElse, NoElse};
 ghost use Rattle.pie_parser.specs.TreeView.{block_of, last_of, lines_of};
 ghost use Rattle.pie_types.specs.Faults.{Agrees};
-ghost use Rattle.pie_types.specs.Forms as forms;
 ghost use Rattle.pie_types.specs.Checking as spec;
 ghost use Rattle.pie_types.specs.Blocks as blocks;
 
@@ -24,7 +23,7 @@ pub fn alone(
     test: &Expr,
     then: &Block,
 ) -> Result<Ty, TypeError>
-    ensures typed { Agrees ty_tree result (forms.of_if test.now (spec.type_of headings.now scope.old test.now) (spec.block_type headings.now scope.old (block_of then.now)) (λ t. spec.branches headings.now scope.old t (block_of then.now) NoElse)) }
+    ensures typed { Agrees ty_tree result (spec.if_type headings.now scope.old test.now (block_of then.now) NoElse) }
     ensures scope { OnOk result (scope.new ≡ scope.old) }
 {
     let _test = expected(headings, scope, &Ty::Bool, test)?;
@@ -40,7 +39,7 @@ pub fn choice(
     then: &Block,
     otherwise: &Block,
 ) -> Result<Ty, TypeError>
-    ensures typed { Agrees ty_tree result (forms.of_if test.now (spec.type_of headings.now scope.old test.now) (spec.block_type headings.now scope.old (block_of then.now)) (λ t. spec.branches headings.now scope.old t (block_of then.now) (AnElse (block_of otherwise.now)))) }
+    ensures typed { Agrees ty_tree result (spec.if_type headings.now scope.old test.now (block_of then.now) (AnElse (block_of otherwise.now))) }
     ensures scope { OnOk result (scope.new ≡ scope.old) }
 {
     let _test = expected(headings, scope, &Ty::Bool, test)?;
@@ -56,7 +55,7 @@ pub fn expected_block(
     wanted: &Ty,
     block: &Block,
 ) -> Result<Ty, TypeError>
-    ensures typed { Agrees ty_tree result (forms.block_fitting (ty_tree wanted.now) (block_of block.now) (spec.block_type headings.now scope.old (block_of block.now))) }
+    ensures typed { Agrees ty_tree result (spec.fitting_block headings.now scope.old (ty_tree wanted.now) (block_of block.now)) }
     ensures scope { OnOk result (scope.new ≡ scope.old) }
 {
     let found = block_type(headings, scope, block)?;

@@ -28,7 +28,7 @@ pub fn call(
     name: &Name,
     items: &[Expr],
 ) -> Result<Ty, TypeError>
-    ensures typed { Agrees ty_tree result (calls.of_call headings.now span.at span.end kind name.now (spec.count (trees_of items.now)) (λ c. spec.arguments headings.now scope.old c 0 (trees_of items.now))) }
+    ensures typed { Agrees ty_tree result (spec.call_type headings.now scope.old span.at span.end kind name.now (trees_of items.now)) }
     ensures scope { OnOk result (scope.new ≡ scope.old) }
 {
     let callee = callee_of(headings, kind, name)?;

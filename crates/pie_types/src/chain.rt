@@ -4,7 +4,6 @@ ghost use Rattle.pie_value.specs.TypeTrees.{ty_tree};
 ghost use Rattle.pie_parser.specs.TreeView.{steps_of};
 ghost use Rattle.pie_types.specs.Faults.{Agrees};
 ghost use Rattle.pie_types.specs.Operators as operators;
-ghost use Rattle.pie_types.specs.Forms as forms;
 ghost use Rattle.pie_types.specs.Checking as spec;
 
 use crate::TypeError;
@@ -24,7 +23,7 @@ pub fn chain(
     first: &Expr,
     steps: &[Step],
 ) -> Result<Ty, TypeError>
-    ensures typed { Agrees ty_tree result (forms.of_chain first.now (spec.type_of headings.now scope.old first.now) (steps_of steps.now) (λ t. spec.operands headings.now scope.old t (steps_of steps.now))) }
+    ensures typed { Agrees ty_tree result (spec.chain_type headings.now scope.old first.now (steps_of steps.now)) }
     ensures scope { OnOk result (scope.new ≡ scope.old) }
 {
     let found = type_of(headings, scope, first)?;
@@ -94,7 +93,7 @@ pub fn comparison(
     a: &Expr,
     b: &Expr,
 ) -> Result<Ty, TypeError>
-    ensures typed { Agrees ty_tree result (forms.of_compare kind a.now (spec.type_of headings.now scope.old a.now) b.now (spec.type_of headings.now scope.old b.now)) }
+    ensures typed { Agrees ty_tree result (spec.compare_type headings.now scope.old kind a.now b.now) }
     ensures scope { OnOk result (scope.new ≡ scope.old) }
 {
     let found = type_of(headings, scope, a)?;

@@ -10,7 +10,7 @@ use std::alloc::{AllocError, AllocFailed};
 pub enum TypeError {
     /// The first refusal in the order of checking.
     Fault(TypeFault),
-    /// No memory was to be had.
+    /// No memory was to be had, or the type of a name has more than `MAX_TYPE_PARTS` parts.
     OutOfMemory,
 }
 

@@ -201,7 +201,7 @@ fn each(
     name: &Name,
     list: &Expr,
 ) -> Result<Ty, TypeError>
-    ensures typed { Agrees ty_tree result (forms.of_each scope.old list.now (spec.type_of headings.now scope.old list.now) name.now (λ inner. spec.type_of headings.now inner item.now)) }
+    ensures typed { Agrees ty_tree result (spec.each_type headings.now scope.old item.now name.now list.now) }
     ensures scope { OnOk result (scope.new ≡ scope.old) }
 {
     let found = type_of(headings, scope, list)?;
@@ -247,7 +247,7 @@ fn effect(
 // `write(path, value)`
 #[cycle(types)]
 fn write(headings: &Headings, scope: &mut Scope, path: &Expr, value: &Expr) -> Result<Ty, TypeError>
-    ensures typed { Agrees ty_tree result (forms.of_write path.now (spec.type_of headings.now scope.old path.now) value.now (spec.type_of headings.now scope.old value.now)) }
+    ensures typed { Agrees ty_tree result (spec.write_type headings.now scope.old path.now value.now) }
     ensures scope { OnOk result (scope.new ≡ scope.old) }
 {
     let _path = expected(headings, scope, &Ty::Path, path)?;

@@ -13,6 +13,7 @@ mod headings;
 mod kinds;
 mod matching;
 mod part;
+mod room;
 mod scope;
 #[cfg(test)]
 mod tests;
@@ -21,4 +22,5 @@ mod written;
 
 pub use checking::check;
 pub use error::{TypeError, TypeFault, TypeKind};
+pub use room::MAX_TYPE_PARTS;
 pub use typed::Typed;

@@ -6,6 +6,7 @@ ghost use Rattle.pie_types.specs.Scope.{entered, may_enter, type_in, with_name};
 ghost use Rattle.pie_types.specs.Shown.{entries_of};
 
 use crate::matching::refusal;
+use crate::room::{MAX_TYPE_PARTS, room_after};
 use crate::{TypeError, TypeKind};
 use pie_base::{MAX_NAMES, OutOfMemory, Text};
 use pie_parser::Name;
@@ -89,10 +90,13 @@ impl Scope {
         Ok(())
     }
 
-    // One more name.
+    // One more name. A type of more than `MAX_TYPE_PARTS` parts finds no memory.
     pub fn push(&mut self, name: Text, ty: Ty) -> Result<(), OutOfMemory>
         ensures { OnOk result (self.new ≡ with_name self.old name (ty_tree ty)) }
     {
+        if room_after(&ty, MAX_TYPE_PARTS).is_none() {
+            return Err(OutOfMemory);
+        }
         self.bound.push(Bound { name, ty })?;
         Ok(())
     }

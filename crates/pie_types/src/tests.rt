@@ -271,7 +271,10 @@ fn each_form_is_accepted_where_the_rules_type_it(rt: HostRuntime) {
     let alloc = rt.alloc();
     let cases = [
         "",
-        "func page(src: path) -> path { val body = get(read(src)); val foot = require footer(); val target = join(path(\"out\"), name(src)); write(target, body + foot); target } func footer() -> text { trim(get(read(path(\"inc/foot\")))) } func site() -> int { len([require page(p) for p in list(path(\"src\"))]) }",
+        "func page(src: path) -> path { val body = get(read(src)); val foot = require footer();
+           val target = join(path(\"out\"), name(src)); write(target, body + foot); target }
+         func footer() -> text { trim(get(read(path(\"inc/foot\")))) }
+         func site() -> int { len([require page(p) for p in list(path(\"src\"))]) }",
         "func f(len: int, f: text) -> text { f }",
         "func bytes(b: bytes) -> bytes? { read_bytes(path(\"a\")) }",
         "func f() -> [int] { [1] + [2] + empty int }",
@@ -314,6 +317,61 @@ fn the_256th_name_is_one_too_many_unless_it_is_taken(rt: HostRuntime) {
     for (count, end, wanted) in cases {
         if let Ok(text) = numbered(alloc, front, count, end) {
             assert!(rt; answers(alloc, text.as_str(), wanted), "{count} names");
+        }
+    }
+}
+
+// A text of parts, each so many times, and an end.
+fn repeated(alloc: Global, parts: &[(&str, u32)], end: &str) -> Result<String, AllocError> {
+    let mut out = String::new(alloc);
+    for (part, times) in parts {
+        for _ in 0..*times {
+            out.push_str(part)?;
+        }
+    }
+    out.push_str(end)?;
+    Ok(out)
+}
+
+#[test]
+fn the_deepest_tree_is_typed(rt: HostRuntime) {
+    let alloc = rt.alloc();
+    let parts = [
+        ("func f() -> bool { ", 1),
+        ("if ", 100),
+        ("[", 60),
+        ("true", 1),
+        ("]", 60),
+        (" == empty ", 1),
+        ("[", 59),
+        ("bool", 1),
+        ("]", 59),
+        (" { true } else { false }", 100),
+    ];
+    if let Ok(text) = repeated(alloc, parts.as_slice(), "}") {
+        assert!(rt; answers(alloc, text.as_str(), "typed"));
+    }
+}
+
+// A text whose last name has a type of twice the parts for each step, and one.
+fn doubled(alloc: Global, steps: u32) -> Result<String, AllocError> {
+    let mut out = String::from_str(alloc, "func f() -> int { val x0 = 1; ")?;
+    for i in 1..steps {
+        let before = i - 1;
+        let part = format!(in alloc; "val x{i} = (x{before}, x{before}); ")?;
+        out.push_str(part.as_str())?;
+    }
+    out.push_str("1 }")?;
+    Ok(out)
+}
+
+#[test]
+fn a_name_of_a_type_of_1023_parts_finds_no_memory(rt: HostRuntime) {
+    let alloc = rt.alloc();
+    let cases = [(9, "typed"), (10, "out of memory")];
+    for (steps, wanted) in cases {
+        if let Ok(text) = doubled(alloc, steps) {
+            assert!(rt; answers(alloc, text.as_str(), wanted), "{steps} names");
         }
     }
 }

@@ -22,7 +22,7 @@ pub struct Typed {
 }
 
 impl Model for Typed {
-    ghost use Rattle.std.specs.Prelude.{◌≡◌, [], List, Ok};
+    ghost use Rattle.std.specs.Prelude.{List};
     ghost use Rattle.pie_parser.specs.FunctionTrees.{FunctionTree};
     ghost use Rattle.pie_types.specs.Stored.{coded_functions};
 
@@ -30,12 +30,11 @@ impl Model for Typed {
 
     ghost coded = { coded_functions };
 
-    ghost use Rattle.pie_types.specs.Headings.{headings_from};
-    ghost use Rattle.pie_types.specs.Whole.{checked};
+    ghost use Rattle.pie_types.specs.Whole.{IsCheckedWith};
 
     ghost view = { λ t. t.pipeline.functions.items };
 
-    ghost invariant = { λ t. (headings_from [] t.pipeline.functions.items ≡ Ok t.headings) × (checked t.pipeline.functions.items ≡ Ok t.pipeline.functions.items) };
+    ghost invariant = { λ t. IsCheckedWith t.pipeline.functions.items t.headings };
 }
 
 impl Typed {

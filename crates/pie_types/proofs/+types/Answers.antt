@@ -12,8 +12,10 @@ call::arguments-loop-i-preserved t c =
     ap ty_trees c.in_ok-push.ensures.items ∙ map-append ty_tree c.loop-i.types.items (c.in_ok-fit.fit ∷ []) in
     record {
       scope = c.in_ok-ty.ensures.scope ∙ c.loop-i.invariant.scope;
-      typed = rw (q, c.in_ok-ty.ensures.scope) (arguments_next c.args.headings.now c.loop-i.scope (callee_tree c.args.callee.now) (ty_trees c.loop-i.types.items) c.args.items.now c.loop-i.i c.index-items-i.result
-          (ty_tree c.in_ok-ty.ty) (ty_tree c.in_ok-fit.fit) _ c.loop-i-test.true c.index-items-i.is c.in_ok-ty.ensures.typed c.in_ok-fit.ensures c.loop-i.invariant.typed);
+      typed = rw (q, c.in_ok-ty.ensures.scope)
+          (arguments_next c.args.headings.now c.loop-i.scope (callee_tree c.args.callee.now) (ty_trees c.loop-i.types.items) c.args.items.now c.loop-i.i
+          c.index-items-i.result (ty_tree c.in_ok-ty.ty) (ty_tree c.in_ok-fit.fit) _ c.loop-i-test.true c.index-items-i.is c.in_ok-ty.ensures.typed
+          c.in_ok-fit.ensures c.loop-i.invariant.typed);
     }
 
 pub expr::type_of-returns-in-Call-clause-typed : goal.expr::type_of-returns-in-Call-clause-typed
@@ -29,5 +31,6 @@ expr::type_of-returns-in-None-clause-typed t c =
 
 pub expr::type_of-returns-in-Some-clause-typed : goal.expr::type_of-returns-in-Some-clause-typed
 expr::type_of-returns-in-Some-clause-typed t c =
-    let is : c.e.inside.form ≡ forms.If c.in-If.test c.in-If.then (Some c.in-Some.block) = c.in-If.is ∙ ap (λ o. forms.If c.in-If.test c.in-If.then o) c.in-Some.is in
+    let is : c.e.inside.form ≡ forms.If c.in-If.test c.in-If.then (Some c.in-Some.block) = c.in-If.is
+    ∙ ap (λ o. forms.If c.in-If.test c.in-If.then o) c.in-Some.is in
     rw (sym c.e.view_is, is, sym c.deref-in-Some.ensures, sym c.deref-in-Some-2.ensures, sym c.deref-in-Some-3.ensures) c.choice.ensures.typed

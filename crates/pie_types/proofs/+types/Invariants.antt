@@ -86,16 +86,34 @@ abbrev pub decreases-call::arguments : goal.decreases-call::arguments
 decreases-call::arguments l = 2 * trees_mass (trees_of l.items.now) + 1
 
 abbrev pub invariant-expr::types_of-loop-item : goal.invariant-expr::types_of-loop-item
-invariant-expr::types_of-loop-item l = record { scope : l.scope ≡ l.fn.scope; typed : onto (ty_trees l.types.items) (types_of l.headings l.scope (trees_of (drop l.item-index l.items))) ≡ types_of l.headings l.scope (trees_of l.items) }
+invariant-expr::types_of-loop-item l = record {
+  scope : l.scope ≡ l.fn.scope;
+  typed : onto (ty_trees l.types.items)
+      (types_of l.headings l.scope (trees_of (drop l.item-index l.items))) ≡ types_of l.headings l.scope (trees_of l.items);
+}
 
 abbrev pub invariant-expr::more_items-loop-item : goal.invariant-expr::more_items-loop-item
-invariant-expr::more_items-loop-item l = record { scope : l.scope ≡ l.fn.scope; typed : more_items l.headings l.scope (ty_tree l.ty) (trees_of (drop l.item-index l.items)) ≡ more_items l.headings l.scope (ty_tree l.ty) (trees_of l.items) }
+invariant-expr::more_items-loop-item l = record {
+  scope : l.scope ≡ l.fn.scope;
+  typed : more_items l.headings l.scope (ty_tree l.ty)
+      (trees_of (drop l.item-index l.items)) ≡ more_items l.headings l.scope (ty_tree l.ty) (trees_of l.items);
+}
 
 abbrev pub invariant-chain::operands-loop-step : goal.invariant-chain::operands-loop-step
-invariant-chain::operands-loop-step l = record { scope : l.scope ≡ l.fn.scope; typed : operands l.headings l.scope (ty_tree l.ty) (steps_of (drop l.step-index l.steps)) ≡ operands l.headings l.scope (ty_tree l.ty) (steps_of l.steps) }
+invariant-chain::operands-loop-step l = record {
+  scope : l.scope ≡ l.fn.scope;
+  typed : operands l.headings l.scope (ty_tree l.ty)
+      (steps_of (drop l.step-index l.steps)) ≡ operands l.headings l.scope (ty_tree l.ty) (steps_of l.steps);
+}
 
 abbrev pub invariant-call::arguments-loop-i : goal.invariant-call::arguments-loop-i
-invariant-call::arguments-loop-i l = record { scope : l.scope ≡ l.fn.scope; typed : onto (ty_trees l.types.items) (arguments l.headings l.scope (callee_tree l.callee) l.i (trees_of (drop l.i l.items))) ≡ arguments l.headings l.scope (callee_tree l.callee) 0 (trees_of l.items) }
+invariant-call::arguments-loop-i l = record {
+  scope : l.scope ≡ l.fn.scope;
+  typed : onto (ty_trees l.types.items)
+      (arguments l.headings l.scope (callee_tree l.callee) l.i (trees_of (drop l.i l.items))) ≡ arguments l.headings l.scope (callee_tree l.callee) 0
+      (trees_of l.items);
+}
 
 abbrev pub invariant-block::after_lines-loop-line : goal.invariant-block::after_lines-loop-line
-invariant-block::after_lines-loop-line l = after_lines l.headings l.scope (lines_of (drop l.line-index l.lines)) ≡ after_lines l.headings l.fn.scope (lines_of l.lines)
+invariant-block::after_lines-loop-line l = after_lines l.headings l.scope (lines_of (drop l.line-index l.lines)) ≡ after_lines l.headings l.fn.scope
+    (lines_of l.lines)

@@ -1,4 +1,4 @@
-use Rattle.std.proofs.Common.{◌≡◌, drop}
+use Rattle.std.proofs.Common.{◌≡◌}
 use Rattle.pie_value.specs.Tree.{items_of}
 use Rattle.pie_value.specs.Values.{trees_of}
 use Rattle.pie_value.specs.Types.{parts_of}

@@ -1,4 +1,4 @@
-use Rattle.std.proofs.Common.{◌≡◌, ◌+◌, ◌*◌, drop}
+use Rattle.std.proofs.Common.{◌≡◌, ◌+◌, drop}
 use Rattle.pie_value.specs.TypeTrees.{ty_trees}
 use Rattle.pie_parser.specs.TypeView.{types_of, type_mass, types_mass}
 use Rattle.pie_types.specs.Written.{written_each}
