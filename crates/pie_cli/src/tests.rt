@@ -148,6 +148,48 @@ fn each_refusal_is_told_and_changes_nothing(rt: HostRuntime) -> Result<(), Fail>
     Ok(())
 }
 
+#[test]
+fn a_check_tells_the_counts_or_the_first_refusal(rt: HostRuntime) -> Result<(), Fail> {
+    let alloc = rt.alloc();
+    let two = "func f(n: int) -> int { n } func g() -> bytes? { read_bytes(path(\"a\")) }";
+    let cases = [
+        (
+            two,
+            "f(1)\nf(2)\ng()",
+            Status::Ok,
+            "ok 2 functions, 3 roots\n",
+        ),
+        ("", "", Status::Ok, "ok 0 functions, 0 roots\n"),
+        (PIPELINE, "main()", Status::Ok, "ok 1 functions, 1 roots\n"),
+        (two, "f()", Status::Pipeline, "bad roots: line 1\n"),
+        (two, "\nf(-0)", Status::Pipeline, "bad roots: line 2\n"),
+        ("\"", "", Status::Pipeline, "bad pipeline: at 0: OpenText\n"),
+        (
+            "func",
+            "",
+            Status::Pipeline,
+            "bad pipeline: at 4: Expected\n",
+        ),
+        (
+            "func main() -> int { \"a\" }",
+            "",
+            Status::Pipeline,
+            "bad pipeline: at 21: Mismatch\n",
+        ),
+    ];
+    for (pipeline, roots, wanted, printed) in cases {
+        let mut files = project(alloc, &[("pie.pipeline", pipeline), ("pie.roots", roots)])?;
+        let (status, text) = run_words(alloc, &["check"], &mut files)?;
+        assert!(rt; status == wanted, "{pipeline}: {roots}");
+        assert!(rt; text.as_str() == printed, "{pipeline}: {roots}: {text}");
+    }
+    let mut files = project(alloc, &[("pie.pipeline", "")])?;
+    let (status, text) = run_words(alloc, &["check"], &mut files)?;
+    assert_eq!(rt; status, Status::Pipeline);
+    assert!(rt; text.as_str() == "bad roots: absent\n", "{text}");
+    Ok(())
+}
+
 fn prints_the_usage_line(rt: &impl Abort, alloc: Global, words: &[&str]) -> Result<(), Fail> {
     let usage =
         "usage: pie check, fresh [--json], build [--json], replay [--json], demo SEED SIZE, topdown [--json], scan, auto, cached\n";
@@ -164,6 +206,7 @@ fn other_words_print_the_usage_line(rt: HostRuntime) -> Result<(), Fail> {
     let alloc = rt.alloc();
     prints_the_usage_line(&rt, alloc, &["frob", "x"])?;
     prints_the_usage_line(&rt, alloc, &["fresh", "fresh"])?;
+    prints_the_usage_line(&rt, alloc, &["check", "--json"])?;
     prints_the_usage_line(&rt, alloc, &[])
 }
 

@@ -1,3 +1,4 @@
 pub mod Finding
 pub mod Lookings
+pub mod OneFront
 pub mod Told

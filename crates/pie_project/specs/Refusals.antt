@@ -1,5 +1,5 @@
 -- Why a project can't be built, as plain data.
-use Rattle.std.specs.Prelude.{ℕ, Result, Ok, Err}
+use Rattle.std.specs.Prelude.{◌≡◌, ℕ, Result, Ok, Err}
 use Rattle.pie_lexer.specs.declared.error.LexError.{LexError}
 use Rattle.pie_parser.specs.declared.error.ParseError.{ParseError}
 use Rattle.pie_types.specs.Faults.{Refused, refused_of}
@@ -47,3 +47,7 @@ IsVerdict (Err (errors.Pipeline f)) = Unit {0}
 IsVerdict (Err (errors.Roots r)) = Unit {0}
 IsVerdict (Err errors.Files) = ⊥
 IsVerdict (Err errors.OutOfMemory) = ⊥
+
+-- this holds of no other answer or refusal than the one that the code gave
+abbrev pub Only : {A B : Type 0} → (A → B) → (Result B Refusal → Type 0) → Result A BuildError → Type 0
+Only {B = B} view P result = (r : Result B Refusal) → P r → Says view (λ s. r ≡ s) result

@@ -3,7 +3,7 @@ ghost use Rattle.std.specs.Prelude.{◌≡◌, Ok, IfSome, IsErrOf};
 ghost use Rattle.pie_project.specs.Fronts.{CheckSays, counts_of};
 ghost use Rattle.pie_project.specs.Looking.{Looks, front_calls};
 ghost use Rattle.pie_project.specs.Projects.{front_of};
-ghost use Rattle.pie_project.specs.Refusals.{Says};
+ghost use Rattle.pie_project.specs.Refusals.{Only, Says};
 
 use crate::{BuildError, Project, read_project};
 use pie_files::Files;
@@ -12,6 +12,15 @@ use std::alloc::Global;
 /// How many functions and how many roots the project of a directory has. It changes no file.
 /// Rule: docs/BUILDING.md, "The project".
 pub fn check_project<F: Files>(alloc: Global, files: &mut F) -> Result<(u32, u32), BuildError>
+    ensures found { IfSome (F.holds files.old) (λ d. Says (λ p. p) (CheckSays d) result) }
+    ensures only { IfSome (F.holds files.old) (λ d. Only (λ p. p) (CheckSays d) result) }
+    ensures looks { Looks F.holds F.asked F.faults front_calls files.old files.new result }
+{
+    counts_in(alloc, files)
+}
+
+// The counts of the project of a directory.
+fn counts_in<F: Files>(alloc: Global, files: &mut F) -> Result<(u32, u32), BuildError>
     ensures found { IfSome (F.holds files.old) (λ d. Says (λ p. p) (CheckSays d) result) }
     ensures looks { Looks F.holds F.asked F.faults front_calls files.old files.new result }
 {

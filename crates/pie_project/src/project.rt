@@ -4,7 +4,7 @@ ghost use Rattle.pie_files.specs.declared.files.Call.TheVariants as calls;
 ghost use Rattle.pie_project.specs.Fronts.{ProjectSays, TypedSays, PipelineSays};
 ghost use Rattle.pie_project.specs.Looking.{Looks, front_calls, roots_path};
 ghost use Rattle.pie_project.specs.Projects.{front_of};
-ghost use Rattle.pie_project.specs.Refusals.{Says};
+ghost use Rattle.pie_project.specs.Refusals.{Only, Says};
 
 use crate::load::{files_error, load};
 use crate::pipeline::typed_of;
@@ -26,6 +26,15 @@ pub struct Project {
 /// The project of a directory. It reads `pie.pipeline`, and `pie.roots` where the pipeline is checked, and changes no file.
 /// Rule: docs/BUILDING.md, "The project".
 pub fn read_project<F: Files>(alloc: Global, files: &mut F) -> Result<Project, BuildError>
+    ensures found { IfSome (F.holds files.old) (λ d. Says front_of (ProjectSays d) result) }
+    ensures only { IfSome (F.holds files.old) (λ d. Only front_of (ProjectSays d) result) }
+    ensures looks { Looks F.holds F.asked F.faults front_calls files.old files.new result }
+{
+    project_in(alloc, files)
+}
+
+// The project of a directory.
+fn project_in<F: Files>(alloc: Global, files: &mut F) -> Result<Project, BuildError>
     ensures found { IfSome (F.holds files.old) (λ d. Says front_of (ProjectSays d) result) }
     ensures looks { Looks F.holds F.asked F.faults front_calls files.old files.new result }
 {

@@ -1,22 +1,5 @@
-use Rattle.std.proofs.Common.{ℕ, Ok}
-use Rattle.pie_project.specs.declared.project.Project.{Project}
-use Rattle.pie_project.specs.Looking.{front_calls}
-use Rattle.pie_project.specs.Projects.{front_of}
-use Rattle.pie_project.proofs.Finding.{counts_good, counts_bad}
-use Rattle.pie_project.proofs.Lookings.{looks_as, looks_err}
+use Rattle.pie_project.proofs.OneFront.{only_check}
 use Rattle.pie_project.proofs.check.check_project.Goals as goal
 
-pub returns-in-Ok-clause-found : goal.returns-in-Ok-clause-found
-returns-in-Ok-clause-found g c =
-    counts_good (λ p. p) (g.F.Files.holds c.args.files.now) (Ok (front_of c.in-Ok.project)) c.counts.result c.in-Ok.ensures.found c.counts.ensures.found
-
-pub returns-in-Ok-clause-looks : goal.returns-in-Ok-clause-looks
-returns-in-Ok-clause-looks g c =
-    looks_as g.F.Files.holds g.F.Files.asked g.F.Files.faults c.in-Ok.project c.counts.result front_calls c.args.files.now c.read_project.new.files c.in-Ok.ensures.looks c.counts.ensures.no_fault
-
-pub returns-in-Err-clause-found : goal.returns-in-Err-clause-found
-returns-in-Err-clause-found g c = counts_bad Project (ℕ × ℕ) front_of (λ p. p) (g.F.Files.holds c.args.files.now) c.in-Err.error c.in-Err.ensures.found
-
-pub returns-in-Err-clause-looks : goal.returns-in-Err-clause-looks
-returns-in-Err-clause-looks g c =
-    looks_err g.F.Files.holds g.F.Files.asked g.F.Files.faults Project (ℕ × ℕ) c.in-Err.error front_calls c.args.files.now c.read_project.new.files c.in-Err.ensures.looks
+pub returns-clause-only : goal.returns-clause-only
+returns-clause-only g c = only_check (λ p. p) (g.F.Files.holds c.args.files.now) c.counts_in.result c.counts_in.ensures.found
