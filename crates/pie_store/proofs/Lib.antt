@@ -1,0 +1,4 @@
+pub mod Turns
+pub mod Ranking
+pub mod Closing
+pub mod Names
