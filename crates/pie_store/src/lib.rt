@@ -16,3 +16,6 @@ pub use decoding::decode_store;
 pub use image::{Funcs, Rows, StoreImage};
 pub use store_fault::StoreFault;
 pub use writer::encode_store;
+
+#[cfg(test)]
+mod tests;
