@@ -7,7 +7,7 @@ use Rattle.pie_store.specs.declared.store_fault.StoreFault.TheVariants.{Short, M
 use Rattle.pie_store.specs.Agreement.{Agrees}
 use Rattle.pie_store.specs.Reading.{Parsed, then_on, part_at, some_at, grown, list_at}
 
-abbrev pair : {A : Type 0} → A → List ℕ → Parsed A
+abbrev pub pair : {A : Type 0} → A → List ℕ → Parsed A
 pair a rest = Ok (a, rest)
 
 left_is : (n i : ℕ) → i < n → n - i ≡ suc (n - (i + 1))

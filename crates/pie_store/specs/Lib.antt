@@ -5,3 +5,5 @@ pub mod Reading
 pub mod Agreement
 pub mod RankCodes
 pub mod Known
+pub mod Pending
+pub mod Texts

@@ -1,5 +1,6 @@
 //! Reading a store. Rule: docs/FORMATS.md, "The store".
-ghost use Rattle.std.specs.Prelude.{◌≡◌, ◌≤◌, length, List, ℕ, None, Some};
+ghost use Rattle.std.specs.Prelude.{◌≡◌, ◌≤◌, length, List, ℕ, None, Some, IfOk};
+ghost use Rattle.pie_store.specs.Texts.{IsStoreText};
 ghost use Rattle.pie_store.specs.Agreement.{Agrees, AgreesWhole};
 ghost use Rattle.pie_store.specs.Reading.{store_says, body_says, contents_1, contents_2, tail_of};
 ghost use Rattle.pie_store.specs.Known.{known_in};
@@ -16,6 +17,13 @@ use std::alloc::Global;
 /// What a store says. Both versions are read.
 pub fn decode_store(alloc: Global, bytes: &[u8]) -> Result<StoreImage, StoreFault>
     ensures answer { AgreesWhole result (store_says bytes.now) }
+    ensures text { IfOk result (λ image. IsStoreText image bytes.now) }
+{
+    image_of(alloc, bytes)
+}
+
+fn image_of(alloc: Global, bytes: &[u8]) -> Result<StoreImage, StoreFault>
+    ensures { AgreesWhole result (store_says bytes.now) }
 {
     let body = body_of(bytes)?;
     body_image(alloc, body)
