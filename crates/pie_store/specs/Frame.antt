@@ -1,5 +1,6 @@
 -- What stands around the contents of a store.
-use Rattle.std.specs.Prelude.{◌≡◌, ℕ, ◌-◌, ◌==◌, List, [], ◌∷◌, length, take, drop, cond, nat_lt, Result, Ok, Err, slice_index, Bor}
+use Rattle.std.specs.Prelude.{◌≡◌, ℕ, ◌-◌, ◌==◌, List, [], ◌∷◌, length, take, drop, cond, nat_lt, Result, Ok, Err, slice_index}
+use Rattle.std.proofs.Common.{Bor}
 use Rattle.std.specs.Str.{bytes_eq}
 use Rattle.sha2.specs.Sha256.{sha256}
 use Rattle.pie_store.specs.declared.store_fault.StoreFault.{StoreFault}

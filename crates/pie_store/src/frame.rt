@@ -1,5 +1,5 @@
 //! What stands around the contents of a store: four fixed bytes, the version, and the SHA-256 of all before it.
-ghost use Rattle.std.specs.Prelude.{◌≡◌, ◌≤◌, length};
+ghost use Rattle.std.specs.Prelude.{◌≡◌, ◌+◌, ◌≤◌, length, IfOk};
 ghost use Rattle.sha2.specs.Sha256.{sha256};
 ghost use Rattle.pie_store.specs.Frame.{FrameAgrees, framed, sealed};
 
@@ -10,12 +10,15 @@ pub(crate) const MAGIC: &[u8; 4] = b"PIES";
 
 /// The fewest bytes of a store, and of one in version 1.
 const LEAST: usize = 49;
+
 const LEAST_1: usize = 77;
+
 const DIGEST: usize = 32;
 
 // The bytes before the digest, where they have a good frame.
 pub(crate) fn body_of(bytes: &[u8]) -> Result<&[u8], StoreFault>
-    ensures { FrameAgrees result (framed bytes.now) }
+    ensures body { FrameAgrees result (framed bytes.now) }
+    ensures long { IfOk result (λ body. 17 ≤ length body.now) }
 {
     if bytes.len() < LEAST {
         return Err(StoreFault::Short);
@@ -33,7 +36,8 @@ pub(crate) fn body_of(bytes: &[u8]) -> Result<&[u8], StoreFault>
 // The bytes before the digest, where it is theirs.
 fn sealed_body(bytes: &[u8]) -> Result<&[u8], StoreFault>
     requires { 32 ≤ length bytes.now }
-    ensures { FrameAgrees result (sealed bytes.now) }
+    ensures body { FrameAgrees result (sealed bytes.now) }
+    ensures long { IfOk result (λ body. length body.now + 32 ≡ length bytes.now) }
 {
     let (body, digest) = bytes.split_at(bytes.len() - DIGEST);
     if hash_of(body).as_slice() != digest {

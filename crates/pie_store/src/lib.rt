@@ -6,6 +6,7 @@ mod decoding;
 mod frame;
 mod image;
 mod known;
+mod pending;
 mod ranked;
 mod reading;
 mod store_fault;
@@ -14,6 +15,7 @@ mod writer;
 pub use cause::Cause;
 pub use decoding::decode_store;
 pub use image::{Funcs, Rows, StoreImage};
+pub use pending::{pending_text, read_pending};
 pub use store_fault::StoreFault;
 pub use writer::encode_store;
 

@@ -1,0 +1,6 @@
+use Rattle.std.proofs.Common.{◌≡◌, ◌++◌}
+use Rattle.pie_store.specs.Pending.{lines}
+use Rattle.pie_store.proofs.pending.put_lines.Given as goal
+
+abbrev pub invariant-loop-path : goal.invariant-loop-path
+invariant-loop-path l = l.out.items ++ lines l.path-iterator ≡ l.fn.out.items ++ lines l.paths.keys

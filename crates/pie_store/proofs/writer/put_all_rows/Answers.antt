@@ -1,0 +1,6 @@
+use Rattle.pie_record.specs.Canonical.{enc_record}
+use Rattle.pie_record.proofs.Writing.{grown}
+use Rattle.pie_store.proofs.writer.put_all_rows.Goals as goal
+
+pub loop-rec-preserved : goal.loop-rec-preserved
+loop-rec-preserved c = grown enc_record _ _ _ _ _ _ c.loop-rec-test.true c.rec-item.is c.in_ok-put_record.ensures.written c.loop-rec.invariant

@@ -1,0 +1,249 @@
+//! Reading what a store says, once from the left. `end` is the length of the body, so that what is left tells
+//! the offset.
+ghost use Rattle.std.specs.Prelude.{◌≡◌, ◌-◌, ◌≤◌, ◌<◌, ◌^◌, length, List, ℕ, All, IfOk, None};
+ghost use Rattle.pie_record.specs.Agreement.{Agrees as PartAgrees};
+ghost use Rattle.pie_record.specs.Reading.{number_at};
+ghost use Rattle.pie_store.specs.Agreement.{Agrees};
+ghost use Rattle.pie_store.specs.Ranks.{rank_in, IsStored};
+ghost use Rattle.pie_store.specs.Known.{known_in};
+ghost use Rattle.pie_store.specs.Reading.{row_fault, part_at, grown, list_at, func_at, name_follows, name_last, next_func, next_root, next_row, first_missing, tasks_of as specs_tasks_of};
+ghost use Rattle.pie_store.specs.Canonical.{name_before as specs_name_before};
+
+use crate::StoreFault;
+use crate::known::Known;
+use crate::ranked::RankedRows;
+use pie_base::{OutOfMemory, Text};
+use pie_record::{Reader, RecordFault, TaskRecord};
+use pie_value::Task;
+use std::alloc::Global;
+use std::cmp::Ordering;
+
+// Of a part that begins at this offset.
+pub(crate) fn unread(fault: RecordFault, at: usize) -> StoreFault
+    ensures { result ≡ row_fault at fault }
+{
+    match fault {
+        RecordFault::OutOfMemory => StoreFault::OutOfMemory,
+        _ => StoreFault::Row(at),
+    }
+}
+
+// The offset at which the reader stands.
+pub(crate) fn place(end: usize, reader: &Reader<'_>) -> usize
+    ensures { result ≡ end - length reader.now }
+{
+    end.saturating_sub(reader.left())
+}
+
+fn number(end: usize, reader: &mut Reader<'_>) -> Result<usize, StoreFault>
+    ensures { Agrees (λ n. n) result reader.new (part_at end number_at reader.old) }
+{
+    let at = place(end, reader);
+    match reader.number() {
+        Ok(number) => Ok(number),
+        Err(fault) => Err(unread(fault, at)),
+    }
+}
+
+#[tactic(auto, unfolding(crate::specs::Reading::func_at))]
+fn func(reader: &mut Reader<'_>, alloc: Global) -> Result<(Text, [u8; 32]), RecordFault>
+    ensures { PartAgrees (λ f. f) result reader.new (func_at reader.old) }
+{
+    let name = reader.text(alloc)?;
+    let digest = reader.hash()?;
+    Ok((name, digest))
+}
+
+fn name_before(a: &[u8], b: &[u8]) -> bool
+    ensures { result ≡ specs_name_before a.now b.now }
+{
+    match a.len().cmp(&b.len()) {
+        Ordering::Less => true,
+        Ordering::Equal => a.cmp(b) == Ordering::Less,
+        Ordering::Greater => false,
+    }
+}
+
+// Whether a name comes after those of all functions so far.
+fn name_is_last(funcs: &[(Text, [u8; 32])], name: &Text) -> bool
+    ensures { result ≡ name_last funcs.now name.now }
+{
+    match funcs.last() {
+        Some((last, _)) => name_before(last.as_str().as_bytes(), name.as_str().as_bytes()),
+        None => true,
+    }
+}
+
+// A function that comes after those before it.
+#[tactic(auto, unfolding(crate::specs::Reading::next_func))]
+fn one_func(
+    end: usize,
+    reader: &mut Reader<'_>,
+    alloc: Global,
+    funcs: &[(Text, [u8; 32])],
+) -> Result<(Text, [u8; 32]), StoreFault>
+    ensures { Agrees (λ f. f) result reader.new (next_func end funcs.now reader.old) }
+{
+    let at = place(end, reader);
+    match func(reader, alloc) {
+        Ok(func) => {
+            if name_is_last(funcs, &func.0) {
+                Ok(func)
+            } else {
+                Err(StoreFault::Order(at))
+            }
+        }
+        Err(fault) => Err(unread(fault, at)),
+    }
+}
+
+#[tactic(auto, using(crate::proofs::Turns::one_more))]
+pub(crate) fn funcs(
+    end: usize,
+    reader: &mut Reader<'_>,
+    alloc: Global,
+) -> Result<Vec<(Text, [u8; 32])>, StoreFault>
+    ensures { Agrees (λ fs. fs.items) result reader.new (list_at end (next_func end) reader.old) }
+{
+    let count = number(end, reader)?;
+    let mut funcs = Vec::new(alloc);
+    for _ in 0..count {
+        match one_func(end, reader, alloc, funcs.as_slice()) {
+            Ok(func) => funcs.push(func)?,
+            Err(fault) => return Err(fault),
+        }
+    }
+    Ok(funcs)
+}
+
+// A root, with its offset.
+#[tactic(auto, unfolding(crate::specs::Reading::next_root))]
+fn one_root(
+    end: usize,
+    reader: &mut Reader<'_>,
+    alloc: Global,
+    roots: &[(Task, usize)],
+) -> Result<(Task, usize), StoreFault>
+    ensures root { Agrees (λ r. r) result reader.new (next_root end roots.now reader.old) }
+    ensures stored { IfOk result (λ r. IsStored r.0) }
+{
+    let at = place(end, reader);
+    match reader.task(alloc) {
+        Ok(task) => Ok((task, at)),
+        Err(fault) => Err(unread(fault, at)),
+    }
+}
+
+#[tactic(auto, using(crate::proofs::Turns::one_more))]
+pub(crate) fn roots(
+    end: usize,
+    reader: &mut Reader<'_>,
+    alloc: Global,
+) -> Result<Vec<(Task, usize)>, StoreFault>
+    ensures roots { Agrees (λ rs. rs.items) result reader.new (list_at end (next_root end) reader.old) }
+    ensures stored { IfOk result (λ rs. All (λ (r : Task × ℕ). IsStored r.0) rs.items) }
+{
+    let count = number(end, reader)?;
+    let mut roots = Vec::new(alloc);
+    for _ in 0..count {
+        match one_root(end, reader, alloc, roots.as_slice()) {
+            Ok(root) => roots.push(root)?,
+            Err(fault) => return Err(fault),
+        }
+    }
+    Ok(roots)
+}
+
+// The tasks of roots.
+pub(crate) fn tasks_of(alloc: Global, roots: &[(Task, usize)]) -> Result<Vec<Task>, OutOfMemory>
+    ensures { IfOk result (λ tasks. tasks.items ≡ specs_tasks_of roots.now) }
+{
+    let mut tasks = Vec::with_capacity(alloc, roots.len())?;
+    for (task, _) in roots {
+        tasks.push(task.copy()?)?;
+    }
+    Ok(tasks)
+}
+
+// A record that may stand after those before it, with its height.
+#[tactic(auto, unfolding(crate::specs::Reading::next_row))]
+fn one_row(
+    end: usize,
+    reader: &mut Reader<'_>,
+    alloc: Global,
+    known: &Known,
+    rows: &RankedRows,
+) -> Result<(TaskRecord, u64), StoreFault>
+    ensures row { Agrees (λ r. r) result reader.new (next_row (known_in known.now) end rows.now reader.old) }
+    ensures stored { IfOk result (λ r. IsStored r.0.task) }
+    ensures absent { IfOk result (λ r. rank_in rows.now r.0.task ≡ None) }
+    ensures low { IfOk result (λ r. r.1 ≤ length rows.now) }
+{
+    let at = place(end, reader);
+    match reader.record(alloc) {
+        Ok(rec) => match rows.height_after(known, &rec)? {
+            Some(height) => Ok((rec, height)),
+            None => Err(StoreFault::Order(at)),
+        },
+        Err(fault) => Err(unread(fault, at)),
+    }
+}
+
+// One record more than those before it.
+fn more_rows(
+    end: usize,
+    reader: &mut Reader<'_>,
+    alloc: Global,
+    known: &Known,
+    rows: RankedRows,
+) -> Result<RankedRows, StoreFault>
+    requires { length rows < 2 ^ 32 }
+    ensures { Agrees (λ rs. rs) result reader.new (grown (next_row (known_in known.now) end) rows reader.old) }
+{
+    match one_row(end, reader, alloc, known, &rows) {
+        Ok((rec, height)) => {
+            let more = rows.push(rec, height)?;
+            Ok(more)
+        }
+        Err(fault) => Err(fault),
+    }
+}
+
+#[tactic(auto, using(crate::proofs::Turns::one_grown))]
+pub(crate) fn rows(
+    end: usize,
+    reader: &mut Reader<'_>,
+    alloc: Global,
+    known: &Known,
+) -> Result<RankedRows, StoreFault>
+    ensures { Agrees (λ rs. rs) result reader.new (list_at end (next_row (known_in known.now) end) reader.old) }
+{
+    let count = number(end, reader)?;
+    if count > u32::MAX as usize {
+        return Err(StoreFault::OutOfMemory); // four bytes hold no more
+    }
+    let mut rows = RankedRows::new(alloc);
+    for _ in 0..count {
+        match more_rows(end, reader, alloc, known, rows) {
+            Ok(more) => rows = more,
+            Err(fault) => return Err(fault),
+        }
+    }
+    Ok(rows)
+}
+
+// The offset of the first root without a record.
+pub(crate) fn missing(
+    rows: &RankedRows,
+    roots: &[(Task, usize)],
+) -> Result<Option<usize>, OutOfMemory>
+    requires { All (λ (r : Task × ℕ). IsStored r.0) roots.now }
+    ensures { IfOk result (λ at. at ≡ first_missing rows.now roots.now) }
+{
+    for (task, at) in roots {
+        if rows.rank(task)?.is_none() {
+            return Ok(Some(*at));
+        }
+    }
+    Ok(None)
+}

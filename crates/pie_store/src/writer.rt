@@ -1,0 +1,129 @@
+//! Writing a store. Rule: docs/FORMATS.md, "The store".
+ghost use Rattle.std.specs.Prelude.{◌≡◌, ◌<◌, ◌^◌, ◌++◌, length, All, IfOk, OnOk};
+ghost use Rattle.std.specs.List.{flat_map};
+ghost use Rattle.pie_value.specs.Canonical.{be32, counted, enc_task, IsEncodableTask};
+ghost use Rattle.pie_record.specs.Canonical.{listed, enc_record, IsStorable};
+ghost use Rattle.pie_store.specs.Canonical.{enc_func, enc_body, enc_store, IsStorableStore};
+
+use crate::StoreImage;
+use crate::frame::{MAGIC, hash_of};
+use pie_base::{OutOfMemory, Text};
+use pie_record::{TaskRecord, put_record};
+use pie_value::{Task, encode_task};
+use std::alloc::Global;
+
+/// The bytes of a store in version 2.
+pub fn encode_store(alloc: Global, image: &StoreImage) -> Result<Vec<u8>, OutOfMemory>
+    requires { IsStorableStore image.now }
+    ensures bytes { IfOk result (λ bytes. bytes.items ≡ enc_store image.now) }
+{
+    let mut out = Vec::new(alloc);
+    put_body(&mut out, alloc, image)?;
+    let digest = hash_of(out.as_slice());
+    put_bytes(&mut out, digest.as_slice())?;
+    Ok(out)
+}
+
+// Each of these appends to what is there.
+fn put_body(out: &mut Vec<u8>, alloc: Global, image: &StoreImage) -> Result<(), OutOfMemory>
+    requires { IsStorableStore image.now }
+    ensures { OnOk result (out.new.items ≡ out.old.items ++ enc_body image.now) }
+{
+    put_bytes(out, MAGIC.as_slice())?;
+    put_bytes(out, &[image.version])?;
+    put_funcs(out, image.funcs.as_slice())?;
+    put_tasks(out, alloc, image.roots.as_slice())?;
+    put_rows(out, alloc, image.rows.as_slice())?;
+    Ok(())
+}
+
+fn put_funcs(out: &mut Vec<u8>, funcs: &[(Text, [u8; 32])]) -> Result<(), OutOfMemory>
+    requires few { length funcs.now < 2 ^ 32 }
+    requires short { All (λ f. length f.0 < 2 ^ 32) funcs.now }
+    ensures { OnOk result (out.new.items ≡ out.old.items ++ listed enc_func funcs.now) }
+{
+    put_len(out, funcs.len())?;
+    put_all_funcs(out, funcs)
+}
+
+fn put_all_funcs(out: &mut Vec<u8>, funcs: &[(Text, [u8; 32])]) -> Result<(), OutOfMemory>
+    requires { All (λ f. length f.0 < 2 ^ 32) funcs.now }
+    ensures { OnOk result (out.new.items ≡ out.old.items ++ flat_map enc_func funcs.now) }
+{
+    for (name, digest) in funcs {
+        put_func(out, name, digest)?;
+    }
+    Ok(())
+}
+
+#[tactic(auto, unfolding(crate::specs::Canonical::enc_func))]
+fn put_func(out: &mut Vec<u8>, name: &Text, digest: &[u8; 32]) -> Result<(), OutOfMemory>
+    requires { length name.now < 2 ^ 32 }
+    ensures { OnOk result (out.new.items ≡ out.old.items ++ enc_func (name.now, digest.now)) }
+{
+    let name = name.as_str().as_bytes();
+    put_len(out, name.len())?;
+    put_bytes(out, name)?;
+    put_bytes(out, digest.as_slice())
+}
+
+fn put_tasks(out: &mut Vec<u8>, alloc: Global, tasks: &[Task]) -> Result<(), OutOfMemory>
+    requires few { length tasks.now < 2 ^ 32 }
+    requires encodable { All IsEncodableTask tasks.now }
+    ensures { OnOk result (out.new.items ≡ out.old.items ++ listed enc_task tasks.now) }
+{
+    put_len(out, tasks.len())?;
+    put_all_tasks(out, alloc, tasks)
+}
+
+fn put_all_tasks(out: &mut Vec<u8>, alloc: Global, tasks: &[Task]) -> Result<(), OutOfMemory>
+    requires { All IsEncodableTask tasks.now }
+    ensures { OnOk result (out.new.items ≡ out.old.items ++ flat_map enc_task tasks.now) }
+{
+    for task in tasks {
+        put_task(out, alloc, task)?;
+    }
+    Ok(())
+}
+
+fn put_task(out: &mut Vec<u8>, alloc: Global, task: &Task) -> Result<(), OutOfMemory>
+    requires { IsEncodableTask task.now }
+    ensures { OnOk result (out.new.items ≡ out.old.items ++ enc_task task.now) }
+{
+    let bytes = encode_task(alloc, task)?;
+    put_bytes(out, bytes.as_slice())
+}
+
+fn put_rows(out: &mut Vec<u8>, alloc: Global, rows: &[TaskRecord]) -> Result<(), OutOfMemory>
+    requires few { length rows.now < 2 ^ 32 }
+    requires storable { All IsStorable rows.now }
+    ensures { OnOk result (out.new.items ≡ out.old.items ++ listed enc_record rows.now) }
+{
+    put_len(out, rows.len())?;
+    put_all_rows(out, alloc, rows)
+}
+
+fn put_all_rows(out: &mut Vec<u8>, alloc: Global, rows: &[TaskRecord]) -> Result<(), OutOfMemory>
+    requires { All IsStorable rows.now }
+    ensures { OnOk result (out.new.items ≡ out.old.items ++ flat_map enc_record rows.now) }
+{
+    for rec in rows {
+        put_record(out, alloc, rec)?;
+    }
+    Ok(())
+}
+
+#[tactic(auto, unfolding(pie_value::specs::Canonical::be32))]
+fn put_len(out: &mut Vec<u8>, len: usize) -> Result<(), OutOfMemory>
+    requires { len < 2 ^ 32 }
+    ensures { OnOk result (out.new.items ≡ out.old.items ++ be32 len) }
+{
+    put_bytes(out, &(len as u32).to_be_bytes())
+}
+
+fn put_bytes(out: &mut Vec<u8>, bytes: &[u8]) -> Result<(), OutOfMemory>
+    ensures { OnOk result (out.new.items ≡ out.old.items ++ bytes.now) }
+{
+    out.extend_from_slice(bytes)?;
+    Ok(())
+}
