@@ -102,7 +102,7 @@ pub record Going {S : Type 0} (holds : S → Option Directory) (faults : S → �
 
 -- ---- later and later
 
-later-same : (w : Wanted) → later w Same ≡ w
+pub later-same : (w : Wanted) → later w Same ≡ w
 later-same Same = refl
 later-same Gone = refl
 later-same (Bytes bytes) = refl

@@ -1,5 +1,5 @@
 -- What a plan is to make of each path, and which paths are its own.
-use Rattle.std.specs.Prelude.{◌≡◌, ◌⊎◌, ℕ, Bool, true, false, ◌&&◌, ◌||◌, cond, List, [], ◌∷◌, map, Option, None, Some, codes}
+use Rattle.std.specs.Prelude.{◌≡◌, ◌⊎◌, ℕ, Bool, true, false, not, ◌&&◌, ◌||◌, cond, List, [], ◌∷◌, map, Option, None, Some, codes}
 use Rattle.std.specs.List.{list_all, list_any}
 use Rattle.pie_base.specs.Path.{is_out, same_text}
 use Rattle.pie_commit.specs.declared.plan.Pending.{Pending}
@@ -100,3 +100,7 @@ Brings wants before after = (q : List ℕ) → Meets (wants q) (file_at before q
 abbrev pub is_own : Plan → List ℕ → Bool
 is_own p q = same_text q p.marker || same_text q p.place || same_text q p.names_place || list_any (same_text q) p.removals.items
     || list_any (λ w. same_text q w.0) p.writes.items
+
+-- a path that a plan may change, and not the marker
+abbrev pub is_inner : Plan → List ℕ → Bool
+is_inner p q = is_own p q && not (same_text p.marker q)
