@@ -29,22 +29,38 @@ fn is_found(found: &Option<Found>, bytes: &[u8], mark: u64) -> bool {
     }
 }
 
-#[test]
-fn files_in_memory_hold_list_and_log(rt: HostRuntime) -> Result<(), Fail> {
-    let alloc = rt.alloc();
+// Files in memory: three below `src`, one of them written.
+fn sources(alloc: Global) -> Result<SureFiles, Fail> {
     let mut files = SureFiles::new(alloc);
     files.put(&path(alloc, "src/b/c")?, b"x", 70)?;
     files.put(&path(alloc, "src/b-d")?, b"y", 71)?;
     files.write(&path(alloc, "src/a")?, b"z")?;
+    Ok(files)
+}
+
+#[test]
+fn files_in_memory_list_their_entries_in_path_order(rt: HostRuntime) -> Result<(), Fail> {
+    let alloc = rt.alloc();
+    let mut files = sources(alloc)?;
     let src = path(alloc, "src")?;
-    assert!(rt; joined(alloc, &files.names(&src)?)?.as_str() == "src/a src/b src/b-d ");
-    assert!(rt; joined(alloc, &files.all_under(&src)?)?.as_str() == "src/a src/b-d src/b/c ");
-    assert!(rt; is_found(&files.read(&path(alloc, "src/b/c")?)?, b"x", 70));
-    assert!(rt; is_found(&files.read(&path(alloc, "src/a")?)?, b"z", 1));
+    let names = joined(alloc, &files.names(&src)?)?;
+    let all = joined(alloc, &files.all_under(&src)?)?;
+    assert!(rt; names.as_str() == "src/a src/b src/b-d ");
+    assert!(rt; all.as_str() == "src/a src/b-d src/b/c ");
+    Ok(())
+}
+
+#[test]
+fn files_in_memory_hold_and_log(rt: HostRuntime) -> Result<(), Fail> {
+    let alloc = rt.alloc();
+    let mut files = sources(alloc)?;
+    let put = files.read(&path(alloc, "src/b/c")?)?;
+    let written = files.read(&path(alloc, "src/a")?)?;
     files.remove(&path(alloc, "src/a")?)?;
     files.sync()?;
-    assert!(rt; files.read(&path(alloc, "src/a")?)?.is_none());
-    assert_eq!(rt; files.log().len(), 10);
+    let gone = files.read(&path(alloc, "src/a")?)?;
+    assert!(rt; is_found(&put, b"x", 70) && is_found(&written, b"z", 1) && gone.is_none());
+    assert_eq!(rt; files.log().len(), 8);
     assert!(rt; matches!(files.log().last(), Some(Logged::Asked(Call::Read(_)))));
     Ok(())
 }

@@ -1,0 +1,30 @@
+use Rattle.pie_commit.specs.Plans.{Gone, at}
+use Rattle.pie_commit.proofs.Bringing.{in_any_case, removal_brought, brought_still}
+use Rattle.std.proofs.Common.{inl, refl}
+use Rattle.pie_files.specs.Images.{MayRemove}
+use Rattle.pie_commit.specs.Outcomes.{IsEnding}
+use Rattle.pie_commit.proofs.Standing.{call_rest, sync_rest, ending_still, rests, told_by}
+use Rattle.pie_commit.proofs.parts.end.Goals as goal
+
+pub returns-clause-done : goal.returns-clause-done
+returns-clause-done g c =
+    in_any_case c.sync.result (brought_still (at c.args.plan.now.marker Gone) (g.F.Files.holds c.args.files.now) (g.F.Files.holds c.remove.new.self) (g.F.Files.holds c.sync.new.self)
+    c.sync.ensures.same (removal_brought (g.F.Files.holds c.args.files.now) (g.F.Files.holds c.remove.new.self) c.args.plan.now.marker c.in_ok-remove.ensures.removed))
+
+pub returns-in_err-remove-clause-crash : goal.returns-in_err-remove-clause-crash
+returns-in_err-remove-clause-crash g c =
+    let marker = c.args.plan.now.marker in
+    call_rest g.F.Files.holds g.F.Files.moment g.F.Files.left_since g.F.Files.images (MayRemove marker) (IsEnding marker) c.args.files.now c.remove.new.self (ending_still marker) (λ d. inl refl) c.remove.ensures.crash
+
+pub returns-clause-crash : goal.returns-clause-crash
+returns-clause-crash g c =
+    let marker = c.args.plan.now.marker in
+    let told = told_by (at c.args.plan.now.marker Gone) (g.F.Files.holds c.args.files.now) (g.F.Files.holds c.remove.new.self) (removal_brought (g.F.Files.holds c.args.files.now) (g.F.Files.holds c.remove.new.self) marker c.in_ok-remove.ensures.removed) in
+    sync_rest g.F.Files.holds g.F.Files.moment g.F.Files.left_since g.F.Files.images (IsEnding marker) c.args.files.now c.remove.new.self c.sync.new.self told
+    (call_rest g.F.Files.holds g.F.Files.moment g.F.Files.left_since g.F.Files.images (MayRemove marker) (IsEnding marker) c.args.files.now c.remove.new.self (ending_still marker) (λ d. inl refl) c.in_ok-remove.ensures.crash)
+    c.sync.ensures.crash
+
+pub returns-clause-durable : goal.returns-clause-durable
+returns-clause-durable g c =
+    let told = told_by (at c.args.plan.now.marker Gone) (g.F.Files.holds c.args.files.now) (g.F.Files.holds c.remove.new.self) (removal_brought (g.F.Files.holds c.args.files.now) (g.F.Files.holds c.remove.new.self) c.args.plan.now.marker c.in_ok-remove.ensures.removed) in
+    rests (g.F.Files.images c.sync.new.self) (g.F.Files.holds c.args.files.now) (g.F.Files.holds c.remove.new.self) (g.F.Files.holds c.sync.new.self) c.sync.result told c.sync.ensures.same c.sync.ensures.durable

@@ -1,0 +1,14 @@
+use Rattle.pie_commit.proofs.Bringing.{removal_done}
+use Rattle.pie_files.specs.Images.{MayRemove}
+use Rattle.pie_commit.proofs.Standing.{call_marked, removal_keeps}
+use Rattle.pie_commit.proofs.parts.remove.Goals as goal
+
+pub returns-clause-done : goal.returns-clause-done
+returns-clause-done g c = removal_done (g.F.Files.holds c.args.files.now) (g.F.Files.holds c.remove.new.self) c.args.path.now c.remove.result c.remove.ensures.removed
+
+pub returns-clause-crash : goal.returns-clause-crash
+returns-clause-crash g c =
+    let p = c.args.plan.now in
+    let path = c.args.path.now in
+    call_marked g.F.Files.holds g.F.Files.moment g.F.Files.left_since g.F.Files.images (MayRemove path) p c.args.files.now c.remove.new.self
+    (λ d b e may way. removal_keeps p d b e path c.requires may way) c.remove.ensures.crash

@@ -1,0 +1,14 @@
+use Rattle.pie_commit.proofs.Bringing.{write_done}
+use Rattle.pie_files.specs.Images.{MayWrite}
+use Rattle.pie_commit.proofs.Standing.{call_marked, write_keeps}
+use Rattle.pie_commit.proofs.parts.write.Goals as goal
+
+pub returns-clause-done : goal.returns-clause-done
+returns-clause-done g c = write_done _ (g.F.Files.holds c.args.files.now) (g.F.Files.holds c.write.new.self) c.args.path.now c.args.bytes.now c.write.result c.write.ensures.written
+
+pub returns-clause-crash : goal.returns-clause-crash
+returns-clause-crash g c =
+    let p = c.args.plan.now in
+    let path = c.args.path.now in
+    call_marked g.F.Files.holds g.F.Files.moment g.F.Files.left_since g.F.Files.images (MayWrite path) p c.args.files.now c.write.new.self
+    (λ d b e may way. write_keeps p d b e path c.requires may way) c.write.ensures.crash

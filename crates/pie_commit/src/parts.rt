@@ -1,0 +1,102 @@
+//! The parts of a commit, of at most three calls on the files each.
+ghost use Rattle.std.specs.Prelude.{◌≡◌, true, [], IfSome, OnOk};
+ghost use Rattle.pie_files.specs.Streams.{Counted};
+ghost use Rattle.pie_commit.specs.Plans.{is_sound, is_inner, Bytes, Gone, at, removed, written, pended, stored};
+ghost use Rattle.pie_commit.specs.Outcomes.{HasBrought, KeepsMarked, LeavesFromRest, IsEarly, IsEnding, IsAtRest, Stands};
+
+use crate::{Pending, Plan};
+use pie_base::Path;
+use pie_files::{Files, FilesError};
+
+/// Sets the marker, and makes it last before the first change.
+pub(crate) fn begin<F: Files>(files: &mut F, plan: &Plan) -> Result<(), FilesError>
+    ensures done { OnOk result (HasBrought (at plan.now.marker (Bytes [])) (F.holds files.old) (F.holds files.new)) }
+    ensures crash { LeavesFromRest F.holds F.moment F.left_since F.images (IsEarly plan.now) files.old files.new }
+    ensures stands { OnOk result (IfSome (F.holds files.old) (λ d. Stands plan.now d (F.images files.new))) }
+    ensures counted { Counted F.faults FilesError.Failed files.old files.new result }
+{
+    files.write(&plan.marker, b"")?;
+    files.sync()
+}
+
+/// Removes the files that go.
+pub(crate) fn remove_all<F: Files>(files: &mut F, plan: &Plan) -> Result<(), FilesError>
+    requires { is_sound plan.now ≡ true }
+    ensures done { OnOk result (HasBrought (removed plan.now.removals.items) (F.holds files.old) (F.holds files.new)) }
+    ensures crash { KeepsMarked F.holds F.moment F.left_since F.images plan.now files.old files.new }
+    ensures counted { Counted F.faults FilesError.Failed files.old files.new result }
+{
+    for path in &plan.removals {
+        remove(files, plan, path)?;
+    }
+    Ok(())
+}
+
+/// Writes the files that are written.
+pub(crate) fn write_all<F: Files>(files: &mut F, plan: &Plan) -> Result<(), FilesError>
+    requires { is_sound plan.now ≡ true }
+    ensures done { OnOk result (HasBrought (written plan.now.writes.items) (F.holds files.old) (F.holds files.new)) }
+    ensures crash { KeepsMarked F.holds F.moment F.left_since F.images plan.now files.old files.new }
+    ensures counted { Counted F.faults FilesError.Failed files.old files.new result }
+{
+    for (path, bytes) in &plan.writes {
+        write(files, plan, path, bytes.as_slice())?;
+    }
+    Ok(())
+}
+
+/// Writes or removes the pending names, where the plan says so.
+pub(crate) fn put_pending<F: Files>(files: &mut F, plan: &Plan) -> Result<(), FilesError>
+    requires { is_sound plan.now ≡ true }
+    ensures done { OnOk result (HasBrought (at plan.now.names_place (pended plan.now.pending)) (F.holds files.old) (F.holds files.new)) }
+    ensures crash { KeepsMarked F.holds F.moment F.left_since F.images plan.now files.old files.new }
+    ensures counted { Counted F.faults FilesError.Failed files.old files.new result }
+{
+    match &plan.pending {
+        Pending::Keep => Ok(()),
+        Pending::Put(bytes) => write(files, plan, &plan.names_place, bytes.as_slice()),
+        Pending::Drop => remove(files, plan, &plan.names_place),
+    }
+}
+
+/// Writes the store, where the plan has one.
+pub(crate) fn put_store<F: Files>(files: &mut F, plan: &Plan) -> Result<(), FilesError>
+    requires { is_sound plan.now ≡ true }
+    ensures done { OnOk result (HasBrought (at plan.now.place (stored plan.now.store)) (F.holds files.old) (F.holds files.new)) }
+    ensures crash { KeepsMarked F.holds F.moment F.left_since F.images plan.now files.old files.new }
+    ensures counted { Counted F.faults FilesError.Failed files.old files.new result }
+{
+    match &plan.store {
+        Some(bytes) => write(files, plan, &plan.place, bytes.as_slice()),
+        None => Ok(()),
+    }
+}
+
+/// Takes the marker away, and makes that last.
+pub(crate) fn end<F: Files>(files: &mut F, plan: &Plan) -> Result<(), FilesError>
+    ensures done { OnOk result (HasBrought (at plan.now.marker Gone) (F.holds files.old) (F.holds files.new)) }
+    ensures crash { LeavesFromRest F.holds F.moment F.left_since F.images (IsEnding plan.now.marker) files.old files.new }
+    ensures durable { OnOk result (IfSome (F.holds files.old) (λ e. IsAtRest (F.holds files.new) (F.images files.new))) }
+    ensures counted { Counted F.faults FilesError.Failed files.old files.new result }
+{
+    files.remove(&plan.marker)?;
+    files.sync()
+}
+
+fn remove<F: Files>(files: &mut F, plan: &Plan, path: &Path) -> Result<(), FilesError>
+    requires { is_inner plan.now path.now ≡ true }
+    ensures done { OnOk result (HasBrought (at path.now Gone) (F.holds files.old) (F.holds files.new)) }
+    ensures crash { KeepsMarked F.holds F.moment F.left_since F.images plan.now files.old files.new }
+    ensures counted { Counted F.faults FilesError.Failed files.old files.new result }
+{
+    files.remove(path)
+}
+
+fn write<F: Files>(files: &mut F, plan: &Plan, path: &Path, bytes: &[u8]) -> Result<(), FilesError>
+    requires { is_inner plan.now path.now ≡ true }
+    ensures done { OnOk result (HasBrought (at path.now (Bytes bytes.now)) (F.holds files.old) (F.holds files.new)) }
+    ensures crash { KeepsMarked F.holds F.moment F.left_since F.images plan.now files.old files.new }
+    ensures counted { Counted F.faults FilesError.Failed files.old files.new result }
+{
+    files.write(path, bytes)
+}
