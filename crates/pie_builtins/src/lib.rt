@@ -1,0 +1,20 @@
+//! What the built-in functions answer.
+#![tactic(auto)]
+
+mod answers;
+mod bytes;
+mod fault;
+mod finding;
+mod lists;
+mod nulls;
+mod numbers;
+mod paths;
+mod ranges;
+mod texts;
+mod trims;
+
+pub use answers::apply;
+pub use fault::BuiltinFault;
+
+#[cfg(test)]
+mod tests;
