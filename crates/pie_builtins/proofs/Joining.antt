@@ -38,3 +38,15 @@ joined_more (x ∷ xs) t us = ap (λ rest. Cons x rest) (joined_more xs t us)
 pub joined_none : (ts : List Tree) → joined (items_of ts) Nil ≡ items_of ts
 joined_none [] = refl
 joined_none (x ∷ xs) = ap (λ rest. Cons x rest) (joined_none xs)
+
+sizes_of_append : (ts us : List Tree) → sizes_of (items_of (ts ++ us)) ≡ sizes_of (items_of ts) + sizes_of (items_of us)
+sizes_of_append [] us = omega arith
+sizes_of_append (t ∷ ts) us = omega (arith, sizes_of_append ts us)
+
+-- a list that is too large already is too large with more items
+pub too_many_items : (ts us : List Tree) → 1048576 < capped_64 (sizes_of (items_of ts)) → made (TList (items_of (ts ++ us))) ≡ Err Big
+too_many_items ts us h = large (TList (items_of (ts ++ us))) (omega (arith, sizes_of_append ts us))
+
+-- a text that is too long already is too long with more bytes
+pub too_long : (s t : List ℕ) → 1048576 < length s → made (TText (s ++ t)) ≡ Err Big
+too_long s t h = large (TText (s ++ t)) (omega (arith, length-append s t))

@@ -5,3 +5,6 @@ pub mod Listed
 pub mod Joining
 pub mod Counted
 pub mod Spaces
+pub mod Parting
+pub mod Gathering
+pub mod LastSegments

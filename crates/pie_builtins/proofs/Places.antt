@@ -25,13 +25,13 @@ starts_is s p e =
 starts_not : (s p : List ℕ) → LacksTextAt p s 0 → starts_with s p ≡ false
 starts_not s p lacks = not_true (starts_with s p) (λ e. lacks (drop (length p) s) (starts_is s p e))
 
-nowhere : (s p : List ℕ) → ((i : ℕ) → i ≤ length s → LacksTextAt p s i) → first_place s p ≡ None
+pub nowhere : (s p : List ℕ) → ((i : ℕ) → i ≤ length s → LacksTextAt p s i) → first_place s p ≡ None
 nowhere [] p lacks = rw (starts_not [] p (lacks 0 (omega arith))) refl
 nowhere (b ∷ bs) p lacks =
     let h : first_place bs p ≡ None = nowhere bs p (λ i le. lacks (suc i) (omega arith)) in
     rw (starts_not (b ∷ bs) p (lacks 0 (omega arith)), h) refl
 
-at_first : (s p rest : List ℕ) (k : ℕ) → ((i : ℕ) → i < k → LacksTextAt p s i) → drop k s ≡ p ++ rest → first_place s p ≡ Some k
+pub at_first : (s p rest : List ℕ) (k : ℕ) → ((i : ℕ) → i < k → LacksTextAt p s i) → drop k s ≡ p ++ rest → first_place s p ≡ Some k
 at_first [] p rest zero lacks e = rw (starts_yes [] p rest e) refl
 at_first (b ∷ bs) p rest zero lacks e = rw (starts_yes (b ∷ bs) p rest e) refl
 at_first [] p rest (suc k) lacks e = absurd (lacks 0 (omega arith) rest e)

@@ -4,9 +4,10 @@ ghost use Rattle.pie_value.specs.Builtins.{answer_of};
 ghost use Rattle.pie_builtins.specs.Agreement.{Agrees};
 ghost use Rattle.pie_builtins.specs.Exact.{Exact};
 
-use crate::fault::refused;
-use crate::{BuiltinFault, bytes, finding, lists, nulls, numbers, paths, ranges, texts, trims};
-use pie_base::FaultKind;
+use crate::{
+    BuiltinFault, bytes, finding, joins, lists, nulls, numbers, paths, pieces, ranges, segments,
+    sorts, texts, trims,
+};
 use pie_value::{Builtin, Value};
 use std::alloc::Global;
 
@@ -37,13 +38,13 @@ pub fn apply(alloc: Global, which: Builtin, args: &[Value]) -> Result<Value, Bui
         Builtin::ToBytes => bytes::to_bytes(alloc, args),
         Builtin::FromBytes => bytes::from_bytes(alloc, args),
         Builtin::SliceBytes => bytes::slice_bytes(alloc, args),
-        Builtin::Name
-        | Builtin::ParseInt
-        | Builtin::Replace
-        | Builtin::Split
-        | Builtin::Lines
-        | Builtin::JoinText
-        | Builtin::Sort
-        | Builtin::Flatten => refused(FaultKind::Unknown),
+        Builtin::Name => segments::name(alloc, args),
+        Builtin::Replace => pieces::replace(alloc, args),
+        Builtin::Split => pieces::split(alloc, args),
+        Builtin::Lines => pieces::lines(alloc, args),
+        Builtin::JoinText => joins::join_text(alloc, args),
+        Builtin::Flatten => joins::flatten(alloc, args),
+        Builtin::ParseInt => numbers::parse_int(args),
+        Builtin::Sort => sorts::sort(alloc, args),
     }
 }

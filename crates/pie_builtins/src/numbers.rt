@@ -7,7 +7,7 @@ ghost use Rattle.pie_value.specs.Builtins.{answer_of};
 ghost use Rattle.pie_builtins.specs.Agreement.{Agrees};
 
 use crate::BuiltinFault;
-use crate::fault::{made_length, made_text, refused};
+use crate::fault::{made, made_length, made_text, refused};
 use pie_base::FaultKind;
 use pie_value::{Items, Value};
 use std::alloc::Global;
@@ -37,6 +37,25 @@ pub fn len(args: &[Value]) -> Result<Value, BuiltinFault>
         [Value::Bytes(bytes)] => made_length(bytes.as_slice().len()),
         [Value::List(items)] => count(items),
         _ => refused(FaultKind::Unknown),
+    }
+}
+
+/// The integer that a text spells, or null where it spells none of 64 bits.
+pub fn parse_int(args: &[Value]) -> Result<Value, BuiltinFault> {
+    match args {
+        [Value::Text(text)] => match int_spelt(text.as_str()) {
+            Some(n) => made(Value::Int(n)),
+            None => made(Value::Null),
+        },
+        _ => refused(FaultKind::Unknown),
+    }
+}
+
+// A minus sign if the integer is below 0, and then digits. No plus sign may stand there.
+fn int_spelt(text: &str) -> Option<i64> {
+    match text.as_bytes() {
+        [b'+', ..] => None,
+        _ => text.parse::<i64>().ok(),
     }
 }
 

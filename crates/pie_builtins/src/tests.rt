@@ -67,6 +67,20 @@ fn a_text_becomes_a_path_bytes_or_a_text_without_spaces(rt: HostRuntime) -> Resu
         (Builtin::Trim, " \n", "\"\""),
         (Builtin::Trim, "\u{a0}a", "\"\u{a0}a\""),
         (Builtin::ToBytes, "ab", "bytes(\"6162\")"),
+        (Builtin::Lines, "a\n\n", "[\"a\", \"\"]"),
+        (Builtin::Lines, "", "[]"),
+        (Builtin::Lines, "a\nb", "[\"a\", \"b\"]"),
+        (Builtin::ParseInt, "-0", "0"),
+        (Builtin::ParseInt, "+1", "null"),
+        (Builtin::ParseInt, "-", "null"),
+        (Builtin::ParseInt, "", "null"),
+        (Builtin::ParseInt, "000000000000000000000000007", "7"),
+        (
+            Builtin::ParseInt,
+            "-9223372036854775808",
+            "-9223372036854775808",
+        ),
+        (Builtin::ParseInt, "9223372036854775808", "null"),
         (Builtin::Len, "é", "2"),
         (Builtin::Some, "a", "\"a\""),
         (Builtin::IsNull, "a", "false"),
@@ -96,6 +110,9 @@ fn one_text_is_looked_for_in_another(rt: HostRuntime) -> Result<(), Fail> {
         (Builtin::Ends, "abc", "bc", "true"),
         (Builtin::Ends, "abc", "ab", "false"),
         (Builtin::Ends, "c", "bc", "false"),
+        (Builtin::Split, "a,,b", ",", "[\"a\", \"\", \"b\"]"),
+        (Builtin::Split, "", ",", "[\"\"]"),
+        (Builtin::Split, "a", "", "Range"),
     ];
     for (which, s, t, wanted) in cases {
         let found = of_texts(rt.alloc(), which, s, t)?;
@@ -152,6 +169,8 @@ fn paths_are_joined_and_taken_apart(rt: HostRuntime) -> Result<(), Fail> {
     let args = [path(rt.alloc(), "src/a")?];
     let parent = answer(rt.alloc(), Builtin::Parent, args.as_slice())?;
     assert_eq!(rt; parent.as_str(), "path(\"src\")");
+    let name = answer(rt.alloc(), Builtin::Name, args.as_slice())?;
+    assert_eq!(rt; name.as_str(), "\"a\"");
     let shown = answer(rt.alloc(), Builtin::ToText, args.as_slice())?;
     assert_eq!(rt; shown.as_str(), "\"src/a\"");
     Ok(())
@@ -203,5 +222,63 @@ fn numbers_are_spelt_in_digits(rt: HostRuntime) -> Result<(), Fail> {
     let args = [Value::Bool(true)];
     let found = answer(rt.alloc(), Builtin::ToText, args.as_slice())?;
     assert_eq!(rt; found.as_str(), "\"true\"");
+    Ok(())
+}
+
+#[test]
+fn occurrences_are_replaced_from_the_left(rt: HostRuntime) -> Result<(), Fail> {
+    let cases = [
+        ("aaa", "aa", "b", "\"ba\""),
+        ("ab", "", "x", "\"ab\""),
+        ("a,b", ",", "", "\"ab\""),
+    ];
+    for (s, part, by, wanted) in cases {
+        let args = [
+            text(rt.alloc(), s)?,
+            text(rt.alloc(), part)?,
+            text(rt.alloc(), by)?,
+        ];
+        let found = answer(rt.alloc(), Builtin::Replace, args.as_slice())?;
+        assert_eq!(rt; found.as_str(), wanted, "at {s}");
+    }
+    Ok(())
+}
+
+#[test]
+fn a_range_ends_before_its_last(rt: HostRuntime) -> Result<(), Fail> {
+    let cases = [
+        (-1, 2, "[-1, 0, 1]"),
+        (2, 2, "[]"),
+        (3, 2, "[]"),
+        (-9223372036854775807, 9223372036854775807, "Big"),
+        (
+            9223372036854775806,
+            9223372036854775807,
+            "[9223372036854775806]",
+        ),
+    ];
+    for (from, to, wanted) in cases {
+        let args = [Value::Int(from), Value::Int(to)];
+        let found = answer(rt.alloc(), Builtin::Range, args.as_slice())?;
+        assert_eq!(rt; found.as_str(), wanted, "from {from} to {to}");
+    }
+    Ok(())
+}
+
+#[test]
+fn items_are_joined_and_sorted(rt: HostRuntime) -> Result<(), Fail> {
+    let alloc = rt.alloc();
+    let values = vec![in alloc; text(alloc, "b")?, text(alloc, "ab")?]?;
+    let args = [list(alloc, values)?, text(alloc, ", ")?];
+    let joined = answer(alloc, Builtin::JoinText, args.as_slice())?;
+    assert_eq!(rt; joined.as_str(), "\"b, ab\"");
+    let values = vec![in alloc; Value::Int(2), Value::Int(-1), Value::Int(1)]?;
+    let args = [list(alloc, values)?];
+    let sorted = answer(alloc, Builtin::Sort, args.as_slice())?;
+    assert_eq!(rt; sorted.as_str(), "[-1, 1, 2]");
+    let values = vec![in alloc; list(alloc, Vec::new(alloc))?, text(alloc, "a")?]?;
+    let args = [list(alloc, values)?];
+    let refused = answer(alloc, Builtin::Flatten, args.as_slice())?;
+    assert_eq!(rt; refused.as_str(), "Unknown");
     Ok(())
 }
