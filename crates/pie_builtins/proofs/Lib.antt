@@ -1,0 +1,10 @@
+pub mod Joined
+pub mod Cuts
+pub mod Places
+pub mod Listed
+pub mod Joining
+pub mod Counted
+pub mod Spaces
+pub mod Parting
+pub mod Gathering
+pub mod LastSegments
