@@ -1,5 +1,5 @@
 //! The names in scope, each with its type.
-ghost use Rattle.std.specs.Prelude.{◌≡◌, [], IfOk, OnOk, length, take, option_map};
+ghost use Rattle.std.specs.Prelude.{◌≡◌, [], OnOk, length, take, option_map};
 ghost use Rattle.pie_value.specs.TypeTrees.{ty_tree};
 ghost use Rattle.pie_types.specs.Faults.{Agrees};
 ghost use Rattle.pie_types.specs.Scope.{entered, may_enter, type_in, with_name};
@@ -117,27 +117,5 @@ impl Scope {
         ensures { self.new ≡ take len self.old }
     {
         self.bound.truncate(len);
-    }
-
-    // The same names.
-    pub fn copy(&self, alloc: Global) -> Result<Scope, OutOfMemory>
-        ensures { IfOk result (λ copy. copy ≡ self.now) }
-    {
-        let mut copied = Vec::new(alloc);
-        for bound in self.bound.as_slice() {
-            copied.push(bound.copy()?)?;
-        }
-        Ok(Scope { bound: copied })
-    }
-}
-
-impl Bound {
-    // The same name with its type.
-    fn copy(&self) -> Result<Bound, OutOfMemory>
-        ensures { IfOk result (λ copy. copy ≡ self.now) }
-    {
-        let name = self.name.copy()?;
-        let ty = self.ty.copy()?;
-        Ok(Bound { name, ty })
     }
 }
