@@ -1,5 +1,6 @@
 //! The parts of a commit, of at most three calls on the files each.
 ghost use Rattle.std.specs.Prelude.{◌≡◌, true, [], IfSome, OnOk};
+ghost use Rattle.pie_files.specs.Images.{MayLeave, Stays, Only};
 ghost use Rattle.pie_files.specs.Streams.{Counted};
 ghost use Rattle.pie_commit.specs.Plans.{is_sound, is_inner, Bytes, Gone, at, removed, written, pended, stored};
 ghost use Rattle.pie_commit.specs.Outcomes.{HasBrought, KeepsMarked, LeavesFromRest, IsEarly, IsEnding, IsAtRest, Stands};
@@ -16,7 +17,7 @@ pub(crate) fn begin<F: Files>(files: &mut F, plan: &Plan) -> Result<(), FilesErr
     ensures counted { Counted F.faults FilesError.Failed files.old files.new result }
 {
     files.write(&plan.marker, b"")?;
-    files.sync()
+    make_last(files)
 }
 
 /// Removes the files that go.
@@ -80,7 +81,7 @@ pub(crate) fn end<F: Files>(files: &mut F, plan: &Plan) -> Result<(), FilesError
     ensures counted { Counted F.faults FilesError.Failed files.old files.new result }
 {
     files.remove(&plan.marker)?;
-    files.sync()
+    make_last(files)
 }
 
 fn remove<F: Files>(files: &mut F, plan: &Plan, path: &Path) -> Result<(), FilesError>
@@ -99,4 +100,14 @@ fn write<F: Files>(files: &mut F, plan: &Plan, path: &Path, bytes: &[u8]) -> Res
     ensures counted { Counted F.faults FilesError.Failed files.old files.new result }
 {
     files.write(path, bytes)
+}
+
+/// Makes what was done so far outlast a crash.
+pub(crate) fn make_last<F: Files>(files: &mut F) -> Result<(), FilesError>
+    ensures same { F.holds files.new ≡ F.holds files.old }
+    ensures durable { IfSome (F.holds files.old) (λ d. OnOk result (Only d (F.images files.new))) }
+    ensures crash { MayLeave F.holds F.moment F.left_since F.images Stays files.old files.new }
+    ensures counted { Counted F.faults FilesError.Failed files.old files.new result }
+{
+    files.sync()
 }

@@ -6,7 +6,7 @@ ghost use Rattle.pie_commit.specs.Plans.{is_sound, is_empty, wanted_by, changes}
 ghost use Rattle.pie_commit.specs.Outcomes.{HasBrought, KeepsMarked, LeavesFromRest, IsAtRest, IsOfThree, LeavesMarked};
 
 use crate::Plan;
-use crate::parts::{begin, end, put_pending, put_store, remove_all, write_all};
+use crate::parts::{begin, end, make_last, put_pending, put_store, remove_all, write_all};
 use pie_files::{Files, FilesError};
 
 /// Does what the plan says. An empty plan makes no call. It takes no memory itself.
@@ -51,5 +51,5 @@ fn change<F: Files>(files: &mut F, plan: &Plan) -> Result<(), FilesError>
     write_all(files, plan)?;
     put_pending(files, plan)?;
     put_store(files, plan)?;
-    files.sync()
+    make_last(files)
 }

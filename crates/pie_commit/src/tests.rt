@@ -74,11 +74,11 @@ fn stopped(alloc: Global, call: u64, pick: Pick) -> Result<String, Fail> {
 fn a_commit_does_its_plan_in_ten_calls(rt: HostRuntime) -> Result<(), Fail> {
     let alloc = rt.alloc();
     let mut files = files(alloc)?;
-    let before = files.log().len();
+    assert_eq!(rt; files.log().len(), 4);
     let plan = plan(alloc)?;
     let done = committed(&mut files, &plan)?;
     assert!(rt; done);
-    assert_eq!(rt; files.log().len() - before, 10);
+    assert_eq!(rt; files.log().len(), 14);
     let shown = shown(alloc, &mut files)?;
     assert!(rt; shown.as_str() == "- 5 4 - - 6");
     Ok(())

@@ -17,7 +17,7 @@ returns-clause-done g c =
     two c.in_ok-put_pending.ensures.done in
     let four = brought_both third (at p.place (stored p.store)) a (g.F.Files.holds c.put_pending.new.files) (g.F.Files.holds c.put_store.new.files)
     three c.in_ok-put_store.ensures.done in
-    in_any_case c.sync.result (brought_still (changes p) a (g.F.Files.holds c.put_store.new.files) (g.F.Files.holds c.sync.new.self) c.sync.ensures.same four)
+    in_any_case c.make_last.result (brought_still (changes p) a (g.F.Files.holds c.put_store.new.files) (g.F.Files.holds c.make_last.new.files) c.make_last.ensures.same four)
 
 pub returns-in_err-write_all-clause-crash : goal.returns-in_err-write_all-clause-crash
 returns-in_err-write_all-clause-crash g c =
@@ -62,8 +62,8 @@ returns-clause-crash g c =
     let four = both_marked g.F.Files.holds g.F.Files.moment g.F.Files.left_since g.F.Files.images p c.args.files.now c.put_pending.new.files c.put_store.new.files told3 three c.put_store.ensures.crash in
     let told4 = told_both (g.F.Files.holds c.args.files.now) (g.F.Files.holds c.put_pending.new.files) (g.F.Files.holds c.put_store.new.files) told3
     (told_by (at p.place (stored p.store)) (g.F.Files.holds c.put_pending.new.files) (g.F.Files.holds c.put_store.new.files) c.in_ok-put_store.ensures.done) in
-    both_marked g.F.Files.holds g.F.Files.moment g.F.Files.left_since g.F.Files.images p c.args.files.now c.put_store.new.files c.sync.new.self told4 four
-    (sync_marked g.F.Files.holds g.F.Files.moment g.F.Files.left_since g.F.Files.images p c.put_store.new.files c.sync.new.self c.sync.ensures.crash)
+    both_marked g.F.Files.holds g.F.Files.moment g.F.Files.left_since g.F.Files.images p c.args.files.now c.put_store.new.files c.make_last.new.files told4 four
+    (sync_marked g.F.Files.holds g.F.Files.moment g.F.Files.left_since g.F.Files.images p c.put_store.new.files c.make_last.new.files c.make_last.ensures.crash)
 
 pub returns-clause-durable : goal.returns-clause-durable
 returns-clause-durable g c =
@@ -75,5 +75,5 @@ returns-clause-durable g c =
     (told_by (at p.names_place (pended p.pending)) (g.F.Files.holds c.write_all.new.files) (g.F.Files.holds c.put_pending.new.files) c.in_ok-put_pending.ensures.done) in
     let told4 = told_both (g.F.Files.holds c.args.files.now) (g.F.Files.holds c.put_pending.new.files) (g.F.Files.holds c.put_store.new.files) told3
     (told_by (at p.place (stored p.store)) (g.F.Files.holds c.put_pending.new.files) (g.F.Files.holds c.put_store.new.files) c.in_ok-put_store.ensures.done) in
-    rests (g.F.Files.images c.sync.new.self) (g.F.Files.holds c.args.files.now) (g.F.Files.holds c.put_store.new.files) (g.F.Files.holds c.sync.new.self) c.sync.result told4
-    c.sync.ensures.same c.sync.ensures.durable
+    rests (g.F.Files.images c.make_last.new.files) (g.F.Files.holds c.args.files.now) (g.F.Files.holds c.put_store.new.files) (g.F.Files.holds c.make_last.new.files) c.make_last.result told4
+    c.make_last.ensures.same c.make_last.ensures.durable
