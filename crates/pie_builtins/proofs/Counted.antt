@@ -5,7 +5,7 @@ use Rattle.std.specs.Int.{int_gap}
 use Rattle.std.proofs.lemmas.Int.{ints}
 use Rattle.std.proofs.lemmas.List.{append-nil}
 use Rattle.pie_base.specs.declared.fault.FaultKind.TheVariants.{Big}
-use Rattle.pie_value.specs.Tree.{Tree, Trees, TInt, TList, Nil, Cons, items_of}
+use Rattle.pie_value.specs.Tree.{Tree, TInt, TList, Cons, items_of}
 use Rattle.pie_value.specs.Size.{sizes_of}
 use Rattle.pie_value.specs.BuiltinItems.{ints_from}
 use Rattle.pie_value.specs.BuiltinForms.{made}

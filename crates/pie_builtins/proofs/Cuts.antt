@@ -1,6 +1,6 @@
 -- Parts of texts and of bytes.
-use Rattle.std.proofs.Common.{◌≡◌, ℕ, ◌≤◌, ◌<◌, ◌-◌, ◌+◌, List, take, drop, length, refl, ap, sym, ◌∙◌, arith, Bool, true, false, not, ◌&&◌}
-use Rattle.std.specs.Prelude.{nat_le, nat_lt, slice_index, IsTrue}
+use Rattle.std.proofs.Common.{◌≡◌, ℕ, ◌≤◌, ◌-◌, ◌+◌, List, take, drop, length, refl, ap, sym, ◌∙◌, arith, Bool, true, false, ◌&&◌}
+use Rattle.std.specs.Prelude.{nat_le}
 use Rattle.std.specs.Prelude.{pos}
 use Rattle.std.proofs.lemmas.List.{drop-take}
 use Rattle.pie_value.specs.Tree.{TText}

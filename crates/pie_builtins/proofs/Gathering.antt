@@ -1,12 +1,12 @@
 -- Texts and lists among values, read one by one.
-use Rattle.std.proofs.Common.{◌≡◌, ℕ, ◌+◌, ◌<◌, Bool, true, false, ◌&&◌, List, [], ◌∷◌, ◌++◌, length, map, drop, get_or, refl, ap, sym, ◌∙◌, arith, Err, append_assoc}
-use Rattle.std.specs.Prelude.{Option, Some, None, option_map, is_some}
+use Rattle.std.proofs.Common.{◌≡◌, ℕ, true, false, List, [], ◌∷◌, ◌++◌, map, refl, ap, sym, ◌∙◌, Err}
+use Rattle.std.specs.Prelude.{Some, None}
 use Rattle.std.proofs.lemmas.List.{append-nil}
 use Rattle.pie_base.specs.declared.fault.FaultKind.TheVariants.{Unknown}
-use Rattle.pie_value.specs.Tree.{Tree, Trees, TUnit, TBool, TInt, TText, TPath, TList, TTuple, TNull, TBytes, Nil, Cons, items_of, list_of}
-use Rattle.pie_value.specs.BuiltinForms.{Answered, given, made}
+use Rattle.pie_value.specs.Tree.{Tree, Trees, TText, TList, Nil, Cons, items_of, list_of}
+use Rattle.pie_value.specs.BuiltinForms.{given, made}
 use Rattle.pie_value.specs.BuiltinItems.{all_as, as_text, as_list, joined, all_joined}
-use Rattle.pie_value.specs.BuiltinTexts.{with_between, and_then}
+use Rattle.pie_value.specs.BuiltinTexts.{with_between}
 use Rattle.pie_builtins.specs.Gathered.{text_in, items_in, all_texts, all_lists, each_after, texts_between, items_among}
 
 texts_some : (ts : List Tree) → all_texts ts ≡ true → all_as as_text (items_of ts) ≡ Some (map text_in ts)

@@ -2,7 +2,6 @@
 use Rattle.std.proofs.Common.{◌≡◌, ℕ, ◌<◌, Bool, true, false, not, ◌&&◌, List, length, refl, arith}
 use Rattle.std.specs.Prelude.{nat_lt}
 use Rattle.pie_base.specs.Path.{is_path}
-use borrow.Author.Tests.{ltb-true}
 
 refused_second : (a b c : Bool) → b ≡ true → (not a && not b && c) ≡ false
 refused_second true b c h = refl

@@ -1,14 +1,13 @@
 -- Items that grow by one at their end, and lists that are too large already.
-use Rattle.std.proofs.Common.{◌≡◌, ℕ, ◌+◌, ◌<◌, Bool, true, false, ◌&&◌, cond, List, [], ◌∷◌, ◌++◌, length, refl, ap, sym, ◌∙◌, arith, Err}
+use Rattle.std.proofs.Common.{◌≡◌, ℕ, ◌+◌, ◌<◌, Bool, true, false, ◌&&◌, List, [], ◌∷◌, ◌++◌, length, refl, ap, arith, Err}
 use Rattle.std.specs.Prelude.{nat_le}
 use Rattle.std.proofs.lemmas.List.{length-append}
-use Rattle.pie_base.specs.declared.fault.FaultKind.{FaultKind}
 use Rattle.pie_base.specs.declared.fault.FaultKind.TheVariants.{Big}
 use Rattle.pie_value.specs.Tree.{Tree, Trees, TList, TText, Nil, Cons, items_of}
 use Rattle.pie_value.specs.Size.{size_of, sizes_of, capped_64}
 use Rattle.pie_value.specs.Limits.{is_small}
 use Rattle.pie_value.specs.BuiltinItems.{joined}
-use Rattle.pie_value.specs.BuiltinForms.{Answered, made}
+use Rattle.pie_value.specs.BuiltinForms.{made}
 
 not_both : (a b : Bool) → a ≡ false → (a && b) ≡ false
 not_both false b h = refl

@@ -1,10 +1,8 @@
 -- What is done, and then what the rest gives.
-use Rattle.std.proofs.Common.{◌≡◌, ◌++◌, drop, map}
+use Rattle.std.proofs.Common.{◌≡◌, ◌++◌, drop}
 use Rattle.std.specs.Prelude.{string_bytes}
-use Rattle.pie_value.specs.Tree.{items_of}
 use Rattle.pie_value.specs.Values.{trees_of}
-use Rattle.pie_value.specs.BuiltinItems.{joined, all_joined}
-use Rattle.pie_builtins.specs.Gathered.{all_lists, all_texts, each_after}
+use Rattle.pie_builtins.specs.Gathered.{each_after}
 use Rattle.pie_builtins.proofs.joins.each_joined.Given as goal
 
 abbrev pub invariant-loop-other : goal.invariant-loop-other

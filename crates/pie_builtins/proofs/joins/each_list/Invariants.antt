@@ -1,10 +1,7 @@
 -- What is done, and then what the rest gives.
-use Rattle.std.proofs.Common.{◌≡◌, ◌++◌, drop, map}
-use Rattle.std.specs.Prelude.{string_bytes}
-use Rattle.pie_value.specs.Tree.{items_of}
+use Rattle.std.proofs.Common.{◌≡◌, ◌++◌, drop}
 use Rattle.pie_value.specs.Values.{trees_of}
-use Rattle.pie_value.specs.BuiltinItems.{joined, all_joined}
-use Rattle.pie_builtins.specs.Gathered.{all_lists, all_texts, each_after, items_among}
+use Rattle.pie_builtins.specs.Gathered.{items_among}
 use Rattle.pie_builtins.proofs.joins.each_list.Given as goal
 
 abbrev pub invariant-loop-list : goal.invariant-loop-list

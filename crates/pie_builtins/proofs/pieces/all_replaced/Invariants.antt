@@ -1,10 +1,9 @@
 -- What is done, and then what the rest gives.
-use Rattle.std.proofs.Common.{◌≡◌, ◌++◌, length, map}
+use Rattle.std.proofs.Common.{◌≡◌, ◌++◌, length}
 use Rattle.std.specs.Prelude.{string_bytes}
 use denote.Text.{Utf8}
 use denote.Shadow.{shadow}
-use Rattle.pie_value.specs.Tree.{TText}
-use Rattle.pie_value.specs.BuiltinTexts.{pieces, with_between, without_last_empty}
+use Rattle.pie_value.specs.BuiltinTexts.{pieces, with_between}
 use Rattle.pie_builtins.proofs.pieces.all_replaced.Given as goal
 
 abbrev pub decreases-loop-front : goal.decreases-loop-front

@@ -1,7 +1,6 @@
 -- One integer more, and then all of them.
-use Rattle.std.proofs.Common.{◌≡◌, sym, ◌∙◌, ap, ◌++◌, ◌+ℤ◌, ◌-◌, ◌≤◌, pos, arith, to_z, of_z, w64}
+use Rattle.std.proofs.Common.{◌≡◌, sym, ◌∙◌, ◌++◌, ◌+ℤ◌, ◌-◌, pos, arith, to_z, of_z, w64}
 use Rattle.std.proofs.lemmas.Int.{to_z-of_z}
-use Rattle.pie_value.specs.Tree.{TInt}
 use Rattle.pie_builtins.proofs.Counted.{ints_on, ints_on_is, one_more, all_there}
 use Rattle.pie_builtins.proofs.ranges.counted.Goals as goal
 

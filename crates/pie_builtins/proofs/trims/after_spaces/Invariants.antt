@@ -1,5 +1,5 @@
 -- What is left has the same answer.
-use Rattle.std.proofs.Common.{◌≡◌, length, reverse}
+use Rattle.std.proofs.Common.{◌≡◌, length}
 use denote.Text.{Utf8}
 use denote.Shadow.{shadow}
 use Rattle.pie_value.specs.BuiltinTexts.{after_spaces as spec_after_spaces}
