@@ -1,8 +1,7 @@
 -- What calls bring about, one after another.
 use Rattle.std.proofs.Common.{◌≡◌, ℕ, Bool, true, false, cond, List, [], ◌∷◌, refl, sym, ap, ◌∙◌, subst, Vec, Global}
 use Rattle.std.specs.Prelude.{Option, None, Some, Result, Ok, Err, IfSome, OnOk}
-use Rattle.std.specs.Ordering.{nat_cmp, eq_by_cmp}
-use Rattle.std.specs.Cmp.Lexicographic.{slice_cmp, nat_list_cmp_total, texts_ties}
+use Rattle.std.specs.Cmp.Lexicographic.{nat_list_cmp_total, texts_ties}
 use Rattle.std.specs.FinMap as fin
 use Rattle.pie_base.specs.Path.{same_text}
 use Rattle.pie_files.specs.Directory.{Directory, file_at, with_file, without_file}
@@ -25,7 +24,8 @@ get_without d path q =
 pub brings_write : (d : Directory) (path bytes : List ℕ) (mark : ℕ) → Brings (at path (Bytes bytes)) d (with_file d path bytes mark)
 brings_write d path bytes mark q = meets_write (same_text q path) (file_at d q) (file_at (with_file d path bytes mark) q) (get_with d path bytes mark q)
   where
-    meets_write : (b : Bool) (before after : Option (List ℕ × ℕ)) → after ≡ cond b (Some (bytes, mark)) before → Meets (cond b (Bytes bytes) Same) before after
+    meets_write : (b : Bool) (before after : Option (List ℕ × ℕ)) → after ≡ cond b (Some (bytes, mark)) before
+        → Meets (cond b (Bytes bytes) Same) before after
     meets_write true before after e = (mark, e)
     meets_write false before after e = e
 
@@ -59,7 +59,8 @@ brought_both first second (Some d) b c h k =
     (next.0, next.1, brings_both first second d h.0 next.0 h.2 next.2)
 
 -- the same where what is wanted is told otherwise
-pub brought_as : (wants others : List ℕ → Wanted) (a b : Option Directory) → ((q : List ℕ) → wants q ≡ others q) → HasBrought wants a b → HasBrought others a b
+pub brought_as : (wants others : List ℕ → Wanted) (a b : Option Directory) → ((q : List ℕ) → wants q ≡ others q) → HasBrought wants a b
+    → HasBrought others a b
 brought_as wants others None b same h = tt
 brought_as wants others (Some d) b same h = (h.0, h.1, λ q. subst (λ w. Meets w (file_at d q) (file_at h.0 q)) (same q) (h.2 q))
 

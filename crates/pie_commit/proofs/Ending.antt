@@ -1,13 +1,13 @@
 -- A commit from rest leaves one of three things at each moment.
-use Rattle.std.proofs.Common.{◌≡◌, ◌⊎◌, ℕ, Bool, true, false, cond, List, [], refl, sym, ap, ◌∙◌, subst, inl, inr, ⊎_elim}
+use Rattle.std.proofs.Common.{◌≡◌, ◌⊎◌, ℕ, cond, [], sym, ap, ◌∙◌, subst, inl, inr, ⊎_elim}
 use Rattle.std.specs.Prelude.{Option, None, Some, Result, Ok, Err, IfSome, OnErr}
-use Rattle.pie_base.specs.Path.{same_text}
 use Rattle.pie_files.specs.declared.files.FilesError.{FilesError}
-use Rattle.pie_files.specs.Directory.{Directory, file_at, without_file}
+use Rattle.pie_files.specs.Directory.{Directory, file_at}
 use Rattle.pie_files.specs.Images.{Only}
 use Rattle.pie_commit.specs.declared.plan.Plan.{Plan}
-use Rattle.pie_commit.specs.Plans.{Wanted, Same, Gone, Bytes, Meets, Brings, later, at, changes, wanted_by}
-use Rattle.pie_commit.specs.Outcomes.{HasFile, HasBrought, Underway, IsDone, AllDone, IsOfThree, IsEarly, IsEnding, IsAtRest, Stands, Leaves, LeavesMarked, LeavesFromRest, KeepsMarked}
+use Rattle.pie_commit.specs.Plans.{Same, Gone, Bytes, Meets, Brings, later, at, changes, wanted_by}
+use Rattle.pie_commit.specs.Outcomes.{HasFile, HasBrought, Underway, IsDone, AllDone, IsOfThree, IsEarly, IsEnding, IsAtRest, Stands, Leaves}
+use Rattle.pie_commit.specs.Outcomes.{LeavesMarked, LeavesFromRest, KeepsMarked}
 use Rattle.pie_commit.proofs.Bringing.{later-same}
 use Rattle.pie_commit.proofs.Standing.{starts, in_turn, weaker, removal_apart, Told, if_each, both_each}
 
@@ -78,7 +78,8 @@ module _ {S : Type 0} (holds : S → Option Directory) (moment : S → ℕ) (lef
       (λ d so_far keep only. in_turn moment left_since images (IsOfThree p d) old mid new
       (weaker moment left_since images (IsEarly p d) (IsOfThree p d) old mid (three_early p d) (so_far.0 only))
       (weaker moment left_since images (Underway p d) (IsOfThree p d) mid new (λ c way. inl way) (keep d so_far.1)))
-      (if_both (λ d. Only d (images old) → Leaves moment left_since images (IsEarly p d) old mid) (λ d. Stands p d (images mid)) (holds old) early stands) keeps
+      (if_both (λ d. Only d (images old) → Leaves moment left_since images (IsEarly p d) old mid) (λ d. Stands p d (images mid)) (holds old) early
+      stands) keeps
 
   ended : (p : Plan) (o m1 m2 : Option Directory) (old mid new : S) → Told o m1
       → HasBrought (λ q. later (changes p q) (at p.marker (Bytes []) q)) o m2

@@ -1,5 +1,5 @@
 -- The paths of a sound plan that aren't the marker.
-use Rattle.std.proofs.Common.{◌≡◌, ℕ, Bool, true, false, cond, List, [], ◌∷◌, refl, sym, ap, ◌∙◌, subst, Vec, Global}
+use Rattle.std.proofs.Common.{◌≡◌, ℕ, Bool, true, false, List, [], ◌∷◌, refl, sym, ap, ◌∙◌, Vec, Global}
 use Rattle.std.specs.Prelude.{not, ◌&&◌, ◌||◌, codes}
 use Rattle.std.specs.List.{list_all, list_any}
 use Rattle.std.proofs.lemmas.Bool.{false≢true}
@@ -41,7 +41,8 @@ marker_is : (p : Plan) → is_sound p ≡ true → p.marker ≡ codes ".pie/open
 marker_is p sound = same_path p.marker (codes ".pie/open") (sound_parts p sound).first
 
 -- a path for which a test holds that fails for the marker
-not_marker : (test : List ℕ → Bool) (p : Plan) (q : List ℕ) → is_sound p ≡ true → test (codes ".pie/open") ≡ false → test q ≡ true → same_text p.marker q ≡ false
+not_marker : (test : List ℕ → Bool) (p : Plan) (q : List ℕ) → is_sound p ≡ true → test (codes ".pie/open") ≡ false → test q ≡ true
+    → same_text p.marker q ≡ false
 not_marker test p q sound off on = elim (same_text p.marker q) as (λ b. same_text p.marker q ≡ b → b ≡ false) [
   | true ↦ λ e. absurd (false≢true (sym off ∙ ap test (sym (marker_is p sound) ∙ same_path p.marker q e) ∙ on))
   | false ↦ λ e. refl

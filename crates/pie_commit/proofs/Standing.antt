@@ -1,5 +1,5 @@
 -- While the marker stands in every image, calls on the plan's other paths keep it so.
-use Rattle.std.proofs.Common.{◌≡◌, ◌≤◌, ◌⊎◌, ℕ, Bool, true, false, cond, List, [], ◌∷◌, refl, sym, ap, ◌∙◌, subst, inl, inr, ⊎_elim, arith}
+use Rattle.std.proofs.Common.{◌≡◌, ℕ, Bool, true, false, cond, List, [], refl, sym, ap, ◌∙◌, subst, inl, inr, ⊎_elim, arith}
 use Rattle.std.specs.Prelude.{Option, None, Some, Result, Ok, Err, IfSome, OnOk, not, ◌&&◌, ◌||◌}
 use Rattle.std.specs.Cmp.{eq_by_cmp_equiv}
 use Rattle.std.specs.Cmp.Lexicographic.{texts_ties, nat_list_cmp_total, slice_cmp}
@@ -14,8 +14,8 @@ use Rattle.pie_files.specs.Images.{Stays, MayWrite, MayRemove, MayLeave, Elapses
 use Rattle.pie_files.proofs.HeldLemmas.{antisymmetric}
 use Rattle.pie_files.specs.declared.files.FilesError.{FilesError}
 use Rattle.pie_commit.specs.declared.plan.Plan.{Plan}
-use Rattle.pie_commit.specs.Plans.{Wanted, Brings, is_own, is_inner}
-use Rattle.pie_commit.specs.Outcomes.{HasFile, Underway, Leaves, Stands, IsEarly, IsEnding, IsAtRest, HasBrought, KeepsMarked, LeavesFromRest}
+use Rattle.pie_commit.specs.Plans.{Wanted, is_own, is_inner}
+use Rattle.pie_commit.specs.Outcomes.{Underway, Leaves, Stands, IsEarly, IsEnding, IsAtRest, HasBrought, KeepsMarked, LeavesFromRest}
 use Rattle.pie_commit.proofs.Bringing.{get_with, get_without}
 
 pub same_itself : (q : List ℕ) → same_text q q ≡ true
@@ -196,7 +196,8 @@ marked_way p d b bytes mark others = record {
 pub early_still : (p : Plan) (d b c : Directory) → MayWrite p.marker b c → IsEarly p d b → IsEarly p d c
 early_still p d b c may early =
     ⊎_elim (λ same. subst (IsEarly p d) (sym same) early)
-    (λ w. inl (subst (Underway p d) (sym w.2) (marked_way p d b w.0 w.1 (λ r off. ⊎_elim (λ way. way.others r off) (λ is. ap (λ e. file_at e r) is) early)))) may
+    (λ w. inl (subst (Underway p d) (sym w.2) (marked_way p d b w.0 w.1 (λ r off. ⊎_elim (λ way. way.others r off) (λ is. ap (λ e. file_at e r) is)
+    early)))) may
 
 pub begins : (p : Plan) (images : Directory → Type 0) (o mid : Option Directory) (mark : ℕ) (result : Result (Unit {0}) FilesError)
     → IfSome o (λ d. mid ≡ Some (with_file d p.marker [] mark)) → IfSome mid (λ e. OnOk result (Only e images))

@@ -1,5 +1,5 @@
 -- What a commit leaves, at its end and at each moment.
-use Rattle.std.specs.Prelude.{◌≡◌, ◌⊎◌, ◌≤◌, ℕ, Bool, true, false, List, Option, None, Some, Result, IfSome, OnOk}
+use Rattle.std.specs.Prelude.{◌≡◌, ◌⊎◌, ◌≤◌, ℕ, false, List, Option, Some, IfSome}
 use Rattle.pie_base.specs.Path.{same_text}
 use Rattle.pie_files.specs.Directory.{Directory, file_at, without_file}
 use Rattle.pie_files.specs.Images.{Only}

@@ -1,5 +1,5 @@
 -- What a plan is to make of each path, and which paths are its own.
-use Rattle.std.specs.Prelude.{◌≡◌, ◌⊎◌, ℕ, Bool, true, false, not, ◌&&◌, ◌||◌, cond, List, [], ◌∷◌, map, Option, None, Some, codes}
+use Rattle.std.specs.Prelude.{◌≡◌, ℕ, Bool, true, false, not, ◌&&◌, ◌||◌, cond, List, [], ◌∷◌, Option, None, Some, codes}
 use Rattle.std.specs.List.{list_all, list_any}
 use Rattle.pie_base.specs.Path.{is_out, same_text}
 use Rattle.pie_commit.specs.declared.plan.Pending.{Pending}

@@ -9,24 +9,29 @@ use Rattle.pie_commit.proofs.parts.begin.Goals as goal
 pub returns-clause-done : goal.returns-clause-done
 returns-clause-done g c =
     let w = c.in_ok-write.ensures.written in
-    in_any_case c.make_last.result (brought_still (at c.args.plan.now.marker (Bytes [])) (g.F.Files.holds c.args.files.now) (g.F.Files.holds c.write.new.self) (g.F.Files.holds c.make_last.new.files)
+    in_any_case c.make_last.result (brought_still (at c.args.plan.now.marker (Bytes [])) (g.F.Files.holds c.args.files.now) (g.F.Files.holds
+    c.write.new.self) (g.F.Files.holds c.make_last.new.files)
     c.make_last.ensures.same (write_brought (g.F.Files.holds c.args.files.now) (g.F.Files.holds c.write.new.self) c.args.plan.now.marker [] w.0 w.1))
 
 pub returns-in_err-write-clause-crash : goal.returns-in_err-write-clause-crash
 returns-in_err-write-clause-crash g c =
     let p = c.args.plan.now in
-    call_rest g.F.Files.holds g.F.Files.moment g.F.Files.left_since g.F.Files.images (MayWrite p.marker) (IsEarly p) c.args.files.now c.write.new.self (early_still p) (λ d. inr refl) c.write.ensures.crash
+    call_rest g.F.Files.holds g.F.Files.moment g.F.Files.left_since g.F.Files.images (MayWrite p.marker) (IsEarly p) c.args.files.now
+    c.write.new.self (early_still p) (λ d. inr refl) c.write.ensures.crash
 
 pub returns-clause-crash : goal.returns-clause-crash
 returns-clause-crash g c =
     let p = c.args.plan.now in
     let w = c.in_ok-write.ensures.written in
-    let told = told_by (at c.args.plan.now.marker (Bytes [])) (g.F.Files.holds c.args.files.now) (g.F.Files.holds c.write.new.self) (write_brought (g.F.Files.holds c.args.files.now) (g.F.Files.holds c.write.new.self) p.marker [] w.0 w.1) in
+    let told = told_by (at c.args.plan.now.marker (Bytes [])) (g.F.Files.holds c.args.files.now) (g.F.Files.holds c.write.new.self) (write_brought
+    (g.F.Files.holds c.args.files.now) (g.F.Files.holds c.write.new.self) p.marker [] w.0 w.1) in
     sync_rest g.F.Files.holds g.F.Files.moment g.F.Files.left_since g.F.Files.images (IsEarly p) c.args.files.now c.write.new.self c.make_last.new.files told
-    (call_rest g.F.Files.holds g.F.Files.moment g.F.Files.left_since g.F.Files.images (MayWrite p.marker) (IsEarly p) c.args.files.now c.write.new.self (early_still p) (λ d. inr refl) c.in_ok-write.ensures.crash)
+    (call_rest g.F.Files.holds g.F.Files.moment g.F.Files.left_since g.F.Files.images (MayWrite p.marker) (IsEarly p) c.args.files.now
+    c.write.new.self (early_still p) (λ d. inr refl) c.in_ok-write.ensures.crash)
     c.make_last.ensures.crash
 
 pub returns-clause-stands : goal.returns-clause-stands
 returns-clause-stands g c =
     let w = c.in_ok-write.ensures.written in
-    begins c.args.plan.now (g.F.Files.images c.make_last.new.files) (g.F.Files.holds c.args.files.now) (g.F.Files.holds c.write.new.self) w.0 c.make_last.result w.1 c.make_last.ensures.durable
+    begins c.args.plan.now (g.F.Files.images c.make_last.new.files) (g.F.Files.holds c.args.files.now) (g.F.Files.holds c.write.new.self) w.0
+    c.make_last.result w.1 c.make_last.ensures.durable

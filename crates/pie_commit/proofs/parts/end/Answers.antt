@@ -8,23 +8,31 @@ use Rattle.pie_commit.proofs.parts.end.Goals as goal
 
 pub returns-clause-done : goal.returns-clause-done
 returns-clause-done g c =
-    in_any_case c.make_last.result (brought_still (at c.args.plan.now.marker Gone) (g.F.Files.holds c.args.files.now) (g.F.Files.holds c.remove.new.self) (g.F.Files.holds c.make_last.new.files)
-    c.make_last.ensures.same (removal_brought (g.F.Files.holds c.args.files.now) (g.F.Files.holds c.remove.new.self) c.args.plan.now.marker c.in_ok-remove.ensures.removed))
+    in_any_case c.make_last.result (brought_still (at c.args.plan.now.marker Gone) (g.F.Files.holds c.args.files.now) (g.F.Files.holds
+    c.remove.new.self) (g.F.Files.holds c.make_last.new.files)
+    c.make_last.ensures.same (removal_brought (g.F.Files.holds c.args.files.now) (g.F.Files.holds c.remove.new.self) c.args.plan.now.marker
+    c.in_ok-remove.ensures.removed))
 
 pub returns-in_err-remove-clause-crash : goal.returns-in_err-remove-clause-crash
 returns-in_err-remove-clause-crash g c =
     let marker = c.args.plan.now.marker in
-    call_rest g.F.Files.holds g.F.Files.moment g.F.Files.left_since g.F.Files.images (MayRemove marker) (IsEnding marker) c.args.files.now c.remove.new.self (ending_still marker) (λ d. inl refl) c.remove.ensures.crash
+    call_rest g.F.Files.holds g.F.Files.moment g.F.Files.left_since g.F.Files.images (MayRemove marker) (IsEnding marker) c.args.files.now
+    c.remove.new.self (ending_still marker) (λ d. inl refl) c.remove.ensures.crash
 
 pub returns-clause-crash : goal.returns-clause-crash
 returns-clause-crash g c =
     let marker = c.args.plan.now.marker in
-    let told = told_by (at c.args.plan.now.marker Gone) (g.F.Files.holds c.args.files.now) (g.F.Files.holds c.remove.new.self) (removal_brought (g.F.Files.holds c.args.files.now) (g.F.Files.holds c.remove.new.self) marker c.in_ok-remove.ensures.removed) in
-    sync_rest g.F.Files.holds g.F.Files.moment g.F.Files.left_since g.F.Files.images (IsEnding marker) c.args.files.now c.remove.new.self c.make_last.new.files told
-    (call_rest g.F.Files.holds g.F.Files.moment g.F.Files.left_since g.F.Files.images (MayRemove marker) (IsEnding marker) c.args.files.now c.remove.new.self (ending_still marker) (λ d. inl refl) c.in_ok-remove.ensures.crash)
+    let told = told_by (at c.args.plan.now.marker Gone) (g.F.Files.holds c.args.files.now) (g.F.Files.holds c.remove.new.self) (removal_brought
+    (g.F.Files.holds c.args.files.now) (g.F.Files.holds c.remove.new.self) marker c.in_ok-remove.ensures.removed) in
+    sync_rest g.F.Files.holds g.F.Files.moment g.F.Files.left_since g.F.Files.images (IsEnding marker) c.args.files.now c.remove.new.self
+    c.make_last.new.files told
+    (call_rest g.F.Files.holds g.F.Files.moment g.F.Files.left_since g.F.Files.images (MayRemove marker) (IsEnding marker) c.args.files.now
+    c.remove.new.self (ending_still marker) (λ d. inl refl) c.in_ok-remove.ensures.crash)
     c.make_last.ensures.crash
 
 pub returns-clause-durable : goal.returns-clause-durable
 returns-clause-durable g c =
-    let told = told_by (at c.args.plan.now.marker Gone) (g.F.Files.holds c.args.files.now) (g.F.Files.holds c.remove.new.self) (removal_brought (g.F.Files.holds c.args.files.now) (g.F.Files.holds c.remove.new.self) c.args.plan.now.marker c.in_ok-remove.ensures.removed) in
-    rests (g.F.Files.images c.make_last.new.files) (g.F.Files.holds c.args.files.now) (g.F.Files.holds c.remove.new.self) (g.F.Files.holds c.make_last.new.files) c.make_last.result told c.make_last.ensures.same c.make_last.ensures.durable
+    let told = told_by (at c.args.plan.now.marker Gone) (g.F.Files.holds c.args.files.now) (g.F.Files.holds c.remove.new.self) (removal_brought
+    (g.F.Files.holds c.args.files.now) (g.F.Files.holds c.remove.new.self) c.args.plan.now.marker c.in_ok-remove.ensures.removed) in
+    rests (g.F.Files.images c.make_last.new.files) (g.F.Files.holds c.args.files.now) (g.F.Files.holds c.remove.new.self) (g.F.Files.holds
+    c.make_last.new.files) c.make_last.result told c.make_last.ensures.same c.make_last.ensures.durable

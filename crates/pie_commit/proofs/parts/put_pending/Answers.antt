@@ -8,7 +8,8 @@ use Rattle.pie_commit.proofs.parts.put_pending.Goals as goal
 pub returns-in-Keep-clause-done : goal.returns-in-Keep-clause-done
 returns-in-Keep-clause-done g c =
     let place = c.args.plan.now.names_place in
-    brought_none (at place (pended c.args.plan.now.pending)) (λ q. ap (λ w. at place (pended w) q) c.in-Keep.is ∙ at_same place q) (g.F.Files.holds c.args.files.now)
+    brought_none (at place (pended c.args.plan.now.pending)) (λ q. ap (λ w. at place (pended w) q) c.in-Keep.is ∙ at_same place q) (g.F.Files.holds
+    c.args.files.now)
 
 pub returns-in-Keep-clause-crash : goal.returns-in-Keep-clause-crash
 returns-in-Keep-clause-crash g c = none_marked g.F.Files.holds g.F.Files.moment g.F.Files.left_since g.F.Files.images c.args.plan.now c.args.files.now

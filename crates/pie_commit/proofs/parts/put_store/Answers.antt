@@ -8,7 +8,8 @@ use Rattle.pie_commit.proofs.parts.put_store.Goals as goal
 pub returns-in-None-clause-done : goal.returns-in-None-clause-done
 returns-in-None-clause-done g c =
     let place = c.args.plan.now.place in
-    brought_none (at place (stored c.args.plan.now.store)) (λ q. ap (λ s. at place (stored s) q) c.in-None.is ∙ at_same place q) (g.F.Files.holds c.args.files.now)
+    brought_none (at place (stored c.args.plan.now.store)) (λ q. ap (λ s. at place (stored s) q) c.in-None.is ∙ at_same place q) (g.F.Files.holds
+    c.args.files.now)
 
 pub returns-in-None-clause-crash : goal.returns-in-None-clause-crash
 returns-in-None-clause-crash g c = none_marked g.F.Files.holds g.F.Files.moment g.F.Files.left_since g.F.Files.images c.args.plan.now c.args.files.now

@@ -4,7 +4,8 @@ use Rattle.pie_commit.proofs.Standing.{call_marked, removal_keeps}
 use Rattle.pie_commit.proofs.parts.remove.Goals as goal
 
 pub returns-clause-done : goal.returns-clause-done
-returns-clause-done g c = removal_done (g.F.Files.holds c.args.files.now) (g.F.Files.holds c.remove.new.self) c.args.path.now c.remove.result c.remove.ensures.removed
+returns-clause-done g c = removal_done (g.F.Files.holds c.args.files.now) (g.F.Files.holds c.remove.new.self) c.args.path.now c.remove.result
+    c.remove.ensures.removed
 
 pub returns-clause-crash : goal.returns-clause-crash
 returns-clause-crash g c =

@@ -1,7 +1,6 @@
-use Rattle.std.proofs.Common.{◌≡◌, ◌+◌, ◌∷◌, ◌∙◌, ℕ, List, drop, length, refl, ap, sym, subst, arith, Vec, Global}
+use Rattle.std.proofs.Common.{◌≡◌, ◌+◌, ◌∷◌, ◌∙◌, ℕ, List, drop, length, refl, ap, sym, subst, arith}
 use Rattle.std.proofs.lemmas.List.{drop_more, drop_all}
-use Rattle.pie_commit.specs.Plans.{removed, at, Bytes, Gone}
-use Rattle.pie_commit.specs.Outcomes.{HasBrought}
+use Rattle.pie_commit.specs.Plans.{removed, at, Gone}
 use Rattle.pie_commit.proofs.Bringing.{removed_more, removed_none, brought_none}
 use Rattle.pie_commit.proofs.Members.{AllInner, removals_inner}
 use Rattle.pie_commit.proofs.Standing.{none_marked, both_marked, told_by, told_both, told_itself}
@@ -10,7 +9,11 @@ use Rattle.pie_commit.proofs.parts.remove_all.Goals as goal
 pub loop-path-init : goal.loop-path-init
 loop-path-init g c = (
   record { steady = refl; on = λ after h. h },
-  record { told = told_itself (g.F.Files.holds c.args.files.now); crash = none_marked g.F.Files.holds g.F.Files.moment g.F.Files.left_since g.F.Files.images c.args.plan.now c.args.files.now },
+  record {
+    told = told_itself (g.F.Files.holds c.args.files.now);
+    crash = none_marked g.F.Files.holds g.F.Files.moment g.F.Files.left_since
+        g.F.Files.images c.args.plan.now c.args.files.now;
+  },
   removals_inner c.args.plan.now c.requires,
 )
 
@@ -44,7 +47,8 @@ loop-path-preserved g c =
       record {
         told = told_both (g.F.Files.holds c.args.files.now) (g.F.Files.holds c.loop-path.files) (g.F.Files.holds c.remove.new.files) so_far.told
             (told_by (at item Gone) (g.F.Files.holds c.loop-path.files) (g.F.Files.holds c.remove.new.files) c.in_ok-remove.ensures.done);
-        crash = both_marked g.F.Files.holds g.F.Files.moment g.F.Files.left_since g.F.Files.images c.args.plan.now c.args.files.now c.loop-path.files c.remove.new.files so_far.told so_far.crash c.in_ok-remove.ensures.crash;
+        crash = both_marked g.F.Files.holds g.F.Files.moment g.F.Files.left_since g.F.Files.images c.args.plan.now c.args.files.now c.loop-path.files
+            c.remove.new.files so_far.told so_far.crash c.in_ok-remove.ensures.crash;
       },
       (subst (AllInner c.args.plan.now) next c.loop-path.invariant.2).1,
     )
@@ -52,7 +56,8 @@ loop-path-preserved g c =
 pub returns-in_err-remove-clause-crash : goal.returns-in_err-remove-clause-crash
 returns-in_err-remove-clause-crash g c =
     let so_far = c.loop-path.invariant.1 in
-    both_marked g.F.Files.holds g.F.Files.moment g.F.Files.left_since g.F.Files.images c.args.plan.now c.args.files.now c.loop-path.files c.remove.new.files so_far.told so_far.crash c.remove.ensures.crash
+    both_marked g.F.Files.holds g.F.Files.moment g.F.Files.left_since g.F.Files.images c.args.plan.now c.args.files.now c.loop-path.files
+    c.remove.new.files so_far.told so_far.crash c.remove.ensures.crash
 
 pub returns-clause-crash : goal.returns-clause-crash
 returns-clause-crash g c = c.loop-path.invariant.1.crash

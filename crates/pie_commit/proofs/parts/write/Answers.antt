@@ -4,7 +4,8 @@ use Rattle.pie_commit.proofs.Standing.{call_marked, write_keeps}
 use Rattle.pie_commit.proofs.parts.write.Goals as goal
 
 pub returns-clause-done : goal.returns-clause-done
-returns-clause-done g c = write_done _ (g.F.Files.holds c.args.files.now) (g.F.Files.holds c.write.new.self) c.args.path.now c.args.bytes.now c.write.result c.write.ensures.written
+returns-clause-done g c = write_done _ (g.F.Files.holds c.args.files.now) (g.F.Files.holds c.write.new.self) c.args.path.now c.args.bytes.now
+    c.write.result c.write.ensures.written
 
 pub returns-clause-crash : goal.returns-clause-crash
 returns-clause-crash g c =

@@ -1,6 +1,6 @@
 use Rattle.std.proofs.Common.{◌≡◌, ◌+◌, ◌∷◌, ◌∙◌, ℕ, List, drop, length, refl, ap, sym, subst, arith, Vec, Global}
 use Rattle.std.proofs.lemmas.List.{drop_more, drop_all}
-use Rattle.pie_commit.specs.Plans.{written, at, Bytes, Gone}
+use Rattle.pie_commit.specs.Plans.{written, at, Bytes}
 use Rattle.pie_commit.specs.Outcomes.{HasBrought}
 use Rattle.pie_commit.proofs.Bringing.{written_more, written_none, brought_none}
 use Rattle.pie_commit.proofs.Members.{AllInnerWrites, writes_inner}
@@ -10,7 +10,11 @@ use Rattle.pie_commit.proofs.parts.write_all.Goals as goal
 pub loop-path-init : goal.loop-path-init
 loop-path-init g c = (
   record { steady = refl; on = λ after h. h },
-  record { told = told_itself (g.F.Files.holds c.args.files.now); crash = none_marked g.F.Files.holds g.F.Files.moment g.F.Files.left_since g.F.Files.images c.args.plan.now c.args.files.now },
+  record {
+    told = told_itself (g.F.Files.holds c.args.files.now);
+    crash = none_marked g.F.Files.holds g.F.Files.moment g.F.Files.left_since
+        g.F.Files.images c.args.plan.now c.args.files.now;
+  },
   writes_inner c.args.plan.now c.requires,
 )
 
@@ -46,7 +50,8 @@ loop-path-preserved g c =
       record {
         told = told_both (g.F.Files.holds c.args.files.now) (g.F.Files.holds c.loop-path.files) (g.F.Files.holds c.write.new.files) so_far.told
             (told_by (at item.0 (Bytes item.1.items)) (g.F.Files.holds c.loop-path.files) (g.F.Files.holds c.write.new.files) done);
-        crash = both_marked g.F.Files.holds g.F.Files.moment g.F.Files.left_since g.F.Files.images c.args.plan.now c.args.files.now c.loop-path.files c.write.new.files so_far.told so_far.crash c.in_ok-write.ensures.crash;
+        crash = both_marked g.F.Files.holds g.F.Files.moment g.F.Files.left_since g.F.Files.images c.args.plan.now c.args.files.now c.loop-path.files
+            c.write.new.files so_far.told so_far.crash c.in_ok-write.ensures.crash;
       },
       (subst (AllInnerWrites c.args.plan.now) next c.loop-path.invariant.2).1,
     )
@@ -54,7 +59,8 @@ loop-path-preserved g c =
 pub returns-in_err-write-clause-crash : goal.returns-in_err-write-clause-crash
 returns-in_err-write-clause-crash g c =
     let so_far = c.loop-path.invariant.1 in
-    both_marked g.F.Files.holds g.F.Files.moment g.F.Files.left_since g.F.Files.images c.args.plan.now c.args.files.now c.loop-path.files c.write.new.files so_far.told so_far.crash c.write.ensures.crash
+    both_marked g.F.Files.holds g.F.Files.moment g.F.Files.left_since g.F.Files.images c.args.plan.now c.args.files.now c.loop-path.files
+    c.write.new.files so_far.told so_far.crash c.write.ensures.crash
 
 pub returns-clause-crash : goal.returns-clause-crash
 returns-clause-crash g c = c.loop-path.invariant.1.crash

@@ -8,4 +8,5 @@ use Rattle.pie_commit.proofs.parts.write_all.Given as goal
 abbrev pub invariant-loop-path : goal.invariant-loop-path
 invariant-loop-path g l =
     Going g.F.Files.holds g.F.Files.faults l.fn.files l.files (written l.plan.writes.items) (written (drop l.path-index l.plan.writes.items))
-    × Marking g.F.Files.holds g.F.Files.moment g.F.Files.left_since g.F.Files.images l.plan l.fn.files l.files × AllInnerWrites l.plan (drop l.path-index l.plan.writes.items)
+    × Marking g.F.Files.holds g.F.Files.moment g.F.Files.left_since g.F.Files.images l.plan l.fn.files l.files × AllInnerWrites l.plan (drop
+    l.path-index l.plan.writes.items)

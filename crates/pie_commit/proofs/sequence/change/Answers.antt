@@ -17,63 +17,86 @@ returns-clause-done g c =
     two c.in_ok-put_pending.ensures.done in
     let four = brought_both third (at p.place (stored p.store)) a (g.F.Files.holds c.put_pending.new.files) (g.F.Files.holds c.put_store.new.files)
     three c.in_ok-put_store.ensures.done in
-    in_any_case c.make_last.result (brought_still (changes p) a (g.F.Files.holds c.put_store.new.files) (g.F.Files.holds c.make_last.new.files) c.make_last.ensures.same four)
+    in_any_case c.make_last.result (brought_still (changes p) a (g.F.Files.holds c.put_store.new.files) (g.F.Files.holds c.make_last.new.files)
+    c.make_last.ensures.same four)
 
 pub returns-in_err-write_all-clause-crash : goal.returns-in_err-write_all-clause-crash
 returns-in_err-write_all-clause-crash g c =
     let p = c.args.plan.now in
-    let told1 = told_by (removed p.removals.items) (g.F.Files.holds c.args.files.now) (g.F.Files.holds c.remove_all.new.files) c.in_ok-remove_all.ensures.done in
-    let two = both_marked g.F.Files.holds g.F.Files.moment g.F.Files.left_since g.F.Files.images p c.args.files.now c.remove_all.new.files c.write_all.new.files told1 c.in_ok-remove_all.ensures.crash c.write_all.ensures.crash in
+    let told1 = told_by (removed p.removals.items) (g.F.Files.holds c.args.files.now) (g.F.Files.holds c.remove_all.new.files)
+    c.in_ok-remove_all.ensures.done in
+    let two = both_marked g.F.Files.holds g.F.Files.moment g.F.Files.left_since g.F.Files.images p c.args.files.now c.remove_all.new.files
+    c.write_all.new.files told1 c.in_ok-remove_all.ensures.crash c.write_all.ensures.crash in
     two
 
 pub returns-in_err-put_pending-clause-crash : goal.returns-in_err-put_pending-clause-crash
 returns-in_err-put_pending-clause-crash g c =
     let p = c.args.plan.now in
-    let told1 = told_by (removed p.removals.items) (g.F.Files.holds c.args.files.now) (g.F.Files.holds c.remove_all.new.files) c.in_ok-remove_all.ensures.done in
-    let two = both_marked g.F.Files.holds g.F.Files.moment g.F.Files.left_since g.F.Files.images p c.args.files.now c.remove_all.new.files c.write_all.new.files told1 c.in_ok-remove_all.ensures.crash c.write_all.ensures.crash in
+    let told1 = told_by (removed p.removals.items) (g.F.Files.holds c.args.files.now) (g.F.Files.holds c.remove_all.new.files)
+    c.in_ok-remove_all.ensures.done in
+    let two = both_marked g.F.Files.holds g.F.Files.moment g.F.Files.left_since g.F.Files.images p c.args.files.now c.remove_all.new.files
+    c.write_all.new.files told1 c.in_ok-remove_all.ensures.crash c.write_all.ensures.crash in
     let told2 = told_both (g.F.Files.holds c.args.files.now) (g.F.Files.holds c.remove_all.new.files) (g.F.Files.holds c.write_all.new.files) told1
     (told_by (written p.writes.items) (g.F.Files.holds c.remove_all.new.files) (g.F.Files.holds c.write_all.new.files) c.in_ok-write_all.ensures.done) in
-    let three = both_marked g.F.Files.holds g.F.Files.moment g.F.Files.left_since g.F.Files.images p c.args.files.now c.write_all.new.files c.put_pending.new.files told2 two c.put_pending.ensures.crash in
+    let three = both_marked g.F.Files.holds g.F.Files.moment g.F.Files.left_since g.F.Files.images p c.args.files.now c.write_all.new.files
+    c.put_pending.new.files told2 two c.put_pending.ensures.crash in
     three
 
 pub returns-in_err-put_store-clause-crash : goal.returns-in_err-put_store-clause-crash
 returns-in_err-put_store-clause-crash g c =
     let p = c.args.plan.now in
-    let told1 = told_by (removed p.removals.items) (g.F.Files.holds c.args.files.now) (g.F.Files.holds c.remove_all.new.files) c.in_ok-remove_all.ensures.done in
-    let two = both_marked g.F.Files.holds g.F.Files.moment g.F.Files.left_since g.F.Files.images p c.args.files.now c.remove_all.new.files c.write_all.new.files told1 c.in_ok-remove_all.ensures.crash c.write_all.ensures.crash in
+    let told1 = told_by (removed p.removals.items) (g.F.Files.holds c.args.files.now) (g.F.Files.holds c.remove_all.new.files)
+    c.in_ok-remove_all.ensures.done in
+    let two = both_marked g.F.Files.holds g.F.Files.moment g.F.Files.left_since g.F.Files.images p c.args.files.now c.remove_all.new.files
+    c.write_all.new.files told1 c.in_ok-remove_all.ensures.crash c.write_all.ensures.crash in
     let told2 = told_both (g.F.Files.holds c.args.files.now) (g.F.Files.holds c.remove_all.new.files) (g.F.Files.holds c.write_all.new.files) told1
     (told_by (written p.writes.items) (g.F.Files.holds c.remove_all.new.files) (g.F.Files.holds c.write_all.new.files) c.in_ok-write_all.ensures.done) in
-    let three = both_marked g.F.Files.holds g.F.Files.moment g.F.Files.left_since g.F.Files.images p c.args.files.now c.write_all.new.files c.put_pending.new.files told2 two c.put_pending.ensures.crash in
+    let three = both_marked g.F.Files.holds g.F.Files.moment g.F.Files.left_since g.F.Files.images p c.args.files.now c.write_all.new.files
+    c.put_pending.new.files told2 two c.put_pending.ensures.crash in
     let told3 = told_both (g.F.Files.holds c.args.files.now) (g.F.Files.holds c.write_all.new.files) (g.F.Files.holds c.put_pending.new.files) told2
-    (told_by (at p.names_place (pended p.pending)) (g.F.Files.holds c.write_all.new.files) (g.F.Files.holds c.put_pending.new.files) c.in_ok-put_pending.ensures.done) in
-    let four = both_marked g.F.Files.holds g.F.Files.moment g.F.Files.left_since g.F.Files.images p c.args.files.now c.put_pending.new.files c.put_store.new.files told3 three c.put_store.ensures.crash in
+    (told_by (at p.names_place (pended p.pending)) (g.F.Files.holds c.write_all.new.files) (g.F.Files.holds c.put_pending.new.files)
+    c.in_ok-put_pending.ensures.done) in
+    let four = both_marked g.F.Files.holds g.F.Files.moment g.F.Files.left_since g.F.Files.images p c.args.files.now c.put_pending.new.files
+    c.put_store.new.files told3 three c.put_store.ensures.crash in
     four
 
 pub returns-clause-crash : goal.returns-clause-crash
 returns-clause-crash g c =
     let p = c.args.plan.now in
-    let told1 = told_by (removed p.removals.items) (g.F.Files.holds c.args.files.now) (g.F.Files.holds c.remove_all.new.files) c.in_ok-remove_all.ensures.done in
-    let two = both_marked g.F.Files.holds g.F.Files.moment g.F.Files.left_since g.F.Files.images p c.args.files.now c.remove_all.new.files c.write_all.new.files told1 c.in_ok-remove_all.ensures.crash c.write_all.ensures.crash in
+    let told1 = told_by (removed p.removals.items) (g.F.Files.holds c.args.files.now) (g.F.Files.holds c.remove_all.new.files)
+    c.in_ok-remove_all.ensures.done in
+    let two = both_marked g.F.Files.holds g.F.Files.moment g.F.Files.left_since g.F.Files.images p c.args.files.now c.remove_all.new.files
+    c.write_all.new.files told1 c.in_ok-remove_all.ensures.crash c.write_all.ensures.crash in
     let told2 = told_both (g.F.Files.holds c.args.files.now) (g.F.Files.holds c.remove_all.new.files) (g.F.Files.holds c.write_all.new.files) told1
     (told_by (written p.writes.items) (g.F.Files.holds c.remove_all.new.files) (g.F.Files.holds c.write_all.new.files) c.in_ok-write_all.ensures.done) in
-    let three = both_marked g.F.Files.holds g.F.Files.moment g.F.Files.left_since g.F.Files.images p c.args.files.now c.write_all.new.files c.put_pending.new.files told2 two c.put_pending.ensures.crash in
+    let three = both_marked g.F.Files.holds g.F.Files.moment g.F.Files.left_since g.F.Files.images p c.args.files.now c.write_all.new.files
+    c.put_pending.new.files told2 two c.put_pending.ensures.crash in
     let told3 = told_both (g.F.Files.holds c.args.files.now) (g.F.Files.holds c.write_all.new.files) (g.F.Files.holds c.put_pending.new.files) told2
-    (told_by (at p.names_place (pended p.pending)) (g.F.Files.holds c.write_all.new.files) (g.F.Files.holds c.put_pending.new.files) c.in_ok-put_pending.ensures.done) in
-    let four = both_marked g.F.Files.holds g.F.Files.moment g.F.Files.left_since g.F.Files.images p c.args.files.now c.put_pending.new.files c.put_store.new.files told3 three c.put_store.ensures.crash in
+    (told_by (at p.names_place (pended p.pending)) (g.F.Files.holds c.write_all.new.files) (g.F.Files.holds c.put_pending.new.files)
+    c.in_ok-put_pending.ensures.done) in
+    let four = both_marked g.F.Files.holds g.F.Files.moment g.F.Files.left_since g.F.Files.images p c.args.files.now c.put_pending.new.files
+    c.put_store.new.files told3 three c.put_store.ensures.crash in
     let told4 = told_both (g.F.Files.holds c.args.files.now) (g.F.Files.holds c.put_pending.new.files) (g.F.Files.holds c.put_store.new.files) told3
-    (told_by (at p.place (stored p.store)) (g.F.Files.holds c.put_pending.new.files) (g.F.Files.holds c.put_store.new.files) c.in_ok-put_store.ensures.done) in
-    both_marked g.F.Files.holds g.F.Files.moment g.F.Files.left_since g.F.Files.images p c.args.files.now c.put_store.new.files c.make_last.new.files told4 four
-    (sync_marked g.F.Files.holds g.F.Files.moment g.F.Files.left_since g.F.Files.images p c.put_store.new.files c.make_last.new.files c.make_last.ensures.crash)
+    (told_by (at p.place (stored p.store)) (g.F.Files.holds c.put_pending.new.files) (g.F.Files.holds c.put_store.new.files)
+    c.in_ok-put_store.ensures.done) in
+    both_marked g.F.Files.holds g.F.Files.moment g.F.Files.left_since g.F.Files.images p c.args.files.now c.put_store.new.files c.make_last.new.files
+    told4 four
+    (sync_marked g.F.Files.holds g.F.Files.moment g.F.Files.left_since g.F.Files.images p c.put_store.new.files c.make_last.new.files
+    c.make_last.ensures.crash)
 
 pub returns-clause-durable : goal.returns-clause-durable
 returns-clause-durable g c =
     let p = c.args.plan.now in
-    let told1 = told_by (removed p.removals.items) (g.F.Files.holds c.args.files.now) (g.F.Files.holds c.remove_all.new.files) c.in_ok-remove_all.ensures.done in
+    let told1 = told_by (removed p.removals.items) (g.F.Files.holds c.args.files.now) (g.F.Files.holds c.remove_all.new.files)
+    c.in_ok-remove_all.ensures.done in
     let told2 = told_both (g.F.Files.holds c.args.files.now) (g.F.Files.holds c.remove_all.new.files) (g.F.Files.holds c.write_all.new.files) told1
     (told_by (written p.writes.items) (g.F.Files.holds c.remove_all.new.files) (g.F.Files.holds c.write_all.new.files) c.in_ok-write_all.ensures.done) in
     let told3 = told_both (g.F.Files.holds c.args.files.now) (g.F.Files.holds c.write_all.new.files) (g.F.Files.holds c.put_pending.new.files) told2
-    (told_by (at p.names_place (pended p.pending)) (g.F.Files.holds c.write_all.new.files) (g.F.Files.holds c.put_pending.new.files) c.in_ok-put_pending.ensures.done) in
+    (told_by (at p.names_place (pended p.pending)) (g.F.Files.holds c.write_all.new.files) (g.F.Files.holds c.put_pending.new.files)
+    c.in_ok-put_pending.ensures.done) in
     let told4 = told_both (g.F.Files.holds c.args.files.now) (g.F.Files.holds c.put_pending.new.files) (g.F.Files.holds c.put_store.new.files) told3
-    (told_by (at p.place (stored p.store)) (g.F.Files.holds c.put_pending.new.files) (g.F.Files.holds c.put_store.new.files) c.in_ok-put_store.ensures.done) in
-    rests (g.F.Files.images c.make_last.new.files) (g.F.Files.holds c.args.files.now) (g.F.Files.holds c.put_store.new.files) (g.F.Files.holds c.make_last.new.files) c.make_last.result told4
+    (told_by (at p.place (stored p.store)) (g.F.Files.holds c.put_pending.new.files) (g.F.Files.holds c.put_store.new.files)
+    c.in_ok-put_store.ensures.done) in
+    rests (g.F.Files.images c.make_last.new.files) (g.F.Files.holds c.args.files.now) (g.F.Files.holds c.put_store.new.files) (g.F.Files.holds
+    c.make_last.new.files) c.make_last.result told4
     c.make_last.ensures.same c.make_last.ensures.durable

@@ -2,7 +2,7 @@ use Rattle.std.proofs.Common.{ℕ, List, []}
 use Rattle.pie_commit.specs.Plans.{Bytes, Gone, changes, at, later, wanted_by}
 use Rattle.pie_commit.proofs.Bringing.{brought_both, brought_as, marked_then, on_ok}
 use Rattle.pie_commit.proofs.Standing.{told_by}
-use Rattle.pie_commit.proofs.Ending.{in_any_err, begin_failed, three_begun, change_failed, three_changed, three_ended, crash_of, failed_of}
+use Rattle.pie_commit.proofs.Ending.{in_any_err, begin_failed, three_changed, three_ended, crash_of, failed_of}
 use Rattle.pie_commit.proofs.sequence.commit_all.Goals as goal
 
 pub returns-clause-done : goal.returns-clause-done
@@ -12,29 +12,35 @@ returns-clause-done g c =
     let b = g.F.Files.holds c.end.new.files in
     let marked = at p.marker (Bytes []) in
     let changed = λ (q : List ℕ). later (changes p q) (marked q) in
-    let two = brought_both marked (changes p) a (g.F.Files.holds c.begin.new.files) (g.F.Files.holds c.change.new.files) c.in_ok-begin.ensures.done c.in_ok-change.ensures.done in
+    let two = brought_both marked (changes p) a (g.F.Files.holds c.begin.new.files) (g.F.Files.holds c.change.new.files) c.in_ok-begin.ensures.done
+    c.in_ok-change.ensures.done in
     on_ok c.end.result (λ gone. brought_as (λ q. later (at p.marker Gone q) (changed q)) (wanted_by p) a b (marked_then p)
     (brought_both changed (at p.marker Gone) a (g.F.Files.holds c.change.new.files) b two gone)) c.end.ensures.done
 
 pub returns-in_err-begin-clause-failed : goal.returns-in_err-begin-clause-failed
 returns-in_err-begin-clause-failed g c =
-    in_any_err c.from_residual.result (begin_failed g.F.Files.holds g.F.Files.moment g.F.Files.left_since g.F.Files.images c.args.plan.now c.args.files.now c.begin.new.files c.begin.ensures.crash)
+    in_any_err c.from_residual.result (begin_failed g.F.Files.holds g.F.Files.moment g.F.Files.left_since g.F.Files.images c.args.plan.now
+    c.args.files.now c.begin.new.files c.begin.ensures.crash)
 
 pub returns-in_err-change-clause-crash : goal.returns-in_err-change-clause-crash
 returns-in_err-change-clause-crash g c =
     let p = c.args.plan.now in
     let told = told_by (at p.marker (Bytes [])) (g.F.Files.holds c.args.files.now) (g.F.Files.holds c.begin.new.files) c.in_ok-begin.ensures.done in
-    three_changed g.F.Files.holds g.F.Files.moment g.F.Files.left_since g.F.Files.images p c.args.files.now c.begin.new.files c.change.new.files told c.in_ok-begin.ensures.crash c.in_ok-begin.ensures.stands c.change.ensures.crash
+    three_changed g.F.Files.holds g.F.Files.moment g.F.Files.left_since g.F.Files.images p c.args.files.now c.begin.new.files c.change.new.files told
+    c.in_ok-begin.ensures.crash c.in_ok-begin.ensures.stands c.change.ensures.crash
 
 pub returns-clause-crash : goal.returns-clause-crash
 returns-clause-crash g c =
     let p = c.args.plan.now in
     let told = told_by (at p.marker (Bytes [])) (g.F.Files.holds c.args.files.now) (g.F.Files.holds c.begin.new.files) c.in_ok-begin.ensures.done in
-    let brought = brought_both (at p.marker (Bytes [])) (changes p) (g.F.Files.holds c.args.files.now) (g.F.Files.holds c.begin.new.files) (g.F.Files.holds c.change.new.files)
+    let brought = brought_both (at p.marker (Bytes [])) (changes p) (g.F.Files.holds c.args.files.now) (g.F.Files.holds c.begin.new.files)
+    (g.F.Files.holds c.change.new.files)
     c.in_ok-begin.ensures.done c.in_ok-change.ensures.done in
-    let two = three_changed g.F.Files.holds g.F.Files.moment g.F.Files.left_since g.F.Files.images p c.args.files.now c.begin.new.files c.change.new.files told c.in_ok-begin.ensures.crash
+    let two = three_changed g.F.Files.holds g.F.Files.moment g.F.Files.left_since g.F.Files.images p c.args.files.now c.begin.new.files
+    c.change.new.files told c.in_ok-begin.ensures.crash
     c.in_ok-begin.ensures.stands c.in_ok-change.ensures.crash in
-    let all = three_ended g.F.Files.holds g.F.Files.moment g.F.Files.left_since g.F.Files.images p c.args.files.now c.begin.new.files c.change.new.files c.end.new.files told brought
+    let all = three_ended g.F.Files.holds g.F.Files.moment g.F.Files.left_since g.F.Files.images p c.args.files.now c.begin.new.files
+    c.change.new.files c.end.new.files told brought
     c.in_ok-change.ensures.durable c.end.ensures.crash two in
     crash_of g.F.Files.holds g.F.Files.moment g.F.Files.left_since g.F.Files.images p c.args.files.now c.end.new.files all
 
@@ -42,10 +48,13 @@ pub returns-clause-failed : goal.returns-clause-failed
 returns-clause-failed g c =
     let p = c.args.plan.now in
     let told = told_by (at p.marker (Bytes [])) (g.F.Files.holds c.args.files.now) (g.F.Files.holds c.begin.new.files) c.in_ok-begin.ensures.done in
-    let brought = brought_both (at p.marker (Bytes [])) (changes p) (g.F.Files.holds c.args.files.now) (g.F.Files.holds c.begin.new.files) (g.F.Files.holds c.change.new.files)
+    let brought = brought_both (at p.marker (Bytes [])) (changes p) (g.F.Files.holds c.args.files.now) (g.F.Files.holds c.begin.new.files)
+    (g.F.Files.holds c.change.new.files)
     c.in_ok-begin.ensures.done c.in_ok-change.ensures.done in
-    let two = three_changed g.F.Files.holds g.F.Files.moment g.F.Files.left_since g.F.Files.images p c.args.files.now c.begin.new.files c.change.new.files told c.in_ok-begin.ensures.crash
+    let two = three_changed g.F.Files.holds g.F.Files.moment g.F.Files.left_since g.F.Files.images p c.args.files.now c.begin.new.files
+    c.change.new.files told c.in_ok-begin.ensures.crash
     c.in_ok-begin.ensures.stands c.in_ok-change.ensures.crash in
-    let all = three_ended g.F.Files.holds g.F.Files.moment g.F.Files.left_since g.F.Files.images p c.args.files.now c.begin.new.files c.change.new.files c.end.new.files told brought
+    let all = three_ended g.F.Files.holds g.F.Files.moment g.F.Files.left_since g.F.Files.images p c.args.files.now c.begin.new.files
+    c.change.new.files c.end.new.files told brought
     c.in_ok-change.ensures.durable c.end.ensures.crash two in
     in_any_err c.end.result (failed_of g.F.Files.holds g.F.Files.moment g.F.Files.left_since g.F.Files.images p c.args.files.now c.end.new.files all)
