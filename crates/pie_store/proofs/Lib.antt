@@ -4,3 +4,4 @@ pub mod Closing
 pub mod Names
 pub mod PendingLemmas
 pub mod StoreTexts
+pub mod Empty

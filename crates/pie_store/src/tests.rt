@@ -1,6 +1,9 @@
+ghost use Rattle.std.specs.Prelude.{◌≡◌, None, []};
+
 use super::*;
 use crate::frame::hash_of;
-use pie_base::Path;
+use pie_base::{OutOfMemory, Path};
+use pie_value::Tasks;
 use std::alloc::Global;
 use std::test::Fail;
 
@@ -70,8 +73,39 @@ fn each_body_is_read_or_refused_at_its_first_fault(rt: HostRuntime) -> Result<()
     Ok(())
 }
 
+fn nothing(alloc: Global) -> StoreImage
+    ensures version { result.version ≡ 2 }
+    ensures table { result.pipeline ≡ None }
+    ensures funcs { result.funcs ≡ [] }
+    ensures roots { result.roots ≡ [] }
+    ensures rows { result.rows ≡ [] }
+{
+    StoreImage {
+        version: 2,
+        pipeline: None,
+        funcs: Funcs::new(Vec::new(alloc)),
+        roots: Tasks::new(Vec::new(alloc)),
+        rows: Rows::new(Vec::new(alloc)),
+    }
+}
+
+fn nothing_written(alloc: Global) -> Result<Vec<u8>, OutOfMemory> {
+    let image = nothing(alloc);
+    let bytes = encode_store(alloc, &image)?;
+    Ok(bytes)
+}
+
 #[test]
-fn a_store_is_written_as_it_was_read(rt: HostRuntime) -> Result<(), Fail> {
+fn the_store_of_nothing_has_49_bytes(rt: HostRuntime) -> Result<(), Fail> {
+    let bytes = nothing_written(rt.alloc())?;
+    let wanted = sealed(rt.alloc(), "5049455302000000000000000000000000")?;
+    assert_eq!(rt; bytes.len(), 49);
+    assert!(rt; bytes.as_slice() == wanted.as_slice());
+    Ok(())
+}
+
+#[test]
+fn a_store_is_read(rt: HostRuntime) -> Result<(), Fail> {
     let alloc = rt.alloc();
     let bytes = sealed(alloc, STORE)?;
     assert_eq!(rt; bytes.len(), 394);
