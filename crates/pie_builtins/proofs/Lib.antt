@@ -8,3 +8,7 @@ pub mod Spaces
 pub mod Parting
 pub mod Gathering
 pub mod LastSegments
+pub mod Sorting
+pub mod Spelling
+pub mod Splitting
+pub mod SortLaw

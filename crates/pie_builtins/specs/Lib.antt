@@ -1,3 +1,3 @@
 pub mod Agreement
-pub mod Exact
 pub mod Gathered
+pub mod Laws

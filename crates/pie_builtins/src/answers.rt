@@ -1,8 +1,9 @@
 //! The built-in functions by their names.
-ghost use Rattle.pie_value.specs.Values.{trees_of};
+ghost use Rattle.std.specs.Prelude.{IfOk};
+ghost use Rattle.pie_value.specs.Values.{tree_of, trees_of};
 ghost use Rattle.pie_value.specs.Builtins.{answer_of};
 ghost use Rattle.pie_builtins.specs.Agreement.{Agrees};
-ghost use Rattle.pie_builtins.specs.Exact.{Exact};
+ghost use Rattle.pie_builtins.specs.Laws.{LawOf};
 
 use crate::{
     BuiltinFault, bytes, finding, joins, lists, nulls, numbers, paths, pieces, ranges, segments,
@@ -14,7 +15,8 @@ use std::alloc::Global;
 /// What a built-in function answers to these arguments.
 /// Rule: docs/LANGUAGE.md, "Built-in functions".
 pub fn apply(alloc: Global, which: Builtin, args: &[Value]) -> Result<Value, BuiltinFault>
-    ensures answer { Exact which → Agrees result (answer_of which (trees_of args.now)) }
+    ensures answer { Agrees result (answer_of which (trees_of args.now)) }
+    ensures law { IfOk result (λ value. LawOf which (trees_of args.now) (tree_of value)) }
 {
     match which {
         Builtin::Path => paths::path(alloc, args),

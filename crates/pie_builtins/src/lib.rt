@@ -6,6 +6,8 @@ mod bytes;
 mod fault;
 mod finding;
 mod joins;
+#[cfg(test)]
+mod list_tests;
 mod lists;
 mod nulls;
 mod numbers;

@@ -1,8 +1,10 @@
 //! The built-in functions between numbers and texts.
-ghost use Rattle.pie_value.specs.declared.builtin.Builtin.TheVariants.{Len, ToText};
+ghost use Rattle.std.specs.Prelude.{◌≡◌};
+ghost use Rattle.pie_value.specs.declared.builtin.Builtin.TheVariants.{Len, ParseInt, ToText};
 ghost use Rattle.pie_value.specs.Tree.{items_of, count_of};
 ghost use Rattle.pie_value.specs.Values.{trees_of};
 ghost use Rattle.pie_value.specs.BuiltinForms.{made_number};
+ghost use Rattle.pie_value.specs.BuiltinTexts.{int_spelt as spec_int_spelt};
 ghost use Rattle.pie_value.specs.Builtins.{answer_of};
 ghost use Rattle.pie_builtins.specs.Agreement.{Agrees};
 
@@ -41,7 +43,9 @@ pub fn len(args: &[Value]) -> Result<Value, BuiltinFault>
 }
 
 /// The integer that a text spells, or null where it spells none of 64 bits.
-pub fn parse_int(args: &[Value]) -> Result<Value, BuiltinFault> {
+pub fn parse_int(args: &[Value]) -> Result<Value, BuiltinFault>
+    ensures { Agrees result (answer_of ParseInt (trees_of args.now)) }
+{
     match args {
         [Value::Text(text)] => match int_spelt(text.as_str()) {
             Some(n) => made(Value::Int(n)),
@@ -52,11 +56,13 @@ pub fn parse_int(args: &[Value]) -> Result<Value, BuiltinFault> {
 }
 
 // A minus sign if the integer is below 0, and then digits. No plus sign may stand there.
-fn int_spelt(text: &str) -> Option<i64> {
-    match text.as_bytes() {
-        [b'+', ..] => None,
-        _ => text.parse::<i64>().ok(),
+fn int_spelt(text: &str) -> Option<i64>
+    ensures { result ≡ spec_int_spelt text.now }
+{
+    if text.as_bytes().starts_with(b"+") {
+        return None;
     }
+    text.parse::<i64>().ok()
 }
 
 // How many items there are.

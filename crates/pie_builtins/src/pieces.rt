@@ -1,14 +1,15 @@
 //! The built-in functions that take a text apart at the occurrences of another. Each goes through the text once,
 //! from the left, and takes no more memory than a value may have and an argument more.
-ghost use Rattle.std.specs.Prelude.{◌≡◌, ◌<◌, ◌++◌, ◌∷◌, [], length, OnOk};
+ghost use Rattle.std.specs.Prelude.{◌≡◌, ◌<◌, ◌++◌, ◌∷◌, [], codes, length, IfOk, OnOk};
 ghost use Rattle.pie_value.specs.Tree.{TText};
 ghost use Rattle.pie_value.specs.declared.builtin.Builtin.TheVariants.{Lines, Replace, Split};
-ghost use Rattle.pie_value.specs.Values.{trees_of};
+ghost use Rattle.pie_value.specs.Values.{tree_of, trees_of};
 ghost use Rattle.pie_value.specs.BuiltinItems.{text_list};
-ghost use Rattle.pie_value.specs.BuiltinTexts.{pieces, without_last_empty, replaced as spec_replaced, with_between};
+ghost use Rattle.pie_value.specs.BuiltinTexts.{lines_of, pieces, without_last_empty, replaced as spec_replaced, with_between};
 ghost use Rattle.pie_value.specs.BuiltinForms.{made as spec_made};
 ghost use Rattle.pie_value.specs.Builtins.{answer_of, split_answer};
 ghost use Rattle.pie_builtins.specs.Agreement.{Agrees};
+ghost use Rattle.pie_builtins.specs.Laws.{AreLines, AreSplit, IsReplaced, IsTexts, LawOf};
 
 use crate::BuiltinFault;
 use crate::fault::{made, made_text, refused};
@@ -18,7 +19,8 @@ use std::alloc::Global;
 
 /// The pieces between the occurrences of the second text in the first.
 pub fn split(alloc: Global, args: &[Value]) -> Result<Value, BuiltinFault>
-    ensures { Agrees result (answer_of Split (trees_of args.now)) }
+    ensures answer { Agrees result (answer_of Split (trees_of args.now)) }
+    ensures law { IfOk result (λ value. LawOf Split (trees_of args.now) (tree_of value)) }
 {
     match args {
         [Value::Text(text), Value::Text(part)] => split_at(alloc, text.as_str(), part.as_str()),
@@ -28,17 +30,19 @@ pub fn split(alloc: Global, args: &[Value]) -> Result<Value, BuiltinFault>
 
 /// The pieces between newlines, without a last empty one.
 pub fn lines(alloc: Global, args: &[Value]) -> Result<Value, BuiltinFault>
-    ensures { Agrees result (answer_of Lines (trees_of args.now)) }
+    ensures answer { Agrees result (answer_of Lines (trees_of args.now)) }
+    ensures law { IfOk result (λ value. LawOf Lines (trees_of args.now) (tree_of value)) }
 {
     match args {
-        [Value::Text(text)] => all_lines(alloc, text.as_str(), "\n"),
+        [Value::Text(text)] => lines_in(alloc, text.as_str()),
         _ => refused(FaultKind::Unknown),
     }
 }
 
 /// The first text, in which the occurrences of the second become the third.
 pub fn replace(alloc: Global, args: &[Value]) -> Result<Value, BuiltinFault>
-    ensures { Agrees result (answer_of Replace (trees_of args.now)) }
+    ensures answer { Agrees result (answer_of Replace (trees_of args.now)) }
+    ensures law { IfOk result (λ value. LawOf Replace (trees_of args.now) (tree_of value)) }
 {
     match args {
         [Value::Text(text), Value::Text(part), Value::Text(by)] => {
@@ -51,7 +55,8 @@ pub fn replace(alloc: Global, args: &[Value]) -> Result<Value, BuiltinFault>
 // The pieces between the occurrences of the second text in the first.
 #[tactic(auto, using(crate::proofs::Parting::split_at_none, crate::proofs::Parting::split_at_some))]
 fn split_at(alloc: Global, text: &str, part: &str) -> Result<Value, BuiltinFault>
-    ensures { Agrees result (split_answer text.now part.now) }
+    ensures answer { Agrees result (split_answer text.now part.now) }
+    ensures law { IfOk result (λ value. IsTexts (AreSplit text.now part.now) (tree_of value)) }
 {
     if part.is_empty() {
         return refused(FaultKind::Range);
@@ -59,10 +64,19 @@ fn split_at(alloc: Global, text: &str, part: &str) -> Result<Value, BuiltinFault
     all_pieces(alloc, text, part)
 }
 
+// The pieces between newlines, without a last empty one.
+fn lines_in(alloc: Global, text: &str) -> Result<Value, BuiltinFault>
+    ensures answer { Agrees result (spec_made (text_list (lines_of text.now))) }
+    ensures law { IfOk result (λ value. IsTexts (AreLines text.now (codes "\n")) (tree_of value)) }
+{
+    all_lines(alloc, text, "\n")
+}
+
 // The first text, in which the occurrences of the second become the third.
 #[tactic(auto, using(crate::proofs::Parting::replaced_none, crate::proofs::Parting::replaced_some))]
 fn replaced(alloc: Global, text: &str, part: &str, by: &str) -> Result<Value, BuiltinFault>
-    ensures { Agrees result (spec_made (TText (spec_replaced text.now part.now by.now))) }
+    ensures answer { Agrees result (spec_made (TText (spec_replaced text.now part.now by.now))) }
+    ensures law { IfOk result (λ value. IsReplaced text.now part.now by.now (tree_of value)) }
 {
     if part.is_empty() {
         return made_text(alloc, text);

@@ -1,74 +1,146 @@
 //! Lists in ascending order.
+ghost use Rattle.std.specs.Prelude.{◌≡◌, map, option_map, IfOk};
+ghost use Rattle.std.specs.Ordering.{int_cmp, nat_cmp};
+ghost use Rattle.std.specs.Cmp.Lexicographic.{slice_cmp};
+ghost use Rattle.pie_value.specs.Tree.{TInt, TList, TPath, TText, items_of};
+ghost use Rattle.pie_value.specs.declared.builtin.Builtin.TheVariants.{Sort};
+ghost use Rattle.pie_value.specs.Values.{tree_of, trees_of};
+ghost use Rattle.pie_value.specs.BuiltinItems.{all_as, as_int, as_path, as_text, sorted_by};
+ghost use Rattle.pie_value.specs.BuiltinForms.{made as spec_made};
+ghost use Rattle.pie_value.specs.Builtins.{answer_of, sort_answer};
+ghost use Rattle.pie_builtins.specs.Agreement.{Agrees};
+ghost use Rattle.pie_builtins.specs.Laws.{IsSortedList, LawOf};
 
 use crate::BuiltinFault;
 use crate::fault::{made, refused};
-use pie_base::{FaultKind, Text};
+use pie_base::{FaultKind, OutOfMemory, Path, Text};
 use pie_value::{Items, Value};
 use std::alloc::Global;
 
 /// The items in ascending order, where all are integers, texts or paths.
-pub fn sort(alloc: Global, args: &[Value]) -> Result<Value, BuiltinFault> {
+pub fn sort(alloc: Global, args: &[Value]) -> Result<Value, BuiltinFault>
+    ensures answer { Agrees result (answer_of Sort (trees_of args.now)) }
+    ensures law { IfOk result (λ value. LawOf Sort (trees_of args.now) (tree_of value)) }
+{
     match args {
-        [Value::List(items)] => sorted(alloc, items.as_slice()),
+        [Value::List(items)] => list_sorted(alloc, items),
         _ => refused(FaultKind::Unknown),
     }
 }
 
-// The kind of the first item is that of all.
-fn sorted(alloc: Global, items: &[Value]) -> Result<Value, BuiltinFault> {
-    match items {
-        [] => made(Value::List(Items::new())),
-        [Value::Int(_), ..] => sorted_ints(alloc, items),
-        [Value::Text(_), ..] => sorted_texts(alloc, items),
-        [Value::Path(_), ..] => sorted_paths(alloc, items),
-        _ => refused(FaultKind::Unknown),
+// The items of a list in ascending order.
+fn list_sorted(alloc: Global, items: &Items) -> Result<Value, BuiltinFault>
+    ensures answer { let ts = items_of items.now in Agrees result (sort_answer ts (all_as as_int ts) (all_as as_text ts) (all_as as_path ts)) }
+    ensures law { IfOk result (λ value. IsSortedList (items_of items.now) (tree_of value)) }
+{
+    sorted(alloc, items.as_slice())
+}
+
+// The same of items in a slice: all of them are of one kind.
+fn sorted(alloc: Global, items: &[Value]) -> Result<Value, BuiltinFault>
+    ensures { let ts = items_of (trees_of items.now) in Agrees result (sort_answer ts (all_as as_int ts) (all_as as_text ts) (all_as as_path ts)) }
+{
+    if let Some(ints) = all_ints(alloc, items)? {
+        return sorted_ints(alloc, ints);
+    }
+    if let Some(texts) = all_texts(alloc, items)? {
+        return sorted_texts(alloc, texts);
+    }
+    match all_paths(alloc, items)? {
+        Some(paths) => sorted_paths(alloc, paths),
+        None => refused(FaultKind::Unknown),
     }
 }
 
-fn sorted_ints(alloc: Global, items: &[Value]) -> Result<Value, BuiltinFault> {
+// The items as integers, where each is one.
+fn all_ints(alloc: Global, items: &[Value]) -> Result<Option<Vec<i64>>, OutOfMemory>
+    ensures { IfOk result (λ found. option_map (λ ints. ints.items) found ≡ all_as as_int (items_of (trees_of items.now))) }
+{
     let mut ints = Vec::new(alloc);
     for item in items {
         match item {
             Value::Int(n) => ints.push(*n)?,
-            _ => return refused(FaultKind::Unknown),
+            _ => return Ok(None),
         }
     }
-    ints.sort()?;
-    let mut sorted = Items::new();
-    for n in ints {
-        sorted.push(alloc, Value::Int(n))?;
-    }
-    made(Value::List(sorted))
+    Ok(Some(ints))
 }
 
-fn sorted_texts(alloc: Global, items: &[Value]) -> Result<Value, BuiltinFault> {
+// The items as texts, where each is one.
+fn all_texts(alloc: Global, items: &[Value]) -> Result<Option<Vec<&str>>, OutOfMemory>
+    ensures { IfOk result (λ found. option_map (λ texts. map (λ text. text.now) texts.items) found ≡ all_as as_text (items_of (trees_of items.now))) }
+{
     let mut texts = Vec::new(alloc);
     for item in items {
         match item {
             Value::Text(text) => texts.push(text.as_str())?,
-            _ => return refused(FaultKind::Unknown),
+            _ => return Ok(None),
         }
     }
-    texts.sort()?;
-    let mut sorted = Items::new();
-    for text in texts {
-        sorted.push(alloc, Value::Text(Text::new(alloc, text)?))?;
-    }
-    made(Value::List(sorted))
+    Ok(Some(texts))
 }
 
-fn sorted_paths(alloc: Global, items: &[Value]) -> Result<Value, BuiltinFault> {
+// The items as paths, where each is one.
+fn all_paths(alloc: Global, items: &[Value]) -> Result<Option<Vec<Path>>, OutOfMemory>
+    ensures { IfOk result (λ found. option_map (λ paths. paths.items) found ≡ all_as as_path (items_of (trees_of items.now))) }
+{
     let mut paths = Vec::new(alloc);
     for item in items {
         match item {
             Value::Path(path) => paths.push(path.copy()?)?,
-            _ => return refused(FaultKind::Unknown),
+            _ => return Ok(None),
         }
     }
+    Ok(Some(paths))
+}
+
+fn sorted_ints(alloc: Global, mut ints: Vec<i64>) -> Result<Value, BuiltinFault>
+    ensures { Agrees result (spec_made (TList (items_of (map TInt (sorted_by int_cmp ints.items))))) }
+{
+    ints.sort()?;
+    made(Value::List(list_of_ints(alloc, ints.as_slice())?))
+}
+
+fn sorted_texts(alloc: Global, mut texts: Vec<&str>) -> Result<Value, BuiltinFault>
+    ensures { Agrees result (spec_made (TList (items_of (map TText (sorted_by (slice_cmp nat_cmp) (map (λ text. text.now) texts.entry.items)))))) }
+{
+    texts.sort()?;
+    made(Value::List(list_of_texts(alloc, texts.as_slice())?))
+}
+
+fn sorted_paths(alloc: Global, mut paths: Vec<Path>) -> Result<Value, BuiltinFault>
+    ensures { Agrees result (spec_made (TList (items_of (map TPath (sorted_by (slice_cmp nat_cmp) paths.items))))) }
+{
     paths.sort()?;
-    let mut sorted = Items::new();
-    for path in paths {
-        sorted.push(alloc, Value::Path(path))?;
+    made(Value::List(list_of_paths(alloc, paths.as_slice())?))
+}
+
+fn list_of_ints(alloc: Global, ints: &[i64]) -> Result<Items, OutOfMemory>
+    ensures { IfOk result (λ items. items ≡ map TInt ints.now) }
+{
+    let mut items = Items::new();
+    for n in ints {
+        items.push(alloc, Value::Int(*n))?;
     }
-    made(Value::List(sorted))
+    Ok(items)
+}
+
+fn list_of_texts(alloc: Global, texts: &[&str]) -> Result<Items, OutOfMemory>
+    ensures { IfOk result (λ items. items ≡ map TText (map (λ text. text.now) texts.now)) }
+{
+    let mut items = Items::new();
+    for text in texts {
+        items.push(alloc, Value::Text(Text::new(alloc, text)?))?;
+    }
+    Ok(items)
+}
+
+fn list_of_paths(alloc: Global, paths: &[Path]) -> Result<Items, OutOfMemory>
+    ensures { IfOk result (λ items. items ≡ map TPath paths.now) }
+{
+    let mut items = Items::new();
+    for path in paths {
+        items.push(alloc, Value::Path(path.copy()?))?;
+    }
+    Ok(items)
 }

@@ -5,11 +5,11 @@ use pie_value::{Blob, Builtin, Items, Value, show};
 use std::alloc::Global;
 use std::test::Fail;
 
-fn text(alloc: Global, text: &str) -> Result<Value, Fail> {
+pub(crate) fn text(alloc: Global, text: &str) -> Result<Value, Fail> {
     Ok(Value::Text(Text::new(alloc, text)?))
 }
 
-fn path(alloc: Global, text: &str) -> Result<Value, Fail> {
+pub(crate) fn path(alloc: Global, text: &str) -> Result<Value, Fail> {
     Ok(Value::Path(Path::read(alloc, text)?))
 }
 
@@ -17,7 +17,7 @@ fn bytes(alloc: Global, bytes: &[u8]) -> Result<Value, Fail> {
     Ok(Value::Bytes(Blob::new(bytes.to_vec(alloc)?)))
 }
 
-fn list(alloc: Global, values: Vec<Value>) -> Result<Value, Fail> {
+pub(crate) fn list(alloc: Global, values: Vec<Value>) -> Result<Value, Fail> {
     let mut items = Items::new();
     for value in values {
         items.push(alloc, value)?;
@@ -38,7 +38,7 @@ fn fault_name(fault: &BuiltinFault) -> &'static str {
 }
 
 // What a built-in function answers, as text: the value as it is shown, or the fault.
-fn answer(alloc: Global, which: Builtin, args: &[Value]) -> Result<String, Fail> {
+pub(crate) fn answer(alloc: Global, which: Builtin, args: &[Value]) -> Result<String, Fail> {
     match apply(alloc, which, args) {
         Ok(value) => Ok(show(alloc, &value)?),
         Err(fault) => Ok(String::from_str(alloc, fault_name(&fault))?),
@@ -70,17 +70,6 @@ fn a_text_becomes_a_path_bytes_or_a_text_without_spaces(rt: HostRuntime) -> Resu
         (Builtin::Lines, "a\n\n", "[\"a\", \"\"]"),
         (Builtin::Lines, "", "[]"),
         (Builtin::Lines, "a\nb", "[\"a\", \"b\"]"),
-        (Builtin::ParseInt, "-0", "0"),
-        (Builtin::ParseInt, "+1", "null"),
-        (Builtin::ParseInt, "-", "null"),
-        (Builtin::ParseInt, "", "null"),
-        (Builtin::ParseInt, "000000000000000000000000007", "7"),
-        (
-            Builtin::ParseInt,
-            "-9223372036854775808",
-            "-9223372036854775808",
-        ),
-        (Builtin::ParseInt, "9223372036854775808", "null"),
         (Builtin::Len, "é", "2"),
         (Builtin::Some, "a", "\"a\""),
         (Builtin::IsNull, "a", "false"),
@@ -92,6 +81,30 @@ fn a_text_becomes_a_path_bytes_or_a_text_without_spaces(rt: HostRuntime) -> Resu
     ];
     for (which, s, wanted) in cases {
         let found = of_text(rt.alloc(), which, s)?;
+        assert_eq!(rt; found.as_str(), wanted, "at {s}");
+    }
+    Ok(())
+}
+
+#[test]
+fn an_integer_is_an_optional_minus_sign_and_digits(rt: HostRuntime) -> Result<(), Fail> {
+    let cases = [
+        ("-0", "0"),
+        ("-", "null"),
+        ("+1", "null"),
+        ("", "null"),
+        ("--1", "null"),
+        (" 1", "null"),
+        ("1_0", "null"),
+        ("000000000000000000000000007", "7"),
+        ("-000000000000000000000000007", "-7"),
+        ("9223372036854775807", "9223372036854775807"),
+        ("9223372036854775808", "null"),
+        ("-9223372036854775808", "-9223372036854775808"),
+        ("-9223372036854775809", "null"),
+    ];
+    for (s, wanted) in cases {
+        let found = of_text(rt.alloc(), Builtin::ParseInt, s)?;
         assert_eq!(rt; found.as_str(), wanted, "at {s}");
     }
     Ok(())
@@ -177,28 +190,6 @@ fn paths_are_joined_and_taken_apart(rt: HostRuntime) -> Result<(), Fail> {
 }
 
 #[test]
-fn lists_are_counted_read_and_turned(rt: HostRuntime) -> Result<(), Fail> {
-    let values = vec![in rt.alloc(); Value::Int(5), Value::Null]?;
-    let args = [list(rt.alloc(), values)?];
-    let found = answer(rt.alloc(), Builtin::Len, args.as_slice())?;
-    assert_eq!(rt; found.as_str(), "2");
-    let found = answer(rt.alloc(), Builtin::Reverse, args.as_slice())?;
-    assert_eq!(rt; found.as_str(), "[null, 5]");
-    Ok(())
-}
-
-#[test]
-fn an_item_is_counted_from_0(rt: HostRuntime) -> Result<(), Fail> {
-    for (place, wanted) in [(0, "5"), (1, "null"), (2, "Range"), (-1, "Range")] {
-        let values = vec![in rt.alloc(); Value::Int(5), Value::Null]?;
-        let args = [list(rt.alloc(), values)?, Value::Int(place)];
-        let found = answer(rt.alloc(), Builtin::At, args.as_slice())?;
-        assert_eq!(rt; found.as_str(), wanted, "at {place}");
-    }
-    Ok(())
-}
-
-#[test]
 fn null_has_no_value(rt: HostRuntime) -> Result<(), Fail> {
     let cases = [
         (Builtin::Get, "Null"),
@@ -241,44 +232,5 @@ fn occurrences_are_replaced_from_the_left(rt: HostRuntime) -> Result<(), Fail> {
         let found = answer(rt.alloc(), Builtin::Replace, args.as_slice())?;
         assert_eq!(rt; found.as_str(), wanted, "at {s}");
     }
-    Ok(())
-}
-
-#[test]
-fn a_range_ends_before_its_last(rt: HostRuntime) -> Result<(), Fail> {
-    let cases = [
-        (-1, 2, "[-1, 0, 1]"),
-        (2, 2, "[]"),
-        (3, 2, "[]"),
-        (-9223372036854775807, 9223372036854775807, "Big"),
-        (
-            9223372036854775806,
-            9223372036854775807,
-            "[9223372036854775806]",
-        ),
-    ];
-    for (from, to, wanted) in cases {
-        let args = [Value::Int(from), Value::Int(to)];
-        let found = answer(rt.alloc(), Builtin::Range, args.as_slice())?;
-        assert_eq!(rt; found.as_str(), wanted, "from {from} to {to}");
-    }
-    Ok(())
-}
-
-#[test]
-fn items_are_joined_and_sorted(rt: HostRuntime) -> Result<(), Fail> {
-    let alloc = rt.alloc();
-    let values = vec![in alloc; text(alloc, "b")?, text(alloc, "ab")?]?;
-    let args = [list(alloc, values)?, text(alloc, ", ")?];
-    let joined = answer(alloc, Builtin::JoinText, args.as_slice())?;
-    assert_eq!(rt; joined.as_str(), "\"b, ab\"");
-    let values = vec![in alloc; Value::Int(2), Value::Int(-1), Value::Int(1)]?;
-    let args = [list(alloc, values)?];
-    let sorted = answer(alloc, Builtin::Sort, args.as_slice())?;
-    assert_eq!(rt; sorted.as_str(), "[-1, 1, 2]");
-    let values = vec![in alloc; list(alloc, Vec::new(alloc))?, text(alloc, "a")?]?;
-    let args = [list(alloc, values)?];
-    let refused = answer(alloc, Builtin::Flatten, args.as_slice())?;
-    assert_eq!(rt; refused.as_str(), "Unknown");
     Ok(())
 }
