@@ -1,8 +1,9 @@
 pub mod AgreeSteps
 pub mod CycleSteps
 pub mod Inserting
+pub mod MarkSteps
 pub mod Numbering
-pub mod PlacingSteps
 pub mod RingSteps
-pub mod Targets
-pub mod WithinSteps
+pub mod RunSteps
+pub mod SideSteps
+pub mod StandingSteps

@@ -1,3 +1,6 @@
 pub mod Cycles
+pub mod Founds
 pub mod Places
-pub mod Shifts
+pub mod Runs
+pub mod Sides
+pub mod Standing

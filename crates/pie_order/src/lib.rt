@@ -3,8 +3,12 @@
 
 mod agreeing;
 mod cycle;
+mod marks;
 mod order;
-mod shift;
+mod placed;
+mod placing;
+mod search;
+mod side;
 #[cfg(test)]
 mod tests;
 mod within;
