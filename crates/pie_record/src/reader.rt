@@ -1,5 +1,5 @@
 //! A reader of canonical parts, which goes once from the left.
-ghost use Rattle.std.specs.Prelude.{◌≡◌, ◌-◌, List, length, IfOk, MatchOption, true, false};
+ghost use Rattle.std.specs.Prelude.{◌≡◌, ◌-◌, ◌<◌, ◌^◌, List, length, IfOk, MatchOption, true, false};
 ghost use Rattle.std.specs.Str.{is_utf8};
 ghost use Rattle.pie_value.specs.Reading.{is_path_text};
 ghost use Rattle.pie_value.specs.Canonical.{enc_task, IsCanonicalTask};
@@ -78,7 +78,8 @@ impl<'a> Reader<'a> {
     /// A number in four bytes.
     #[tactic(auto, unfolding(pie_value::specs::Reading::number_of))]
     pub fn number(&mut self) -> Result<usize, RecordFault>
-        ensures { Agrees (λ n. n) result self.new (number_at self.old) }
+        ensures read { Agrees (λ n. n) result self.new (number_at self.old) }
+        ensures small { IfOk result (λ n. n < 2 ^ 32) }
     {
         let Some((digits, rest)) = self.rest.split_first_chunk::<4>() else {
             return Err(RecordFault::Short);

@@ -1,5 +1,6 @@
 use super::*;
 use pie_base::{OutOfMemory, Path, Text};
+use pie_graph::TaskNo;
 use pie_value::{Items, Stamp, Task, Value};
 use std::alloc::Global;
 use std::test::Fail;
@@ -101,5 +102,22 @@ fn a_task_keeps_its_number(rt: HostRuntime) -> Result<(), Fail> {
         let absent = task.is_small() && names.number(&task)?.is_none();
         assert!(rt; absent, "at {func}");
     }
+    Ok(())
+}
+
+#[test]
+fn a_second_record_takes_the_place_of_the_first(rt: HostRuntime) -> Result<(), Fail> {
+    let alloc = rt.alloc();
+    let mut records = Records::new(alloc);
+    for digits in [RECORD, "0000000374776f00000000000000000000000000"] {
+        let bytes = hex::decode(alloc, digits)?;
+        let (rec, _) = decode_record(alloc, bytes.as_slice())?;
+        records.put(TaskNo(3), rec)?;
+    }
+    assert!(rt; records.get(TaskNo(0)).is_none());
+    let two = records
+        .get(TaskNo(3))
+        .is_some_and(|rec| rec.task.func.as_str() == "two");
+    assert!(rt; two);
     Ok(())
 }
