@@ -9,7 +9,7 @@ use Rattle.pie_store.specs.Ranks.{Ranked, knows}
 use Rattle.pie_store.specs.Reading.{Parsed, placed, list_at, next_func, next_root, next_row, first_missing, closed, then_image, image_of, tail_of}
 use Rattle.pie_store.specs.Reading.{contents_1, contents_2}
 
-left_over : (rest : List ℕ) (image : StoreImage) → 0 < length rest → closed None rest image ≡ Err More
+pub left_over : (rest : List ℕ) (image : StoreImage) → 0 < length rest → closed None rest image ≡ Err More
 left_over [] image h = absurd (omega (arith, h))
 left_over (b ∷ rest) image h = refl
 

@@ -1,7 +1,6 @@
 -- The store of nothing can be stored.
-use Rattle.std.proofs.Common.{◌≡◌, ◌≢◌, ℕ, ◌<◌, ◌^◌, List, [], length, sym, subst, arith}
-use Rattle.std.specs.Prelude.{All, Contains, Option, None, IsTrue}
-use Rattle.std.specs.List.{AllPairs}
+use Rattle.std.proofs.Common.{◌≡◌, ◌<◌, ◌^◌, List, [], length, sym, subst, arith}
+use Rattle.std.specs.Prelude.{All, Contains, None}
 use Rattle.std.proofs.lemmas.List.Elements.{All-nil}
 use Rattle.pie_value.specs.declared.task.Task.{Task}
 use Rattle.pie_value.specs.Canonical.{IsEncodableTask}

@@ -1,14 +1,14 @@
 -- Reading pending names line by line.
 use Rattle.std.proofs.Common.{◌≡◌, ◌≢◌, ℕ, suc, ◌+◌, ◌-◌, ◌<◌, ◌≤◌, Bool, true, false, ◌&&◌, cond, List, [], ◌∷◌, ◌++◌, length, get_or, take, drop}
 use Rattle.std.proofs.Common.{refl, sym, ap, subst, ◌∙◌, append_assoc, append-nil, arith, inl, inr}
-use Rattle.std.specs.Prelude.{All, IsTrue, Option, Some, None, slice_get, ◌==◌, ◌⊎◌}
-use Rattle.std.specs.List.{flat_map, position, position_or_len}
+use Rattle.std.specs.Prelude.{All, Option, Some, None, slice_get, ◌==◌}
+use Rattle.std.specs.List.{position, position_or_len}
 use Rattle.std.proofs.lemmas.List.Sums.{fails_before_first}
 use Rattle.std.proofs.lemmas.Bool.{eqb-true, ltb-false, cases_lt}
-use Rattle.std.proofs.lemmas.List.{drop_more, take-append-drop, length-take, get_or-take, length-append, get_or-append-add, get_or_append_left, get_or_push, length_push, get_or_default}
+use Rattle.std.proofs.lemmas.List.{drop_more, take-append-drop, length-take, get_or-take, length-append, get_or_append_left, get_or_push, length_push, get_or_default}
 use Rattle.std.proofs.lemmas.List.Quantifiers.{position-Some}
 use Rattle.std.proofs.lemmas.List.Elements.{All-nil, All-push, All-head, All-tail}
-use Rattle.std.proofs.lemmas.Option.{slice_get-get_or, slice_get_past}
+use Rattle.std.proofs.lemmas.Option.{slice_get-get_or}
 use Rattle.pie_value.specs.Reading.{is_path_text}
 use Rattle.pie_store.specs.Pending.{is_newline, line, lines, path_before, path_follows, path_last, AreAscending, IsName, IsPending}
 use Rattle.pie_record.proofs.Steps.{both_true, both_on}
@@ -215,3 +215,16 @@ picked names text = cond (is_path_text text && path_last names text) (Some text)
 
 pub not_zero : (n : ℕ) → (n == 0) ≡ false → n ≡ 0 → ⊥
 not_zero n f e = let t : (0 == 0) ≡ true = refl in let g : (0 == 0) ≡ false = subst (λ (x : ℕ). (x == 0) ≡ false) e f in absurd (cc)
+
+-- two readings of one text
+begun : (names all : List (List ℕ)) → All IsName names → All IsName all → lines names ≡ lines all → names ≡ all
+begun names all n m e =
+    let k = more_of names all [] n m (append-nil (lines names) ∙ e) in
+    none_left k.0 k.1 k.2
+  where
+    none_left : (more : List (List ℕ)) → all ≡ names ++ more → [] ≡ lines more → names ≡ all
+    none_left [] a b = sym (a ∙ append-nil names)
+    none_left (q ∷ more) a b = absurd (unlike q (lines more) (sym (line_on q (lines more)) ∙ sym b))
+
+pub same_names : (names all : List (List ℕ)) (bytes : List ℕ) → IsPending names bytes → IsPending all bytes → names ≡ all
+same_names names all bytes p q = begun names all p.paths q.paths (sym p.bytes ∙ q.bytes)

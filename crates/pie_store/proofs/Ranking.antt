@@ -1,19 +1,17 @@
 -- Records with their heights: look-ups, and one more.
-use Rattle.std.proofs.Common.{◌≡◌, ◌≢◌, ℕ, zero, suc, ◌+◌, ◌-◌, ◌<◌, ◌≤◌, ◌^◌, Bool, true, false, cond, List, [], ◌∷◌, ◌++◌, length, get_or, map}
+use Rattle.std.proofs.Common.{◌≡◌, ◌≢◌, ℕ, zero, suc, ◌-◌, ◌<◌, ◌≤◌, ◌^◌, Bool, true, false, cond, List, [], ◌∷◌, ◌++◌, length, get_or, map}
 use Rattle.std.proofs.Common.{refl, sym, ap, subst, ◌∙◌, arith}
 use Rattle.std.specs.Prelude.{All, Contains, Option, Some, None, slice_get}
-use Rattle.std.specs.List.{zip, AllPairs}
-use Rattle.std.specs.Str.{bytes_eq}
+use Rattle.std.specs.List.{zip}
 use Rattle.std.proofs.lemmas.Slice.Eq.{bytes_eq-Decides}
 use Rattle.std.proofs.lemmas.Slice.Zip.{length-zip, get_or-zip}
 use Rattle.std.proofs.lemmas.List.{get_or-map, get_or_default, length-map, map-append, length_push}
 use Rattle.std.proofs.lemmas.List.Quantifiers.{all_pairs_push}
 use Rattle.std.proofs.lemmas.List.Elements.{All-push, All-head, All-tail}
-use Rattle.std.proofs.lemmas.Option.{slice_get-get_or, slice_get_past, slice_get_within, get_or_from_slice_get}
+use Rattle.std.proofs.lemmas.Option.{slice_get-get_or, slice_get_within, get_or_from_slice_get}
 use Rattle.pie_value.specs.declared.task.Task.{Task}
 use Rattle.pie_value.specs.Canonical.{enc_task}
 use Rattle.pie_record.specs.declared.task_record.TaskRecord.{TaskRecord}
-use Rattle.pie_record.specs.Names.{AreDistinct}
 use Rattle.pie_record.proofs.Naming.{bytes_tell}
 use Rattle.pie_store.specs.Ranks.{Ranked, same_task, rank_in, IsStored, AreRanked}
 use Rattle.pie_store.specs.Reading.{rows_of}
@@ -40,10 +38,10 @@ zip_firsts (s ∷ rows) (k ∷ heights) e = ap (λ (l : List TaskRecord). s ∷ 
 
 -- ---- the height of a task
 
-same_refl : (t : Task) → same_task t t ≡ true
+pub same_refl : (t : Task) → same_task t t ≡ true
 same_refl t = (bytes_eq-Decides (enc_task t) (enc_task t)).1 refl
 
-same_is : (t u : Task) → IsStored t → IsStored u → same_task t u ≡ true → t ≡ u
+pub same_is : (t u : Task) → IsStored t → IsStored u → same_task t u ≡ true → t ≡ u
 same_is t u c d e = bytes_tell t u c d ((bytes_eq-Decides (enc_task t) (enc_task u)).0 e)
 
 unequal : (b : Bool) → (b ≡ true → ⊥) → b ≡ false

@@ -3,7 +3,7 @@ use Rattle.std.specs.Prelude.{ℕ, Bool, true, List, Option, Some, None}
 use Rattle.std.proofs.Common.{Vec, Global}
 use Rattle.std.specs.List.{list_any}
 use Rattle.std.specs.Str.{bytes_eq}
-use Rattle.indexmap.specs.IndexSet.{IndexSet, keys}
+use Rattle.indexmap.specs.IndexSet.{IndexSet}
 use Rattle.pie_store.specs.declared.known.Known.{Known}
 
 -- a name is in the set

@@ -7,3 +7,6 @@ pub mod RankCodes
 pub mod Known
 pub mod Pending
 pub mod Texts
+pub mod Offers
+pub mod ListFaults
+pub mod Faults

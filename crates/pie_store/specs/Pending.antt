@@ -1,5 +1,5 @@
 -- The text of pending names.
-use Rattle.std.specs.Prelude.{◌≡◌, ◌≢◌, ℕ, suc, ◌+◌, ◌-◌, ◌<◌, ◌≤◌, ◌==◌, Bool, true, List, [], ◌∷◌, ◌++◌, length, Option, Some, None, IsTrue, All, slice_get, slice_index_or}
+use Rattle.std.specs.Prelude.{◌≡◌, ◌≢◌, ℕ, suc, ◌-◌, ◌<◌, ◌≤◌, ◌==◌, Bool, true, List, [], ◌∷◌, ◌++◌, length, Option, Some, None, IsTrue, All, Contains, slice_get, slice_index_or}
 use Rattle.std.specs.List.{fold, flat_map}
 use Rattle.std.specs.BTreeSet.{insert_key}
 use Rattle.std.specs.declared.cmp.Ordering.{Ordering}
@@ -43,6 +43,12 @@ path_last paths path = path_follows (slice_get paths (length paths - 1)) path
 -- each path comes before the next
 abbrev pub AreAscending : List (List ℕ) → Type 0
 AreAscending paths = (k : ℕ) (d : List ℕ) → suc k < length paths → IsTrue (path_before (slice_index_or paths k d) (slice_index_or paths (suc k) d))
+
+-- names are exactly these paths, each once, in path order
+pub record AreInPathOrder (names paths : List (List ℕ)) : Type 0 where
+  pub ascending : AreAscending names
+  pub named : All (λ (p : List ℕ). Contains paths p) names
+  pub all : All (λ (p : List ℕ). Contains names p) paths
 
 -- a path in UTF-8; it has no byte 10, since that is a control character
 abbrev pub IsName : List ℕ → Type 0

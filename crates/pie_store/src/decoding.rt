@@ -1,7 +1,11 @@
 //! Reading a store. Rule: docs/FORMATS.md, "The store".
 ghost use Rattle.std.specs.Prelude.{◌≡◌, ◌≤◌, length, List, ℕ, None, Some, IfOk};
+ghost use Rattle.pie_store.specs.declared.image.StoreImage.{StoreImage};
+ghost use Rattle.pie_store.specs.Canonical.{IsStorableStore};
 ghost use Rattle.pie_store.specs.Texts.{IsStoreText};
-ghost use Rattle.pie_store.specs.Agreement.{Agrees, AgreesWhole};
+ghost use Rattle.pie_store.specs.declared.store_fault.StoreFault.{StoreFault};
+ghost use Rattle.pie_store.specs.Faults.{HasFault, RefusesWith, TellsFault};
+ghost use Rattle.pie_store.specs.Agreement.{Agrees, AgreesWhole, Refuses};
 ghost use Rattle.pie_store.specs.Reading.{store_says, body_says, contents_1, contents_2, tail_of};
 ghost use Rattle.pie_store.specs.Known.{known_in};
 
@@ -18,6 +22,11 @@ use std::alloc::Global;
 pub fn decode_store(alloc: Global, bytes: &[u8]) -> Result<StoreImage, StoreFault>
     ensures answer { AgreesWhole result (store_says bytes.now) }
     ensures text { IfOk result (λ image. IsStoreText image bytes.now) }
+    ensures only { IfOk result (λ image. (s : StoreImage) → IsStoreText s bytes.now → s ≡ image) }
+    ensures refused { Refuses result → (s : StoreImage) → ¬ (IsStoreText s bytes.now) }
+    ensures fault { TellsFault result bytes.now }
+    ensures first { (e : StoreFault) → HasFault bytes.now e → RefusesWith result e }
+    ensures writable { IfOk result (λ image. image.version ≡ 2 → IsStorableStore image) }
 {
     image_of(alloc, bytes)
 }

@@ -6,6 +6,7 @@ mod decoding;
 mod frame;
 mod image;
 mod known;
+mod offers;
 mod pending;
 mod ranked;
 mod reading;
@@ -15,9 +16,14 @@ mod writer;
 pub use cause::Cause;
 pub use decoding::decode_store;
 pub use image::{Funcs, Rows, StoreImage};
+pub use offers::{NoOffers, Offer, Offers};
 pub use pending::{pending_text, read_pending};
 pub use store_fault::StoreFault;
 pub use writer::encode_store;
 
+#[cfg(test)]
+mod offer_tests;
+#[cfg(test)]
+mod pending_tests;
 #[cfg(test)]
 mod tests;

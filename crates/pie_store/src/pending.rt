@@ -1,9 +1,9 @@
 //! Pending names: the paths that a refused build was told of, kept for the next one.
-ghost use Rattle.std.specs.Prelude.{◌≡◌, ◌++◌, ◌&&◌, ◌+◌, ◌<◌, ℕ, List, cond, take, drop, Some, None, length, IfOk, IfSome, IfNone, OnOk, MatchOption, true, false};
+ghost use Rattle.std.specs.Prelude.{◌≡◌, ◌++◌, ◌&&◌, ◌+◌, ◌<◌, ◌≤◌, ℕ, List, All, cond, take, drop, Some, None, length, IfOk, IfSome, IfNone, OnOk, MatchOption, true, false};
 ghost use Rattle.std.specs.List.{position};
 ghost use Rattle.std.specs.Str.{is_utf8};
 ghost use Rattle.pie_value.specs.Reading.{is_path_text};
-ghost use Rattle.pie_store.specs.Pending.{is_newline, in_order, line, lines, path_last as specs_path_last, IsPending};
+ghost use Rattle.pie_store.specs.Pending.{is_newline, in_order, line, lines, path_last as specs_path_last, AreInPathOrder, IsName, IsPending};
 
 use pie_base::{MAX_PENDING_BYTES, OutOfMemory, Path, PathError};
 use std::alloc::Global;
@@ -11,8 +11,11 @@ use std::collections::BTreeSet;
 
 /// The text of pending names: the distinct paths in path order, each with byte 10 after it.
 /// Rule: docs/FORMATS.md, "Pending names".
+#[tactic(auto, using(crate::proofs::InOrder::in_path_order))]
 pub fn pending_text(alloc: Global, paths: &[Path]) -> Result<Vec<u8>, OutOfMemory>
-    ensures { IfOk result (λ bytes. bytes.items ≡ lines (in_order paths.now)) }
+    ensures bytes { IfOk result (λ bytes. bytes.items ≡ lines (in_order paths.now)) }
+    ensures order { IfOk result (λ _. AreInPathOrder (in_order paths.now) paths.now) }
+    ensures pending { IfOk result (λ bytes. 0 < length paths.now → length bytes.items ≤ MAX_PENDING_BYTES → IsPending (in_order paths.now) bytes.items) }
 {
     let sorted = sorted(alloc, paths)?;
     let mut out = Vec::new(alloc);
@@ -32,7 +35,8 @@ fn sorted(alloc: Global, paths: &[Path]) -> Result<BTreeSet<Path>, OutOfMemory>
 }
 
 fn put_lines(out: &mut Vec<u8>, paths: &BTreeSet<Path>) -> Result<(), OutOfMemory>
-    ensures { OnOk result (out.new.items ≡ out.old.items ++ lines paths.now.keys) }
+    ensures written { OnOk result (out.new.items ≡ out.old.items ++ lines paths.now.keys) }
+    ensures names { OnOk result (All IsName paths.now.keys) }
 {
     for path in paths {
         put_line(out, path)?;
@@ -42,7 +46,8 @@ fn put_lines(out: &mut Vec<u8>, paths: &BTreeSet<Path>) -> Result<(), OutOfMemor
 
 #[tactic(auto, unfolding(crate::specs::Pending::line))]
 fn put_line(out: &mut Vec<u8>, path: &Path) -> Result<(), OutOfMemory>
-    ensures { OnOk result (out.new.items ≡ out.old.items ++ line path.now) }
+    ensures written { OnOk result (out.new.items ≡ out.old.items ++ line path.now) }
+    ensures name { OnOk result (IsName path.now) }
 {
     out.extend_from_slice(path.as_str().as_bytes())?;
     out.push(b'\n')?;
@@ -53,6 +58,7 @@ fn put_line(out: &mut Vec<u8>, path: &Path) -> Result<(), OutOfMemory>
 /// each with byte 10 after it, and at most 16,777,216 bytes.
 pub fn read_pending(alloc: Global, bytes: &[u8]) -> Result<Option<Vec<Path>>, OutOfMemory>
     ensures named { IfOk result (λ found. IfSome found (λ paths. IsPending paths.items bytes.now)) }
+    ensures only { IfOk result (λ found. IfSome found (λ paths. (names : List (List ℕ)) → IsPending names bytes.now → names ≡ paths.items)) }
     ensures refused { IfOk result (λ found. IfNone found ((names : List (List ℕ)) → ¬ (IsPending names bytes.now))) }
 {
     if bytes.is_empty() {

@@ -36,7 +36,8 @@ pub(crate) fn place(end: usize, reader: &Reader<'_>) -> usize
 }
 
 fn number(end: usize, reader: &mut Reader<'_>) -> Result<usize, StoreFault>
-    ensures { Agrees (λ n. n) result reader.new (part_at end number_at reader.old) }
+    ensures read { Agrees (λ n. n) result reader.new (part_at end number_at reader.old) }
+    ensures small { IfOk result (λ n. n < 2 ^ 32) }
 {
     let at = place(end, reader);
     match reader.number() {
@@ -219,9 +220,6 @@ pub(crate) fn rows(
     ensures { Agrees (λ rs. rs) result reader.new (list_at end (next_row (known_in known.now) end) reader.old) }
 {
     let count = number(end, reader)?;
-    if count > u32::MAX as usize {
-        return Err(StoreFault::OutOfMemory); // four bytes hold no more
-    }
     let mut rows = RankedRows::new(alloc);
     for _ in 0..count {
         match more_rows(end, reader, alloc, known, rows) {

@@ -2,7 +2,7 @@ ghost use Rattle.std.specs.Prelude.{◌≡◌, None, []};
 
 use super::*;
 use crate::frame::hash_of;
-use pie_base::{OutOfMemory, Path};
+use pie_base::OutOfMemory;
 use pie_value::Tasks;
 use std::alloc::Global;
 use std::test::Fail;
@@ -56,6 +56,7 @@ fn each_body_is_read_or_refused_at_its_first_fault(rt: HostRuntime) -> Result<()
             "Order(13)",
         ),
         ("5049455302ffffffff0000000000000000", "Row(9)"),
+        ("504945530200000000ffffffff00000000", "Row(13)"),
         (
             "504945530200000000000000010000000166000000000000000000",
             "Order(13)",
@@ -69,6 +70,51 @@ fn each_body_is_read_or_refused_at_its_first_fault(rt: HostRuntime) -> Result<()
         let bytes = sealed(rt.alloc(), digits)?;
         let answer = decoded(rt.alloc(), bytes.as_slice())?;
         assert_eq!(rt; answer.as_str(), wanted, "at {digits}");
+    }
+    Ok(())
+}
+
+// A body in version 1 without roots, of so many records with these digits.
+fn of_records(alloc: Global, count: u32, digits: &str) -> Result<Vec<u8>, Fail> {
+    let front =
+        "5049455301000000000000000000000000000000000000000000000000000000000000000000000000";
+    let body = format!(in alloc; "{front}{count:08x}{digits}")?;
+    sealed(alloc, body.as_str())
+}
+
+#[test]
+fn a_required_task_has_an_earlier_record(rt: HostRuntime) -> Result<(), Fail> {
+    let g = "000000016700000000000000000000000000";
+    let f = "0000000166000000000000000108000000016700000000050000000000";
+    let required = format!(in rt.alloc(); "{g}{f}")?;
+    let backwards = format!(in rt.alloc(); "{f}{g}")?;
+    let itself = "0000000166000000000000000108000000016600000000050000000000";
+    let cases = [
+        (2, required.as_str(), "2"),
+        (1, f, "Order(45)"),
+        (2, backwards.as_str(), "Order(45)"),
+        (1, itself, "Order(45)"),
+    ];
+    for (count, digits, wanted) in cases {
+        let bytes = of_records(rt.alloc(), count, digits)?;
+        let answer = decoded(rt.alloc(), bytes.as_slice())?;
+        assert_eq!(rt; answer.as_str(), wanted, "at {digits}");
+    }
+    Ok(())
+}
+
+#[test]
+fn a_forged_number_of_observations_or_writes_is_refused(rt: HostRuntime) -> Result<(), Fail> {
+    let cases = [
+        "000000016600000000ffffffff0000000000",
+        "00000001660000000000000000ffffffff00",
+        "0000000166ffffffff000000000000000000",
+        "ffffffff6600000000000000000000000000",
+    ];
+    for digits in cases {
+        let bytes = of_records(rt.alloc(), 1, digits)?;
+        let answer = decoded(rt.alloc(), bytes.as_slice())?;
+        assert_eq!(rt; answer.as_str(), "Row(45)", "at {digits}");
     }
     Ok(())
 }
@@ -116,6 +162,17 @@ fn a_store_is_read(rt: HostRuntime) -> Result<(), Fail> {
 }
 
 #[test]
+fn a_store_that_was_read_is_written_again(rt: HostRuntime) -> Result<(), Fail> {
+    let alloc = rt.alloc();
+    let bytes = sealed(alloc, STORE)?;
+    let image = decode_store(alloc, bytes.as_slice())?;
+    assert!(rt; image.version == 2);
+    let again = encode_store(alloc, &image)?;
+    assert!(rt; again.as_slice() == bytes.as_slice());
+    Ok(())
+}
+
+#[test]
 fn a_store_of_version_1_is_read(rt: HostRuntime) -> Result<(), Fail> {
     let bytes = sealed(rt.alloc(), STORE_1)?;
     assert_eq!(rt; bytes.len(), 303);
@@ -131,6 +188,26 @@ fn a_store_that_is_cut_is_refused(rt: HostRuntime) -> Result<(), Fail> {
         let answer = decoded(rt.alloc(), &bytes[..len])?;
         let wanted = if len < 49 { "Short" } else { "Digest" };
         assert_eq!(rt; answer.as_str(), wanted, "at {len}");
+    }
+    Ok(())
+}
+
+#[test]
+fn a_body_that_is_cut_is_refused_at_the_part_that_is_cut(rt: HostRuntime) -> Result<(), Fail> {
+    let body = hex::decode(rt.alloc(), STORE)?;
+    let parts = [5, 9, 48, 87, 128, 132, 143, 154, 158, 260];
+    for len in 17..body.len() {
+        let mut bytes = Vec::from_slice(rt.alloc(), &body[..len])?;
+        let digest = hash_of(bytes.as_slice());
+        bytes.extend_from_slice(digest.as_slice())?;
+        let answer = decoded(rt.alloc(), bytes.as_slice())?;
+        let part = parts
+            .iter()
+            .filter(|part| **part <= len)
+            .max()
+            .unwrap_or(&0);
+        let wanted = format!(in rt.alloc(); "Row({part})")?;
+        assert_eq!(rt; answer.as_str(), wanted.as_str(), "at {len}");
     }
     Ok(())
 }
@@ -154,44 +231,5 @@ fn exchanged_records_are_out_of_order(rt: HostRuntime) -> Result<(), Fail> {
     let bytes = exchanged(rt.alloc())?;
     let answer = decoded(rt.alloc(), bytes.as_slice())?;
     assert_eq!(rt; answer.as_str(), "Order(260)");
-    Ok(())
-}
-
-// What reading pending names answers, as text: the number of paths, or that it is none.
-fn pending(alloc: Global, text: &str) -> Result<String, Fail> {
-    match read_pending(alloc, text.as_bytes())? {
-        Some(paths) => Ok(format!(in alloc; "{}", paths.len())?),
-        None => Ok(format!(in alloc; "none")?),
-    }
-}
-
-#[test]
-fn pending_names_are_ascending_lines(rt: HostRuntime) -> Result<(), Fail> {
-    let cases = [
-        ("inc/foot\nsrc/a\n", "2"),
-        (".pie/x\nout\n", "2"),
-        ("", "none"),
-        ("\n", "none"),
-        ("src/a", "none"),
-        ("src/a\n/b\n", "none"),
-        ("src/a\ninc/foot\n", "none"),
-        ("src/a\nsrc/a\n", "none"),
-    ];
-    for (text, wanted) in cases {
-        let answer = pending(rt.alloc(), text)?;
-        assert_eq!(rt; answer.as_str(), wanted, "at {text}");
-    }
-    Ok(())
-}
-
-#[test]
-fn pending_names_are_written_sorted_and_once(rt: HostRuntime) -> Result<(), Fail> {
-    let alloc = rt.alloc();
-    let mut paths = Vec::new(alloc);
-    for name in ["src/a", "inc/foot", "src/a"] {
-        paths.push(Path::read(alloc, name)?)?;
-    }
-    let text = pending_text(alloc, paths.as_slice())?;
-    assert!(rt; text.as_slice() == b"inc/foot\nsrc/a\n".as_slice());
     Ok(())
 }

@@ -1,9 +1,12 @@
 //! Writing a store. Rule: docs/FORMATS.md, "The store".
-ghost use Rattle.std.specs.Prelude.{◌≡◌, ◌<◌, ◌^◌, ◌++◌, length, All, IfOk, OnOk};
+ghost use Rattle.std.specs.Prelude.{◌≡◌, ◌<◌, ◌^◌, ◌++◌, length, All, Ok, IfOk, OnOk};
 ghost use Rattle.std.specs.List.{flat_map};
 ghost use Rattle.pie_value.specs.Canonical.{be32, counted, enc_task, IsEncodableTask};
-ghost use Rattle.pie_record.specs.Canonical.{listed, enc_record, IsStorable};
-ghost use Rattle.pie_store.specs.Canonical.{enc_func, enc_body, enc_store, IsStorableStore};
+ghost use Rattle.pie_record.specs.Canonical.{listed, enc_record, IsStorable, IsTrueRecord};
+ghost use Rattle.pie_store.specs.Canonical.{enc_func, enc_body, IsStorableStore};
+ghost use Rattle.pie_store.specs.Ranks.{IsStored};
+ghost use Rattle.pie_store.specs.Texts.{IsFunc, IsStore, IsStoreText};
+ghost use Rattle.pie_store.specs.Reading.{store_says};
 
 use crate::StoreImage;
 use crate::frame::{MAGIC, hash_of};
@@ -12,10 +15,11 @@ use pie_record::{TaskRecord, put_record};
 use pie_value::{Task, encode_task};
 use std::alloc::Global;
 
-/// The bytes of a store in version 2.
+/// The text of a store in version 2.
 pub fn encode_store(alloc: Global, image: &StoreImage) -> Result<Vec<u8>, OutOfMemory>
     requires { IsStorableStore image.now }
-    ensures bytes { IfOk result (λ bytes. bytes.items ≡ enc_store image.now) }
+    ensures text { IfOk result (λ bytes. IsStoreText image.now bytes.items) }
+    ensures read_back { IfOk result (λ bytes. store_says bytes.items ≡ Ok image.now) }
 {
     let mut out = Vec::new(alloc);
     put_body(&mut out, alloc, image)?;
@@ -27,7 +31,8 @@ pub fn encode_store(alloc: Global, image: &StoreImage) -> Result<Vec<u8>, OutOfM
 // Each of these appends to what is there.
 fn put_body(out: &mut Vec<u8>, alloc: Global, image: &StoreImage) -> Result<(), OutOfMemory>
     requires { IsStorableStore image.now }
-    ensures { OnOk result (out.new.items ≡ out.old.items ++ enc_body image.now) }
+    ensures written { OnOk result (out.new.items ≡ out.old.items ++ enc_body image.now) }
+    ensures parts { OnOk result (IsStore image.now) }
 {
     put_bytes(out, MAGIC.as_slice())?;
     put_bytes(out, &[image.version])?;
@@ -40,7 +45,8 @@ fn put_body(out: &mut Vec<u8>, alloc: Global, image: &StoreImage) -> Result<(), 
 fn put_funcs(out: &mut Vec<u8>, funcs: &[(Text, [u8; 32])]) -> Result<(), OutOfMemory>
     requires few { length funcs.now < 2 ^ 32 }
     requires short { All (λ f. length f.0 < 2 ^ 32) funcs.now }
-    ensures { OnOk result (out.new.items ≡ out.old.items ++ listed enc_func funcs.now) }
+    ensures written { OnOk result (out.new.items ≡ out.old.items ++ listed enc_func funcs.now) }
+    ensures parts { OnOk result (All IsFunc funcs.now) }
 {
     put_len(out, funcs.len())?;
     put_all_funcs(out, funcs)
@@ -48,7 +54,8 @@ fn put_funcs(out: &mut Vec<u8>, funcs: &[(Text, [u8; 32])]) -> Result<(), OutOfM
 
 fn put_all_funcs(out: &mut Vec<u8>, funcs: &[(Text, [u8; 32])]) -> Result<(), OutOfMemory>
     requires { All (λ f. length f.0 < 2 ^ 32) funcs.now }
-    ensures { OnOk result (out.new.items ≡ out.old.items ++ flat_map enc_func funcs.now) }
+    ensures written { OnOk result (out.new.items ≡ out.old.items ++ flat_map enc_func funcs.now) }
+    ensures parts { OnOk result (All IsFunc funcs.now) }
 {
     for (name, digest) in funcs {
         put_func(out, name, digest)?;
@@ -59,7 +66,8 @@ fn put_all_funcs(out: &mut Vec<u8>, funcs: &[(Text, [u8; 32])]) -> Result<(), Ou
 #[tactic(auto, unfolding(crate::specs::Canonical::enc_func))]
 fn put_func(out: &mut Vec<u8>, name: &Text, digest: &[u8; 32]) -> Result<(), OutOfMemory>
     requires { length name.now < 2 ^ 32 }
-    ensures { OnOk result (out.new.items ≡ out.old.items ++ enc_func (name.now, digest.now)) }
+    ensures written { OnOk result (out.new.items ≡ out.old.items ++ enc_func (name.now, digest.now)) }
+    ensures parts { OnOk result (IsFunc (name.now, digest.now)) }
 {
     let name = name.as_str().as_bytes();
     put_len(out, name.len())?;
@@ -70,7 +78,8 @@ fn put_func(out: &mut Vec<u8>, name: &Text, digest: &[u8; 32]) -> Result<(), Out
 fn put_tasks(out: &mut Vec<u8>, alloc: Global, tasks: &[Task]) -> Result<(), OutOfMemory>
     requires few { length tasks.now < 2 ^ 32 }
     requires encodable { All IsEncodableTask tasks.now }
-    ensures { OnOk result (out.new.items ≡ out.old.items ++ listed enc_task tasks.now) }
+    ensures written { OnOk result (out.new.items ≡ out.old.items ++ listed enc_task tasks.now) }
+    ensures parts { OnOk result (All IsStored tasks.now) }
 {
     put_len(out, tasks.len())?;
     put_all_tasks(out, alloc, tasks)
@@ -78,7 +87,8 @@ fn put_tasks(out: &mut Vec<u8>, alloc: Global, tasks: &[Task]) -> Result<(), Out
 
 fn put_all_tasks(out: &mut Vec<u8>, alloc: Global, tasks: &[Task]) -> Result<(), OutOfMemory>
     requires { All IsEncodableTask tasks.now }
-    ensures { OnOk result (out.new.items ≡ out.old.items ++ flat_map enc_task tasks.now) }
+    ensures written { OnOk result (out.new.items ≡ out.old.items ++ flat_map enc_task tasks.now) }
+    ensures parts { OnOk result (All IsStored tasks.now) }
 {
     for task in tasks {
         put_task(out, alloc, task)?;
@@ -88,7 +98,8 @@ fn put_all_tasks(out: &mut Vec<u8>, alloc: Global, tasks: &[Task]) -> Result<(),
 
 fn put_task(out: &mut Vec<u8>, alloc: Global, task: &Task) -> Result<(), OutOfMemory>
     requires { IsEncodableTask task.now }
-    ensures { OnOk result (out.new.items ≡ out.old.items ++ enc_task task.now) }
+    ensures written { OnOk result (out.new.items ≡ out.old.items ++ enc_task task.now) }
+    ensures parts { OnOk result (IsStored task.now) }
 {
     let bytes = encode_task(alloc, task)?;
     put_bytes(out, bytes.as_slice())
@@ -97,7 +108,8 @@ fn put_task(out: &mut Vec<u8>, alloc: Global, task: &Task) -> Result<(), OutOfMe
 fn put_rows(out: &mut Vec<u8>, alloc: Global, rows: &[TaskRecord]) -> Result<(), OutOfMemory>
     requires few { length rows.now < 2 ^ 32 }
     requires storable { All IsStorable rows.now }
-    ensures { OnOk result (out.new.items ≡ out.old.items ++ listed enc_record rows.now) }
+    ensures written { OnOk result (out.new.items ≡ out.old.items ++ listed enc_record rows.now) }
+    ensures parts { OnOk result (All IsTrueRecord rows.now) }
 {
     put_len(out, rows.len())?;
     put_all_rows(out, alloc, rows)
@@ -105,7 +117,8 @@ fn put_rows(out: &mut Vec<u8>, alloc: Global, rows: &[TaskRecord]) -> Result<(),
 
 fn put_all_rows(out: &mut Vec<u8>, alloc: Global, rows: &[TaskRecord]) -> Result<(), OutOfMemory>
     requires { All IsStorable rows.now }
-    ensures { OnOk result (out.new.items ≡ out.old.items ++ flat_map enc_record rows.now) }
+    ensures written { OnOk result (out.new.items ≡ out.old.items ++ flat_map enc_record rows.now) }
+    ensures parts { OnOk result (All IsTrueRecord rows.now) }
 {
     for rec in rows {
         put_record(out, alloc, rec)?;

@@ -1,7 +1,7 @@
-use Rattle.std.proofs.Common.{◌≡◌, ◌+◌, ◌<◌, ℕ, List, length, take, drop, subst, sym, ap, ◌∙◌, arith}
+use Rattle.std.proofs.Common.{◌≡◌, ◌+◌, ℕ, List, length, take, drop, sym, ap, ◌∙◌}
 use Rattle.std.specs.Prelude.{Some, None}
 use Rattle.std.proofs.lemmas.Bool.{eqb-true}
-use Rattle.pie_store.proofs.PendingLemmas.{ReadsTo, line_is, one_read, all_read, bad_line, open_line, no_names, too_long, picked, not_zero}
+use Rattle.pie_store.proofs.PendingLemmas.{line_is, one_read, all_read, bad_line, open_line, no_names, too_long, picked, not_zero, same_names}
 use Rattle.pie_store.proofs.pending.read_pending.Goals as goal
 
 pub returns-then-is_empty-clause-refused : goal.returns-then-is_empty-clause-refused
@@ -19,6 +19,13 @@ returns-in-None-clause-refused c =
     ∙ ap (λ (ps : List (List ℕ)). picked ps (take end rest)) c.as_slice.ensures.value)
     ∙ c.in-None.is in
     bad_line _ _ rest (take end rest) (drop (end + 1) rest) c.loop-end.invariant (line_is rest end (sym c.in-Some.ensures.first)) e
+
+pub returns-then-is_empty-2-clause-only : goal.returns-then-is_empty-2-clause-only
+returns-then-is_empty-2-clause-only c =
+    λ names p.
+    same_names names c.loop-end.paths.items c.args.bytes.now p
+    (all_read _ _ _ c.loop-end.invariant (eqb-true (length c.loop-end.rest.now) 0 (sym c.is_empty-2.ensures ∙ c.if-is_empty-2.true))
+    (not_zero (length c.args.bytes.now) (sym c.is_empty.ensures ∙ c.if-is_empty.false)) p.few)
 
 pub loop-end-preserved : goal.loop-end-preserved
 loop-end-preserved c =

@@ -1,4 +1,4 @@
-use Rattle.std.proofs.Common.{◌≡◌, ◌<◌, ◌^◌, ◌≤◌, ◌++◌, ◌∷◌, [], length, arith, ap, ◌∙◌}
+use Rattle.std.proofs.Common.{◌≡◌, ◌++◌, ◌∷◌, [], length, arith, ap, ◌∙◌}
 use Rattle.std.specs.List.{zip}
 use Rattle.pie_store.specs.Ranks.{Ranked, rank_in}
 use Rattle.pie_store.proofs.Ranking.{rank_absent, ranked_more, names_few, zip_long, zip_more}

@@ -1,4 +1,4 @@
-use Rattle.std.proofs.Common.{◌≡◌, List, ℕ, get_or, subst, sym, ap, ◌∙◌}
+use Rattle.std.proofs.Common.{List, ℕ, get_or, subst, sym, ap, ◌∙◌}
 use Rattle.std.specs.Prelude.{Some}
 use Rattle.pie_record.specs.Names.{Numbers}
 use Rattle.pie_store.specs.Ranks.{Ranked, rank_in}
