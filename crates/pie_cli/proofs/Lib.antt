@@ -3,3 +3,4 @@ pub mod Others
 pub mod Outside
 pub mod Printing
 pub mod Statuses
+pub mod Stops

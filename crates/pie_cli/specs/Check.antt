@@ -1,5 +1,5 @@
 -- What `check` prints of a directory, and the status that it ends with.
-use Rattle.std.specs.Prelude.{◌≡◌, ◌⊎◌, ℕ, List, [], ◌∷◌, ◌++◌, codes, Option, Result, Ok, Err, string_bytes}
+use Rattle.std.specs.Prelude.{◌≡◌, ◌⊎◌, ℕ, List, ◌++◌, codes, Option, Result, Ok, Err, string_bytes}
 use Rattle.std.specs.Fmt.{decimal}
 use Rattle.pie_base.specs.declared.status.Status.{Status}
 use Rattle.pie_base.specs.declared.status.Status.TheVariants as status
@@ -13,6 +13,7 @@ use Rattle.pie_project.specs.declared.fault.RootsReason.{RootsReason}
 use Rattle.pie_project.specs.declared.fault.RootsReason.TheVariants as reasons
 use Rattle.pie_project.specs.Refusals.{Refusal, OfPipeline, OfRoots, PipelineRefusal, Absent, TooLong, NotText, Lex, Parse, Types}
 use Rattle.pie_project.specs.Fronts.{CheckSays}
+use Rattle.pie_project.specs.Stops.{PipelineStops, OnParse}
 use Rattle.pie_cli.specs.declared.rebuild.Report.{Report}
 use Rattle.pie_cli.specs.Report.{files_fault_text}
 use Rattle.pie_cli.specs.Run.{Gains, GainsFront}
@@ -94,3 +95,7 @@ HasChecked d before after ended = (r : Result (ℕ × ℕ) Refusal) × CheckSays
 -- the output gained the front of a text that `check` may print of this directory: its counts or its refusal, or that a call on the files failed
 abbrev pub PrintsCheckFront : Directory → Option (List ℕ) → Option (List ℕ) → Type 0
 PrintsCheckFront d before after = ((r : Result (ℕ × ℕ) Refusal) × CheckSays d r × GainsFront before after (check_text r)) ⊎ GainsFront before after files_fault_text
+
+-- a directory was refused: the output gained the line of the refusal, and where it is for the tokens, they stop at the place in that line
+abbrev pub PrintsRefusal : Directory → Option (List ℕ) → Option (List ℕ) → Type 0
+PrintsRefusal d before after = (e : Refusal) × CheckSays d (Err e) × OnParse {A = ℕ × ℕ} (PipelineStops d) (Err e) × Gains before after (check_text (Err e))

@@ -4,7 +4,7 @@ ghost use Rattle.pie_files.specs.Faults.{Rose};
 ghost use Rattle.pie_files.specs.Streams.{StaysSure};
 ghost use Rattle.pie_fresh.specs.Build.{build_of};
 ghost use Rattle.pie_project.specs.Looking.{Asks, front_calls};
-ghost use Rattle.pie_cli.specs.Check.{HasChecked, PrintsCheckFront};
+ghost use Rattle.pie_cli.specs.Check.{HasChecked, PrintsCheckFront, PrintsRefusal};
 ghost use Rattle.pie_cli.specs.Left.{KeepsOutside};
 ghost use Rattle.pie_cli.specs.Report.{report_of, usage_text, files_fault_text};
 ghost use Rattle.pie_cli.specs.Run.{is_check, is_command, is_fresh, texts_of, is_answer, is_told, HasBuilt, Gains, GainsFront, PrintsFront, Shows};
@@ -44,6 +44,8 @@ pub fn run<F: Files, I: Source, K: Sink>(
         → IfSome (F.holds files.old) (λ d. HasChecked d (K.held out.old) (K.held out.new) result) }
     ensures check_front { is_check (texts_of words.now) ≡ true
         → IfSome (F.holds files.old) (λ d. PrintsCheckFront d (K.held out.old) (K.held out.new)) }
+    ensures check_stops { is_check (texts_of words.now) ≡ true → result ≡ Status.Pipeline
+        → IfSome (F.holds files.old) (λ d. PrintsRefusal d (K.held out.old) (K.held out.new)) }
     ensures check_same { is_check (texts_of words.now) ≡ true → F.holds files.new ≡ F.holds files.old }
     ensures check_asks { is_check (texts_of words.now) ≡ true → Asks front_calls (F.asked files.old) (F.asked files.new) }
 

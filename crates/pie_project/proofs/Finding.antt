@@ -1,5 +1,5 @@
 -- What a stage answers, told by the stage behind it.
-use Rattle.std.proofs.Common.{◌≡◌, ◌≤◌, ◌<◌, ℕ, List, length, Option, Some, None, Result, Ok, Err, refl, sym, subst, ap, ◌∙◌}
+use Rattle.std.proofs.Common.{◌≡◌, ◌≤◌, ℕ, List, length, Option, Some, None, Result, Ok, Err, sym, subst, ap, ◌∙◌}
 use Rattle.std.specs.Prelude.{IfSome}
 use Rattle.std.specs.Option.{option_map}
 use Rattle.std.specs.Str.{IsUtf8}
@@ -25,8 +25,8 @@ use Rattle.pie_project.specs.declared.fault.BuildError.{BuildError}
 use Rattle.pie_project.specs.declared.fault.BuildError.TheVariants as errors
 use Rattle.pie_project.specs.Errors.{files_error, lexer_error, parser_error, reader_error}
 use Rattle.pie_project.specs.Refusals.{Refusal, OfPipeline, OfRoots, Absent, Says}
-use Rattle.pie_project.specs.Fronts.{most, Checked, Front, tree_says, TokensSay, tree, expected, too_deep, TextSays, tokens, no_token, BytesSay, pipeline_too_long, pipeline_no_text, pipeline_text}
-use Rattle.pie_project.specs.Fronts.{RootsSay, roots_found, roots_too_long, roots_no_text, bad_root, TypedSays, no_roots, with_roots}
+use Rattle.pie_project.specs.Fronts.{most, Checked, Front, tree_says, TokensSay, tree, expected, too_deep, TextSays, tokens, no_token, BytesSay, pipeline_text}
+use Rattle.pie_project.specs.Fronts.{RootsSay, roots_too_long, roots_no_text, bad_root, TypedSays, no_roots, with_roots}
 use Rattle.pie_project.specs.Fronts.{PipelineSays, bad_pipeline, good_pipeline, ProjectSays, no_pipeline, with_pipeline, CheckSays, counts, counts_of}
 use Rattle.pie_project.specs.declared.fault.RootsReason.TheVariants as reasons
 use Rattle.pie_project.specs.Looking.{file_bytes, pipeline_path, roots_path}

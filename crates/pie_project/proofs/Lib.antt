@@ -1,4 +1,5 @@
 pub mod Finding
 pub mod Lookings
 pub mod OneFront
+pub mod Stopping
 pub mod Told

@@ -1,7 +1,6 @@
 -- A directory has one project and no other.
 use Rattle.std.proofs.Common.{◌≡◌, ◌≤◌, ◌<◌, ℕ, List, length, Option, Some, None, Result, Ok, Err, refl, sym, subst, ap, ◌∙◌, arith}
 use Rattle.std.specs.Prelude.{IfSome}
-use Rattle.std.specs.Str.{IsUtf8}
 use Rattle.pie_files.specs.Directory.{Directory}
 use Rattle.pie_lexer.specs.declared.token.Token.{Token}
 use Rattle.pie_lexer.specs.declared.error.LexError.{LexError}
@@ -17,7 +16,7 @@ use Rattle.pie_parser.specs.FunctionTrees.{FunctionTree}
 use Rattle.pie_types.specs.Whole.{number_from}
 use Rattle.pie_value.specs.declared.task.Task.{Task}
 use Rattle.pie_roots.specs.Lines.{texts}
-use Rattle.pie_roots.specs.RootLists.{Named, NameAll}
+use Rattle.pie_roots.specs.RootLists.{Named}
 use Rattle.pie_roots.proofs.RootLines.{one_naming}
 use Rattle.pie_project.specs.declared.fault.BuildError.{BuildError}
 use Rattle.pie_project.specs.declared.fault.RootsReason.TheVariants as reasons

@@ -1,5 +1,5 @@
 -- What a directory has for a project: functions and roots, or the first refusal.
-use Rattle.std.specs.Prelude.{◌≡◌, ℕ, ◌<◌, ◌≤◌, List, length, Option, Some, None, Result, Ok, Err}
+use Rattle.std.specs.Prelude.{◌≡◌, ℕ, ◌<◌, ◌≤◌, List, length, Some, None, Result, Ok, Err}
 use Rattle.std.specs.Str.{IsUtf8}
 use Rattle.pie_files.specs.Directory.{Directory}
 use Rattle.pie_lexer.specs.declared.token.Token.{Token}

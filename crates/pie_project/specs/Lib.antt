@@ -3,3 +3,4 @@ pub mod Fronts
 pub mod Looking
 pub mod Projects
 pub mod Refusals
+pub mod Stops

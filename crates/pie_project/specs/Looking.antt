@@ -1,5 +1,5 @@
 -- What reading some files asks and leaves.
-use Rattle.std.specs.Prelude.{◌≡◌, ◌≤◌, ℕ, List, [], ◌∷◌, ◌++◌, take, codes, Option, Some, Result, Ok, Err, IfSome, OnOk, IsErrOf}
+use Rattle.std.specs.Prelude.{◌≡◌, ◌≤◌, ℕ, List, [], ◌∷◌, ◌++◌, take, codes, Option, Some, Result, IfSome, OnOk, IsErrOf}
 use Rattle.std.specs.Option.{option_map}
 use Rattle.pie_files.specs.declared.files.Call.{Call}
 use Rattle.pie_files.specs.declared.files.Call.TheVariants.{Read}

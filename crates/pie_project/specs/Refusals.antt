@@ -1,5 +1,5 @@
 -- Why a project can't be built, as plain data.
-use Rattle.std.specs.Prelude.{◌≡◌, ℕ, Result, Ok, Err}
+use Rattle.std.specs.Prelude.{◌≡◌, Result, Ok, Err}
 use Rattle.pie_lexer.specs.declared.error.LexError.{LexError}
 use Rattle.pie_parser.specs.declared.error.ParseError.{ParseError}
 use Rattle.pie_types.specs.Faults.{Refused, refused_of}

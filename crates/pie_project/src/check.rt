@@ -4,6 +4,7 @@ ghost use Rattle.pie_project.specs.Fronts.{CheckSays, counts_of};
 ghost use Rattle.pie_project.specs.Looking.{Looks, front_calls};
 ghost use Rattle.pie_project.specs.Projects.{front_of};
 ghost use Rattle.pie_project.specs.Refusals.{Only, Says};
+ghost use Rattle.pie_project.specs.Stops.{OnParse, PipelineStops};
 
 use crate::{BuildError, Project, read_project};
 use pie_files::Files;
@@ -14,6 +15,7 @@ use std::alloc::Global;
 pub fn check_project<F: Files>(alloc: Global, files: &mut F) -> Result<(u32, u32), BuildError>
     ensures found { IfSome (F.holds files.old) (λ d. Says (λ p. p) (CheckSays d) result) }
     ensures only { IfSome (F.holds files.old) (λ d. Only (λ p. p) (CheckSays d) result) }
+    ensures stops { IfSome (F.holds files.old) (λ d. Says (λ p. p) (OnParse (PipelineStops d)) result) }
     ensures looks { Looks F.holds F.asked F.faults front_calls files.old files.new result }
 {
     counts_in(alloc, files)

@@ -5,6 +5,7 @@ ghost use Rattle.pie_project.specs.Fronts.{ProjectSays, TypedSays, PipelineSays}
 ghost use Rattle.pie_project.specs.Looking.{Looks, front_calls, roots_path};
 ghost use Rattle.pie_project.specs.Projects.{front_of};
 ghost use Rattle.pie_project.specs.Refusals.{Only, Says};
+ghost use Rattle.pie_project.specs.Stops.{OnParse, PipelineStops};
 
 use crate::load::{files_error, load};
 use crate::pipeline::typed_of;
@@ -28,6 +29,7 @@ pub struct Project {
 pub fn read_project<F: Files>(alloc: Global, files: &mut F) -> Result<Project, BuildError>
     ensures found { IfSome (F.holds files.old) (λ d. Says front_of (ProjectSays d) result) }
     ensures only { IfSome (F.holds files.old) (λ d. Only front_of (ProjectSays d) result) }
+    ensures stops { IfSome (F.holds files.old) (λ d. Says front_of (OnParse (PipelineStops d)) result) }
     ensures looks { Looks F.holds F.asked F.faults front_calls files.old files.new result }
 {
     project_in(alloc, files)

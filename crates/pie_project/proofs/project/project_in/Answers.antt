@@ -1,4 +1,4 @@
-use Rattle.std.proofs.Common.{◌≡◌, ℕ, [], ◌∷◌, Vec, Global, Err}
+use Rattle.std.proofs.Common.{ℕ, [], ◌∷◌, Vec, Global, Err}
 use Rattle.pie_files.specs.declared.files.Call.TheVariants.{Read}
 use Rattle.pie_project.specs.declared.fault.BuildError.TheVariants as errors
 use Rattle.pie_project.specs.declared.fault.PipelineFault.TheVariants as faults
