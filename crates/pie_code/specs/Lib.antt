@@ -1,0 +1,9 @@
+pub mod Effects
+pub mod Running
+pub mod Coming
+pub mod Ways
+pub mod Checked
+pub mod Scans
+pub mod Searches
+pub mod Standing
+pub mod Operands
