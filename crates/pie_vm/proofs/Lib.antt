@@ -1,0 +1,7 @@
+pub mod Flipped
+pub mod PathKeys
+pub mod Settling
+pub mod Turning
+pub mod Carried
+pub mod Leading
+pub mod Asked
