@@ -1,0 +1,2 @@
+//! What a function means: its syntax tree, fed with answers.
+#![tactic(auto)]
