@@ -1,0 +1,16 @@
+pub mod Safe
+pub mod Acts
+pub mod Inhabitants
+pub mod Operators
+pub mod Names
+pub mod Asking
+pub mod Items
+pub mod Wishes
+pub mod BuiltinTypes
+pub mod BuiltinCalls
+pub mod Called
+pub mod Parts
+pub mod Trees
+pub mod Functions
+pub mod Whole
+pub mod Examples

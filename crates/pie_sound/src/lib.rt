@@ -1,0 +1,2 @@
+//! A typed function is never stuck.
+#![tactic(auto)]
