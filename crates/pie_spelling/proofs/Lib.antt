@@ -1,0 +1,16 @@
+pub mod Apart
+pub mod Bare
+pub mod Blind
+pub mod Cut
+pub mod Equal
+pub mod Examples
+pub mod ExprRead
+pub mod Finds
+pub mod FirstKinds
+pub mod FunctionsRead
+pub mod Lengths
+pub mod PartsCut
+pub mod Places
+pub mod Stretches
+pub mod TypesRead
+pub mod Words

@@ -1,0 +1,4 @@
+pub mod Same
+pub mod Spans
+pub mod Spelling
+pub mod Standing
