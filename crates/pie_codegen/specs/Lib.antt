@@ -1,0 +1,12 @@
+pub mod Spots
+pub mod Rooms
+pub mod Texts
+pub mod Compiled
+pub mod Lines
+pub mod Scopes
+pub mod Growing
+pub mod Functions
+pub mod Formed
+pub mod Names
+pub mod Pipelines
+pub mod Digests

@@ -1,0 +1,27 @@
+//! The compiler: from a typed pipeline to code that may run.
+#![tactic(auto)]
+
+mod behind;
+mod behind_block;
+mod behind_chain;
+mod block;
+mod call;
+mod chain;
+mod compiling;
+mod digests;
+mod each;
+mod emitter;
+mod expr;
+mod function;
+mod kinds;
+mod line;
+mod room;
+mod scope;
+mod spot;
+#[cfg(test)]
+mod tests;
+
+pub use compiling::compile;
+pub use digests::func_digests;
+pub use function::function_code;
+pub use spot::Spot;
