@@ -1,4 +1,5 @@
 pub mod Bringing
 pub mod Ending
 pub mod Members
+pub mod Others
 pub mod Standing

@@ -15,7 +15,7 @@ use Rattle.pie_files.proofs.HeldLemmas.{antisymmetric}
 use Rattle.pie_files.specs.declared.files.FilesError.{FilesError}
 use Rattle.pie_commit.specs.declared.plan.Plan.{Plan}
 use Rattle.pie_commit.specs.Plans.{Wanted, is_own, is_inner}
-use Rattle.pie_commit.specs.Outcomes.{Underway, Leaves, Stands, IsEarly, IsEnding, IsAtRest, HasBrought, KeepsMarked, LeavesFromRest}
+use Rattle.pie_commit.specs.Outcomes.{Underway, Leaves, Stands, IsEarly, IsEnding, IsAtRest, HasBrought, KeepsOthers, KeepsMarked, LeavesFromRest}
 use Rattle.pie_commit.proofs.Bringing.{get_with, get_without}
 
 pub same_itself : (q : List ℕ) → same_text q q ≡ true
@@ -235,3 +235,4 @@ pub record Marking {S : Type 0} (holds : S → Option Directory) (moment : S →
     (p : Plan) (old new : S) : Type 0 where
   pub told : Told (holds old) (holds new)
   pub crash : KeepsMarked holds moment left_since images p old new
+  pub outside : KeepsOthers p (holds old) (holds new)

@@ -10,6 +10,10 @@ use Rattle.pie_commit.specs.Plans.{Wanted, Meets, Brings, wanted_by, is_own}
 abbrev pub HasBrought : (List ℕ → Wanted) → Option Directory → Option Directory → Type 0
 HasBrought wants before after = IfSome before (λ d. (e : Directory) × (after ≡ Some e) × Brings wants d e)
 
+-- where the directory is told, it is told still, and every path that isn't the plan's own is as it was
+pub record KeepsOthers (p : Plan) (before after : Option Directory) : Type 0 where
+  pub kept : IfSome before (λ d. (e : Directory) × (after ≡ Some e) × ((q : List ℕ) → is_own p q ≡ false → file_at e q ≡ file_at d q))
+
 -- there is a file at this path
 abbrev pub HasFile : Directory → List ℕ → Type 0
 HasFile d path = (file : List ℕ × ℕ) × (file_at d path ≡ Some file)

@@ -3,7 +3,7 @@ ghost use Rattle.std.specs.Prelude.{◌≡◌, true, [], IfSome, OnOk};
 ghost use Rattle.pie_files.specs.Images.{MayLeave, Stays, Only};
 ghost use Rattle.pie_files.specs.Streams.{Counted};
 ghost use Rattle.pie_commit.specs.Plans.{is_sound, is_inner, Bytes, Gone, at, removed, written, pended, stored};
-ghost use Rattle.pie_commit.specs.Outcomes.{HasBrought, KeepsMarked, LeavesFromRest, IsEarly, IsEnding, IsAtRest, Stands};
+ghost use Rattle.pie_commit.specs.Outcomes.{HasBrought, KeepsOthers, KeepsMarked, LeavesFromRest, IsEarly, IsEnding, IsAtRest, Stands};
 
 use crate::{Pending, Plan};
 use pie_base::Path;
@@ -12,6 +12,7 @@ use pie_files::{Files, FilesError};
 /// Sets the marker, and makes it last before the first change.
 pub(crate) fn begin<F: Files>(files: &mut F, plan: &Plan) -> Result<(), FilesError>
     ensures done { OnOk result (HasBrought (at plan.now.marker (Bytes [])) (F.holds files.old) (F.holds files.new)) }
+    ensures outside { KeepsOthers plan.now (F.holds files.old) (F.holds files.new) }
     ensures crash { LeavesFromRest F.holds F.moment F.left_since F.images (IsEarly plan.now) files.old files.new }
     ensures stands { OnOk result (IfSome (F.holds files.old) (λ d. Stands plan.now d (F.images files.new))) }
     ensures counted { Counted F.faults FilesError.Failed files.old files.new result }
@@ -24,6 +25,7 @@ pub(crate) fn begin<F: Files>(files: &mut F, plan: &Plan) -> Result<(), FilesErr
 pub(crate) fn remove_all<F: Files>(files: &mut F, plan: &Plan) -> Result<(), FilesError>
     requires { is_sound plan.now ≡ true }
     ensures done { OnOk result (HasBrought (removed plan.now.removals.items) (F.holds files.old) (F.holds files.new)) }
+    ensures outside { KeepsOthers plan.now (F.holds files.old) (F.holds files.new) }
     ensures crash { KeepsMarked F.holds F.moment F.left_since F.images plan.now files.old files.new }
     ensures counted { Counted F.faults FilesError.Failed files.old files.new result }
 {
@@ -37,6 +39,7 @@ pub(crate) fn remove_all<F: Files>(files: &mut F, plan: &Plan) -> Result<(), Fil
 pub(crate) fn write_all<F: Files>(files: &mut F, plan: &Plan) -> Result<(), FilesError>
     requires { is_sound plan.now ≡ true }
     ensures done { OnOk result (HasBrought (written plan.now.writes.items) (F.holds files.old) (F.holds files.new)) }
+    ensures outside { KeepsOthers plan.now (F.holds files.old) (F.holds files.new) }
     ensures crash { KeepsMarked F.holds F.moment F.left_since F.images plan.now files.old files.new }
     ensures counted { Counted F.faults FilesError.Failed files.old files.new result }
 {
@@ -50,6 +53,7 @@ pub(crate) fn write_all<F: Files>(files: &mut F, plan: &Plan) -> Result<(), File
 pub(crate) fn put_pending<F: Files>(files: &mut F, plan: &Plan) -> Result<(), FilesError>
     requires { is_sound plan.now ≡ true }
     ensures done { OnOk result (HasBrought (at plan.now.names_place (pended plan.now.pending)) (F.holds files.old) (F.holds files.new)) }
+    ensures outside { KeepsOthers plan.now (F.holds files.old) (F.holds files.new) }
     ensures crash { KeepsMarked F.holds F.moment F.left_since F.images plan.now files.old files.new }
     ensures counted { Counted F.faults FilesError.Failed files.old files.new result }
 {
@@ -64,6 +68,7 @@ pub(crate) fn put_pending<F: Files>(files: &mut F, plan: &Plan) -> Result<(), Fi
 pub(crate) fn put_store<F: Files>(files: &mut F, plan: &Plan) -> Result<(), FilesError>
     requires { is_sound plan.now ≡ true }
     ensures done { OnOk result (HasBrought (at plan.now.place (stored plan.now.store)) (F.holds files.old) (F.holds files.new)) }
+    ensures outside { KeepsOthers plan.now (F.holds files.old) (F.holds files.new) }
     ensures crash { KeepsMarked F.holds F.moment F.left_since F.images plan.now files.old files.new }
     ensures counted { Counted F.faults FilesError.Failed files.old files.new result }
 {
@@ -76,6 +81,7 @@ pub(crate) fn put_store<F: Files>(files: &mut F, plan: &Plan) -> Result<(), File
 /// Takes the marker away, and makes that last.
 pub(crate) fn end<F: Files>(files: &mut F, plan: &Plan) -> Result<(), FilesError>
     ensures done { OnOk result (HasBrought (at plan.now.marker Gone) (F.holds files.old) (F.holds files.new)) }
+    ensures outside { KeepsOthers plan.now (F.holds files.old) (F.holds files.new) }
     ensures crash { LeavesFromRest F.holds F.moment F.left_since F.images (IsEnding plan.now.marker) files.old files.new }
     ensures durable { OnOk result (IfSome (F.holds files.old) (λ e. IsAtRest (F.holds files.new) (F.images files.new))) }
     ensures counted { Counted F.faults FilesError.Failed files.old files.new result }
@@ -87,6 +93,7 @@ pub(crate) fn end<F: Files>(files: &mut F, plan: &Plan) -> Result<(), FilesError
 fn remove<F: Files>(files: &mut F, plan: &Plan, path: &Path) -> Result<(), FilesError>
     requires { is_inner plan.now path.now ≡ true }
     ensures done { OnOk result (HasBrought (at path.now Gone) (F.holds files.old) (F.holds files.new)) }
+    ensures outside { KeepsOthers plan.now (F.holds files.old) (F.holds files.new) }
     ensures crash { KeepsMarked F.holds F.moment F.left_since F.images plan.now files.old files.new }
     ensures counted { Counted F.faults FilesError.Failed files.old files.new result }
 {
@@ -96,6 +103,7 @@ fn remove<F: Files>(files: &mut F, plan: &Plan, path: &Path) -> Result<(), Files
 fn write<F: Files>(files: &mut F, plan: &Plan, path: &Path, bytes: &[u8]) -> Result<(), FilesError>
     requires { is_inner plan.now path.now ≡ true }
     ensures done { OnOk result (HasBrought (at path.now (Bytes bytes.now)) (F.holds files.old) (F.holds files.new)) }
+    ensures outside { KeepsOthers plan.now (F.holds files.old) (F.holds files.new) }
     ensures crash { KeepsMarked F.holds F.moment F.left_since F.images plan.now files.old files.new }
     ensures counted { Counted F.faults FilesError.Failed files.old files.new result }
 {

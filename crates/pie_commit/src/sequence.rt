@@ -3,7 +3,7 @@ ghost use Rattle.std.specs.Prelude.{◌≡◌, true, false, IfSome, OnOk, OnErr}
 ghost use Rattle.pie_files.specs.Images.{Only};
 ghost use Rattle.pie_files.specs.Streams.{Counted};
 ghost use Rattle.pie_commit.specs.Plans.{is_sound, is_empty, wanted_by, changes};
-ghost use Rattle.pie_commit.specs.Outcomes.{HasBrought, KeepsMarked, LeavesFromRest, IsAtRest, IsOfThree, LeavesMarked};
+ghost use Rattle.pie_commit.specs.Outcomes.{HasBrought, KeepsOthers, KeepsMarked, LeavesFromRest, IsAtRest, IsOfThree, LeavesMarked};
 
 use crate::Plan;
 use crate::parts::{begin, end, make_last, put_pending, put_store, remove_all, write_all};
@@ -15,6 +15,7 @@ pub fn commit<F: Files>(files: &mut F, plan: &Plan) -> Result<(), FilesError>
     requires { is_sound plan.now ≡ true }
     ensures done { is_empty plan.now ≡ false → OnOk result (HasBrought (wanted_by plan.now) (F.holds files.old) (F.holds files.new)) }
     ensures empty { is_empty plan.now ≡ true → files.new ≡ files.old }
+    ensures outside { KeepsOthers plan.now (F.holds files.old) (F.holds files.new) }
     ensures crash { LeavesFromRest F.holds F.moment F.left_since F.images (IsOfThree plan.now) files.old files.new }
     ensures failed { OnErr result (IfSome (F.holds files.old) (λ d. Only d (F.images files.old) → LeavesMarked plan.now d (F.images files.new))) }
     ensures durable { is_empty plan.now ≡ false → OnOk result (IfSome (F.holds files.old) (λ d. IsAtRest (F.holds files.new) (F.images files.new))) }
@@ -29,6 +30,7 @@ pub fn commit<F: Files>(files: &mut F, plan: &Plan) -> Result<(), FilesError>
 fn commit_all<F: Files>(files: &mut F, plan: &Plan) -> Result<(), FilesError>
     requires { is_sound plan.now ≡ true }
     ensures done { OnOk result (HasBrought (wanted_by plan.now) (F.holds files.old) (F.holds files.new)) }
+    ensures outside { KeepsOthers plan.now (F.holds files.old) (F.holds files.new) }
     ensures crash { LeavesFromRest F.holds F.moment F.left_since F.images (IsOfThree plan.now) files.old files.new }
     ensures failed { OnErr result (IfSome (F.holds files.old) (λ d. Only d (F.images files.old) → LeavesMarked plan.now d (F.images files.new))) }
     ensures durable { OnOk result (IfSome (F.holds files.old) (λ d. IsAtRest (F.holds files.new) (F.images files.new))) }
@@ -43,6 +45,7 @@ fn commit_all<F: Files>(files: &mut F, plan: &Plan) -> Result<(), FilesError>
 fn change<F: Files>(files: &mut F, plan: &Plan) -> Result<(), FilesError>
     requires { is_sound plan.now ≡ true }
     ensures done { OnOk result (HasBrought (changes plan.now) (F.holds files.old) (F.holds files.new)) }
+    ensures outside { KeepsOthers plan.now (F.holds files.old) (F.holds files.new) }
     ensures crash { KeepsMarked F.holds F.moment F.left_since F.images plan.now files.old files.new }
     ensures durable { OnOk result (IfSome (F.holds files.old) (λ e. IsAtRest (F.holds files.new) (F.images files.new))) }
     ensures counted { Counted F.faults FilesError.Failed files.old files.new result }

@@ -4,6 +4,7 @@ use Rattle.pie_commit.proofs.Bringing.{in_any_case, write_brought, brought_still
 use Rattle.pie_files.specs.Images.{MayWrite}
 use Rattle.pie_commit.specs.Outcomes.{IsEarly}
 use Rattle.pie_commit.proofs.Standing.{call_rest, sync_rest, early_still, begins, told_by}
+use Rattle.pie_commit.proofs.Others.{marker_own, write_keeps_others, wrote_keeps_others, keeps_both, keeps_same}
 use Rattle.pie_commit.proofs.parts.begin.Goals as goal
 
 pub returns-clause-done : goal.returns-clause-done
@@ -35,3 +36,17 @@ returns-clause-stands g c =
     let w = c.in_ok-write.ensures.written in
     begins c.args.plan.now (g.F.Files.images c.make_last.new.files) (g.F.Files.holds c.args.files.now) (g.F.Files.holds c.write.new.self) w.0
     c.make_last.result w.1 c.make_last.ensures.durable
+
+pub returns-in_err-write-clause-outside : goal.returns-in_err-write-clause-outside
+returns-in_err-write-clause-outside g c =
+    let p = c.args.plan.now in
+    write_keeps_others _ p (g.F.Files.holds c.args.files.now) (g.F.Files.holds c.write.new.self) p.marker [] c.write.result (marker_own p)
+    c.write.ensures.written c.write.ensures.failed c.write.ensures.unchanged
+
+pub returns-clause-outside : goal.returns-clause-outside
+returns-clause-outside g c =
+    let p = c.args.plan.now in
+    let w = c.in_ok-write.ensures.written in
+    keeps_both p (g.F.Files.holds c.args.files.now) (g.F.Files.holds c.write.new.self) (g.F.Files.holds c.make_last.new.files)
+    (wrote_keeps_others p (g.F.Files.holds c.args.files.now) (g.F.Files.holds c.write.new.self) p.marker [] w.0 (marker_own p) w.1)
+    (keeps_same p (g.F.Files.holds c.write.new.self) (g.F.Files.holds c.make_last.new.files) c.make_last.ensures.same)

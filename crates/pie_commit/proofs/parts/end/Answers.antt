@@ -4,6 +4,7 @@ use Rattle.std.proofs.Common.{inl, refl}
 use Rattle.pie_files.specs.Images.{MayRemove}
 use Rattle.pie_commit.specs.Outcomes.{IsEnding}
 use Rattle.pie_commit.proofs.Standing.{call_rest, sync_rest, ending_still, rests, told_by}
+use Rattle.pie_commit.proofs.Others.{marker_own, removal_keeps_others, gone_keeps_others, keeps_both, keeps_same}
 use Rattle.pie_commit.proofs.parts.end.Goals as goal
 
 pub returns-clause-done : goal.returns-clause-done
@@ -36,3 +37,16 @@ returns-clause-durable g c =
     (g.F.Files.holds c.args.files.now) (g.F.Files.holds c.remove.new.self) c.args.plan.now.marker c.in_ok-remove.ensures.removed) in
     rests (g.F.Files.images c.make_last.new.files) (g.F.Files.holds c.args.files.now) (g.F.Files.holds c.remove.new.self) (g.F.Files.holds
     c.make_last.new.files) c.make_last.result told c.make_last.ensures.same c.make_last.ensures.durable
+
+pub returns-in_err-remove-clause-outside : goal.returns-in_err-remove-clause-outside
+returns-in_err-remove-clause-outside g c =
+    let p = c.args.plan.now in
+    removal_keeps_others p (g.F.Files.holds c.args.files.now) (g.F.Files.holds c.remove.new.self) p.marker c.remove.result (marker_own p)
+    c.remove.ensures.removed c.remove.ensures.failed c.remove.ensures.unchanged
+
+pub returns-clause-outside : goal.returns-clause-outside
+returns-clause-outside g c =
+    let p = c.args.plan.now in
+    keeps_both p (g.F.Files.holds c.args.files.now) (g.F.Files.holds c.remove.new.self) (g.F.Files.holds c.make_last.new.files)
+    (gone_keeps_others p (g.F.Files.holds c.args.files.now) (g.F.Files.holds c.remove.new.self) p.marker (marker_own p) c.in_ok-remove.ensures.removed)
+    (keeps_same p (g.F.Files.holds c.remove.new.self) (g.F.Files.holds c.make_last.new.files) c.make_last.ensures.same)

@@ -1,8 +1,9 @@
-use Rattle.std.proofs.Common.{ap, ◌∙◌}
+use Rattle.std.proofs.Common.{ap, ◌∙◌, refl}
 use Rattle.pie_commit.specs.Plans.{pended, at}
 use Rattle.pie_commit.proofs.Bringing.{brought_none, at_same}
 use Rattle.pie_commit.proofs.Members.{names_inner}
 use Rattle.pie_commit.proofs.Standing.{none_marked}
+use Rattle.pie_commit.proofs.Others.{keeps_same}
 use Rattle.pie_commit.proofs.parts.put_pending.Goals as goal
 
 pub returns-in-Keep-clause-done : goal.returns-in-Keep-clause-done
@@ -19,3 +20,6 @@ write-requires g c = names_inner c.args.plan.now c.requires
 
 pub remove-requires : goal.remove-requires
 remove-requires g c = names_inner c.args.plan.now c.requires
+
+pub returns-in-Keep-clause-outside : goal.returns-in-Keep-clause-outside
+returns-in-Keep-clause-outside g c = keeps_same c.args.plan.now (g.F.Files.holds c.args.files.now) (g.F.Files.holds c.args.files.now) refl

@@ -1,8 +1,9 @@
-use Rattle.std.proofs.Common.{ap, ◌∙◌}
+use Rattle.std.proofs.Common.{ap, ◌∙◌, refl}
 use Rattle.pie_commit.specs.Plans.{stored, at}
 use Rattle.pie_commit.proofs.Bringing.{brought_none, at_same}
 use Rattle.pie_commit.proofs.Members.{place_inner}
 use Rattle.pie_commit.proofs.Standing.{none_marked}
+use Rattle.pie_commit.proofs.Others.{keeps_same}
 use Rattle.pie_commit.proofs.parts.put_store.Goals as goal
 
 pub returns-in-None-clause-done : goal.returns-in-None-clause-done
@@ -16,3 +17,6 @@ returns-in-None-clause-crash g c = none_marked g.F.Files.holds g.F.Files.moment 
 
 pub write-requires : goal.write-requires
 write-requires g c = place_inner c.args.plan.now c.requires
+
+pub returns-in-None-clause-outside : goal.returns-in-None-clause-outside
+returns-in-None-clause-outside g c = keeps_same c.args.plan.now (g.F.Files.holds c.args.files.now) (g.F.Files.holds c.args.files.now) refl

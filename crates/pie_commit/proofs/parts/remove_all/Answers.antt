@@ -4,6 +4,7 @@ use Rattle.pie_commit.specs.Plans.{removed, at, Gone}
 use Rattle.pie_commit.proofs.Bringing.{removed_more, removed_none, brought_none}
 use Rattle.pie_commit.proofs.Members.{AllInner, removals_inner}
 use Rattle.pie_commit.proofs.Standing.{none_marked, both_marked, told_by, told_both, told_itself}
+use Rattle.pie_commit.proofs.Others.{keeps_both, keeps_same}
 use Rattle.pie_commit.proofs.parts.remove_all.Goals as goal
 
 pub loop-path-init : goal.loop-path-init
@@ -13,6 +14,7 @@ loop-path-init g c = (
     told = told_itself (g.F.Files.holds c.args.files.now);
     crash = none_marked g.F.Files.holds g.F.Files.moment g.F.Files.left_since
         g.F.Files.images c.args.plan.now c.args.files.now;
+    outside = keeps_same c.args.plan.now (g.F.Files.holds c.args.files.now) (g.F.Files.holds c.args.files.now) refl;
   },
   removals_inner c.args.plan.now c.requires,
 )
@@ -49,6 +51,8 @@ loop-path-preserved g c =
             (told_by (at item Gone) (g.F.Files.holds c.loop-path.files) (g.F.Files.holds c.remove.new.files) c.in_ok-remove.ensures.done);
         crash = both_marked g.F.Files.holds g.F.Files.moment g.F.Files.left_since g.F.Files.images c.args.plan.now c.args.files.now c.loop-path.files
             c.remove.new.files so_far.told so_far.crash c.in_ok-remove.ensures.crash;
+        outside = keeps_both c.args.plan.now (g.F.Files.holds c.args.files.now) (g.F.Files.holds c.loop-path.files) (g.F.Files.holds c.remove.new.files)
+            so_far.outside c.in_ok-remove.ensures.outside;
       },
       (subst (AllInner c.args.plan.now) next c.loop-path.invariant.2).1,
     )
@@ -69,3 +73,11 @@ returns-clause-done g c =
     let same : c.deref-path-items.result.now ≡ all = c.deref-path-items.ensures.value in
     c.loop-path.invariant.0.on (g.F.Files.holds c.loop-path.files) (brought_none (removed (drop i all))
     (removed_none (drop i all) (drop_all i all (omega (arith, c.loop-path-test.false, ap length same)))) (g.F.Files.holds c.loop-path.files))
+
+pub returns-in_err-remove-clause-outside : goal.returns-in_err-remove-clause-outside
+returns-in_err-remove-clause-outside g c =
+    keeps_both c.args.plan.now (g.F.Files.holds c.args.files.now) (g.F.Files.holds c.loop-path.files) (g.F.Files.holds c.remove.new.files)
+    c.loop-path.invariant.1.outside c.remove.ensures.outside
+
+pub returns-clause-outside : goal.returns-clause-outside
+returns-clause-outside g c = c.loop-path.invariant.1.outside

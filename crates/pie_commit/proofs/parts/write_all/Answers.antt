@@ -5,6 +5,7 @@ use Rattle.pie_commit.specs.Outcomes.{HasBrought}
 use Rattle.pie_commit.proofs.Bringing.{written_more, written_none, brought_none}
 use Rattle.pie_commit.proofs.Members.{AllInnerWrites, writes_inner}
 use Rattle.pie_commit.proofs.Standing.{none_marked, both_marked, told_by, told_both, told_itself}
+use Rattle.pie_commit.proofs.Others.{keeps_both, keeps_same}
 use Rattle.pie_commit.proofs.parts.write_all.Goals as goal
 
 pub loop-path-init : goal.loop-path-init
@@ -14,6 +15,7 @@ loop-path-init g c = (
     told = told_itself (g.F.Files.holds c.args.files.now);
     crash = none_marked g.F.Files.holds g.F.Files.moment g.F.Files.left_since
         g.F.Files.images c.args.plan.now c.args.files.now;
+    outside = keeps_same c.args.plan.now (g.F.Files.holds c.args.files.now) (g.F.Files.holds c.args.files.now) refl;
   },
   writes_inner c.args.plan.now c.requires,
 )
@@ -52,6 +54,8 @@ loop-path-preserved g c =
             (told_by (at item.0 (Bytes item.1.items)) (g.F.Files.holds c.loop-path.files) (g.F.Files.holds c.write.new.files) done);
         crash = both_marked g.F.Files.holds g.F.Files.moment g.F.Files.left_since g.F.Files.images c.args.plan.now c.args.files.now c.loop-path.files
             c.write.new.files so_far.told so_far.crash c.in_ok-write.ensures.crash;
+        outside = keeps_both c.args.plan.now (g.F.Files.holds c.args.files.now) (g.F.Files.holds c.loop-path.files) (g.F.Files.holds c.write.new.files)
+            so_far.outside c.in_ok-write.ensures.outside;
       },
       (subst (AllInnerWrites c.args.plan.now) next c.loop-path.invariant.2).1,
     )
@@ -72,3 +76,11 @@ returns-clause-done g c =
     let same : c.deref-path-items.result.now ≡ all = c.deref-path-items.ensures.value in
     c.loop-path.invariant.0.on (g.F.Files.holds c.loop-path.files) (brought_none (written (drop i all))
     (written_none (drop i all) (drop_all i all (omega (arith, c.loop-path-test.false, ap length same)))) (g.F.Files.holds c.loop-path.files))
+
+pub returns-in_err-write-clause-outside : goal.returns-in_err-write-clause-outside
+returns-in_err-write-clause-outside g c =
+    keeps_both c.args.plan.now (g.F.Files.holds c.args.files.now) (g.F.Files.holds c.loop-path.files) (g.F.Files.holds c.write.new.files)
+    c.loop-path.invariant.1.outside c.write.ensures.outside
+
+pub returns-clause-outside : goal.returns-clause-outside
+returns-clause-outside g c = c.loop-path.invariant.1.outside

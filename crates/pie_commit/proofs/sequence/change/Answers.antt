@@ -2,6 +2,7 @@ use Rattle.std.proofs.Common.{ℕ, List}
 use Rattle.pie_commit.specs.Plans.{changes, removed, written, at, pended, stored, later}
 use Rattle.pie_commit.proofs.Bringing.{brought_both, brought_still, in_any_case}
 use Rattle.pie_commit.proofs.Standing.{both_marked, sync_marked, told_by, told_both, rests}
+use Rattle.pie_commit.proofs.Others.{keeps_both, keeps_same}
 use Rattle.pie_commit.proofs.sequence.change.Goals as goal
 
 pub returns-clause-done : goal.returns-clause-done
@@ -100,3 +101,47 @@ returns-clause-durable g c =
     rests (g.F.Files.images c.make_last.new.files) (g.F.Files.holds c.args.files.now) (g.F.Files.holds c.put_store.new.files) (g.F.Files.holds
     c.make_last.new.files) c.make_last.result told4
     c.make_last.ensures.same c.make_last.ensures.durable
+
+pub returns-in_err-write_all-clause-outside : goal.returns-in_err-write_all-clause-outside
+returns-in_err-write_all-clause-outside g c =
+    let p = c.args.plan.now in
+    let a = g.F.Files.holds c.args.files.now in
+    let k1 = keeps_both p a (g.F.Files.holds c.remove_all.new.files) (g.F.Files.holds c.write_all.new.files)
+    c.in_ok-remove_all.ensures.outside c.write_all.ensures.outside in
+    k1
+
+pub returns-in_err-put_pending-clause-outside : goal.returns-in_err-put_pending-clause-outside
+returns-in_err-put_pending-clause-outside g c =
+    let p = c.args.plan.now in
+    let a = g.F.Files.holds c.args.files.now in
+    let k1 = keeps_both p a (g.F.Files.holds c.remove_all.new.files) (g.F.Files.holds c.write_all.new.files)
+    c.in_ok-remove_all.ensures.outside c.in_ok-write_all.ensures.outside in
+    let k2 = keeps_both p a (g.F.Files.holds c.write_all.new.files) (g.F.Files.holds c.put_pending.new.files)
+    k1 c.put_pending.ensures.outside in
+    k2
+
+pub returns-in_err-put_store-clause-outside : goal.returns-in_err-put_store-clause-outside
+returns-in_err-put_store-clause-outside g c =
+    let p = c.args.plan.now in
+    let a = g.F.Files.holds c.args.files.now in
+    let k1 = keeps_both p a (g.F.Files.holds c.remove_all.new.files) (g.F.Files.holds c.write_all.new.files)
+    c.in_ok-remove_all.ensures.outside c.in_ok-write_all.ensures.outside in
+    let k2 = keeps_both p a (g.F.Files.holds c.write_all.new.files) (g.F.Files.holds c.put_pending.new.files)
+    k1 c.in_ok-put_pending.ensures.outside in
+    let k3 = keeps_both p a (g.F.Files.holds c.put_pending.new.files) (g.F.Files.holds c.put_store.new.files)
+    k2 c.put_store.ensures.outside in
+    k3
+
+pub returns-clause-outside : goal.returns-clause-outside
+returns-clause-outside g c =
+    let p = c.args.plan.now in
+    let a = g.F.Files.holds c.args.files.now in
+    let k1 = keeps_both p a (g.F.Files.holds c.remove_all.new.files) (g.F.Files.holds c.write_all.new.files)
+    c.in_ok-remove_all.ensures.outside c.in_ok-write_all.ensures.outside in
+    let k2 = keeps_both p a (g.F.Files.holds c.write_all.new.files) (g.F.Files.holds c.put_pending.new.files)
+    k1 c.in_ok-put_pending.ensures.outside in
+    let k3 = keeps_both p a (g.F.Files.holds c.put_pending.new.files) (g.F.Files.holds c.put_store.new.files)
+    k2 c.in_ok-put_store.ensures.outside in
+    let k4 = keeps_both p a (g.F.Files.holds c.put_store.new.files) (g.F.Files.holds c.make_last.new.files)
+    k3 (keeps_same p (g.F.Files.holds c.put_store.new.files) (g.F.Files.holds c.make_last.new.files) c.make_last.ensures.same) in
+    k4

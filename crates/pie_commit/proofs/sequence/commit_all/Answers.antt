@@ -3,6 +3,7 @@ use Rattle.pie_commit.specs.Plans.{Bytes, Gone, changes, at, later, wanted_by}
 use Rattle.pie_commit.proofs.Bringing.{brought_both, brought_as, marked_then, on_ok}
 use Rattle.pie_commit.proofs.Standing.{told_by}
 use Rattle.pie_commit.proofs.Ending.{in_any_err, begin_failed, three_changed, three_ended, crash_of, failed_of}
+use Rattle.pie_commit.proofs.Others.{keeps_both}
 use Rattle.pie_commit.proofs.sequence.commit_all.Goals as goal
 
 pub returns-clause-done : goal.returns-clause-done
@@ -58,3 +59,16 @@ returns-clause-failed g c =
     c.change.new.files c.end.new.files told brought
     c.in_ok-change.ensures.durable c.end.ensures.crash two in
     in_any_err c.end.result (failed_of g.F.Files.holds g.F.Files.moment g.F.Files.left_since g.F.Files.images p c.args.files.now c.end.new.files all)
+
+pub returns-in_err-change-clause-outside : goal.returns-in_err-change-clause-outside
+returns-in_err-change-clause-outside g c =
+    keeps_both c.args.plan.now (g.F.Files.holds c.args.files.now) (g.F.Files.holds c.begin.new.files) (g.F.Files.holds c.change.new.files)
+    c.in_ok-begin.ensures.outside c.change.ensures.outside
+
+pub returns-clause-outside : goal.returns-clause-outside
+returns-clause-outside g c =
+    let p = c.args.plan.now in
+    let a = g.F.Files.holds c.args.files.now in
+    keeps_both p a (g.F.Files.holds c.change.new.files) (g.F.Files.holds c.end.new.files)
+    (keeps_both p a (g.F.Files.holds c.begin.new.files) (g.F.Files.holds c.change.new.files) c.in_ok-begin.ensures.outside c.in_ok-change.ensures.outside)
+    c.end.ensures.outside
