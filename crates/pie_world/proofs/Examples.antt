@@ -1,0 +1,73 @@
+-- Worked examples: what the tasks of a small pipeline do next in the model.
+use Rattle.std.proofs.Common.{◌≡◌, ℕ, List, false, [], ◌∷◌, map, codes, None, refl}
+use Rattle.pie_value.specs.Tree.{TBool}
+use Rattle.pie_value.specs.Canonical.{enc}
+use Rattle.pie_parser.specs.declared.tree.Literal.TheVariants as literals
+use Rattle.pie_parser.specs.declared.tree.CallKind.TheVariants as calls
+use Rattle.pie_parser.specs.declared.tree.EffectKind.TheVariants as effects
+use Rattle.pie_parser.specs.declared.tree.Name.{Name}
+use Rattle.pie_parser.specs.declared.type_tree.PlainType.TheVariants as plain
+use Rattle.pie_parser.specs.PlainTypes.{PlainT}
+use Rattle.pie_parser.specs.Plain.{TLiteral, TCall, TEffect, TBlock, NoLine, ALast, Nil, Cons}
+use Rattle.pie_parser.specs.FunctionTrees.{FunctionTree}
+use Rattle.pie_model.specs.declared.words.Answer.{Answer as ModelAnswer}
+use Rattle.pie_model.specs.declared.words.Answer.TheVariants as answers
+use Rattle.pie_model.specs.declared.words.Event.{Event as ModelEvent}
+use Rattle.pie_model.specs.declared.words.Look.TheVariants as looks
+use Rattle.pie_model.specs.declared.words.Event.TheVariants as model
+use Rattle.pie_model.specs.declared.words.FaultKind.TheVariants as faults
+use Rattle.pie_world.specs.Words.{event_of}
+use Rattle.pie_world.specs.Answers.{answer_of}
+use Rattle.pie_world.specs.World.{task_comes_to}
+
+abbrev named : List ℕ → Name
+named s = record { at = 0; end = 0; text = s }
+
+-- `func f() -> text { get(read(path("s"))) }`
+abbrev reads : FunctionTree
+reads = record {
+  at = 0;
+  end = 0;
+  name = named (codes "f");
+  params = [];
+  result = PlainT 0 0 plain.Text;
+  body =
+      TBlock 0 0 NoLine (ALast (TCall 0 0 calls.Plain (named (codes "get"))
+      (Cons (TEffect 0 0 effects.Read (TEffect 0 0 effects.Path (TLiteral 0 0 (literals.Text (codes "s"))))) Nil)));
+}
+
+-- the same with `exists(path("s"))`
+abbrev tests : FunctionTree
+tests = record {
+  at = 0;
+  end = 0;
+  name = named (codes "g");
+  params = [];
+  result = PlainT 0 0 plain.Bool;
+  body = TBlock 0 0 NoLine (ALast (TEffect 0 0 effects.Exists (TEffect 0 0 effects.Path (TLiteral 0 0 (literals.Text (codes "s"))))));
+}
+
+abbrev both : List FunctionTree
+both = reads ∷ tests ∷ []
+
+-- what a task of these two functions does next
+abbrev does : List ℕ → List ModelAnswer → ModelEvent
+does name given = event_of (task_comes_to both (record { func = name; args = [] }) (map answer_of given))
+
+-- one looks at the file by its hash, and the other whether it is there
+looks_first : does (codes "f") [] ≡ model.LookAt looks.ByHash (codes "s")
+looks_first = refl
+
+asks_first : does (codes "g") [] ≡ model.LookAt looks.Exists (codes "s")
+asks_first = refl
+
+-- where nothing is there, the one fails, and the other says so
+fails_without : does (codes "f") (answers.Contents None ∷ []) ≡ model.Fail faults.Null
+fails_without = refl
+
+tells_absence : does (codes "g") (answers.Flag false ∷ []) ≡ model.Done (enc (TBool false))
+tells_absence = refl
+
+-- a task without a function fails
+no_function : does (codes "h") [] ≡ model.Fail faults.Unknown
+no_function = refl
