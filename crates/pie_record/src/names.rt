@@ -1,6 +1,6 @@
 //! Numbers for tasks.
-ghost use Rattle.std.specs.Prelude.{◌≡◌, ◌+◌, ◌<◌, ◌^◌, length, List, [], ◌∷◌, ◌++◌, Contains, Some, slice_get, IfOk, OnOk, OnErr};
-ghost use Rattle.pie_value.specs.Canonical.{IsEncodableTask};
+ghost use Rattle.std.specs.Prelude.{◌≡◌, ◌+◌, ◌<◌, ◌^◌, length, List, [], ◌∷◌, ◌++◌, All, Contains, Some, slice_get, IfOk, OnOk, OnErr};
+ghost use Rattle.pie_value.specs.Canonical.{enc_task, IsCanonicalTask, IsEncodableTask};
 ghost use Rattle.pie_record.specs.Names.{Numbers, AreDistinct, IsPlace, IsFree};
 
 use indexmap::IndexSet;
@@ -91,6 +91,7 @@ impl TaskNames {
     pub fn as_slice(&self) -> &[Task]
         ensures tasks { result.now ≡ self.now }
         ensures distinct { AreDistinct self.now }
+        ensures canonical { All (λ t. IsCanonicalTask t (enc_task t)) self.now }
     {
         self.tasks.as_slice()
     }
