@@ -1,0 +1,286 @@
+-- The least place of an overlap, of a nested pair and of a hidden write.
+use Rattle.std.proofs.Common.{◌≡◌, ◌≢◌, ℕ, ◌<◌, ◌≤◌, ◌+◌, ◌==◌, Bool, true, false, cond, List, [], ◌∷◌, ◌++◌, length, get_or, refl, sym, ap, ◌∙◌, subst, inl, inr, arith}
+use Rattle.std.specs.Prelude.{Option, Some, None}
+use Rattle.std.specs.declared.cmp.Ordering.TheVariants.{Equal}
+use Rattle.std.specs.Ordering.{is_lt, is_gt}
+use Rattle.std.specs.List.{Contains}
+use Rattle.std.proofs.lemmas.Bool.{cases_lt, cases_eq}
+use Rattle.std.proofs.lemmas.Bool.Decides.{Decides-eqb}
+use Rattle.std.proofs.lemmas.List.{get_or_default}
+use Rattle.std.proofs.lemmas.List.Elements.{Contains-get_or}
+use Rattle.pie_base.specs.Path.{is_below, same_text}
+use Rattle.pie_value.specs.declared.task.Task.{Task}
+use Rattle.pie_value.specs.declared.verdict.Refusal.{Refusal}
+use Rattle.pie_value.specs.declared.verdict.Refusal.TheVariants.{Overlap, Hidden}
+use Rattle.pie_value.specs.Canonical.{enc_task}
+use Rattle.pie_value.specs.Order.{byte_order}
+use Rattle.pie_record.specs.Names.{AreDistinct}
+use Rattle.pie_checks.specs.Records.{OfTask}
+use Rattle.pie_checks.specs.Refusals.{Overlaps, Nests, Hides, task_order, IsLeastPlace, IsLeastPair, NoPlace, NoPair, FindsOverlap, FindsHidden}
+use Rattle.pie_checks.specs.Listings.{Entry, IsInOrder, AreNumbered, Stands, IsListed, IsShared, IsFirstShared, HasTwo, HasOneEach, numbers_beside}
+use Rattle.pie_checks.specs.Searches.{task_at, IsAmong, IsLeastBut, IsTwoLeast, IsPlaceOf, IsFirstBelow, IsOtherAt, other_in}
+use Rattle.pie_checks.proofs.PathOrder.{then_not_gt, not_after_through, same_order, equal_same, same_both, turned, between, longer_not_less, below_has, has_below}
+use Rattle.pie_checks.proofs.Gathering.{beside_only, beside_each, same_is, same_refl}
+use Rattle.pie_checks.proofs.LeastTask.{IsUpTo, not_out, up_to_same}
+use Rattle.pie_checks.proofs.Numbering.{task_of, number_of, same_task, apart, not_but, below_count}
+
+-- ---- overlaps
+
+pub two_beside : (writes : List Entry) (path : List ℕ) (ns : List ℕ) → ns ≡ numbers_beside writes path → IsFirstShared writes (Some path) → HasTwo ns
+two_beside writes path ns e first =
+    let two : HasTwo (numbers_beside writes path) = (first.0.0, first.0.1, beside_each writes path first.0.0 first.0.2, beside_each writes path first.0.1 first.0.3, first.0.4) in
+    subst HasTwo (sym e) two
+
+-- tasks that overlap have two numbers
+shared_by : (tasks : List Task) (writes : List Entry) (path : List ℕ) (c d : Task) → Overlaps (OfTask tasks (Stands writes)) path c d → IsShared writes path
+shared_by tasks writes path c d h = (h.0.0, h.1.0, h.0.2, h.1.2, λ e. h.2 (same_task tasks h.0.0 h.1.0 c d h.0.1 h.1.1 e))
+
+pub no_overlap : (tasks : List Task) (writes : List Entry) → IsFirstShared writes None → NoPlace (Overlaps (OfTask tasks (Stands writes)))
+no_overlap tasks writes none path c d h = none path (shared_by tasks writes path c d h)
+
+-- the second of the two is up to any other task of the path
+second_up : (tasks : List Task) (ns : List ℕ) (first second nc nd : ℕ) → IsTwoLeast tasks ns (first, second) → Contains ns nc → Contains ns nd → nc ≢ nd
+    → task_order (task_at tasks first) (task_at tasks nc) ≡ Equal → IsUpTo tasks second nd
+second_up tasks ns first second nc nd two hc hd other eq =
+    elim (cases_eq first nc) [
+      | inl same ↦ two.1.1 nd (hd, not_out first nd (λ e. other (sym same ∙ e)))
+      | inr differs ↦
+          let enc : List Task → ℕ → List ℕ = λ ts n. enc_task (task_at ts n) in
+          let alike : enc tasks first ≡ enc tasks nc = equal_same (enc tasks first) (enc tasks nc) eq in
+          let down : IsUpTo tasks nc first = ap is_gt (same_order (enc tasks nc) (enc tasks first) (sym alike)) in
+          let low : IsUpTo tasks second nc = two.1.1 nc (hc, not_out first nc differs) in
+          let high : IsUpTo tasks first nd = two.0.1 nd (hd, refl) in
+          not_after_through (enc tasks second) (enc tasks nc) (enc tasks nd) low (not_after_through (enc tasks nc) (enc tasks first) (enc tasks nd) down high)
+    ]
+
+pub overlap_least : (tasks : List Task) (writes : List Entry) (path : List ℕ) (first second : ℕ) → AreDistinct tasks → AreNumbered (length tasks) writes → IsFirstShared writes (Some path)
+    → IsTwoLeast tasks (numbers_beside writes path) (first, second) → IsLeastPlace (Overlaps (OfTask tasks (Stands writes))) path (task_at tasks first) (task_at tasks second)
+overlap_least tasks writes path first second distinct numbered shared two =
+    let ns = numbers_beside writes path in
+    let a = task_at tasks first in
+    let b = task_at tasks second in
+    let sa = beside_only writes path first two.0.0.0 in
+    let sb = beside_only writes path second two.1.0.0 in
+    let la = below_count (length tasks) writes path first numbered sa in
+    let lb = below_count (length tasks) writes path second numbered sb in
+    record {
+      holds = ((first, task_of tasks first la, sa), (second, task_of tasks second lb, sb), apart tasks first second distinct la lb (not_but first second two.1.0.1));
+      least = λ q c d h.
+          let nc = h.0.0 in
+          let nd = h.1.0 in
+          let ec = (number_of tasks nc c h.0.1).1 in
+          let ed = (number_of tasks nd d h.1.1).1 in
+          let other : nc ≢ nd = λ e. h.2 (same_task tasks nc nd c d h.0.1 h.1.1 e) in
+          then_not_gt (byte_order path q) _ (shared.1 q (shared_by tasks writes q c d h)) (λ eq.
+          let same : q ≡ path = sym (equal_same path q eq) in
+          let hc : Contains ns nc = beside_each writes path nc (subst (λ (p : List ℕ). Stands writes p nc) same h.0.2) in
+          let hd : Contains ns nd = beside_each writes path nd (subst (λ (p : List ℕ). Stands writes p nd) same h.1.2) in
+          then_not_gt (task_order a c) (task_order b d) (subst (λ (t : Task). is_gt (task_order a t) ≡ false) ec (two.0.1 nc (hc, refl))) (λ tie.
+          let tied : task_order a (task_at tasks nc) ≡ Equal = ap (task_order a) ec ∙ tie in
+          subst (λ (t : Task). is_gt (task_order b t) ≡ false) ed (second_up tasks ns first second nc nd two hc hd other tied)));
+    }
+
+pub two_below : (tasks : List Task) (writes : List Entry) (path ns : List ℕ) (two : ℕ × ℕ) → ns ≡ numbers_beside writes path → AreNumbered (length tasks) writes → IsTwoLeast tasks ns two
+    → (two.0 < length tasks) × (two.1 < length tasks)
+two_below tasks writes path ns two e numbered h =
+    let first : Contains (numbers_beside writes path) two.0 = subst (λ (xs : List ℕ). Contains xs two.0) e h.0.0.0 in
+    let second : Contains (numbers_beside writes path) two.1 = subst (λ (xs : List ℕ). Contains xs two.1) e h.1.0.0 in
+    (below_count (length tasks) writes path two.0 numbered (beside_only writes path two.0 first), below_count (length tasks) writes path two.1 numbered (beside_only writes path two.1 second))
+
+pub overlap_told : (tasks : List Task) (writes : List Entry) (path ns : List ℕ) (two : ℕ × ℕ) (refusal : Refusal) → AreDistinct tasks → AreNumbered (length tasks) writes → IsFirstShared writes (Some path)
+    → ns ≡ numbers_beside writes path → IsTwoLeast tasks ns two → refusal ≡ Overlap path (task_at tasks two.0) (task_at tasks two.1) → FindsOverlap (OfTask tasks (Stands writes)) (Some refusal)
+overlap_told tasks writes path ns two refusal distinct numbered shared e h is =
+    let found : FindsOverlap (OfTask tasks (Stands writes)) (Some (Overlap path (task_at tasks two.0) (task_at tasks two.1))) =
+    overlap_least tasks writes path two.0 two.1 distinct numbered shared (subst (λ (xs : List ℕ). IsTwoLeast tasks xs two) e h) in
+    subst (λ (r : Refusal). FindsOverlap (OfTask tasks (Stands writes)) (Some r)) (sym is) found
+
+-- ---- nested paths
+
+-- no entry of which the path lies below stands before a place
+at_or_past : (es : List Entry) (path below : List ℕ) (n at : ℕ) → IsPlaceOf (path ++ 47 ∷ []) es at → (s : Stands es below n) → is_below path below ≡ true → at ≤ s.0
+at_or_past es path below n at place s h =
+    elim (cases_lt s.0 at) [
+      | inl early ↦
+          let r = below_has path below h in
+          let less : is_lt (byte_order below (path ++ 47 ∷ [])) ≡ true = ap (λ (e : Entry). is_lt (byte_order e.0 (path ++ 47 ∷ []))) (sym s.2) ∙ place.before s.0 (below, n) early in
+          let more : is_lt (byte_order below (path ++ 47 ∷ [])) ≡ false = ap (λ (q : List ℕ). is_lt (byte_order q (path ++ 47 ∷ []))) r.1 ∙ longer_not_less path r.0 in
+          absurd (cc)
+      | inr le ↦ le
+    ]
+
+-- an entry comes up to those that stand after it
+up_to_entry : (es : List Entry) (at : ℕ) (e : Entry) (q : List ℕ) (n : ℕ) → IsInOrder es → e ≡ get_or es at e → (s : Stands es q n) → at ≤ s.0 → is_gt (byte_order e.0 q) ≡ false
+up_to_entry es at e q n up is s le =
+    let here : get_or es at (q, n) ≡ e = get_or_default es at (q, n) e (omega (arith, s.1)) ∙ sym is in
+    subst (λ (x : Entry). is_gt (byte_order x.0 q) ≡ false) here
+    (subst (λ (x : Entry). is_gt (byte_order (get_or es at (q, n)).0 x.0) ≡ false) s.2 (up at s.0 (q, n) le s.1))
+
+first_below_by : (es : List Entry) (path : List ℕ) (at : ℕ) (e : Entry) (hit : Bool) → is_below path e.0 ≡ hit → IsInOrder es → IsPlaceOf (path ++ 47 ∷ []) es at → at < length es → e ≡ get_or es at e
+    → IsFirstBelow es path (cond hit (Some e.0) None)
+first_below_by es path at e true h up place l is =
+    ((e.1, subst (Contains es) (sym is) (Contains-get_or es at e l)), h, λ below n s b. up_to_entry es at e below n up is s (at_or_past es path below n at place s b))
+first_below_by es path at e false h up place l is = λ below n s b.
+    let r = below_has path below b in
+    let upto = up_to_entry es at e below n up is s (at_or_past es path below n at place s b) in
+    let high : is_gt (byte_order e.0 (path ++ 47 ∷ r.0)) ≡ false = subst (λ (q : List ℕ). is_gt (byte_order e.0 q) ≡ false) r.1 upto in
+    let low : is_lt (byte_order e.0 (path ++ 47 ∷ [])) ≡ false = subst (λ (x : Entry). is_lt (byte_order x.0 (path ++ 47 ∷ [])) ≡ false) (sym is) (place.after at e (omega arith) l) in
+    let mid = between path e.0 r.0 low high in
+    let on : is_below path e.0 ≡ true = ap (is_below path) mid.1 ∙ has_below path mid.0 in
+    absurd (cc)
+
+pub first_below : (es : List Entry) (path key : List ℕ) (at : ℕ) (e : Entry) (found : Option (List ℕ)) → key ≡ path ++ 47 ∷ [] → IsInOrder es → IsPlaceOf key es at → at < length es → e ≡ get_or es at e
+    → found ≡ cond (is_below path e.0) (Some e.0) None → IsFirstBelow es path found
+first_below es path key at e found k up place l is f =
+    subst (IsFirstBelow es path) (sym f) (first_below_by es path at e (is_below path e.0) refl up (subst (λ (bs : List ℕ). IsPlaceOf bs es at) k place) l is)
+
+pub none_below : (es : List Entry) (path key : List ℕ) (at : ℕ) → key ≡ path ++ 47 ∷ [] → IsPlaceOf key es at → length es ≤ at → IsFirstBelow es path None
+none_below es path key at k place l below n s b =
+    absurd (omega (arith, s.1, at_or_past es path below n at (subst (λ (bs : List ℕ). IsPlaceOf bs es at) k place) s b))
+
+-- no path before a place has another below it
+abbrev pub NoneBelow : List Entry → ℕ → Type 0
+NoneBelow es i = (k : ℕ) (d : Entry) → k < i → (below : List ℕ) (n : ℕ) → Stands es below n → is_below (get_or es k d).0 below ≡ true → ⊥
+
+pub none_more : (es : List Entry) (i : ℕ) (e : Entry) → i < length es → e ≡ get_or es i e → IsFirstBelow es e.0 None → NoneBelow es i → NoneBelow es (i + 1)
+none_more es i e l is none h k d lt below n s b =
+    elim (cases_lt k i) [
+      | inl low ↦ h k d low below n s b
+      | inr high ↦
+          let at : k ≡ i = omega arith in
+          let same : get_or es k d ≡ e = ap (λ (m : ℕ). get_or es m d) at ∙ get_or_default es i d e l ∙ sym is in
+          none below n s (ap (λ (x : Entry). is_below x.0 below) (sym same) ∙ b)
+    ]
+
+pub no_nested : (es : List Entry) (i : ℕ) → length es ≤ i → NoneBelow es i → NoPair (Nests (IsListed es))
+no_nested es i l h path below r = let at = r.0.1 in h at.0 (path, r.0.0) (omega (arith, at.1)) below r.1.0 r.1.1 (ap (λ (x : Entry). is_below x.0 below) at.2 ∙ r.2)
+
+pub nested_least : (es : List Entry) (i : ℕ) (e : Entry) (below : List ℕ) → IsInOrder es → i < length es → e ≡ get_or es i e → IsFirstBelow es e.0 (Some below) → NoneBelow es i → IsLeastPair (Nests (IsListed es)) e.0 below
+nested_least es i e below up l is first none = record {
+  holds = ((e.1, subst (Contains es) (sym is) (Contains-get_or es i e l)), first.0, first.1);
+  least = λ r s h.
+      let at = h.0.1 in
+      let late : i ≤ at.0 = elim (cases_lt at.0 i) [
+        | inl early ↦ absurd (none at.0 (r, h.0.0) early s h.1.0 h.1.1 (ap (λ (x : Entry). is_below x.0 s) at.2 ∙ h.2))
+        | inr le ↦ le
+      ] in
+      then_not_gt (byte_order e.0 r) (byte_order below s) (up_to_entry es i e r h.0.0 up is at late) (λ eq.
+      let same : e.0 ≡ r = equal_same e.0 r eq in
+      first.2 s h.1.0 h.1.1 (ap (λ (p : List ℕ). is_below p s) same ∙ h.2));
+}
+
+-- ---- hidden writes
+
+from_place : (es : List Entry) (path : List ℕ) (at n : ℕ) → IsPlaceOf path es at → (s : Stands es path n) → at ≤ s.0
+from_place es path at n place s =
+    elim (cases_lt s.0 at) [
+      | inl early ↦
+          let less : is_lt (byte_order path path) ≡ true = ap (λ (e : Entry). is_lt (byte_order e.0 path)) (sym s.2) ∙ place.before s.0 (path, n) early in
+          let not : is_lt (byte_order path path) ≡ false = ap is_lt (same_order path path refl) in
+          absurd (cc)
+      | inr le ↦ le
+    ]
+
+-- an entry that stands where a path would stand has the path, if any has
+entry_is : (es : List Entry) (path : List ℕ) (at : ℕ) (e : Entry) (n : ℕ) → IsInOrder es → IsPlaceOf path es at → at < length es → e ≡ get_or es at e → Stands es path n → e.0 ≡ path
+entry_is es path at e n up place l is s =
+    let late = from_place es path at n place s in
+    let low : is_lt (byte_order e.0 path) ≡ false = subst (λ (x : Entry). is_lt (byte_order x.0 path) ≡ false) (sym is) (place.after at e (omega arith) l) in
+    same_both e.0 path (up_to_entry es at e path n up is s late) (turned path e.0 low)
+
+one_number : (es : List Entry) (path : List ℕ) (m n : ℕ) → HasOneEach es → Stands es path m → Stands es path n → m ≡ n
+one_number es path m n one s t = elim (cases_eq m n) [ inl e ↦ e | inr other ↦ absurd (one path (m, n, s, t, other)) ]
+
+other_by : (es : List Entry) (path : List ℕ) (reader at : ℕ) (e : Entry) (hit same : Bool) → same_text e.0 path ≡ hit → (e.1 == reader) ≡ same → IsInOrder es → HasOneEach es → IsPlaceOf path es at → at < length es
+    → e ≡ get_or es at e → IsOtherAt es path reader (cond hit (cond same None (Some e.1)) None)
+other_by es path reader at e true true h k up one place l is = λ n s.
+    let there : Stands es path e.1 = subst (λ (p : List ℕ). Stands es p e.1) (same_is e.0 path h) (subst (Contains es) (sym is) (Contains-get_or es at e l)) in
+    one_number es path n e.1 one s there ∙ (Decides-eqb e.1 reader).0 k
+other_by es path reader at e true false h k up one place l is = (
+  subst (λ (p : List ℕ). Stands es p e.1) (same_is e.0 path h) (subst (Contains es) (sym is) (Contains-get_or es at e l)),
+  λ eq. let on : (e.1 == reader) ≡ true = (Decides-eqb e.1 reader).1 eq in absurd (cc),
+)
+other_by es path reader at e false same h k up one place l is = λ n s.
+    let on : same_text e.0 path ≡ true = ap (same_text e.0) (sym (entry_is es path at e n up place l is s)) ∙ same_refl e.0 in
+    absurd (cc)
+
+pub other_found : (es : List Entry) (path : List ℕ) (reader at : ℕ) (e : Entry) (found : Option ℕ) → IsInOrder es → HasOneEach es → IsPlaceOf path es at → at < length es → e ≡ get_or es at e
+    → found ≡ other_in e path reader → IsOtherAt es path reader found
+other_found es path reader at e found up one place l is f =
+    subst (IsOtherAt es path reader) (sym f) (other_by es path reader at e (same_text e.0 path) (e.1 == reader) refl refl up one place l is)
+
+pub none_other : (es : List Entry) (path : List ℕ) (reader at : ℕ) → IsPlaceOf path es at → length es ≤ at → IsOtherAt es path reader None
+none_other es path reader at place l n s = absurd (omega (arith, s.1, from_place es path at n place s))
+
+-- what was seen absent before a place was written by the reader alone
+abbrev pub NoneHidden : List Entry → List Entry → ℕ → Type 0
+NoneHidden writes misses i = (k : ℕ) (d : Entry) → k < i → (n : ℕ) → Stands writes (get_or misses k d).0 n → n ≡ (get_or misses k d).1
+
+pub none_hidden_more : (writes misses : List Entry) (i : ℕ) (e : Entry) → i < length misses → e ≡ get_or misses i e → IsOtherAt writes e.0 e.1 None → NoneHidden writes misses i → NoneHidden writes misses (i + 1)
+none_hidden_more writes misses i e l is none h k d lt n s =
+    elim (cases_lt k i) [
+      | inl low ↦ h k d low n s
+      | inr high ↦
+          let at : k ≡ i = omega arith in
+          let same : get_or misses k d ≡ e = ap (λ (m : ℕ). get_or misses m d) at ∙ get_or_default misses i d e l ∙ sym is in
+          none n (subst (λ (x : Entry). Stands writes x.0 n) same s) ∙ ap (λ (x : Entry). x.1) (sym same)
+    ]
+
+-- a task that saw a path absent and one that wrote it have two numbers
+two_numbers : (tasks : List Task) (writes misses : List Entry) (path : List ℕ) (c d : Task) (h : Hides (OfTask tasks (Stands writes)) (OfTask tasks (Stands misses)) path c d) → h.1.0 ≢ h.0.0
+two_numbers tasks writes misses path c d h e = h.2 (same_task tasks h.0.0 h.1.0 c d h.0.1 h.1.1 (sym e))
+
+hidden_late : (tasks : List Task) (writes misses : List Entry) (i : ℕ) (path : List ℕ) (c d : Task) → NoneHidden writes misses i → (h : Hides (OfTask tasks (Stands writes)) (OfTask tasks (Stands misses)) path c d) → i ≤ h.0.2.0
+hidden_late tasks writes misses i path c d none h =
+    elim (cases_lt h.0.2.0 i) [
+      | inl early ↦
+          let at : get_or misses h.0.2.0 (path, h.0.0) ≡ (path, h.0.0) = h.0.2.2 in
+          absurd (two_numbers tasks writes misses path c d h (none h.0.2.0 (path, h.0.0) early h.1.0 (subst (λ (x : Entry). Stands writes x.0 h.1.0) (sym at) h.1.2) ∙ ap (λ (x : Entry). x.1) at))
+      | inr le ↦ le
+    ]
+
+pub no_hidden : (tasks : List Task) (writes misses : List Entry) (i : ℕ) → length misses ≤ i → NoneHidden writes misses i → NoPlace (Hides (OfTask tasks (Stands writes)) (OfTask tasks (Stands misses)))
+no_hidden tasks writes misses i l none path c d h = absurd (omega (arith, h.0.2.1, hidden_late tasks writes misses i path c d none h))
+
+pub hidden_least : (tasks : List Task) (writes misses : List Entry) (i : ℕ) (e : Entry) (reader writer : ℕ) → AreDistinct tasks → IsInOrder misses → AreNumbered (length tasks) writes → AreNumbered (length tasks) misses
+    → HasOneEach writes → i < length misses → e ≡ get_or misses i e → IsOtherAt writes e.0 e.1 (Some writer) → IsLeastBut tasks (IsAmong (numbers_beside misses e.0) (Some writer)) (Some reader) → NoneHidden writes misses i
+    → IsLeastPlace (Hides (OfTask tasks (Stands writes)) (OfTask tasks (Stands misses))) e.0 (task_at tasks reader) (task_at tasks writer)
+hidden_least tasks writes misses i e reader writer distinct up nw nm one l is other best none =
+    let a = task_at tasks reader in
+    let b = task_at tasks writer in
+    let sr = beside_only misses e.0 reader best.0.0 in
+    let lr = below_count (length tasks) misses e.0 reader nm sr in
+    let lw = below_count (length tasks) writes e.0 writer nw other.0 in
+    record {
+      holds = ((reader, task_of tasks reader lr, sr), (writer, task_of tasks writer lw, other.0), apart tasks reader writer distinct lr lw (λ eq. not_but writer reader best.0.1 (sym eq)));
+      least = λ q c d h.
+          let nc = h.0.0 in
+          let nd = h.1.0 in
+          let ec = (number_of tasks nc c h.0.1).1 in
+          let ed = (number_of tasks nd d h.1.1).1 in
+          then_not_gt (byte_order e.0 q) _ (up_to_entry misses i e q nc up is h.0.2 (hidden_late tasks writes misses i q c d none h)) (λ eq.
+          let same : q ≡ e.0 = sym (equal_same e.0 q eq) in
+          let hc : Contains (numbers_beside misses e.0) nc = beside_each misses e.0 nc (subst (λ (p : List ℕ). Stands misses p nc) same h.0.2) in
+          let wd : writer ≡ nd = one_number writes e.0 writer nd one other.0 (subst (λ (p : List ℕ). Stands writes p nd) same h.1.2) in
+          let out : writer ≢ nc = λ w. two_numbers tasks writes misses q c d h (sym wd ∙ w) in
+          then_not_gt (task_order a c) (task_order b d) (subst (λ (t : Task). is_gt (task_order a t) ≡ false) ec (best.1 nc (hc, not_out writer nc out)))
+          (λ tie. subst (λ (t : Task). is_gt (task_order b t) ≡ false) ed (up_to_same tasks writer nd wd)));
+    }
+
+pub other_reads : (misses : List Entry) (i : ℕ) (e : Entry) (writer : ℕ) (readers : List ℕ) → readers ≡ numbers_beside misses e.0 → i < length misses → e ≡ get_or misses i e → writer ≢ e.1 → (n : ℕ) × IsAmong readers (Some writer) n
+other_reads misses i e writer readers r l is other =
+    let here : Contains (numbers_beside misses e.0) e.1 = beside_each misses e.0 e.1 (subst (Contains misses) (sym is) (Contains-get_or misses i e l)) in
+    (e.1, (subst (λ (ns : List ℕ). Contains ns e.1) (sym r) here, not_out writer e.1 other))
+
+pub hidden_told : (tasks : List Task) (writes misses : List Entry) (i : ℕ) (e : Entry) (reader writer : ℕ) (ns : List ℕ) (refusal : Refusal) → AreDistinct tasks → IsInOrder misses → AreNumbered (length tasks) writes
+    → AreNumbered (length tasks) misses → HasOneEach writes → i < length misses → e ≡ get_or misses i e → IsOtherAt writes e.0 e.1 (Some writer) → ns ≡ numbers_beside misses e.0
+    → IsLeastBut tasks (IsAmong ns (Some writer)) (Some reader) → NoneHidden writes misses i → refusal ≡ Hidden e.0 (task_at tasks reader) (task_at tasks writer)
+    → FindsHidden (OfTask tasks (Stands writes)) (OfTask tasks (Stands misses)) (Some refusal)
+hidden_told tasks writes misses i e reader writer ns refusal distinct up nw nm one l is other r best none told =
+    let found : FindsHidden (OfTask tasks (Stands writes)) (OfTask tasks (Stands misses)) (Some (Hidden e.0 (task_at tasks reader) (task_at tasks writer))) =
+    hidden_least tasks writes misses i e reader writer distinct up nw nm one l is other (subst (λ (xs : List ℕ). IsLeastBut tasks (IsAmong xs (Some writer)) (Some reader)) r best) none in
+    subst (λ (x : Refusal). FindsHidden (OfTask tasks (Stands writes)) (OfTask tasks (Stands misses)) (Some x)) (sym told) found
+
+pub reader_below : (tasks : List Task) (misses : List Entry) (path ns : List ℕ) (but : Option ℕ) (reader : ℕ) → ns ≡ numbers_beside misses path → AreNumbered (length tasks) misses → IsLeastBut tasks (IsAmong ns but) (Some reader)
+    → reader < length tasks
+reader_below tasks misses path ns but reader e numbered h =
+    below_count (length tasks) misses path reader numbered (beside_only misses path reader (subst (λ (xs : List ℕ). Contains xs reader) e h.0.0))

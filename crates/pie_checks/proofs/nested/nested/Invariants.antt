@@ -1,0 +1,5 @@
+use Rattle.pie_checks.proofs.Finding.{NoneBelow}
+use Rattle.pie_checks.proofs.nested.nested.Given as goal
+
+abbrev pub invariant-loop-entry : goal.invariant-loop-entry
+invariant-loop-entry l = NoneBelow l.writes l.entry-index

@@ -1,0 +1,4 @@
+pub mod Records
+pub mod Refusals
+pub mod Listings
+pub mod Searches

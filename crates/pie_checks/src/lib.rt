@@ -1,0 +1,16 @@
+//! The last checks of a build: overlapping, nested and hidden writes; and what a build comes to.
+#![tactic(auto)]
+
+mod built;
+mod checks;
+mod hidden;
+mod least;
+mod listing;
+mod misses;
+mod nested;
+mod overlap;
+#[cfg(test)]
+mod tests;
+
+pub use built::Built;
+pub use checks::final_checks;
