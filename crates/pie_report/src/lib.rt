@@ -1,0 +1,17 @@
+//! What became of a build, and its text.
+#![tactic(auto)]
+
+mod cause;
+mod lines;
+mod object;
+mod report;
+mod task_order;
+mod text;
+mod verdict;
+
+pub use object::print_json;
+pub use report::Report;
+pub use text::print;
+
+#[cfg(test)]
+mod tests;
