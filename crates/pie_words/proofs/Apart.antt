@@ -1,0 +1,22 @@
+-- Words ask for one command at most.
+use Rattle.std.proofs.Common.{◌≡◌, ℕ, true, false, List, [], ◌∷◌, length, refl, ap, arith}
+use Rattle.pie_words.specs.declared.command.Command.{Command}
+use Rattle.pie_words.specs.declared.command.Command.TheVariants.{Check, Fresh}
+use Rattle.pie_words.specs.Commands.{words_of}
+
+-- the first byte of the first word, or 0
+abbrev first_byte : List (List ℕ) → ℕ
+first_byte [] = 0
+first_byte ([] ∷ words) = 0
+first_byte ((b ∷ bytes) ∷ words) = b
+
+pub same_command : (c e : Command) → words_of c ≡ words_of e → c ≡ e
+same_command Check Check is = refl
+same_command Check (Fresh false) is = let h : ◌≡◌ {A = ℕ} 99 102 = ap first_byte is in absurd (omega arith)
+same_command Check (Fresh true) is = let h : ◌≡◌ {A = ℕ} 99 102 = ap first_byte is in absurd (omega arith)
+same_command (Fresh false) Check is = let h : ◌≡◌ {A = ℕ} 102 99 = ap first_byte is in absurd (omega arith)
+same_command (Fresh false) (Fresh false) is = refl
+same_command (Fresh false) (Fresh true) is = let h : ◌≡◌ {A = ℕ} 1 2 = ap (λ (words : List (List ℕ)). length words) is in absurd (omega arith)
+same_command (Fresh true) Check is = let h : ◌≡◌ {A = ℕ} 102 99 = ap first_byte is in absurd (omega arith)
+same_command (Fresh true) (Fresh false) is = let h : ◌≡◌ {A = ℕ} 2 1 = ap (λ (words : List (List ℕ)). length words) is in absurd (omega arith)
+same_command (Fresh true) (Fresh true) is = refl

@@ -1,0 +1,19 @@
+-- The words of each command.
+use Rattle.std.specs.Prelude.{ℕ, true, false, List, [], ◌∷◌, codes, map, String, string_bytes}
+use Rattle.std.specs.declared.alloc.Global.{Global}
+use Rattle.pie_words.specs.declared.command.Command.{Command}
+use Rattle.pie_words.specs.declared.command.Command.TheVariants.{Check, Fresh}
+
+-- the words that ask for a command
+abbrev pub words_of : Command → List (List ℕ)
+words_of Check = codes "check" ∷ []
+words_of (Fresh false) = codes "fresh" ∷ []
+words_of (Fresh true) = codes "fresh" ∷ codes "--json" ∷ []
+
+-- words as lists of their bytes
+abbrev pub texts_of : List (String Global) → List (List ℕ)
+texts_of words = map string_bytes words
+
+-- what is printed where the words are no command
+abbrev pub usage_text : List ℕ
+usage_text = codes "usage: pie check, fresh [--json]\n"

@@ -1,0 +1,10 @@
+//! What a command line asks for.
+
+/// What the words of a command line ask for. Rule: docs/BUILDING.md, "Commands".
+#[derive(Clone, Copy, Debug, PartialEq, Eq)]
+pub enum Command {
+    /// `check`: read and check the project.
+    Check,
+    /// `fresh`, true with `--json`: build as from an empty store.
+    Fresh(bool),
+}

@@ -1,0 +1,11 @@
+//! The words of a command line.
+#![tactic(auto)]
+
+mod command;
+mod words;
+
+pub use command::Command;
+pub use words::{USAGE, WordsFault, read_words};
+
+#[cfg(test)]
+mod tests;
