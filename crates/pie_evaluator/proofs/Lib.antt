@@ -1,0 +1,4 @@
+pub mod Left
+pub mod Settling
+pub mod Turning
+pub mod Asked
