@@ -1,6 +1,6 @@
 -- What a stage answers, told by the stage behind it.
-use Rattle.std.proofs.Common.{◌≡◌, ◌≤◌, ℕ, List, length, Option, Some, None, Result, Ok, Err, sym, subst, ap, ◌∙◌}
-use Rattle.std.specs.Prelude.{IfSome}
+use Rattle.std.proofs.Common.{◌≡◌, ◌≤◌, ℕ, List, length, Option, Some, None, Result, Ok, Err, sym, subst, ap, ◌∙◌, Vec, Global}
+use Rattle.std.specs.Prelude.{IfSome, IfOk}
 use Rattle.std.specs.Option.{option_map}
 use Rattle.std.specs.Str.{IsUtf8}
 use Rattle.pie_files.specs.Directory.{Directory}
@@ -22,6 +22,7 @@ use Rattle.pie_roots.specs.declared.roots_fault.RootsFault.{RootsFault}
 use Rattle.pie_roots.specs.declared.roots_fault.RootsFault.TheVariants as roots
 use Rattle.pie_roots.specs.RootLists as lists
 use Rattle.pie_project.specs.declared.fault.BuildError.{BuildError}
+use Rattle.pie_project.specs.declared.project.Project.{Project}
 use Rattle.pie_project.specs.declared.fault.BuildError.TheVariants as errors
 use Rattle.pie_project.specs.Errors.{files_error, lexer_error, parser_error, reader_error}
 use Rattle.pie_project.specs.Refusals.{Refusal, OfPipeline, OfRoots, Absent, Says}
@@ -114,6 +115,14 @@ pipeline_there seen view holds after o v result h e s q =
     told_both holds (λ (d : Directory). option_map view o ≡ file_bytes d pipeline_path) (λ (d : Directory). Says seen (PipelineSays d (view v)) result) (λ (d : Directory). Says seen (ProjectSays d) result)
     (λ d f x. says_more seen (PipelineSays d (view v)) (ProjectSays d) result (λ r y. with_pipeline (bytes_of view o v (file_bytes d pipeline_path) e f) y) x)
     h (subst (λ (k : Option Directory). IfSome k (λ d. Says seen (PipelineSays d (view v)) result)) s q)
+
+-- the project of a pipeline that is there has its bytes
+pub pipeline_kept : (holds : Option Directory) (o : Option (Vec ℕ Global)) (v : Vec ℕ Global) (result : Result Project BuildError)
+    → IfSome holds (λ d. option_map (λ b. b.items) o ≡ file_bytes d pipeline_path) → o ≡ Some v → IfOk result (λ p. p.bytes ≡ v)
+    → IfSome holds (λ d. IfOk result (λ p. file_bytes d pipeline_path ≡ Some p.bytes.items))
+pipeline_kept None o v result h e k = tt
+pipeline_kept (Some d) o v (Ok p) h e k = sym h ∙ ap (option_map (λ b. b.items)) e ∙ ap (λ b. Some b.items) (sym k)
+pipeline_kept (Some d) o v (Err x) h e k = tt
 
 -- no pipeline
 pub pipeline_away : {V : Type 0} (view : V → List ℕ) (holds : Option Directory) (o : Option V)

@@ -1,5 +1,5 @@
 //! The roots of a project, from their bytes.
-ghost use Rattle.std.specs.Prelude.{◌≡◌, IsErrOf};
+ghost use Rattle.std.specs.Prelude.{◌≡◌, IfOk, IsErrOf};
 ghost use Rattle.pie_project.specs.Errors.{reader_error};
 ghost use Rattle.pie_project.specs.Fronts.{RootsSay};
 ghost use Rattle.pie_project.specs.Projects.{front_of};
@@ -10,13 +10,23 @@ use pie_roots::{RootsFault, read_roots};
 use pie_types::Typed;
 use std::alloc::Global;
 
-/// The project with this pipeline and the roots that these bytes are.
-pub(crate) fn with_roots(alloc: Global, typed: Typed, bytes: &[u8]) -> Result<Project, BuildError>
-    ensures found { Says front_of (RootsSay typed bytes.now) result }
+/// The project with this pipeline, which the bytes are, and the roots that the lines are.
+pub(crate) fn with_roots(
+    alloc: Global,
+    typed: Typed,
+    bytes: Vec<u8>,
+    lines: &[u8],
+) -> Result<Project, BuildError>
+    ensures found { Says front_of (RootsSay typed lines.now) result }
+    ensures bytes { IfOk result (λ project. project.bytes ≡ bytes) }
     ensures no_fault { IsErrOf result BuildError.Files → ⊥ }
 {
-    match read_roots(alloc, &typed, bytes) {
-        Ok(roots) => Ok(Project { typed, roots }),
+    match read_roots(alloc, &typed, lines) {
+        Ok(roots) => Ok(Project {
+            typed,
+            bytes,
+            roots,
+        }),
         Err(fault) => Err(roots_error(fault)),
     }
 }

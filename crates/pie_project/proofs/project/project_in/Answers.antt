@@ -4,7 +4,7 @@ use Rattle.pie_project.specs.declared.fault.BuildError.TheVariants as errors
 use Rattle.pie_project.specs.declared.fault.PipelineFault.TheVariants as faults
 use Rattle.pie_project.specs.Looking.{pipeline_path, roots_path}
 use Rattle.pie_project.specs.Projects.{front_of}
-use Rattle.pie_project.proofs.Finding.{pipeline_there, pipeline_away}
+use Rattle.pie_project.proofs.Finding.{pipeline_there, pipeline_kept, pipeline_away}
 use Rattle.pie_project.proofs.Lookings.{looks_here, looks_then, looks_failed}
 use Rattle.pie_project.proofs.project.project_in.Goals as goal
 
@@ -30,3 +30,8 @@ returns-in-Ok-None-clause-looks g c =
 pub returns-in-Err-clause-looks : goal.returns-in-Err-clause-looks
 returns-in-Err-clause-looks g c =
     rw c.files_error.ensures (looks_failed g.F.Files.holds g.F.Files.asked g.F.Files.faults c.in-Err.error (Read pipeline_path) (Read roots_path ∷ []) c.args.files.now c.load.new.files c.in-Err.ensures.same c.in-Err.ensures.called)
+
+pub returns-in-Ok-Some-clause-bytes : goal.returns-in-Ok-Some-clause-bytes
+returns-in-Ok-Some-clause-bytes g c =
+    pipeline_kept (g.F.Files.holds c.args.files.now) c.in-Ok-Some.field-0 c.in-Ok-Some.bytes c.with_pipeline.result c.in-Ok-Some.ensures.found c.in-Ok-Some.field-0-is
+    c.with_pipeline.ensures.bytes

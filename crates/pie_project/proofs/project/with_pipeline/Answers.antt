@@ -10,7 +10,7 @@ returns-in-Ok-clause-found g c =
     pipeline_good front_of (g.F.Files.holds c.args.files.now) c.as_slice.result.now c.args.bytes.items c.in-Ok.typed c.with_typed.result
     c.as_slice.ensures.value c.in-Ok.ensures.found c.with_typed.ensures.found
 
-pub returns-clause-found : goal.returns-clause-found
-returns-clause-found g c =
+pub returns-in-Err-clause-found : goal.returns-in-Err-clause-found
+returns-in-Err-clause-found g c =
     pipeline_bad (List FunctionTree) Project (λ t. t) front_of (g.F.Files.holds c.args.files.now) c.as_slice.result.now c.args.bytes.items c.in-Err.error
     c.as_slice.ensures.value c.in-Err.ensures.found

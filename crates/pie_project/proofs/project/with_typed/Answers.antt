@@ -10,7 +10,7 @@ use Rattle.pie_project.proofs.project.with_typed.Goals as goal
 
 pub returns-in-Ok-Some-clause-found : goal.returns-in-Ok-Some-clause-found
 returns-in-Ok-Some-clause-found g c =
-    roots_there front_of (λ (b : Vec ℕ Global). b.items) (g.F.Files.holds c.args.files.now) c.in-Ok-Some.field-0 c.in-Ok-Some.bytes c.as_slice.result.now c.args.typed
+    roots_there front_of (λ (b : Vec ℕ Global). b.items) (g.F.Files.holds c.args.files.now) c.in-Ok-Some.field-0 c.in-Ok-Some.lines c.as_slice.result.now c.args.typed
     c.with_roots.result c.in-Ok-Some.ensures.found c.in-Ok-Some.field-0-is c.as_slice.ensures.value c.with_roots.ensures.found
 
 pub returns-in-Ok-Some-clause-looks : goal.returns-in-Ok-Some-clause-looks
