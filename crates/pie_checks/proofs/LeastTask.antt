@@ -1,5 +1,6 @@
 -- The least of numbers that are looked at one after another.
-use Rattle.std.proofs.Common.{◌≡◌, ◌≢◌, ◌⊎◌, ℕ, ◌<◌, ◌≤◌, ◌+◌, ◌==◌, Bool, true, false, cond, List, [], ◌∷◌, ◌++◌, length, get_or, take, refl, sym, ap, ◌∙◌, subst, inl, inr}
+use Rattle.std.proofs.Common.{◌≡◌, ◌≢◌, ◌⊎◌, ℕ, ◌<◌, ◌≤◌, ◌+◌, ◌==◌, Bool, true, false, cond, List, [], ◌∷◌, ◌++◌, length, get_or, take, refl, sym, ap, ◌∙◌}
+use Rattle.std.proofs.Common.{subst, inl, inr}
 use Rattle.std.specs.Prelude.{Option, Some, None}
 use Rattle.std.specs.Ordering.{is_lt, is_gt}
 use Rattle.std.specs.List.{Contains}
@@ -21,27 +22,38 @@ IsUpTo tasks m n = is_gt (task_order (task_at tasks m) (task_at tasks n)) ≡ fa
 pub up_to_same : (tasks : List Task) (m n : ℕ) → m ≡ n → IsUpTo tasks m n
 up_to_same tasks m n e = subst (IsUpTo tasks m) e (not_after_itself (enc_task (task_at tasks m)))
 
-same_set : (tasks : List Task) (P Q : ℕ → Type 0) (best : Option ℕ) → ((k : ℕ) → P k → Q k) → ((k : ℕ) → Q k → P k) → IsLeastBut tasks P best → IsLeastBut tasks Q best
+same_set : (tasks : List Task) (P Q : ℕ → Type 0) (best : Option ℕ) → ((k : ℕ) → P k → Q k) → ((k : ℕ) → Q k → P k) → IsLeastBut tasks P best
+    → IsLeastBut tasks Q best
 same_set tasks P Q None to back h = λ k q. h k (back k q)
 same_set tasks P Q (Some best) to back h = (to best h.0, λ k q. h.1 k (back k q))
 
-by_test : (tasks : List Task) (P Q : ℕ → Type 0) (best n : ℕ) (less : Bool) → is_lt (task_order (task_at tasks n) (task_at tasks best)) ≡ less → ((k : ℕ) → P k → Q k) → ((k : ℕ) → Q k → P k ⊎ (n ≡ k)) → Q n
+by_test : (tasks : List Task) (P Q : ℕ → Type 0) (best n : ℕ) (less : Bool) → is_lt (task_order (task_at tasks n) (task_at tasks best)) ≡ less
+    → ((k : ℕ) → P k → Q k) → ((k : ℕ) → Q k → P k ⊎ (n ≡ k)) → Q n
     → IsLeastBut tasks P (Some best) → IsLeastBut tasks Q (cond less (Some n) (Some best))
 by_test tasks P Q best n true e to back here h = (
   here,
   λ k q. elim (back k q) [
-    | inl p ↦ not_after_through (enc_task (task_at tasks n)) (enc_task (task_at tasks best)) (enc_task (task_at tasks k)) (lt_not_gt (task_order (task_at tasks n) (task_at tasks best)) e) (h.1 k p)
+    | inl p ↦ not_after_through (enc_task (task_at tasks n)) (enc_task (task_at tasks best)) (enc_task (task_at tasks k))
+        (lt_not_gt (task_order (task_at tasks n) (task_at tasks best)) e) (h.1 k p)
     | inr same ↦ up_to_same tasks n k same
   ],
 )
-by_test tasks P Q best n false e to back here h =
-    (to best h.0, λ k q. elim (back k q) [ inl p ↦ h.1 k p | inr same ↦ subst (IsUpTo tasks best) same (turned (enc_task (task_at tasks best)) (enc_task (task_at tasks n)) e) ])
+by_test tasks P Q best n false e to back here h = (
+  to best h.0,
+  λ k q. elim (back k q) [
+    | inl p ↦ h.1 k p
+    | inr same ↦ subst (IsUpTo tasks best) same
+        (turned (enc_task (task_at tasks best)) (enc_task (task_at tasks n)) e)
+  ],
+)
 
-one_more : (tasks : List Task) (P Q : ℕ → Type 0) (best : Option ℕ) (n : ℕ) → ((k : ℕ) → P k → Q k) → ((k : ℕ) → Q k → P k ⊎ (n ≡ k)) → Q n → IsLeastBut tasks P best → IsLeastBut tasks Q (lesser_of tasks best n)
+one_more : (tasks : List Task) (P Q : ℕ → Type 0) (best : Option ℕ) (n : ℕ) → ((k : ℕ) → P k → Q k) → ((k : ℕ) → Q k → P k ⊎ (n ≡ k)) → Q n
+    → IsLeastBut tasks P best → IsLeastBut tasks Q (lesser_of tasks best n)
 one_more tasks P Q None n to back here h = (here, λ k q. elim (back k q) [ inl p ↦ absurd (h k p) | inr same ↦ up_to_same tasks n k same ])
 one_more tasks P Q (Some best) n to back here h = by_test tasks P Q best n (is_lt (task_order (task_at tasks n) (task_at tasks best))) refl to back here h
 
-by_but : (tasks : List Task) (among : List ℕ) (but best : Option ℕ) (i n : ℕ) (out : Bool) → is_but but n ≡ out → take (i + 1) among ≡ take i among ++ n ∷ [] → IsLeastBut tasks (IsAmong (take i among) but) best
+by_but : (tasks : List Task) (among : List ℕ) (but best : Option ℕ) (i n : ℕ) (out : Bool) → is_but but n ≡ out
+    → take (i + 1) among ≡ take i among ++ n ∷ [] → IsLeastBut tasks (IsAmong (take i among) but) best
     → IsLeastBut tasks (IsAmong (take (i + 1) among) but) (cond out best (lesser_of tasks best n))
 by_but tasks among but best i n true e more h =
     same_set tasks (IsAmong (take i among) but) (IsAmong (take (i + 1) among) but) best
@@ -57,14 +69,16 @@ by_but tasks among but best i n false e more h =
     (subst (λ (xs : List ℕ). Contains xs n) (sym more) (Contains-push (take i among) n), e) h
 
 -- one more number is looked at
-pub turn : (tasks : List Task) (among : List ℕ) (but best new : Option ℕ) (i : ℕ) → i < length among → new ≡ better_of tasks but best (get_or among i 0) → IsLeastBut tasks (IsAmong (take i among) but) best
+pub turn : (tasks : List Task) (among : List ℕ) (but best new : Option ℕ) (i : ℕ) → i < length among → new ≡ better_of tasks but best (get_or among i 0)
+    → IsLeastBut tasks (IsAmong (take i among) but) best
     → IsLeastBut tasks (IsAmong (take (i + 1) among) but) new
 turn tasks among but best new i l e h =
     subst (IsLeastBut tasks (IsAmong (take (i + 1) among) but)) (sym e)
     (by_but tasks among but best i (get_or among i 0) (is_but but (get_or among i 0)) refl (take_more among i 0 l) h)
 
 -- all are looked at
-pub all : (tasks : List Task) (among : List ℕ) (but best : Option ℕ) (i : ℕ) → length among ≤ i → IsLeastBut tasks (IsAmong (take i among) but) best → IsLeastBut tasks (IsAmong among but) best
+pub all : (tasks : List Task) (among : List ℕ) (but best : Option ℕ) (i : ℕ) → length among ≤ i → IsLeastBut tasks (IsAmong (take i among) but) best
+    → IsLeastBut tasks (IsAmong among but) best
 all tasks among but best i l h = subst (λ (xs : List ℕ). IsLeastBut tasks (IsAmong xs but) best) (take_all i among l) h
 
 -- ---- two of them

@@ -1,7 +1,9 @@
-pub mod Finding
 pub mod Gathering
+pub mod HiddenFacts
 pub mod LeastTask
+pub mod NestedFacts
 pub mod Numbering
+pub mod OverlapFacts
 pub mod PathOrder
 pub mod Sharing
 pub mod Sorting

@@ -67,7 +67,8 @@ equal_same a b h = exact_bytes a b h
 
 -- ---- a string, a slash and more
 
-heads : (y b : ℕ) (o q r : Ordering) → o ≡ nat_cmp y b → is_lt (ordering_then o q) ≡ false → is_gt (ordering_then o r) ≡ false → (y ≡ b) × (is_lt q ≡ false) × (is_gt r ≡ false)
+heads : (y b : ℕ) (o q r : Ordering) → o ≡ nat_cmp y b → is_lt (ordering_then o q) ≡ false → is_gt (ordering_then o r) ≡ false
+    → (y ≡ b) × (is_lt q ≡ false) × (is_gt r ≡ false)
 heads y b Less q r e low high = cc
 heads y b Equal q r e low high = (ranked y b Equal e, low, high)
 heads y b Greater q r e low high = cc

@@ -1,5 +1,6 @@
 -- Neighbours of a listing that have one path and two numbers.
-use Rattle.std.proofs.Common.{◌≡◌, ◌≢◌, ℕ, ◌<◌, ◌≤◌, ◌+◌, ◌-◌, ◌==◌, ◌&&◌, not, Bool, true, false, List, length, get_or, refl, sym, ap, ◌∙◌, subst, inl, inr, arith}
+use Rattle.std.proofs.Common.{◌≡◌, ◌≢◌, ℕ, ◌<◌, ◌≤◌, ◌+◌, ◌-◌, ◌==◌, ◌&&◌, not, Bool, true, false, List, length, get_or, refl, sym, ap, ◌∙◌, subst, inl}
+use Rattle.std.proofs.Common.{inr, arith}
 use Rattle.std.specs.Prelude.{Some}
 use Rattle.std.specs.Ordering.{is_gt}
 use Rattle.std.specs.List.{Contains}
@@ -46,7 +47,8 @@ pub same_at_first : (es : List Entry) → SameBelow es 1
 same_at_first es j l d le lt e = ap (λ (k : ℕ). (get_or es k d).1) (omega arith)
 
 -- one entry more
-pub same_more : (es : List Entry) (i : ℕ) (a b : Entry) → IsInOrder es → 0 < i → i < length es → a ≡ get_or es (i - 1) a → b ≡ get_or es i b → differ a b ≡ false → SameBelow es i → SameBelow es (i + 1)
+pub same_more : (es : List Entry) (i : ℕ) (a b : Entry) → IsInOrder es → 0 < i → i < length es → a ≡ get_or es (i - 1) a → b ≡ get_or es i b
+    → differ a b ≡ false → SameBelow es i → SameBelow es (i + 1)
 same_more es i a b up pos l ea eb alike h j k d le lt e =
     elim (cases_lt k i) [
       | inl low ↦ h j k d le low e
@@ -61,7 +63,8 @@ same_more es i a b up pos l ea eb alike h j k d le lt e =
                 let high = subst (λ (p : List ℕ). is_gt (byte_order (get_or es (i - 1) d).0 p) ≡ false) (sym last) (up (i - 1) i d (omega arith) l) in
                 let mid : (get_or es j d).0 ≡ (get_or es (i - 1) d).0 = same_both (get_or es j d).0 (get_or es (i - 1) d).0 low high in
                 let next : a.0 ≡ b.0 = sym (ap (λ (x : Entry). x.0) ga) ∙ sym mid ∙ last ∙ ap (λ (x : Entry). x.0) gb in
-                h j (i - 1) d (omega arith) (omega arith) mid ∙ ap (λ (x : Entry). x.1) ga ∙ not_differ a b alike next ∙ sym (ap (λ (x : Entry). x.1) gb) ∙ sym (ap (λ (m : ℕ). (get_or es m d).1) at)
+                h j (i - 1) d (omega arith) (omega arith) mid ∙ ap (λ (x : Entry). x.1) ga ∙ not_differ a b alike next ∙ sym (ap (λ (x : Entry). x.1) gb)
+                ∙ sym (ap (λ (m : ℕ). (get_or es m d).1) at)
             | inr there ↦ ap (λ (m : ℕ). (get_or es m d).1) (omega arith)
           ]
     ]
@@ -69,7 +72,8 @@ same_more es i a b up pos l ea eb alike h j k d le lt e =
 apart : (es : List Entry) (i : ℕ) (q : List ℕ) (m n : ℕ) (s : Stands es q m) (t : Stands es q n) → SameBelow es i → m ≢ n → s.0 ≤ t.0 → t.0 < i → ⊥
 apart es i q m n s t h other le lt =
     let second : get_or es t.0 (q, m) ≡ (q, n) = get_or_default es t.0 (q, m) (q, n) t.1 ∙ t.2 in
-    other (sym (ap (λ (x : Entry). x.1) s.2) ∙ h s.0 t.0 (q, m) le lt (ap (λ (x : Entry). x.0) s.2 ∙ sym (ap (λ (x : Entry). x.0) second)) ∙ ap (λ (x : Entry). x.1) second)
+    other (sym (ap (λ (x : Entry). x.1) s.2) ∙ h s.0 t.0 (q, m) le lt (ap (λ (x : Entry). x.0) s.2 ∙ sym (ap (λ (x : Entry). x.0) second))
+    ∙ ap (λ (x : Entry). x.1) second)
 
 -- of two numbers beside a path, one stands past a place below which paths have one number
 past : (es : List Entry) (i : ℕ) (q : List ℕ) → SameBelow es i → IsShared es q → (k : ℕ) × (n : ℕ) × (i ≤ k) × (k < length es) × (get_or es k (q, n) ≡ (q, n))
@@ -92,7 +96,8 @@ stands_at : (es : List Entry) (i : ℕ) (a : Entry) → i < length es → a ≡ 
 stands_at es i a l e = subst (Contains es) (sym e) (Contains-get_or es i a l)
 
 -- the first neighbours that differ
-pub first_shared : (es : List Entry) (i : ℕ) (a b : Entry) → IsInOrder es → 0 < i → i < length es → a ≡ get_or es (i - 1) a → b ≡ get_or es i b → differ a b ≡ true → SameBelow es i → IsFirstShared es (Some b.0)
+pub first_shared : (es : List Entry) (i : ℕ) (a b : Entry) → IsInOrder es → 0 < i → i < length es → a ≡ get_or es (i - 1) a → b ≡ get_or es i b
+    → differ a b ≡ true → SameBelow es i → IsFirstShared es (Some b.0)
 first_shared es i a b up pos l ea eb h same =
     let parts = do_differ a b h in
     let first : Stands es b.0 a.1 = subst (λ (p : List ℕ). Contains es (p, a.1)) parts.0 (stands_at es (i - 1) a (omega arith) ea) in (

@@ -1,14 +1,15 @@
 -- Listings that are sorted.
-use Rattle.std.proofs.Common.{◌≡◌, ℕ, ◌≤◌, Bool, true, false, List, length, get_or, refl, arith}
+use Rattle.std.proofs.Common.{◌≡◌, ◌∙◌, ℕ, ◌≤◌, Bool, true, false, List, length, get_or, refl, sym, subst, arith}
 use Rattle.std.specs.declared.cmp.Ordering.{Ordering}
 use Rattle.std.specs.Ordering.{nat_cmp, is_lt, is_gt, ordering_then}
 use Rattle.std.specs.Cmp.{IsTotalOrder}
 use Rattle.std.specs.List.{Contains}
 use Rattle.std.specs.List.Sorted.{IsPermutation, IsSorted, IsPartitionedBy, IsPartitionPoint}
+use Rattle.std.proofs.lemmas.List.{get_or_default}
 use Rattle.std.proofs.lemmas.Cmp.{nat_list_cmp_total, nat_cmp_total, on_total, then_total}
 use Rattle.std.proofs.lemmas.List.Sorted.{ranks_by, sorted_far, Contains-permutation, IsPermutation-sym}
 use Rattle.pie_value.specs.Order.{byte_order}
-use Rattle.pie_checks.specs.Listings.{Entry, IsInOrder, IsListing}
+use Rattle.pie_checks.specs.Listings.{Entry, IsInOrder, IsListing, Stands}
 use Rattle.pie_checks.specs.Searches.{IsPlaceOf}
 use Rattle.pie_checks.proofs.PathOrder.{turned, turned_back, first_not_lt, not_after_through}
 
@@ -35,7 +36,8 @@ in_order es up i j d l k =
     (sorted_far (λ x y. is_lt (entry_order x y)) (ranks_by entries_total itself) es up i j d l k))
 
 -- a listing is sorted
-pub listing : (P : List ℕ → ℕ → Type 0) (es fs : List Entry) → ((path : List ℕ) (n : ℕ) → Contains es (path, n) → P path n) → ((path : List ℕ) (n : ℕ) → P path n → Contains es (path, n))
+pub listing : (P : List ℕ → ℕ → Type 0) (es fs : List Entry) → ((path : List ℕ) (n : ℕ) → Contains es (path, n) → P path n)
+    → ((path : List ℕ) (n : ℕ) → P path n → Contains es (path, n))
     → IsPermutation es fs → IsSorted entry_order fs → IsListing P fs
 listing P es fs only each moved up = record {
   ordered = in_order fs up;
@@ -57,9 +59,18 @@ less_through a b key h k = by_cases (is_lt (byte_order a key)) refl
 pub parted : (es : List Entry) (key : List ℕ) → IsInOrder es → IsPartitionedBy (is_before key) es
 parted es key up i j d l k h = less_through (get_or es i d).0 (get_or es j d).0 key (up i j d l k) h
 
-pub placed : (es : List Entry) (key : List ℕ) (i : ℕ) → i ≤ length es → IsPartitionPoint (λ y. is_before key y ≡ true) (λ y. is_before key y ≡ false) es i → IsPlaceOf key es i
+pub placed : (es : List Entry) (key : List ℕ) (i : ℕ) → i ≤ length es → IsPartitionPoint (λ y. is_before key y ≡ true) (λ y. is_before key y ≡ false) es i
+    → IsPlaceOf key es i
 placed es key i l h = record {
   within = l;
   before = λ k d low. h.0 k d (omega arith) low;
   after = λ k d low high. h.1 k d low high;
 }
+
+-- an entry comes up to those that stand after it
+pub up_to_entry : (es : List Entry) (at : ℕ) (e : Entry) (q : List ℕ) (n : ℕ) → IsInOrder es → e ≡ get_or es at e → (s : Stands es q n) → at ≤ s.0
+    → is_gt (byte_order e.0 q) ≡ false
+up_to_entry es at e q n up is s le =
+    let here : get_or es at (q, n) ≡ e = get_or_default es at (q, n) e (omega (arith, s.1)) ∙ sym is in
+    subst (λ (x : Entry). is_gt (byte_order x.0 q) ≡ false) here
+    (subst (λ (x : Entry). is_gt (byte_order (get_or es at (q, n)).0 x.0) ≡ false) s.2 (up at s.0 (q, n) le s.1))

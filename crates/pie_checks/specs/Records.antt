@@ -37,7 +37,8 @@ WritesAt records live path n = Contains live n × (rec : TaskRecord) × (hash : 
 
 -- the task with this number is live and saw the path absent
 abbrev pub MissesAt : Records → List ℕ → List ℕ → ℕ → Type 0
-MissesAt records live path n = Contains live n × (rec : TaskRecord) × (dep : Dep) × (record_of records n ≡ Some rec) × Contains rec.deps dep × (missing_in dep ≡ Some path)
+MissesAt records live path n = Contains live n × (rec : TaskRecord) × (dep : Dep) × (record_of records n ≡ Some rec) × Contains rec.deps dep ×
+    (missing_in dep ≡ Some path)
 
 -- a task of which the number has a property
 abbrev pub OfTask : List Task → (List ℕ → ℕ → Type 0) → List ℕ → Task → Type 0

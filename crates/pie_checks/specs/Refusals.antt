@@ -82,5 +82,6 @@ abbrev pub FindsFirst : Paths → Paths → Option Refusal → Type 0
 FindsFirst wrote missed None = NoPlace (Overlaps wrote) × NoPair (Nests (IsProvided wrote)) × NoPlace (Hides wrote missed)
 FindsFirst wrote missed (Some (Overlap path a b)) = IsLeastPlace (Overlaps wrote) path a b
 FindsFirst wrote missed (Some (Nested path below)) = NoPlace (Overlaps wrote) × IsLeastPair (Nests (IsProvided wrote)) path below
-FindsFirst wrote missed (Some (Hidden path reader writer)) = NoPlace (Overlaps wrote) × NoPair (Nests (IsProvided wrote)) × IsLeastPlace (Hides wrote missed) path reader writer
+FindsFirst wrote missed (Some (Hidden path reader writer)) = NoPlace (Overlaps wrote) × NoPair (Nests (IsProvided wrote)) × IsLeastPlace
+    (Hides wrote missed) path reader writer
 FindsFirst wrote missed (Some other) = ⊥

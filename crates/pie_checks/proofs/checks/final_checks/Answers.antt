@@ -8,4 +8,5 @@ use Rattle.pie_checks.proofs.checks.final_checks.Goals as goal
 pub returns : goal.returns
 returns c =
     let live = numbers c.args.live.now in
-    subst (λ (ts : List Task). FindsFirst (Wrote ts c.args.records.now live) (Missed ts c.args.records.now live) c.in_ok-found.found) c.as_slice.ensures.tasks c.in_ok-found.ensures
+    subst (λ (ts : List Task). FindsFirst (Wrote ts c.args.records.now live) (Missed ts c.args.records.now live) c.in_ok-found.found)
+    c.as_slice.ensures.tasks c.in_ok-found.ensures

@@ -1,4 +1,4 @@
-use Rattle.pie_checks.proofs.Finding.{NoneHidden}
+use Rattle.pie_checks.proofs.HiddenFacts.{NoneHidden}
 use Rattle.pie_checks.proofs.hidden.hidden.Given as goal
 
 abbrev pub invariant-loop-entry : goal.invariant-loop-entry

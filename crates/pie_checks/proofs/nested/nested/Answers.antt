@@ -2,7 +2,7 @@ use Rattle.std.proofs.Common.{List, ℕ, subst, sym}
 use Rattle.pie_checks.specs.Refusals.{Nests, IsLeastPair}
 use Rattle.pie_checks.specs.Listings.{IsListed}
 use Rattle.pie_checks.specs.Searches.{IsFirstBelow}
-use Rattle.pie_checks.proofs.Finding.{nested_least, no_nested, none_more}
+use Rattle.pie_checks.proofs.NestedFacts.{nested_least, no_nested, none_more}
 use Rattle.pie_checks.proofs.nested.nested.Goals as goal
 
 pub returns-in-Some : goal.returns-in-Some

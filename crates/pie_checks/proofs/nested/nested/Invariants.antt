@@ -1,4 +1,4 @@
-use Rattle.pie_checks.proofs.Finding.{NoneBelow}
+use Rattle.pie_checks.proofs.NestedFacts.{NoneBelow}
 use Rattle.pie_checks.proofs.nested.nested.Given as goal
 
 abbrev pub invariant-loop-entry : goal.invariant-loop-entry
