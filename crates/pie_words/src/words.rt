@@ -1,5 +1,5 @@
 //! Reading the words of a command line.
-ghost use Rattle.std.specs.Prelude.{◌≡◌, ◌≢◌, List, ℕ, [], ◌∷◌, codes, IfOk, IsErrOf};
+ghost use Rattle.std.specs.Prelude.{◌≡◌, ◌≢◌, List, ℕ, [], ◌∷◌, codes, IfOk, IfErr};
 ghost use Rattle.pie_words.specs.Commands.{words_of, texts_of, usage_text};
 ghost use Rattle.pie_words.specs.declared.command.Command.{Command};
 
@@ -18,7 +18,7 @@ pub const USAGE: &str = "usage: pie check, fresh [--json]\n";
 /// What the words of a command line, without the program's name, ask for.
 pub fn read_words(words: &[String]) -> Result<Command, WordsFault>
     ensures accepted { IfOk result (λ command. texts_of words.now ≡ words_of command) }
-    ensures refused { IsErrOf result WordsFault.Usage → (command : Command) → texts_of words.now ≢ words_of command }
+    ensures refused { IfErr result (λ fault. (command : Command) → texts_of words.now ≢ words_of command) }
 {
     match words {
         [word] => one_word(word.as_str()),
@@ -29,7 +29,7 @@ pub fn read_words(words: &[String]) -> Result<Command, WordsFault>
 
 fn one_word(word: &str) -> Result<Command, WordsFault>
     ensures accepted { IfOk result (λ command. (word.now ∷ []) ≡ words_of command) }
-    ensures refused { IsErrOf result WordsFault.Usage → (command : Command) → (word.now ∷ []) ≢ words_of command }
+    ensures refused { IfErr result (λ fault. (command : Command) → (word.now ∷ []) ≢ words_of command) }
 {
     match word {
         "check" => Ok(Command::Check),
@@ -40,7 +40,7 @@ fn one_word(word: &str) -> Result<Command, WordsFault>
 
 fn two_words(first: &str, second: &str) -> Result<Command, WordsFault>
     ensures accepted { IfOk result (λ command. (first.now ∷ second.now ∷ []) ≡ words_of command) }
-    ensures refused { IsErrOf result WordsFault.Usage → (command : Command) → (first.now ∷ second.now ∷ []) ≢ words_of command }
+    ensures refused { IfErr result (λ fault. (command : Command) → (first.now ∷ second.now ∷ []) ≢ words_of command) }
 {
     match (first, second) {
         ("fresh", "--json") => Ok(Command::Fresh(true)),
