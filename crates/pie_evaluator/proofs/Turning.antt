@@ -43,13 +43,13 @@ pub reverse_twice : {A : Type 0} (xs : List A) → reverse (reverse xs) ≡ xs
 reverse_twice xs = reverse-reverse xs
 
 -- an operand that is no truth value stops a chain
-pub either_stops : {A : Type 0} (f : A → Val) (ss : List Step) (i : ℕ) (x : Step) (env : Env) (v : Val) (e : Stop) (s : State) → i < length ss → x ≡ get_or ss i x
-    → IsTruth (Err e) v → Comes f (Err e) s (either_value (steps_of (drop i ss)) env v s)
+pub either_stops : {A : Type 0} (f : A → Val) (ss : List Step) (i : ℕ) (x : Step) (env : Env) (v : Val) (e : Stop) (s : State)
+    → i < length ss → x ≡ get_or ss i x → IsTruth (Err e) v → Comes f (Err e) s (either_value (steps_of (drop i ss)) env v s)
 either_stops f ss i x env v e s h p bad = subst (λ rest. Comes f (Err e) s (either_value rest env v s)) (sym (steps_left ss i x h p))
     (no_truth f v e s (give (TBool true)) (then_do (value_of x.operand env) (either_value (steps_of (drop (i + 1) ss)) env)) bad)
 
-pub both_stops : {A : Type 0} (f : A → Val) (ss : List Step) (i : ℕ) (x : Step) (env : Env) (v : Val) (e : Stop) (s : State) → i < length ss → x ≡ get_or ss i x
-    → IsTruth (Err e) v → Comes f (Err e) s (both_value (steps_of (drop i ss)) env v s)
+pub both_stops : {A : Type 0} (f : A → Val) (ss : List Step) (i : ℕ) (x : Step) (env : Env) (v : Val) (e : Stop) (s : State)
+    → i < length ss → x ≡ get_or ss i x → IsTruth (Err e) v → Comes f (Err e) s (both_value (steps_of (drop i ss)) env v s)
 both_stops f ss i x env v e s h p bad = subst (λ rest. Comes f (Err e) s (both_value rest env v s)) (sym (steps_left ss i x h p))
     (no_truth f v e s (then_do (value_of x.operand env) (both_value (steps_of (drop (i + 1) ss)) env)) (give (TBool false)) bad)
 

@@ -1,18 +1,19 @@
 //! What compiled code and the evaluator tell of a function: each event with the ticks up to it, for each front of the answers.
-//! Arguments and answers are written as words.
 ghost use Rattle.std.specs.Prelude.{◌≡◌, length, IfOk, IfSome, IsTrue};
 ghost use Rattle.pie_vm.specs.Machines.{Belongs};
 ghost use Rattle.pie_vm.specs.declared.machine.MachineState.{MachineState};
 ghost use Rattle.pie_vm.specs.declared.machine.MachineState.TheVariants as states;
 
+use crate::given::{add_answers, answer, main_task};
+use crate::telling::{outcome_told, tell, told};
 use crate::{Came, Outcome, next_of};
-use pie_base::{FaultKind, OutOfMemory, Path, Text};
+use pie_base::OutOfMemory;
 use pie_code::Checked;
 use pie_codegen::compile;
 use pie_lexer::lex;
 use pie_parser::{Function, parse};
 use pie_types::{Typed, check};
-use pie_value::{Answer, Blob, By, Event, How, Items, Task, Value, show, show_task};
+use pie_value::{Answer, Task};
 use pie_vm::{Machine, MachineState, Runs};
 use std::alloc::Global;
 use std::test::Fail;
@@ -29,193 +30,6 @@ fn typed(alloc: Global, text: &str) -> Result<Typed, OutOfMemory> {
         Ok(typed) => Ok(typed),
         Err(_) => Err(OutOfMemory),
     }
-}
-
-// A list of numbers up to 3.
-fn numbers(alloc: Global) -> Result<Items, OutOfMemory> {
-    let mut items = Items::new();
-    items.push(alloc, Value::Int(1))?;
-    items.push(alloc, Value::Int(2))?;
-    items.push(alloc, Value::Int(3))?;
-    Ok(items)
-}
-
-// A number and a text.
-fn pair(alloc: Global) -> Result<Items, OutOfMemory> {
-    let mut items = Items::new();
-    items.push(alloc, Value::Int(1))?;
-    items.push(alloc, Value::Text(Text::new(alloc, "a")?))?;
-    Ok(items)
-}
-
-// An argument by its word.
-fn argument(alloc: Global, word: &str) -> Result<Value, Fail> {
-    match word {
-        "true" => Ok(Value::Bool(true)),
-        "null" => Ok(Value::Null),
-        "numbers" => Ok(Value::List(numbers(alloc)?)),
-        "pair" => Ok(Value::Tuple(pair(alloc)?)),
-        "path" => Ok(Value::Path(Path::read(alloc, "src/a")?)),
-        "text" => Ok(Value::Text(Text::new(alloc, "text")?)),
-        _ => Ok(Value::Int(word.parse::<i64>().unwrap_or(0))),
-    }
-}
-
-// An argument by its word, behind others.
-fn add_argument(alloc: Global, word: &str, args: &mut Items) -> Result<(), Fail> {
-    let value = argument(alloc, word)?;
-    args.push(alloc, value)?;
-    Ok(())
-}
-
-// Arguments by their words.
-fn add_arguments(alloc: Global, words: &str, args: &mut Items) -> Result<(), Fail> {
-    for word in words.split_whitespace() {
-        add_argument(alloc, word, args)?;
-    }
-    Ok(())
-}
-
-// The task `main` with these arguments.
-fn main_task(alloc: Global, words: &str) -> Result<Task, Fail> {
-    let mut args = Items::new();
-    add_arguments(alloc, words, &mut args)?;
-    let func = Text::new(alloc, "main")?;
-    Ok(Task { func, args })
-}
-
-// A file of these bytes.
-fn file(alloc: Global, bytes: &[u8]) -> Result<Answer, OutOfMemory> {
-    let bytes = Vec::from_slice(alloc, bytes)?;
-    Ok(Answer::Bytes(Some(Blob::new(bytes))))
-}
-
-// Two entries of a directory.
-fn entries(alloc: Global) -> Result<Answer, Fail> {
-    let mut entries = Items::new();
-    entries.push(alloc, Value::Path(Path::read(alloc, "src/a")?))?;
-    entries.push(alloc, Value::Path(Path::read(alloc, "src/b")?))?;
-    Ok(Answer::Entries(entries))
-}
-
-// An answer by its word.
-fn answer(alloc: Global, word: &str) -> Result<Answer, Fail> {
-    match word {
-        "there" => Ok(Answer::Flag(true)),
-        "missing" => Ok(Answer::Flag(false)),
-        "file" => Ok(file(alloc, b"1".as_slice())?),
-        "broken" => Ok(file(alloc, b"\xff".as_slice())?),
-        "absent" => Ok(Answer::Bytes(None)),
-        "digest" => Ok(Answer::Digest(Some([0; 32]))),
-        "undigested" => Ok(Answer::Digest(None)),
-        "entries" => entries(alloc),
-        "wrote" => Ok(Answer::Wrote),
-        "output" => Ok(Answer::Output(Value::Int(5))),
-        "ran" => Ok(Answer::Ran),
-        _ => Ok(Answer::Clash),
-    }
-}
-
-// An answer by its word, behind others.
-fn add_answer(alloc: Global, word: &str, answers: &mut Vec<Answer>) -> Result<(), Fail> {
-    let answer = answer(alloc, word)?;
-    answers.push(answer)?;
-    Ok(())
-}
-
-// So many answers, by their words.
-fn add_answers(
-    alloc: Global,
-    words: &str,
-    count: usize,
-    answers: &mut Vec<Answer>,
-) -> Result<(), Fail> {
-    for word in words.split_whitespace() {
-        if answers.len() >= count {
-            return Ok(());
-        }
-        add_answer(alloc, word, answers)?;
-    }
-    Ok(())
-}
-
-fn fault_name(fault: &FaultKind) -> &'static str {
-    match fault {
-        FaultKind::NotText => "NotText",
-        FaultKind::BadPath => "BadPath",
-        FaultKind::BadWrite => "BadWrite",
-        FaultKind::WroteTwice => "WroteTwice",
-        FaultKind::ReadThenWrite => "ReadThenWrite",
-        FaultKind::Clash => "Clash",
-        FaultKind::Budget => "Budget",
-        FaultKind::Big => "Big",
-        FaultKind::Overflow => "Overflow",
-        FaultKind::Zero => "Zero",
-        FaultKind::Null => "Null",
-        FaultKind::Said(_) => "Said",
-        FaultKind::Range => "Range",
-        FaultKind::BadList => "BadList",
-        FaultKind::Unknown => "Unknown",
-    }
-}
-
-// A fault in words.
-fn fault_told(alloc: Global, fault: &FaultKind) -> Result<String, Fail> {
-    match fault {
-        FaultKind::Said(text) => Ok(format!(in alloc; "fail Said {}", text.as_str())?),
-        _ => Ok(format!(in alloc; "fail {}", fault_name(fault))?),
-    }
-}
-
-// An output in words.
-fn done_told(alloc: Global, value: &Value) -> Result<String, Fail> {
-    let value = show(alloc, value)?;
-    Ok(format!(in alloc; "done {value}")?)
-}
-
-fn way(how: How) -> &'static str {
-    match how {
-        How::Whole => "whole",
-        How::Hashed => "hashed",
-        How::Ran => "ran",
-    }
-}
-
-// An event in words.
-fn told(alloc: Global, event: &Event) -> Result<String, Fail> {
-    match event {
-        Event::Exists(path) => Ok(format!(in alloc; "exists {}", path.as_str())?),
-        Event::Read(path, By::Mark) => Ok(format!(in alloc; "read {} by mark", path.as_str())?),
-        Event::Read(path, _) => Ok(format!(in alloc; "read {}", path.as_str())?),
-        Event::Digest(path) => Ok(format!(in alloc; "digest {}", path.as_str())?),
-        Event::List(path) => Ok(format!(in alloc; "list {}", path.as_str())?),
-        Event::Write(path, bytes) => {
-            let bytes = show(alloc, &Value::Bytes(bytes.copy()?))?;
-            Ok(format!(in alloc; "write {} {bytes}", path.as_str())?)
-        }
-        Event::Require(task, how) => {
-            let task = show_task(alloc, task)?;
-            Ok(format!(in alloc; "{task} {}", way(*how))?)
-        }
-        Event::Done(value) => done_told(alloc, value),
-        Event::Fail(kind) => fault_told(alloc, kind),
-    }
-}
-
-// What the evaluator came to in words, as an event would be told.
-fn outcome_told(alloc: Global, outcome: &Outcome) -> Result<String, Fail> {
-    match outcome {
-        Outcome::Done(value) => done_told(alloc, value),
-        Outcome::Fails(kind) => fault_told(alloc, kind),
-        Outcome::Wants(event) => told(alloc, event),
-    }
-}
-
-// An event in words with the ticks up to it, behind others.
-fn tell(alloc: Global, event: &str, ticks: u32, all: &mut String) -> Result<(), Fail> {
-    let one = format!(in alloc; "{event} at {ticks}; ")?;
-    all.push_str(one.as_str())?;
-    Ok(())
 }
 
 // Tells the next event of a machine.
