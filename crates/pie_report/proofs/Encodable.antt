@@ -1,5 +1,5 @@
 -- Tasks of the tests have canonical bytes.
-use Rattle.std.proofs.Common.{◌≡◌, ℕ, ℤ, ◌<◌, ◌≤◌, ◌^◌, List, [], ◌∷◌, ◌++◌, length, All, sym, ap, subst, arith}
+use Rattle.std.proofs.Common.{◌≡◌, ℤ, ◌<◌, ◌≤◌, ◌^◌, List, [], ◌∷◌, ◌++◌, length, All, sym, subst, arith}
 use Rattle.std.proofs.lemmas.List.Elements.{All-nil, All-push}
 use Rattle.pie_value.specs.declared.task.Task.{Task}
 use Rattle.pie_value.specs.Tree.{Tree, TInt, items_of}

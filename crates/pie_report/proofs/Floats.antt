@@ -23,4 +23,5 @@ cause None = refl
 cause (Some c) = refl
 
 pub no_float : (report : Report) (runs : List Task) → has_float (report_data report runs) ≡ false
-no_float report runs = rw (cause report.fresh, outputs report.outputs.items, texts (map shown_task runs), texts report.removed.items, texts report.wrote.items) refl
+no_float report runs =
+    rw (cause report.fresh, outputs report.outputs.items, texts (map shown_task runs), texts report.removed.items, texts report.wrote.items) refl

@@ -1,6 +1,5 @@
-use Rattle.std.proofs.Common.{List, ◌≡◌, map, subst, ◌∙◌, ap}
+use Rattle.std.proofs.Common.{map, ◌∙◌, ap}
 use Rattle.std.proofs.lemmas.Result.{IfOk-weaker}
-use Rattle.pie_value.specs.declared.task.Task.{Task}
 use Rattle.pie_report.proofs.Sorting.{in_order}
 use Rattle.pie_report.proofs.task_order.in_task_order.Goals as goal
 
