@@ -16,4 +16,4 @@ texts_of words = map string_bytes words
 
 -- what is printed where the words are no command
 abbrev pub usage_text : List ℕ
-usage_text = codes "usage: pie check, fresh [--json]\n"
+usage_text = codes "usage: pie check, fresh [--json], build [--json], replay [--json], demo SEED SIZE, topdown [--json], scan, auto, cached\n"

@@ -12,8 +12,9 @@ pub enum WordsFault {
     Usage,
 }
 
-/// What is printed where the words are no command.
-pub const USAGE: &str = "usage: pie check, fresh [--json]\n";
+/// What is printed where the words are no command: the commands of today, and those that are coming.
+pub const USAGE: &str =
+    "usage: pie check, fresh [--json], build [--json], replay [--json], demo SEED SIZE, topdown [--json], scan, auto, cached\n";
 
 /// What the words of a command line, without the program's name, ask for.
 pub fn read_words(words: &[String]) -> Result<Command, WordsFault>
