@@ -4,7 +4,7 @@ use Rattle.std.specs.Prelude.{IfSome}
 use Rattle.pie_base.specs.declared.status.Status.{Status}
 use Rattle.pie_base.specs.declared.status.Status.TheVariants as status
 use Rattle.pie_files.specs.Directory.{Directory}
-use Rattle.pie_fresh.proofs.Told.{told}
+use Rattle.pie_project.proofs.Told.{told}
 use Rattle.pie_project.specs.Refusals.{Refusal}
 use Rattle.pie_project.specs.Fronts.{CheckSays}
 use Rattle.pie_project.proofs.Stopping.{check_stops}

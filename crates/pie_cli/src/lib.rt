@@ -2,13 +2,11 @@
 #![tactic(auto)]
 
 mod check;
-mod commit;
+mod clean;
 mod print;
 mod reason;
-mod rebuild;
-mod report;
+mod told;
 mod top;
-mod words;
 
 pub use top::run;
 

@@ -1,5 +1,6 @@
-pub mod Joins
-pub mod Paths
-pub mod Sums
-pub mod Told
-pub mod Utf8
+pub mod LedgerLemmas
+pub mod Noting
+pub mod Growing
+pub mod Stepping
+pub mod FileLemmas
+pub mod BuiltLemmas

@@ -1,0 +1,4 @@
+pub mod InPlace
+pub mod OwnPaths
+pub mod Ran
+pub mod Removing

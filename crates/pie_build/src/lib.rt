@@ -1,0 +1,13 @@
+//! A clean build of a directory, put into place.
+#![tactic(auto)]
+
+mod building;
+mod outcome;
+mod paths;
+mod place;
+mod tasks;
+
+pub use building::rebuild;
+
+#[cfg(test)]
+mod tests;

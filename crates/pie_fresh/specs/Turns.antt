@@ -1,0 +1,82 @@
+-- How a step ends.
+use Rattle.std.specs.Prelude.{◌≡◌, ℕ, ◌+◌, ◌-◌, ◌*◌, ◌<◌, max, List, [], ◌∷◌, ◌++◌, length}
+use Rattle.pie_fresh.specs.declared.frame.Frame.{Frame}
+use Rattle.pie_fresh.specs.declared.frame.Caller.{Caller}
+use Rattle.pie_fresh.specs.declared.frame.Came.{Came}
+use Rattle.pie_fresh.specs.declared.frame.Came.TheVariants.{Asks, Ends, Fails}
+use Rattle.pie_fresh.specs.declared.turn.Turn.{Turn}
+use Rattle.pie_fresh.specs.declared.turn.Turn.TheVariants.{Goes, Rests, Stops}
+use Rattle.pie_fresh.specs.declared.builder.Builder.{Builder}
+use Rattle.pie_fresh.specs.declared.builder.Entered.{Entered}
+use Rattle.pie_fresh.specs.declared.builder.Entered.TheVariants.{Runs, Refused}
+use Rattle.pie_fresh.specs.Noted.{Noted}
+use Rattle.pie_fresh.specs.Ledgers.{IsLedger, Grows}
+use Rattle.pie_fresh.specs.Frames.{IsReady, IsWaiting, IsTop, Running, Stands}
+
+-- a task waits for an answer, has ended, or fails
+abbrev pub Comes : Noted → Came → Type 0
+Comes old (Asks w e) = IsWaiting w × (w.notes ≡ old)
+Comes old (Ends n v) = n ≡ old
+Comes old (Fails t k) = Unit {0}
+
+-- the same task as before, with the tasks that it required, and one answer less to come
+pub record Advanced (old new : Noted) : Type 0 where
+  pub task : new.task ≡ old.task
+  pub number : new.number ≡ old.number
+  pub needs : new.needs ≡ old.needs
+  pub height : new.height ≡ old.height
+  pub left : new.left + 1 ≡ old.left
+
+-- the same task as before, which required one more, of this number and height
+pub record Given (number height : ℕ) (old new : Noted) : Type 0 where
+  pub task : new.task ≡ old.task
+  pub same : new.number ≡ old.number
+  pub needs : new.needs ≡ old.needs ++ number ∷ []
+  pub high : new.height ≡ max old.height (height + 1)
+  pub left : new.left + 1 ≡ old.left
+
+-- the task was answered, or the root fails
+abbrev pub Answered : Noted → Turn → Type 0
+Answered old (Goes f) = IsReady f × Advanced old f.notes
+Answered old Rests = ⊥
+Answered old (Stops r) = Unit {0}
+
+-- the build stands, with the task that goes on
+abbrev pub GoesOn : Builder → Turn → Type 0
+GoesOn b (Goes f) = Running b f
+GoesOn b Rests = Stands 0 b
+GoesOn b (Stops r) = Unit {0}
+
+-- a task was entered and runs: one task more, beside the stack as it was
+pub record Begun (old new : Builder) (f : Frame) : Type 0 where
+  pub top : IsTop new.ledger f
+  pub ledger : IsLedger new.ledger
+  pub grows : Grows old.ledger new.ledger
+  pub ended : new.ledger.ended ≡ old.ledger.ended
+  pub one : length new.ledger.names ≡ length old.ledger.names + 1
+  pub stack : new.stack ≡ old.stack
+  pub left : f.notes.left ≡ 1000001
+
+-- a task that was entered runs, or the root fails
+abbrev pub Begins : Builder → Builder → Entered → Type 0
+Begins old new (Runs f) = Begun old new f
+Begins old new (Refused r) = Unit {0}
+
+-- the steps that tasks on the stack may still make
+abbrev pub waiting_left : List Caller → ℕ
+waiting_left [] = 0
+waiting_left (c ∷ cs) = c.waiting.notes.left + 1 + waiting_left cs
+
+-- the steps that tasks may make which can still be entered
+unfoldable pub still : ℕ → ℕ
+still entered = (50000 - entered) * 1000003
+
+-- the steps that a build may still make, beside those of the task that runs
+abbrev pub below_left : Builder → ℕ
+below_left b = still (length b.ledger.names) + waiting_left b.stack.items
+
+-- the end is nearer than so many steps
+abbrev pub Nearer : ℕ → Builder → Turn → Type 0
+Nearer steps b (Goes f) = below_left b + f.notes.left + 1 < steps
+Nearer steps b Rests = Unit {0}
+Nearer steps b (Stops r) = Unit {0}
