@@ -1,5 +1,6 @@
 -- What stands before a slash of a path is a path, and before the last slash it is the parent.
-use Rattle.std.proofs.Common.{◌≡◌, ℕ, ◌+◌, ◌<◌, ◌≤◌, Bool, true, false, not, cond, ◌&&◌, zero, suc, List, [], ◌∷◌, ◌++◌, length, length-append, get_or, take, drop, refl, sym, ap, ◌∙◌, subst, arith, add-one, nat_lt, ◌==◌}
+use Rattle.std.proofs.Common.{◌≡◌, ℕ, ◌+◌, ◌<◌, ◌≤◌, Bool, true, false, not, cond, ◌&&◌, zero, suc, List, [], ◌∷◌, ◌++◌, length, length-append, get_or, take}
+use Rattle.std.proofs.Common.{drop, refl, sym, ap, ◌∙◌, subst, arith, add-one, nat_lt, ◌==◌}
 use Rattle.std.specs.Prelude.{◌||◌, Some, None, IsTrue, slice_index}
 use Rattle.std.specs.Option.{option_map_or, option_map}
 use Rattle.std.specs.List.{list_all, list_any, onto_first, position}
@@ -62,7 +63,8 @@ front_is_path path end is inside slash =
     let outer = and_parts (not (length path == 0) && not (nat_lt 255 (length path))) (list_all is_segment (segments path)) is in
     let inner = and_parts (not (length path == 0)) (not (nat_lt 255 (length path))) outer.0 in
     let whole : path ≡ take end path ++ (47 ∷ drop (end + 1) path) = cut_at path end inside ∙ ap (λ b. take end path ++ (b ∷ drop (end + 1) path)) slash in
-    let split : segments path ≡ segments (take end path) ++ segments (drop (end + 1) path) = ap segments whole ∙ segments_append (take end path) (drop (end + 1) path) in
+    let split : segments path ≡ segments (take end path) ++ segments (drop (end + 1) path) = ap segments whole
+    ∙ segments_append (take end path) (drop (end + 1) path) in
     let good : list_all is_segment (segments (take end path)) ≡ true =
     front_passes is_segment (segments (take end path)) (segments (drop (end + 1) path)) (ap (list_all is_segment) (sym split) ∙ outer.1) in
     let short : length (take end path) ≤ length path = omega (arith, length-take-le end path (omega arith)) in
@@ -91,7 +93,8 @@ parent_at (b ∷ path) (suc n) inside slash none =
     ap (λ p. option_map_or (λ front. Some (b ∷ front)) p (cond (is_slash b) (Some []) None))
     (parent_at path n (omega arith) slash (subst (λ k. list_any is_slash (drop k (b ∷ path)) ≡ false) e none))
 
-pub ends_parent : (path : List ℕ) (end : ℕ) → end < length path → slice_index path end ≡ 47 → list_any is_slash (drop (end + 1) path) ≡ false → EndsParent path end
+pub ends_parent : (path : List ℕ) (end : ℕ) → end < length path → slice_index path end ≡ 47 → list_any is_slash (drop (end + 1) path) ≡ false
+    → EndsParent path end
 ends_parent path end inside slash none = record { inside = inside; slash = slash; parent = parent_at path end inside slash none }
 
 -- one more element without a slash
@@ -122,7 +125,8 @@ below_is (d ∷ dir) (b ∷ path) rest h =
     ] refl h
 
 -- what the place of the first slash behind the directory says of the entry
-pub entry_ends : (dir path rest : List ℕ) (end : ℕ) → rest_below dir path ≡ Some rest → position is_slash rest ≡ Some end → EndsEntry dir path (length dir + 1 + end)
+pub entry_ends : (dir path rest : List ℕ) (end : ℕ) → rest_below dir path ≡ Some rest → position is_slash rest ≡ Some end
+    → EndsEntry dir path (length dir + 1 + end)
 entry_ends dir path rest end below at =
     let whole : path ≡ dir ++ (47 ∷ rest) = below_is dir path rest below in
     let found : (end < length rest) × (slice_index rest end ≡ 47) = slash_found rest end at in
@@ -134,7 +138,8 @@ entry_ends dir path rest end below at =
           ∙ get_or-append-add dir (47 ∷ rest) (suc end) 0 ∙ found.1;
       entry = ap (option_map (λ r. dir ++ (47 ∷ first_segment r))) below
           ∙ ap (λ r. Some (dir ++ (47 ∷ r))) (sym (before_first_at rest end at))
-          ∙ ap Some (sym (take-append-add dir (47 ∷ rest) (suc end)) ∙ ap (λ k. take k (dir ++ (47 ∷ rest))) (sym e) ∙ ap (take (length dir + 1 + end)) (sym whole));
+          ∙ ap Some (sym (take-append-add dir (47 ∷ rest) (suc end)) ∙ ap (λ k. take k (dir ++ (47 ∷ rest))) (sym e)
+          ∙ ap (take (length dir + 1 + end)) (sym whole));
     }
 
 pub entry_all : (dir path rest : List ℕ) → rest_below dir path ≡ Some rest → position is_slash rest ≡ None → EndsEntry dir path (length path)

@@ -8,7 +8,9 @@ ghost use Rattle.std.specs.Cmp.{partial_order_from_own_ties};
 ghost use Rattle.std.specs.Cmp.Rules.{comparing};
 ghost use Rattle.std.proofs.Common.{rules};
 ghost use lib.Pointwise.{pointwise};
-ghost use Rattle.pie_base.specs.Path.{is_slash, is_control, segments, is_segment, is_path, first_segment, is_out, is_under_store, is_kept, is_project_file as specs_is_project_file, is_source, is_below, parent_of, rest_below as specs_rest_below, entry_on_way, EndsParent, EndsEntry, Reads};
+ghost use Rattle.pie_base.specs.Path.{is_slash, is_control, segments, is_segment, is_path, first_segment, is_out, is_under_store, is_kept};
+ghost use Rattle.pie_base.specs.Path.{is_project_file as specs_is_project_file, is_source, is_below, parent_of, rest_below as specs_rest_below, entry_on_way};
+ghost use Rattle.pie_base.specs.Path.{EndsParent, EndsEntry, Reads};
 
 use crate::{MAX_PATH_BYTES, OutOfMemory};
 use std::alloc::{AllocError, AllocFailed, Global};

@@ -1,5 +1,6 @@
 -- What a stable sort gives is the list in ascending order of the definition.
-use Rattle.std.proofs.Common.{◌≡◌, ◌+◌, ℕ, zero, suc, ◌<◌, ◌≤◌, Bool, true, false, cond, not, ◌&&◌, List, [], ◌∷◌, length, get_or, map, filter, refl, sym, ap, ◌∙◌, subst, inl, inr, arith}
+use Rattle.std.proofs.Common.{◌≡◌, ◌+◌, ℕ, zero, suc, ◌<◌, ◌≤◌, Bool, true, false, cond, not, ◌&&◌, List, [], ◌∷◌, length, get_or, map, filter, refl, sym, ap}
+use Rattle.std.proofs.Common.{◌∙◌, subst, inl, inr, arith}
 use Rattle.std.proofs.Common.{IsSorted, Ordering, Less, Equal, Greater, is_lt, is_gt}
 use Rattle.std.specs.Prelude.{⊤}
 use Rattle.std.specs.Ordering.{ordering_reverse}
@@ -7,7 +8,8 @@ use Rattle.std.specs.List.Sorted.{ties, IsStable}
 use Rattle.std.specs.Cmp.{IsTotalOrder, upto, alike_right, tied_itself}
 use Rattle.std.proofs.lemmas.Bool.{cases_Bool}
 use Rattle.std.specs.List.Sorted.{IsPermutation}
-use Rattle.std.proofs.lemmas.List.Sorted.{sorted_far, ranks_by, IsPermutation-refl, IsPermutation-sym, IsPermutation-trans, IsPermutation-cons, IsPermutation-middle}
+use Rattle.std.proofs.lemmas.List.Sorted.{sorted_far, ranks_by, IsPermutation-refl, IsPermutation-sym, IsPermutation-trans, IsPermutation-cons}
+use Rattle.std.proofs.lemmas.List.Sorted.{IsPermutation-middle}
 use Rattle.pie_value.specs.BuiltinItems.{put_in, sorted_by}
 
 reversed_is : (r : Ordering) → is_lt (ordering_reverse r) ≡ is_gt r
@@ -64,7 +66,10 @@ module _ {A : Type 0} (R : A → A → Ordering) (o : IsTotalOrder R) where
 
   up_from : (xs : List A) → ((i j : ℕ) (d : A) → i ≤ j → j < length xs → is_lt (R (get_or xs j d) (get_or xs i d)) ≡ false) → Up xs
   up_from [] h = tt
-  up_from (x ∷ xs) h = (above_from x xs (λ k l. h 0 (suc k) x (omega arith) (omega arith)), up_from xs (λ i j d p q. h (suc i) (suc j) d (omega arith) (omega arith)))
+  up_from (x ∷ xs) h = (
+    above_from x xs (λ k l. h 0 (suc k) x (omega arith) (omega arith)),
+    up_from xs (λ i j d p q. h (suc i) (suc j) d (omega arith) (omega arith)),
+  )
 
   above_put : (z x : A) (ys : List A) → is_gt (R z x) ≡ false → Above z ys → Above z (put_in R x ys)
   above_put z x [] h k = (h, tt)
@@ -152,17 +157,20 @@ module _ {A : Type 0} (R : A → A → Ordering) (o : IsTotalOrder R) where
       let e : R y z ≡ Equal = equal_of_both (R y z) low (ap is_gt (sym (o.antisymm z y)) ∙ high) in
       let s : y ≡ z = same_first y z ys zs e (h y) in
       let rest : ys ≡ zs = one_order ys zs p.1 q.1
-      (λ t. same_rest (tied t y) y (filter (tied t) ys) (filter (tied t) zs) (subst (λ (w : A). filter (tied t) (y ∷ ys) ≡ filter (tied t) (w ∷ zs)) (sym s) (h t))) in
+      (λ t. same_rest (tied t y) y (filter (tied t) ys) (filter (tied t) zs)
+      (subst (λ (w : A). filter (tied t) (y ∷ ys) ≡ filter (tied t) (w ∷ zs)) (sym s) (h t))) in
       cc
 
   pub sorted_is : (xs ys : List A) → IsSorted R ys → IsStable R xs ys → ys ≡ sorted_by R xs
   sorted_is xs ys up stable =
-      one_order ys (sorted_by R xs) (up_from ys (sorted_far (λ x y. is_lt (R x y)) (ranks_by o (λ x. x)) ys up)) (sorted_up xs) (λ t. stable t ∙ sym (sorted_stable t xs))
+      one_order ys (sorted_by R xs) (up_from ys (sorted_far (λ x y. is_lt (R x y)) (ranks_by o (λ x. x)) ys up)) (sorted_up xs)
+      (λ t. stable t ∙ sym (sorted_stable t xs))
 
   put_permutes : (x : A) (ys : List A) → IsPermutation (x ∷ ys) (put_in R x ys)
   put_permutes x [] = IsPermutation-refl (x ∷ [])
   put_permutes x (y ∷ ys) = elim (cases_Bool (is_gt (R x y))) [
-    | inl e ↦ rw e (IsPermutation-trans _ _ _ (IsPermutation-sym _ _ (IsPermutation-middle (y ∷ []) x ys)) (IsPermutation-cons y (x ∷ ys) (put_in R x ys) (put_permutes x ys)))
+    | inl e ↦ rw e (IsPermutation-trans _ _ _ (IsPermutation-sym _ _ (IsPermutation-middle (y ∷ []) x ys))
+        (IsPermutation-cons y (x ∷ ys) (put_in R x ys) (put_permutes x ys)))
     | inr e ↦ rw e (IsPermutation-refl (x ∷ y ∷ ys))
   ]
 
@@ -178,7 +186,8 @@ module _ {A : Type 0} (R : A → A → Ordering) (o : IsTotalOrder R) where
     rising (x ∷ y ∷ ys) up zero l = at_most x y up.0.0
     rising (x ∷ y ∷ ys) up (suc i) l = let e : suc i + 1 ≡ suc (i + 1) = omega arith in rw e (rising (y ∷ ys) up.1 i (omega arith))
 
-    pub sorted_rises : (xs : List A) (i : ℕ) → i + 1 < length (map form (sorted_by R xs)) → AtMost (get_or (map form (sorted_by R xs)) i d) (get_or (map form (sorted_by R xs)) (i + 1) d)
+    pub sorted_rises : (xs : List A) (i : ℕ) → i + 1 < length (map form (sorted_by R xs))
+        → AtMost (get_or (map form (sorted_by R xs)) i d) (get_or (map form (sorted_by R xs)) (i + 1) d)
     sorted_rises xs = rising (sorted_by R xs) (sorted_up xs)
 
 -- in the order of keys, the keys of a sorted list are the keys sorted

@@ -1,5 +1,6 @@
 -- The integer that std's `parse` reads is the one that a text spells, where no plus sign stands before it.
-use Rattle.std.proofs.Common.{◌≡◌, ◌≢◌, ◌⊎◌, ℕ, zero, suc, ◌+◌, ◌-◌, ◌*◌, ◌^◌, ◌<◌, ◌≤◌, Bool, true, false, ◌&&◌, List, [], ◌∷◌, length, get_or, refl, sym, ap, ◌∙◌, subst, inl, inr, arith, ℤ, pos, neg_ℤ, OkIff, Option, Some, None, Result, Ok, Err, w64, nat_le, nat_eq, ◌==◌}
+use Rattle.std.proofs.Common.{◌≡◌, ◌≢◌, ◌⊎◌, ℕ, zero, suc, ◌+◌, ◌-◌, ◌*◌, ◌^◌, ◌<◌, ◌≤◌, Bool, true, false, ◌&&◌, List, [], ◌∷◌, length, get_or, refl, sym, ap}
+use Rattle.std.proofs.Common.{◌∙◌, subst, inl, inr, arith, ℤ, pos, neg_ℤ, OkIff, Option, Some, None, Result, Ok, Err, w64, nat_le, nat_eq, ◌==◌}
 use Rattle.std.proofs.Common.{le-leb, leb-true, lt-ltb, le-ltb, ne_eqb, eq-eqb, eqb-true}
 use Rattle.std.specs.Result.{result_ok}
 use Rattle.std.specs.List.{starts_with}
@@ -23,7 +24,8 @@ in_digit : (c : ℕ) → IsInRange 48 57 c → is_digit c ≡ true
 in_digit c h = rw (le-leb 48 c h.0, le-leb c 57 h.1) refl
 
 -- digits spell the number that they write, and other bytes none
-digits_read : (n : ℕ) (ds : List ℕ) → (AllDigits 10 ds × (digits_after n ds ≡ Some (digits_value_after 10 n ds))) ⊎ ((AllDigits 10 ds → ⊥) × (digits_after n ds ≡ None))
+digits_read : (n : ℕ) (ds : List ℕ) → (AllDigits 10 ds × (digits_after n ds ≡ Some (digits_value_after 10 n ds)))
+    ⊎ ((AllDigits 10 ds → ⊥) × (digits_after n ds ≡ None))
 digits_read n [] = inl (tt, refl)
 digits_read n (c ∷ cs) = elim (cases_Bool (is_digit c)) [
   | inl e ↦
@@ -39,7 +41,8 @@ digits_read n (c ∷ cs) = elim (cases_Bool (is_digit c)) [
 
 -- the same of one or more
 abbrev Reads : List ℕ → Type 0
-Reads ds = (AllDigits 10 ds × (0 < length ds) × (number_spelt ds ≡ Some (digits_value 10 ds))) ⊎ ((AllDigits 10 ds → 0 < length ds → ⊥) × (number_spelt ds ≡ None))
+Reads ds = (AllDigits 10 ds × (0 < length ds) × (number_spelt ds ≡ Some (digits_value 10 ds)))
+    ⊎ ((AllDigits 10 ds → 0 < length ds → ⊥) × (number_spelt ds ≡ None))
 
 number_read : (ds : List ℕ) → Reads ds
 number_read [] = inr (λ d l. omega arith, refl)
@@ -90,7 +93,11 @@ module _ {E : Type 0} (r : Result ℤ E) where
       elim (number_read bs) [
         | inl k ↦ answered r _ _ (and_then (number_spelt bs) as_positive) fits
             (λ p. rw (k.2, lt-ltb (digits_value 10 bs) (2 ^ 63) p.2) refl)
-            (λ n. rw (k.2, le-ltb (digits_value 10 bs) (2 ^ 63) (elim (cases_lt (digits_value 10 bs) (2 ^ 63)) [ inl l ↦ absurd (n (k.0, k.1, l)) | inr l ↦ l ])) refl)
+            (λ n. rw (
+              k.2,
+              le-ltb (digits_value 10 bs) (2 ^ 63)
+                  (elim (cases_lt (digits_value 10 bs) (2 ^ 63)) [ inl l ↦ absurd (n (k.0, k.1, l)) | inr l ↦ l ]),
+            ) refl)
         | inr k ↦ answered r _ _ (and_then (number_spelt bs) as_positive) fits (λ p. absurd (k.0 p.0 p.1)) (λ n. rw k.1 refl)
       ]
 

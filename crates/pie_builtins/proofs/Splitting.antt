@@ -1,5 +1,6 @@
 -- The pieces of a text have no separator in them, and with it between them they are the text.
-use Rattle.std.proofs.Common.{◌≡◌, ◌⊎◌, ℕ, zero, suc, ◌+◌, ◌<◌, ◌≤◌, Bool, true, false, cond, List, [], ◌∷◌, ◌++◌, take, drop, length, refl, ap, sym, ◌∙◌, subst, inl, inr, arith, add-one, Result, Ok, Err, append_assoc}
+use Rattle.std.proofs.Common.{◌≡◌, ◌⊎◌, ℕ, zero, suc, ◌+◌, ◌<◌, ◌≤◌, Bool, true, false, cond, List, [], ◌∷◌, ◌++◌, take, drop, length, refl, ap, sym, ◌∙◌}
+use Rattle.std.proofs.Common.{subst, inl, inr, arith, add-one, Result, Ok, Err, append_assoc}
 use Rattle.std.specs.Prelude.{Option, Some, None, IfOk, option_map}
 use Rattle.std.specs.List.{Contains}
 use Rattle.std.specs.Str.Pattern.{LacksTextAt}
@@ -108,16 +109,20 @@ one_and_more s ts p free rest t there h = elim (contains_cases s t ts there) [ i
 
 joined_more : (front p : List ℕ) (n : ℕ) (s : List ℕ) → with_between p (front ∷ pieces_within n s p) ≡ front ++ (p ++ with_between p (pieces_within n s p))
 joined_more front p zero s = refl
-joined_more front p (suc n) s = elim (first_place s p) as (λ o. with_between p (front ∷ pieces_from o s p (pieces_within n)) ≡ front ++ (p ++ with_between p (pieces_from o s p (pieces_within n)))) [ None ↦ refl | Some i ↦ refl ]
+joined_more front p (suc n) s = elim (first_place s p) as (λ o.
+    with_between p (front ∷ pieces_from o s p (pieces_within n)) ≡ front ++ (p ++ with_between p (pieces_from o s p (pieces_within n))))
+    [ None ↦ refl | Some i ↦ refl ]
 
-split_from : (n : ℕ) (p : List ℕ) → 0 < length p → ((t : List ℕ) → length t ≤ n → AreSplit t p (pieces_within n t p)) → (s : List ℕ) (o : Option ℕ) → length s ≤ suc n → first_place s p ≡ o
+split_from : (n : ℕ) (p : List ℕ) → 0 < length p → ((t : List ℕ) → length t ≤ n → AreSplit t p (pieces_within n t p)) → (s : List ℕ) (o : Option ℕ)
+    → length s ≤ suc n → first_place s p ≡ o
     → AreSplit s p (pieces_from o s p (pieces_within n))
 split_from n p some ih s None l e = record { joined = refl; free = only_one s p (whole_free s p some e) }
 split_from n p some ih s (Some i) l e =
     let rest : List ℕ = drop (i + length p) s in
     let less : AreSplit rest p (pieces_within n rest p) = ih rest (omega (arith, l, some, length-drop (i + length p) s)) in
     record {
-      joined = joined_more (take i s) p n rest ∙ ap (λ t. take i s ++ (p ++ t)) less.joined ∙ ap (λ t. take i s ++ t) (sym (stands_at s p i e)) ∙ take-append-drop i s;
+      joined = joined_more (take i s) p n rest ∙ ap (λ t. take i s ++ (p ++ t)) less.joined ∙ ap (λ t. take i s ++ t) (sym (stands_at s p i e))
+          ∙ take-append-drop i s;
       free = one_and_more (take i s) (pieces_within n rest p) p (front_free s p i some e) less.free;
     }
 
@@ -141,7 +146,8 @@ kept_or_cut ([] ∷ t ∷ ts) = elim (kept_or_cut (t ∷ ts)) [ inl e ↦ inl (a
 kept_or_cut ((b ∷ bs) ∷ t ∷ ts) = elim (kept_or_cut (t ∷ ts)) [ inl e ↦ inl (ap (λ rest. (b ∷ bs) ∷ rest) e) | inr e ↦ inr (ap (λ rest. (b ∷ bs) ∷ rest) e) ]
 
 -- an empty text at the end adds a separator, unless it is alone
-joined_cut : (p : List ℕ) (ts : List (List ℕ)) → (with_between p (ts ++ [] ∷ []) ≡ with_between p ts) ⊎ (with_between p (ts ++ [] ∷ []) ≡ with_between p ts ++ p)
+joined_cut : (p : List ℕ) (ts : List (List ℕ)) → (with_between p (ts ++ [] ∷ []) ≡ with_between p ts)
+    ⊎ (with_between p (ts ++ [] ∷ []) ≡ with_between p ts ++ p)
 joined_cut p [] = inl refl
 joined_cut p (t ∷ []) = inr (ap (λ rest. t ++ rest) (append-nil p))
 joined_cut p (t ∷ u ∷ ts) = elim (joined_cut p (u ∷ ts)) [
@@ -175,7 +181,8 @@ are_lines s p some =
 pub made_is : (t u : Tree) → made t ≡ Ok u → u ≡ t
 made_is t u = elim (is_small t) as (λ b. cond b (Ok t) (Err Big) ≡ Ok u → u ≡ t) [ true ↦ λ e. cc | false ↦ λ e. cc ]
 
-made_texts : (property : List (List ℕ) → Type 0) (texts : List (List ℕ)) (r : Result Value BuiltinFault) → property texts → Agrees r (made (text_list texts)) → IfOk r (λ v. IsTexts property (tree_of v))
+made_texts : (property : List (List ℕ) → Type 0) (texts : List (List ℕ)) (r : Result Value BuiltinFault) → property texts → Agrees r (made (text_list texts))
+    → IfOk r (λ v. IsTexts property (tree_of v))
 made_texts property texts (Ok v) h agrees = (texts, made_is (text_list texts) (tree_of v) agrees, h)
 made_texts property texts (Err e) h agrees = tt
 
@@ -183,20 +190,25 @@ replaced_by : (s p r : List ℕ) → 0 < length p → IsReplaced s p r (TText (w
 replaced_by s [] r some = absurd (omega arith)
 replaced_by s (b ∷ p) r some = (pieces s (b ∷ p), are_split s (b ∷ p) some, refl)
 
-pub replace_law : (s p r : List ℕ) (found : Result Value BuiltinFault) → 0 < length p → Agrees found (made (TText (with_between r (pieces s p)))) → IfOk found (λ v. IsReplaced s p r (tree_of v))
-replace_law s p r (Ok v) some agrees = subst (IsReplaced s p r) (sym (made_is (TText (with_between r (pieces s p))) (tree_of v) agrees)) (replaced_by s p r some)
+pub replace_law : (s p r : List ℕ) (found : Result Value BuiltinFault) → 0 < length p → Agrees found (made (TText (with_between r (pieces s p))))
+    → IfOk found (λ v. IsReplaced s p r (tree_of v))
+replace_law s p r (Ok v) some agrees = subst (IsReplaced s p r) (sym (made_is (TText (with_between r (pieces s p))) (tree_of v) agrees))
+    (replaced_by s p r some)
 replace_law s p r (Err e) some agrees = tt
 
 replaced_alike : (s p r : List ℕ) → length p ≡ 0 → IsReplaced s p r (TText s)
 replaced_alike s [] r none = refl
 replaced_alike s (b ∷ p) r none = absurd (omega arith)
 
-pub replace_law_none : (s p r : List ℕ) (found : Result Value BuiltinFault) → length p ≡ 0 → Agrees found (made (TText s)) → IfOk found (λ v. IsReplaced s p r (tree_of v))
+pub replace_law_none : (s p r : List ℕ) (found : Result Value BuiltinFault) → length p ≡ 0 → Agrees found (made (TText s))
+    → IfOk found (λ v. IsReplaced s p r (tree_of v))
 replace_law_none s p r (Ok v) none agrees = subst (IsReplaced s p r) (sym (made_is (TText s) (tree_of v) agrees)) (replaced_alike s p r none)
 replace_law_none s p r (Err e) none agrees = tt
 
-pub split_law : (s p : List ℕ) (r : Result Value BuiltinFault) → 0 < length p → Agrees r (made (text_list (pieces s p))) → IfOk r (λ v. IsTexts (AreSplit s p) (tree_of v))
+pub split_law : (s p : List ℕ) (r : Result Value BuiltinFault) → 0 < length p → Agrees r (made (text_list (pieces s p)))
+    → IfOk r (λ v. IsTexts (AreSplit s p) (tree_of v))
 split_law s p r some agrees = made_texts (AreSplit s p) (pieces s p) r (are_split s p some) agrees
 
-pub lines_law : (s p : List ℕ) (r : Result Value BuiltinFault) → 0 < length p → Agrees r (made (text_list (without_last_empty (pieces s p)))) → IfOk r (λ v. IsTexts (AreLines s p) (tree_of v))
+pub lines_law : (s p : List ℕ) (r : Result Value BuiltinFault) → 0 < length p → Agrees r (made (text_list (without_last_empty (pieces s p))))
+    → IfOk r (λ v. IsTexts (AreLines s p) (tree_of v))
 lines_law s p r some agrees = made_texts (AreLines s p) (without_last_empty (pieces s p)) r (are_lines s p some) agrees

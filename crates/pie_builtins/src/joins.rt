@@ -8,7 +8,8 @@ ghost use Rattle.pie_value.specs.BuiltinTexts.{with_between};
 ghost use Rattle.pie_value.specs.BuiltinForms.{given, made as spec_made};
 ghost use Rattle.pie_value.specs.Builtins.{answer_of};
 ghost use Rattle.pie_builtins.specs.Agreement.{Agrees};
-ghost use Rattle.pie_builtins.specs.Gathered.{all_lists as spec_all_lists, all_texts as spec_all_texts, each_after, items_among, items_in as spec_items_in, text_in, texts_between};
+ghost use Rattle.pie_builtins.specs.Gathered.{all_lists as spec_all_lists, all_texts as spec_all_texts, each_after, items_among, items_in as spec_items_in};
+ghost use Rattle.pie_builtins.specs.Gathered.{text_in, texts_between};
 
 use crate::BuiltinFault;
 use crate::fault::{made, made_text, refused};

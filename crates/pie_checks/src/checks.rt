@@ -19,7 +19,7 @@ use std::alloc::Global;
 
 /// Why a build whose roots are done is refused, or `None` where it is accepted: the first that holds of two live
 /// tasks that wrote one path, a written path below another, and a written path that another live task saw absent;
-/// each with its least path and then its least tasks.
+/// each with its least path and then its least tasks. Rule: docs/BUILDING.md, "Verdict".
 pub fn final_checks(
     alloc: Global,
     names: &TaskNames,

@@ -15,10 +15,12 @@ use Rattle.pie_code.specs.declared.instr.Instr.TheVariants.{TuplePush, Proj, Cal
 use Rattle.pie_code.specs.Ways.{Fits, slots_of, texts_of}
 use Rattle.pie_code.specs.Checked.{AreBelow}
 use Rattle.pie_code.specs.Running as run
-use Rattle.pie_code.specs.Running.{Config, Turn, onward, misfit, pop_from, pop_two, pop_many, push_found, push_text, each_from, number_in, require_named, branch, store, finish, act_on, act, act_found, step}
+use Rattle.pie_code.specs.Running.{Config, Turn, onward, misfit, pop_from, pop_two, pop_many, push_found, push_text, each_from, number_in, require_named}
+use Rattle.pie_code.specs.Running.{branch, store, finish, act_on, act, act_found, step}
 use Rattle.pie_code.specs.Standing.{IsReady}
 use Rattle.pie_code.specs.Operands.{Does, below, arguments}
-use Rattle.pie_code.specs.Operands.Does.{ticks, brings, brings_text, loads, stores, drops, applies, joins, jumps, branches, turns, lengthens_list, lengthens_tuple, takes_item, calls, observes, writes, requires_task, says, returns}
+use Rattle.pie_code.specs.Operands.Does.{ticks, brings, brings_text, loads, stores, drops, applies, joins, jumps, branches, turns, lengthens_list}
+use Rattle.pie_code.specs.Operands.Does.{lengthens_tuple, takes_item, calls, observes, writes, requires_task, says, returns}
 
 top : (stack : List Tree) → 1 ≤ length stack → (t : Tree) × (ts : List Tree) × (stack ≡ t ∷ ts)
 top [] l = absurd (omega arith)
@@ -47,7 +49,8 @@ popped_many n c go l = ap (λ (b : Bool). cond b (go (arguments n c) (below (dro
 there : {A : Type 0} (xs : List A) (i : ℕ) (d : A) → i < length xs → slice_get xs i ≡ Some (get_or xs i d)
 there xs i d l = slice_get-get_or xs i d l
 
-does_with : (texts : List (List ℕ)) (i : Instr) (c : Config) → Fits i (length c.stack) → AreBelow (length c.slots) (slots_of i) → AreBelow (length texts) (texts_of i)
+does_with : (texts : List (List ℕ)) (i : Instr) (c : Config) → Fits i (length c.stack) → AreBelow (length c.slots) (slots_of i)
+    → AreBelow (length texts) (texts_of i)
     → Does texts c i (act texts i c)
 does_with texts Tick c fits slots names = ticks
 does_with texts (Push k) c fits slots names = brings
@@ -59,7 +62,8 @@ does_with texts (Load n) c fits slots names =
     subst (Does texts c (Load n)) (sym (ap (λ found. push_found found c) is)) (loads is)
 does_with texts (Store n) c fits slots names =
     let p = top c.stack fits.0 in
-    let stored = ap (λ (b : Bool). cond b (onward (record c { stack = p.1; slots = slice_set c.slots n p.0 })) (misfit (below p.1 c))) (lt-ltb n (length c.slots) slots.0) in
+    let stored = ap (λ (b : Bool). cond b (onward (record c { stack = p.1; slots = slice_set c.slots n p.0 })) (misfit (below p.1 c)))
+    (lt-ltb n (length c.slots) slots.0) in
     subst (Does texts c (Store n)) (sym (popped c (store n) p.0 p.1 p.2 ∙ stored)) (stores p.2 slots.0)
 does_with texts Drop c fits slots names =
     let p = top c.stack fits.0 in

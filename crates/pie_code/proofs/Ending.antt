@@ -70,7 +70,8 @@ rank_high code at i is well =
     ]
 
 -- running that goes neither to a tick comes further on
-rank_rises : (code : List Instr) (at to : ℕ) (i j : Instr) → ((p : ℕ) → JumpsWell code p) → slice_get code at ≡ Some i → slice_get code to ≡ Some j → (j ≡ Tick → ⊥) → Leads at i to
+rank_rises : (code : List Instr) (at to : ℕ) (i j : Instr) → ((p : ℕ) → JumpsWell code p) → slice_get code at ≡ Some i → slice_get code to ≡ Some j
+    → (j ≡ Tick → ⊥) → Leads at i to
     → rank code at < rank code to
 rank_rises code at to i j well is js no_tick leads =
     elim (loop_or_none i) [
@@ -137,7 +138,8 @@ step_falls code c d accepted stands e = by_ticks moves.ticks
     lead_there = lead_le (slice_get instrs d.at)
 
     first : turns code d < turns code c → distance code d < distance code c
-    first l = falls_first (turns code d) (turns code c) (2 * length instrs) (2 * length instrs - rank instrs d.at) (2 * length instrs - rank instrs c.at) l small
+    first l = falls_first (turns code d) (turns code c) (2 * length instrs) (2 * length instrs - rank instrs d.at)
+        (2 * length instrs - rank instrs c.at) l small
 
     to_tick : (here.instr ≡ Tick → ⊥) → d.state.ticks ≡ c.state.ticks → there.instr ≡ Tick → distance code d < distance code c
     to_tick no_tick same tick =
@@ -152,7 +154,8 @@ step_falls code c d accepted stands e = by_ticks moves.ticks
         let equal : turns code d ≡ turns code c = omega (arith, before, now, same) in
         let rises = rank_rises instrs c.at d.at here.instr there.instr well here.there there.there no_next moves.leads in
         let high = rank_high instrs d.at there.instr there.there (well d.at) in
-        falls_second (turns code d) (turns code c) (2 * length instrs) (2 * length instrs - rank instrs d.at) (2 * length instrs - rank instrs c.at) equal (omega (arith, rises, high))
+        falls_second (turns code d) (turns code c) (2 * length instrs) (2 * length instrs - rank instrs d.at) (2 * length instrs - rank instrs c.at) equal
+        (omega (arith, rises, high))
 
     by_ticks : CountsTicks here.instr c.state.ticks d.state.ticks → distance code d < distance code c
     by_ticks (inl tick) = let l = tick.1 in let s = tick.2 in first (omega (arith, lead_there))
@@ -179,8 +182,10 @@ ends_within code (suc n) c accepted stands l =
 pub always_ends : (code : Code) (args : List Tree) (answers : List Answer) → IsAccepted code → length args ≡ code.params
     → (r : Outcome Tree × State) × (run code (2000002 * (2 * length code.instrs.items + 1)) (start code args answers) ≡ Some r)
 always_ends code args answers accepted enough =
-    ends_within code (2000002 * (2 * length code.instrs.items + 1)) (start code args answers) accepted (start_stands code args answers accepted enough) (near (lead_of (slice_get code.instrs.items 0)) (lead_le (slice_get code.instrs.items 0)))
+    ends_within code (2000002 * (2 * length code.instrs.items + 1)) (start code args answers) accepted (start_stands code args answers accepted enough)
+    (near (lead_of (slice_get code.instrs.items 0)) (lead_le (slice_get code.instrs.items 0)))
   where
     near : (lead : ℕ) → lead ≤ 1
-        → (2 * (1000000 - 0) + lead) * (2 * length code.instrs.items + 1) + (2 * length code.instrs.items - rank code.instrs.items 0) < 2000002 * (2 * length code.instrs.items + 1)
+        → (2 * (1000000 - 0) + lead) * (2 * length code.instrs.items + 1) + (2 * length code.instrs.items - rank code.instrs.items 0) < 2000002 *
+        (2 * length code.instrs.items + 1)
     near lead le = omega (arith, mul-le-mul_right {m = 2 * (1000000 - 0) + lead} {n = 2000001} (2 * length code.instrs.items + 1) (omega arith))

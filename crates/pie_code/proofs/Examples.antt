@@ -22,7 +22,8 @@ still code at no_jump no_loop = record {
   closes = λ e from is j l. absurd (no_loop e is);
 }
 
-two_still : (a b : Instr) → target a ≡ None → target b ≡ None → ((e : EachLoop) → a ≡ Each e → ⊥) → ((e : EachLoop) → b ≡ Each e → ⊥) → (at : ℕ) → JumpsWell (a ∷ b ∷ []) at
+two_still : (a b : Instr) → target a ≡ None → target b ≡ None → ((e : EachLoop) → a ≡ Each e → ⊥) → ((e : EachLoop) → b ≡ Each e → ⊥) → (at : ℕ)
+    → JumpsWell (a ∷ b ∷ []) at
 two_still a b no_a no_b a_plain b_plain zero = still (a ∷ b ∷ []) 0
     (λ to j. none-some to (sym no_a ∙ ap target (same_Some a j.0 j.1) ∙ j.2)) (λ e is. a_plain e (same_Some a (Each e) is))
 two_still a b no_a no_b a_plain b_plain (suc zero) = still (a ∷ b ∷ []) 1

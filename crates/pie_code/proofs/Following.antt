@@ -1,5 +1,6 @@
 -- The search for heights: pairs are followed, one after another.
-use Rattle.std.proofs.Common.{◌≡◌, ℕ, ◌+◌, ◌<◌, ◌≤◌, ◌⊎◌, inl, inr, min, true, false, List, [], length, get_or, Some, slice_get, slice_index, refl, sym, ap, ◌∙◌, subst, arith}
+use Rattle.std.proofs.Common.{◌≡◌, ℕ, ◌+◌, ◌<◌, ◌≤◌, ◌⊎◌, inl, inr, min, true, false, List, [], length, get_or, Some, slice_get, slice_index, refl, sym, ap}
+use Rattle.std.proofs.Common.{◌∙◌, subst, arith}
 use Rattle.std.proofs.lemmas.Bool.{cases_lt}
 use Rattle.std.proofs.lemmas.Option.{slice_get_within, slice_get-get_or, get_or_from_slice_get, same_Some, none-some}
 use Rattle.pie_code.specs.declared.instr.Instr.{Instr}
@@ -17,7 +18,8 @@ pub next_met : (instr : Instr) (place : ℕ) (height : ℕ) (old new : Search) �
 next_met instr place height old new goes meets =
     meets_same (λ to. to ≡ place + 1) (λ to. (goes_on instr ≡ true) × (to ≡ place + 1)) height old new (λ to e. (goes, e)) (λ to h. h.1) meets
 
-pub target_met : (instr : Instr) (place height : ℕ) (old new : Search) → target instr ≡ Some place → Meets (λ to. to ≡ place) height old new → Meets (λ to. target instr ≡ Some to) height old new
+pub target_met : (instr : Instr) (place height : ℕ) (old new : Search) → target instr ≡ Some place → Meets (λ to. to ≡ place) height old new
+    → Meets (λ to. target instr ≡ Some to) height old new
 target_met instr place height old new is meets =
     meets_same (λ to. to ≡ place) (λ to. target instr ≡ Some to) height old new (λ to e. is ∙ ap Some (sym e)) (λ to h. same_Some to place (sym h ∙ is)) meets
 
@@ -75,7 +77,8 @@ search_on code old new i place height search is met le meets = record {
       | inr led ↦ subst (λ (n : ℕ). Reaches code p n) (sym led.1) (step (search.sound place height met) is le led.0)
     ]
 
-pub followed_on : (code : List Instr) (lows : List ℕ) (old new : Search) (i : Instr) (place height : ℕ) → IsSearch code old → Meets (Leads place i) (after i height) old new
+pub followed_on : (code : List Instr) (lows : List ℕ) (old new : Search) (i : Instr) (place height : ℕ) → IsSearch code old
+    → Meets (Leads place i) (after i height) old new
     → IsFollowed code lows new i place height
 followed_on code lows old new i place height search meets = inr (λ to le leads l. meets.met to leads (omega (arith, l, search.sized)))
 
@@ -91,14 +94,17 @@ grows_itself s = record { sized = refl; kept = λ i pair e. e; nearer = omega ar
 
 -- a pair is judged
 pub judged_grows : (i : Instr) (place height : ℕ) (old new : Search) → Judges i place height old new → Grows old new
-judged_grows i place height old new (inl same) = subst (Grows old) (sym same.1) (record { sized = refl; kept = λ n pair e. e; nearer = omega arith; limited = refl })
-judged_grows i place height old new (inr worse) = subst (Grows old) (sym worse.1) (record { sized = refl; kept = λ n pair e. e; nearer = omega arith; limited = refl })
+judged_grows i place height old new (inl same) = subst (Grows old) (sym same.1)
+    (record { sized = refl; kept = λ n pair e. e; nearer = omega arith; limited = refl })
+judged_grows i place height old new (inr worse) = subst (Grows old) (sym worse.1)
+    (record { sized = refl; kept = λ n pair e. e; nearer = omega arith; limited = refl })
 
 pub judged_fits : (i : Instr) (place height : ℕ) (old new : Search) → Judges i place height old new → Fits i height ⊎ (new.bad ≤ place)
 judged_fits i place height old new (inl same) = inl same.0
 judged_fits i place height old new (inr worse) = inr (subst (λ (s : Search). s.bad ≤ place) (sym worse.1) (omega arith))
 
-pub judged_search : (code : List Instr) (i : Instr) (place height : ℕ) (old new : Search) → slice_get code place ≡ Some i → Met old place height → IsSearch code old
+pub judged_search : (code : List Instr) (i : Instr) (place height : ℕ) (old new : Search) → slice_get code place ≡ Some i → Met old place height
+    → IsSearch code old
     → Judges i place height old new → IsSearch code new
 judged_search code i place height old new is met search (inl same) = subst (IsSearch code) (sym same.1) search
 judged_search code i place height old new is met search (inr worse) = subst (IsSearch code) (sym worse.1) (record {
@@ -122,7 +128,8 @@ judged_search code i place height old new is met search (inr worse) = subst (IsS
     wrong fit = worse.0 (fit.reached i height is (search.sound place height met))
 
 -- a pair is done, once it is judged and followed
-pub done_from : (code : List Instr) (lows : List ℕ) (place height : ℕ) (d : Instr) (old mid new : Search) → Judges (get_or code place d) place height old mid → Grows mid new
+pub done_from : (code : List Instr) (lows : List ℕ) (place height : ℕ) (d : Instr) (old mid new : Search) → Judges (get_or code place d) place height old mid
+    → Grows mid new
     → ((i : Instr) → slice_get code place ≡ Some i → IsFollowed code lows new i place height) → IsDone code lows new place height
 done_from code lows place height d old mid new judges grows followed = record {
   fits = λ i is. elim (judged_fits (get_or code place d) place height old mid judges) [
@@ -132,11 +139,13 @@ done_from code lows place height d old mid new judges grows followed = record {
   followed = followed;
 }
 
-pub followed_later : (code : List Instr) (lows : List ℕ) (i : Instr) (place height : ℕ) (old new : Search) → Grows old new → IsFollowed code lows old i place height → IsFollowed code lows new i place height
+pub followed_later : (code : List Instr) (lows : List ℕ) (i : Instr) (place height : ℕ) (old new : Search) → Grows old new
+    → IsFollowed code lows old i place height → IsFollowed code lows new i place height
 followed_later code lows i place height old new grows (inl far) = inl (omega (arith, far, grows.nearer))
 followed_later code lows i place height old new grows (inr all) = inr (λ to le leads l. met_on old new to (after i height) grows (all to le leads l))
 
-pub done_later : (code : List Instr) (lows : List ℕ) (place height : ℕ) (old new : Search) → Grows old new → IsDone code lows old place height → IsDone code lows new place height
+pub done_later : (code : List Instr) (lows : List ℕ) (place height : ℕ) (old new : Search) → Grows old new → IsDone code lows old place height
+    → IsDone code lows new place height
 done_later code lows place height old new grows done = record {
   fits = λ i is. elim (done.fits i is) [ inl fits ↦ inl fits | inr past ↦ inr (omega (arith, past, grows.nearer)) ];
   followed = λ i is. followed_later code lows i place height old new grows (done.followed i is);
@@ -146,7 +155,8 @@ done_later code lows place height old new grows done = record {
 pub too_low : (code : List Instr) (lows : List ℕ) (s : Search) (i : Instr) (place height : ℕ) → height < pops i → IsFollowed code lows s i place height
 too_low code lows s i place height low = inr (λ to le leads l. absurd (omega arith))
 
-pub followed_past : (code : List Instr) (lows : List ℕ) (s : Search) (i : Instr) (place height : ℕ) → s.bad ≤ slice_index lows place → IsFollowed code lows s i place height
+pub followed_past : (code : List Instr) (lows : List ℕ) (s : Search) (i : Instr) (place height : ℕ) → s.bad ≤ slice_index lows place
+    → IsFollowed code lows s i place height
 followed_past code lows s i place height far = inl far
 
 pub followed_there : (code : List Instr) (lows : List ℕ) (s : Search) (place height : ℕ) (d : Instr) → IsFollowed code lows s (get_or code place d) place height
@@ -154,27 +164,33 @@ pub followed_there : (code : List Instr) (lows : List ℕ) (s : Search) (place h
 followed_there code lows s place height d followed i is = subst (λ (j : Instr). IsFollowed code lows s j place height) (read_there code place d i is) followed
 
 -- the search goes on: one more pair is done
-pub done_more : (code : List Instr) (lows : List ℕ) (old new : Search) (now place height : ℕ) → Grows old new → now < length old.met.items → slice_get old.met.items now ≡ Some (place, height)
+pub done_more : (code : List Instr) (lows : List ℕ) (old new : Search) (now place height : ℕ) → Grows old new → now < length old.met.items
+    → slice_get old.met.items now ≡ Some (place, height)
     → IsDone code lows new place height → ((i p h : ℕ) → i < now → slice_get old.met.items i ≡ Some (p, h) → IsDone code lows old p h)
     → (i p h : ℕ) → i < now + 1 → slice_get new.met.items i ≡ Some (p, h) → IsDone code lows new p h
 done_more code lows old new now place height grows inside at done before i p h l is =
     elim (cases_lt i now) [
       | inl earlier ↦
           let there = slice_get-get_or old.met.items i (0, 0) (omega arith) in
-          let pair : get_or old.met.items i (0, 0) ≡ (p, h) = same_Some (get_or old.met.items i (0, 0)) (p, h) (sym (grows.kept i (get_or old.met.items i (0, 0)) there) ∙ is) in
+          let pair : get_or old.met.items i (0, 0) ≡ (p, h) = same_Some (get_or old.met.items i (0, 0)) (p, h)
+          (sym (grows.kept i (get_or old.met.items i (0, 0)) there) ∙ is) in
           done_later code lows p h old new grows (before i p h earlier (there ∙ ap Some pair))
       | inr late ↦
           let here : i ≡ now = omega arith in
-          let pair : ◌≡◌ {A = ℕ × ℕ} (place, height) (p, h) = same_Some (place, height) (p, h) (sym (grows.kept now (place, height) at) ∙ subst (λ (k : ℕ). slice_get new.met.items k ≡ Some (p, h)) here is) in
+          let pair : ◌≡◌ {A = ℕ × ℕ} (place, height) (p, h) = same_Some (place, height) (p, h)
+          (sym (grows.kept now (place, height) at) ∙ subst (λ (k : ℕ). slice_get new.met.items k ≡ Some (p, h)) here is) in
           subst (λ (q : ℕ × ℕ). IsDone code lows new q.0 q.1) pair done
     ]
 
-pub done_all : (code : List Instr) (lows : List ℕ) (s : Search) (now : ℕ) → length s.met.items ≤ now → ((i p h : ℕ) → i < now → slice_get s.met.items i ≡ Some (p, h) → IsDone code lows s p h)
+pub done_all : (code : List Instr) (lows : List ℕ) (s : Search) (now : ℕ) → length s.met.items ≤ now
+    → ((i p h : ℕ) → i < now → slice_get s.met.items i ≡ Some (p, h) → IsDone code lows s p h)
     → (p h : ℕ) → Met s p h → IsDone code lows s p h
-done_all code lows s now far done p h met = let l : met.0 < length s.met.items = slice_get_within s.met.items met.0 (p, h) met.1 in done met.0 p h (omega arith) met.1
+done_all code lows s now far done p h met = let l : met.0 < length s.met.items = slice_get_within s.met.items met.0 (p, h) met.1 in
+    done met.0 p h (omega arith) met.1
 
 -- how a search begins
-pub begins : (code : List Instr) (s : Search) → length s.first.items ≡ length code → ((place n : ℕ) → slice_get s.first.items place ≡ Some (Some n) → ⊥) → s.met.items ≡ []
+pub begins : (code : List Instr) (s : Search) → length s.first.items ≡ length code → ((place n : ℕ) → slice_get s.first.items place ≡ Some (Some n) → ⊥)
+    → s.met.items ≡ []
     → ((pair : ℕ × ℕ) → contains pair_cmp s.more pair ≡ false) → s.bad ≡ s.limit → IsSearch code s
 begins code s sized unmet empty none bad = record {
   sized = sized;

@@ -39,7 +39,8 @@ limit_without jump slot le = by_test (nat_lt slot jump) refl
     by_test true e = absurd (omega (arith, ltb-true slot jump e))
     by_test false e = refl
 
-jumps_before : (code : Code) (jump : Option ℕ) (count at : ℕ) → IsFirst (JumpsWell code.instrs.items) jump → at < or_count count jump → JumpsWell code.instrs.items at
+jumps_before : (code : Code) (jump : Option ℕ) (count at : ℕ) → IsFirst (JumpsWell code.instrs.items) jump → at < or_count count jump
+    → JumpsWell code.instrs.items at
 jumps_before code None count at all l = all at
 jumps_before code (Some m) count at first l = first.0 at l
 
@@ -71,7 +72,8 @@ slot_refused code at jumps heights slots = (
   slots.1,
 )
 
-heights_all : (code : Code) (slot : Option ℕ) → ((p : ℕ) → p < limit_up_to (length code.instrs.items) slot → HeightsFit code.instrs.items p) → ((s : ℕ) → slot ≡ Some s → length code.instrs.items ≤ s)
+heights_all : (code : Code) (slot : Option ℕ) → ((p : ℕ) → p < limit_up_to (length code.instrs.items) slot → HeightsFit code.instrs.items p)
+    → ((s : ℕ) → slot ≡ Some s → length code.instrs.items ≤ s)
     → (p : ℕ) → HeightsFit code.instrs.items p
 heights_all code None heights far p = elim (cases_lt p (length code.instrs.items)) [ inl l ↦ heights p l | inr past ↦ fit_past code.instrs.items p past ]
 heights_all code (Some s) heights far p =
@@ -102,11 +104,13 @@ all_sound code jumps slots heights at = record {
   slots = slots at;
 }
 
-pub only_slot_at : (code : Code) (jump slot : Option ℕ) (at : ℕ) → jump ≡ None → slot ≡ Some at → IsFirst (JumpsWell code.instrs.items) jump → IsFirst (SlotsFit code) slot
+pub only_slot_at : (code : Code) (jump slot : Option ℕ) (at : ℕ) → jump ≡ None → slot ≡ Some at → IsFirst (JumpsWell code.instrs.items) jump
+    → IsFirst (SlotsFit code) slot
     → ((p : ℕ) → p < limit_of (length code.instrs.items) jump slot → HeightsFit code.instrs.items p) → IsRefusal code (Slot at)
 only_slot_at code (Some j) slot at none some jumps slots heights = absurd (none-some j (sym none))
 only_slot_at code None None at none some jumps slots heights = absurd (none-some at some)
-only_slot_at code None (Some s) at none some jumps slots heights = subst (λ (k : ℕ). IsRefusal code (Slot k)) (same_Some s at some) (only_slot code s jumps slots heights)
+only_slot_at code None (Some s) at none some jumps slots heights = subst (λ (k : ℕ). IsRefusal code (Slot k)) (same_Some s at some)
+    (only_slot code s jumps slots heights)
 
 pub all_sound_at : (code : Code) (jump slot : Option ℕ) → jump ≡ None → slot ≡ None → IsFirst (JumpsWell code.instrs.items) jump → IsFirst (SlotsFit code) slot
     → ((p : ℕ) → p < limit_of (length code.instrs.items) jump slot → HeightsFit code.instrs.items p) → (at : ℕ) → IsSound code at
@@ -117,7 +121,8 @@ all_sound_at code None None none no_slot jumps slots heights = all_sound code ju
 pub not_ended : (b : Bool) → b ≡ false → b ≡ true → ⊥
 not_ended b e f = cc
 
-pub height_refused_at : (code : Code) (count limit : ℕ) (a b : List Instr) (jump slot found : Option ℕ) (at : ℕ) → a ≡ code.instrs.items → b ≡ code.instrs.items → IsFirst (JumpsWell a) jump
+pub height_refused_at : (code : Code) (count limit : ℕ) (a b : List Instr) (jump slot found : Option ℕ) (at : ℕ) → a ≡ code.instrs.items
+    → b ≡ code.instrs.items → IsFirst (JumpsWell a) jump
     → IsFirst (SlotsFit code) slot → limit ≡ limit_of count jump slot → IsFirstBefore (HeightsFit b) limit found → found ≡ Some at → IsRefusal code (Height at)
 height_refused_at code count limit a b jump slot found at same other jumps slots is heights e =
     height_refused code count jump slot at (subst (λ (c : List Instr). IsFirst (JumpsWell c) jump) same jumps) slots

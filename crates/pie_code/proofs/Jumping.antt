@@ -1,5 +1,6 @@
 -- Where jumps are wrong: what each test says, and the least of the places.
-use Rattle.std.proofs.Common.{◌≡◌, ℕ, ◌+◌, ◌<◌, ◌≤◌, ◌↔◌, ◌⊎◌, inl, inr, Bool, true, false, not, List, length, get_or, Option, Some, None, MatchOption, IsTrue, slice_get, refl, sym, ap, ◌∙◌, subst, arith}
+use Rattle.std.proofs.Common.{◌≡◌, ℕ, ◌+◌, ◌<◌, ◌≤◌, ◌↔◌, ◌⊎◌, inl, inr, Bool, true, false, not, List, length, get_or, Option, Some, None, MatchOption, IsTrue}
+use Rattle.std.proofs.Common.{slice_get, refl, sym, ap, ◌∙◌, subst, arith}
 use Rattle.std.proofs.Common.{nat_lt, cond, eqb}
 use Rattle.std.specs.Option.{option_eq}
 use borrow.Author.Tests.{eqb-true}
@@ -81,7 +82,8 @@ pub late_one : (code : List Instr) (from a b : ℕ) → JumpsLate code from a �
 late_one code from a b late other = one_target code from a b late.0 other.0
 
 -- a target isn't late where no loop begins there, or it lies ahead, or the loop ends behind the jump
-pub not_late : (code : List Instr) (from to at : ℕ) → JumpsTo code from to → ((e : EachLoop) → IsLoop code to e → to ≤ from → e.end ≤ from → ⊥) → JumpsLate code from at → ⊥
+pub not_late : (code : List Instr) (from to at : ℕ) → JumpsTo code from to → ((e : EachLoop) → IsLoop code to e → to ≤ from → e.end ≤ from → ⊥)
+    → JumpsLate code from at → ⊥
 not_late code from to at jumps fine (j, l, (e, is, past)) =
     let same : at ≡ to = one_target code from at to j jumps in
     fine e (subst (λ t. IsLoop code t e) same is) (omega arith) past
@@ -99,7 +101,11 @@ late_at code at from (Some to) late e = subst (λ t. JumpsLate code from t) (sam
 -- the least of the places that one instruction spoils
 pub spoils_late : (code : List Instr) (from at : ℕ) → JumpsLate code from at → IsLeast (Spoils code from) (Some at)
 spoils_late code from at late = (
-  (λ p l spoils. elim spoils [ inl own ↦ let back = late.1 in absurd (omega (arith, own.0)) | inr other ↦ absurd (omega (arith, late_one code from p at other late)) ]),
+  (λ p l spoils. elim spoils [
+    | inl own ↦ let back = late.1 in absurd (omega (arith, own.0))
+    | inr other ↦ absurd
+        (omega (arith, late_one code from p at other late))
+  ]),
   inr late,
 )
 
@@ -125,7 +131,10 @@ least_of P Q (Some a) None least none = (
 )
 least_of P Q (Some a) (Some b) least other =
     elim (nat_lt b a) as (λ t. nat_lt b a ≡ t → IsLeast (λ p. P p ⊎ Q p) (cond t (Some b) (Some a))) [
-      | true ↦ λ e. ((λ p l h. elim h [ inl x ↦ let lt : b < a = ltb-true b a e in let q : p < a = omega arith in least.0 p q x | inr y ↦ other.0 p l y ]), inr other.1)
+      | true ↦ λ e. (
+        (λ p l h. elim h [ inl x ↦ let lt : b < a = ltb-true b a e in let q : p < a = omega arith in least.0 p q x | inr y ↦ other.0 p l y ]),
+        inr other.1,
+      )
       | false ↦ λ e. ((λ p l h. elim h [ inl x ↦ least.0 p l x | inr y ↦ let q : p < b = omega (arith, past e) in other.0 p q y ]), inl least.1)
     ] refl
   where
@@ -137,7 +146,8 @@ least_same P Q None to back none = λ p q. none p (back p q)
 least_same P Q (Some a) to back least = ((λ p l q. least.0 p l (back p q)), to a least.1)
 
 -- one more instruction
-pub spoilt_more : (code : List Instr) (count : ℕ) (a b : Option ℕ) → IsLeast (IsSpoilt code count) a → IsLeast (Spoils code count) b → IsLeast (IsSpoilt code (count + 1)) (earlier a b)
+pub spoilt_more : (code : List Instr) (count : ℕ) (a b : Option ℕ) → IsLeast (IsSpoilt code count) a → IsLeast (Spoils code count) b
+    → IsLeast (IsSpoilt code (count + 1)) (earlier a b)
 spoilt_more code count a b least other =
     least_same (λ p. IsSpoilt code count p ⊎ Spoils code count p) (IsSpoilt code (count + 1)) (earlier a b)
     (λ p h. elim h [ inl x ↦ (x.0, omega (arith, x.1), x.2) | inr y ↦ (count, omega arith, y) ])
@@ -181,7 +191,8 @@ right_or_not code at =
         | inl inside ↦ elim (cases_lt at jumps.0) [
           | inl ahead ↦ inl (jump_ahead code at jumps.0 jumps.1 inside ahead)
           | inr back ↦ elim (loop_there (slice_get code jumps.0)) [
-            | inl loop ↦ inl (λ to j. subst (λ t. (t < length code) × ((at < t) ⊎ ((f : EachLoop) × IsLoop code t f))) (one_target code at jumps.0 to jumps.1 j) (inside, inr loop))
+            | inl loop ↦ inl (λ to j. subst (λ t. (t < length code) × ((at < t) ⊎ ((f : EachLoop) × IsLoop code t f)))
+                (one_target code at jumps.0 to jumps.1 j) (inside, inr loop))
             | inr none ↦ inr (λ right. elim ((right jumps.0 jumps.1).1) [ inl l ↦ omega arith | inr loop ↦ none loop.0 loop.1 ])
           ]
         ]
@@ -258,7 +269,8 @@ late_more code at now found is e before from l late =
       | inr past ↦ unlike found at e (late_seen code at now found is (subst (λ k. JumpsLate code k at) (omega arith) late))
     ]
 
-pub never : (code : List Instr) (at end : ℕ) → length code ≤ end → ((from : ℕ) → from < end → JumpsLate code from at → ⊥) → IsTrue false ↔ ((from : ℕ) × JumpsLate code from at)
+pub never : (code : List Instr) (at end : ℕ) → length code ≤ end → ((from : ℕ) → from < end → JumpsLate code from at → ⊥)
+    → IsTrue false ↔ ((from : ℕ) × JumpsLate code from at)
 never code at end all before = (
   (λ h. absurd (false_true h)),
   (λ h. let l : h.0 < length code = slice_get_within code h.0 h.1.0.0 h.1.0.1 in absurd (before h.0 (omega arith) h.1)),
@@ -268,7 +280,8 @@ pub late_found : (code : List Instr) (at now : ℕ) (found : Option ℕ) → Mat
     → option_eq eqb found (Some at) ≡ true → IsTrue true ↔ ((from : ℕ) × JumpsLate code from at)
 late_found code at now found is e = ((λ h. (now, late_at code at now found is (alike found at e))), (λ h. refl))
 
-pub well_unless_late : (code : List Instr) (at : ℕ) (late : Bool) → JumpsOut code at → (IsTrue late ↔ ((from : ℕ) × JumpsLate code from at)) → IsTrue (not late) ↔ JumpsWell code at
+pub well_unless_late : (code : List Instr) (at : ℕ) (late : Bool) → JumpsOut code at → (IsTrue late ↔ ((from : ℕ) × JumpsLate code from at))
+    → IsTrue (not late) ↔ JumpsWell code at
 well_unless_late code at true out told = (
   (λ h. absurd (false_true h)),
   (λ well. let h = told.0 refl in absurd (never_late code h.0 at well h.1)),

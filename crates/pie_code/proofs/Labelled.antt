@@ -19,7 +19,8 @@ label_is code label labels at height (step {at = from} {height = low} {to = to} 
     ap (after i) (label_is code label labels from low way) ∙ sym (labels.handed_on from to i is leads)
 
 -- where a way comes to each instruction, heights are right
-pub labelled_fit : (code : List Instr) (label : ℕ → ℕ) → AreLabels code label → ((at : ℕ) → at < length code → Reaches code at (label at)) → (at : ℕ) → HeightsFit code at
+pub labelled_fit : (code : List Instr) (label : ℕ → ℕ) → AreLabels code label → ((at : ℕ) → at < length code → Reaches code at (label at)) → (at : ℕ)
+    → HeightsFit code at
 labelled_fit code label labels reached at = record {
   one = λ l m n way other. label_is code label labels at m way ∙ sym (label_is code label labels at n other);
   reached = λ i n is way. subst (Fits i) (sym (label_is code label labels at n way)) (labels.fits at i is);

@@ -4,7 +4,8 @@ use Rattle.std.proofs.lemmas.Bool.{cases_lt}
 use Rattle.pie_code.specs.declared.instr.Instr.{Instr}
 use Rattle.pie_code.specs.Searches.{IsLow, AreLows}
 
-pub low_more : (code : List Instr) (lows : List ℕ) (at : ℕ) → IsLow code lows at → ((p : ℕ) → p < at → IsLow code lows p) → (p : ℕ) → p < at + 1 → IsLow code lows p
+pub low_more : (code : List Instr) (lows : List ℕ) (at : ℕ) → IsLow code lows at → ((p : ℕ) → p < at → IsLow code lows p) → (p : ℕ) → p < at + 1
+    → IsLow code lows p
 low_more code lows at low before p l =
     elim (cases_lt p at) [
       | inl earlier ↦ before p earlier

@@ -1,5 +1,6 @@
 -- A place is met with a height: what the tables tell afterwards.
-use Rattle.std.proofs.Common.{◌≡◌, ◌≢◌, ℕ, zero, suc, ◌<◌, ◌≤◌, ◌⊎◌, inl, inr, min, Bool, true, false, not, cond, List, [], ◌∷◌, ◌++◌, length, set, Option, Some, None, slice_get, refl, sym, ap, ◌∙◌, subst, arith}
+use Rattle.std.proofs.Common.{◌≡◌, ◌≢◌, ℕ, zero, suc, ◌<◌, ◌≤◌, ◌⊎◌, inl, inr, min, Bool, true, false, not, cond, List, [], ◌∷◌, ◌++◌, length, set, Option}
+use Rattle.std.proofs.Common.{Some, None, slice_get, refl, sym, ap, ◌∙◌, subst, arith}
 use Rattle.std.specs.declared.cmp.Ordering.{Ordering}
 use Rattle.std.specs.declared.cmp.Ordering.TheVariants.{Less, Equal, Greater}
 use Rattle.std.specs.Ordering.{nat_cmp, is_eq}
@@ -61,7 +62,8 @@ pair_parts : (a b x y : ℕ) → ◌≡◌ {A = ℕ × ℕ} (a, b) (x, y) → (a
 pair_parts a b x y e = (ap (λ (p : ℕ × ℕ). p.0) e, ap (λ (p : ℕ × ℕ). p.1) e)
 
 -- nothing changes
-pub meets_nothing : (old : Search) (Led : ℕ → Type 0) (height : ℕ) → IsIndexed old → ((to : ℕ) → Led to → to < length old.first.items → Met old to height) → Meets Led height old old
+pub meets_nothing : (old : Search) (Led : ℕ → Type 0) (height : ℕ) → IsIndexed old → ((to : ℕ) → Led to → to < length old.first.items → Met old to height)
+    → Meets Led height old old
 meets_nothing old Led height indexed met = record {
   grows = record { sized = refl; kept = λ i pair e. e; nearer = omega arith; limited = refl };
   indexed = indexed;
@@ -72,14 +74,19 @@ meets_nothing old Led height indexed met = record {
 
 -- a pair is put behind those that were met
 pushed_met : (old new : Search) (place height : ℕ) → new.met.items ≡ old.met.items ++ (place, height) ∷ [] → Met new place height
-pushed_met old new place height e = (length old.met.items, subst (λ (ps : List (ℕ × ℕ)). slice_get ps (length old.met.items) ≡ Some (place, height)) (sym e) (get_pushed old.met.items (place, height)))
+pushed_met old new place height e = (
+  length old.met.items,
+  subst (λ (ps : List (ℕ × ℕ)). slice_get ps (length old.met.items) ≡ Some (place, height)) (sym e)
+      (get_pushed old.met.items (place, height)),
+)
 
 pushed_kept : (old new : Search) (place height : ℕ) → new.met.items ≡ old.met.items ++ (place, height) ∷ []
     → (i : ℕ) (pair : ℕ × ℕ) → slice_get old.met.items i ≡ Some pair → slice_get new.met.items i ≡ Some pair
 pushed_kept old new place height e i pair is =
     subst (λ (ps : List (ℕ × ℕ)). slice_get ps i ≡ Some pair) (sym e) (get_pushed_old old.met.items ((place, height) ∷ []) i pair is)
 
-pushed_cases : (old new : Search) (place height p h : ℕ) → new.met.items ≡ old.met.items ++ (place, height) ∷ [] → Met new p h → Met old p h ⊎ ((p ≡ place) × (h ≡ height))
+pushed_cases : (old new : Search) (place height p h : ℕ) → new.met.items ≡ old.met.items ++ (place, height) ∷ [] → Met new p h → Met old p h
+    ⊎ ((p ≡ place) × (h ≡ height))
 pushed_cases old new place height p h e (i, is) =
     elim (get_pushed_cases old.met.items (place, height) (p, h) i (subst (λ (ps : List (ℕ × ℕ)). slice_get ps i ≡ Some (p, h)) e is)) [
       | inl there ↦ inl (i, there)
@@ -88,7 +95,8 @@ pushed_cases old new place height p h e (i, is) =
 
 -- a place is met for the first time
 pub meets_first : (old new : Search) (place height : ℕ) → IsIndexed old → slice_get old.first.items place ≡ Some None
-    → new.first.items ≡ set old.first.items place (Some height) → new.more ≡ old.more → new.met.items ≡ old.met.items ++ (place, height) ∷ [] → new.bad ≡ old.bad → new.limit ≡ old.limit
+    → new.first.items ≡ set old.first.items place (Some height) → new.more ≡ old.more → new.met.items ≡ old.met.items ++ (place, height) ∷ []
+    → new.bad ≡ old.bad → new.limit ≡ old.limit
     → Meets (λ to. to ≡ place) height old new
 meets_first old new place height indexed unmet first more met bad limit = record {
   grows = grows;
@@ -116,7 +124,8 @@ meets_first old new place height indexed unmet first more met bad limit = record
     now = subst (λ (fs : List (Option ℕ)). slice_get fs place ≡ Some (Some height)) (sym first) (get_set old.first.items place (Some height) inside)
 
     other : (p : ℕ) → p ≢ place → slice_get new.first.items p ≡ slice_get old.first.items p
-    other p n = subst (λ (fs : List (Option ℕ)). slice_get fs p ≡ slice_get old.first.items p) (sym first) (get_set_other old.first.items place p (Some height) n)
+    other p n = subst (λ (fs : List (Option ℕ)). slice_get fs p ≡ slice_get old.first.items p) (sym first)
+        (get_set_other old.first.items place p (Some height) n)
 
     first_tells : (p h : ℕ) → slice_get new.first.items p ≡ Some (Some h) → Met new p h
     first_tells p h e = elim (eqb_tells p place) [
@@ -135,12 +144,14 @@ meets_first old new place height indexed unmet first more met bad limit = record
       | inr same ↦ (height, subst (λ (k : ℕ). slice_get new.first.items k ≡ Some (Some height)) (sym same.0) now, inl same.1)
       | inl there ↦
           let before = indexed.one p h there in
-          let apart : p ≢ place = λ e. none-some before.0 (same_Some None (Some before.0) (sym unmet ∙ subst (λ (k : ℕ). slice_get old.first.items k ≡ Some (Some before.0)) e before.1)) in
+          let apart : p ≢ place = λ e. none-some before.0 (same_Some None (Some before.0)
+          (sym unmet ∙ subst (λ (k : ℕ). slice_get old.first.items k ≡ Some (Some before.0)) e before.1)) in
           (before.0, other p apart ∙ before.1, elim before.2 [ inl same ↦ inl same | inr past ↦ inr (omega (arith, bad, past)) ])
     ]
 
 -- a place is met with another height than at first
-pub meets_again : (old new : Search) (place height : ℕ) → IsIndexed old → ((other : ℕ) × (slice_get old.first.items place ≡ Some (Some other)) × (other ≢ height))
+pub meets_again : (old new : Search) (place height : ℕ) → IsIndexed old
+    → ((other : ℕ) × (slice_get old.first.items place ≡ Some (Some other)) × (other ≢ height))
     → new.first ≡ old.first → new.bad ≡ min old.bad place
     → ((q : ℕ × ℕ) → contains pair_cmp new.more q ≡ cond (is_eq (pair_cmp (place, height) q)) true (contains pair_cmp old.more q))
     → (new.met.items ≡ old.met.items ++ (place, height) ∷ []) ⊎ ((new.met.items ≡ old.met.items) × (contains pair_cmp old.more (place, height) ≡ true))
@@ -187,7 +198,8 @@ meets_again old new place height indexed otherwise first bad more met limit = re
     first_tells p h e = met_on old new p h grows (indexed.first p h (subst (λ f. slice_get f.items p ≡ Some (Some h)) first e))
 
     by_test : (p h : ℕ) (b : Bool) → is_eq (pair_cmp (place, height) (p, h)) ≡ b → cond b true (contains pair_cmp old.more (p, h)) ≡ true → Met new p h
-    by_test p h true e is = let same = pair_parts place height p h (same_pair (place, height) (p, h) e) in subst (λ (k : ℕ). Met new k h) same.0 (subst (λ (k : ℕ). Met new place k) same.1 here)
+    by_test p h true e is = let same = pair_parts place height p h (same_pair (place, height) (p, h) e) in
+        subst (λ (k : ℕ). Met new k h) same.0 (subst (λ (k : ℕ). Met new place k) same.1 here)
     by_test p h false e is = met_on old new p h grows (indexed.more p h is)
 
     more_tells : (p h : ℕ) → contains pair_cmp new.more (p, h) ≡ true → Met new p h
@@ -197,7 +209,8 @@ meets_again old new place height indexed otherwise first bad more met limit = re
     one p h m = elim (cases p h m) [
       | inr same ↦ (
         otherwise.0,
-        subst (λ f. slice_get f.items p ≡ Some (Some otherwise.0)) (sym first) (subst (λ (k : ℕ). slice_get old.first.items k ≡ Some (Some otherwise.0)) (sym same.0) otherwise.1),
+        subst (λ f. slice_get f.items p ≡ Some (Some otherwise.0)) (sym first)
+            (subst (λ (k : ℕ). slice_get old.first.items k ≡ Some (Some otherwise.0)) (sym same.0) otherwise.1),
         inr (omega (arith, bad, same.0)),
       )
       | inl there ↦

@@ -1,5 +1,6 @@
 -- What one instruction changes: the place, the height of the stack, and the ticks.
-use Rattle.std.proofs.Common.{◌≡◌, inl, inr, ℕ, ◌+◌, ◌≤◌, nat_lt, nat_le, Bool, true, false, cond, List, [], ◌∷◌, length, take, drop, reverse, slice_get, slice_set, Option, Some, None, pos, refl, sym, ap, ◌∙◌, subst, length-drop, arith}
+use Rattle.std.proofs.Common.{◌≡◌, inl, inr, ℕ, ◌+◌, ◌≤◌, nat_lt, nat_le, Bool, true, false, cond, List, [], ◌∷◌, length, take, drop, reverse, slice_get}
+use Rattle.std.proofs.Common.{slice_set, Option, Some, None, pos, refl, sym, ap, ◌∙◌, subst, length-drop, arith}
 use Rattle.std.proofs.lemmas.Bool.{ltb-true}
 use borrow.Author.Tests.{leb-true}
 use Rattle.pie_base.specs.declared.fault.FaultKind.TheVariants.{Budget}
@@ -19,7 +20,8 @@ use Rattle.pie_code.specs.declared.instr.Instr.TheVariants.{TuplePush, Proj, Cal
 use Rattle.pie_code.specs.Effects.{pops, pushes}
 use Rattle.pie_code.specs.Ways.{goes_on, Leads}
 use Rattle.pie_code.specs.Running as run
-use Rattle.pie_code.specs.Running.{Config, Turn, goes, ends, misfit, onward, pop, pop_from, pop_two, pop_many, settle, act_on, act, branch, each_turn, each_from, item_found, number_in, next_item, store, push_text, push_found, require_named, finish}
+use Rattle.pie_code.specs.Running.{Config, Turn, goes, ends, misfit, onward, pop, pop_from, pop_two, pop_many, settle, act_on, act, branch, each_turn}
+use Rattle.pie_code.specs.Running.{each_from, item_found, number_in, next_item, store, push_text, push_found, require_named, finish}
 use Rattle.pie_code.specs.Standing.{Moves}
 use Rattle.pie_code.proofs.Meeting.{length_set}
 use Rattle.pie_code.proofs.Ticking.{Keeps, keeps_answer, keeps_observe, keeps_write, keeps_require, fail_ends}
@@ -37,7 +39,8 @@ pop_from_goes : (stack : List Tree) (c d : Config) (go : Tree → Config → Tur
 pop_from_goes [] c d go e = absurd (ends_goes _ c.state d e)
 pop_from_goes (t ∷ ts) c d go e = (t, ts, refl, e)
 
-pop_goes : (c d : Config) (go : Tree → Config → Turn) → pop c go ≡ goes d → (t : Tree) × (ts : List Tree) × (c.stack ≡ t ∷ ts) × (go t (record c { stack = ts }) ≡ goes d)
+pop_goes : (c d : Config) (go : Tree → Config → Turn) → pop c go ≡ goes d → (t : Tree) × (ts : List Tree) × (c.stack ≡ t ∷ ts)
+    × (go t (record c { stack = ts }) ≡ goes d)
 pop_goes c d go e = pop_from_goes c.stack c d go e
 
 pop_two_goes : (c d : Config) (go : Tree → Tree → Config → Turn) → pop_two c go ≡ goes d
@@ -65,7 +68,8 @@ settle_goes (fails k, s) c d e = absurd (ends_goes (fails k) s d e)
 settle_goes (wants q, s) c d e = absurd (ends_goes (wants q) s d e)
 
 -- an instruction that takes so many values and puts one there
-puts : (i : Instr) (c d : Config) (rest : List Tree) (t : Tree) (s : State) → goes_on i ≡ true → (i ≡ Tick → ⊥) → pushes i ≡ 1 → length c.stack ≡ length rest + pops i
+puts : (i : Instr) (c d : Config) (rest : List Tree) (t : Tree) (s : State) → goes_on i ≡ true → (i ≡ Tick → ⊥) → pushes i ≡ 1
+    → length c.stack ≡ length rest + pops i
     → d ≡ record { at = c.at + 1; stack = t ∷ rest; slots = c.slots; state = s } → s.ticks ≡ c.state.ticks → Moves i c d
 puts i c d rest t s on no_tick one size is ticks = record {
   leads = inl (on, ap (λ (x : Config). x.at) is);
@@ -75,14 +79,16 @@ puts i c d rest t s on no_tick one size is ticks = record {
   ticks = inr (no_tick, ap (λ (x : Config). x.state.ticks) is ∙ ticks);
 }
 
-acts : (i : Instr) (c d : Config) (rest : List Tree) (m : Act Tree) → goes_on i ≡ true → (i ≡ Tick → ⊥) → pushes i ≡ 1 → length c.stack ≡ length rest + pops i → Keeps m
+acts : (i : Instr) (c d : Config) (rest : List Tree) (m : Act Tree) → goes_on i ≡ true → (i ≡ Tick → ⊥) → pushes i ≡ 1 → length c.stack ≡ length rest + pops i
+    → Keeps m
     → act_on m (record c { stack = rest }) ≡ goes d → Moves i c d
 acts i c d rest m on no_tick one size keeps e =
     let r = settle_goes (m c.state) (record c { stack = rest }) d e in
     puts i c d rest r.0 r.1 on no_tick one size r.3 (keeps c.state r.1 r.0 r.2)
 
 -- an instruction that takes so many values, puts none there, and goes to a place
-moves_to : (i : Instr) (c d : Config) (to : ℕ) (rest slots : List Tree) → Leads c.at i to → (i ≡ Tick → ⊥) → pushes i ≡ 0 → length c.stack ≡ length rest + pops i → length slots ≡ length c.slots
+moves_to : (i : Instr) (c d : Config) (to : ℕ) (rest slots : List Tree) → Leads c.at i to → (i ≡ Tick → ⊥) → pushes i ≡ 0
+    → length c.stack ≡ length rest + pops i → length slots ≡ length c.slots
     → d ≡ record { at = to; stack = rest; slots = slots; state = c.state } → Moves i c d
 moves_to i c d to rest slots leads no_tick none size same is = record {
   leads = subst (λ (n : ℕ). Leads c.at i n) (sym (ap (λ (x : Config). x.at) is)) leads;
@@ -128,12 +134,15 @@ store_moves n t ts c d is = by_test (nat_lt n (length c.slots))
     next = record { at = c.at + 1; stack = ts; slots = slice_set c.slots n t; state = c.state }
 
     by_test : (b : Bool) → cond b (goes next) (misfit (record c { stack = ts })) ≡ goes d → Moves (Store n) c d
-    by_test true e = moves_to (Store n) c d (c.at + 1) ts (slice_set c.slots n t) (inl (refl, refl)) (λ e. cc) refl (one_taken c t ts is) (length_set c.slots n t) (sym (same_goes next d e))
+    by_test true e = moves_to (Store n) c d (c.at + 1) ts (slice_set c.slots n t) (inl (refl, refl)) (λ e. cc) refl (one_taken c t ts is)
+        (length_set c.slots n t) (sym (same_goes next d e))
     by_test false e = absurd (ends_goes _ c.state d e)
 
 branch_moves : (b : ℕ) (t : Tree) (ts : List Tree) (c d : Config) → c.stack ≡ t ∷ ts → branch b t (record c { stack = ts }) ≡ goes d → Moves (JumpIfNot b) c d
-branch_moves b (TBool true) ts c d is e = moves_to (JumpIfNot b) c d (c.at + 1) ts c.slots (inl (refl, refl)) (λ e. cc) refl (one_taken c (TBool true) ts is) refl (sym (same_goes _ d e))
-branch_moves b (TBool false) ts c d is e = moves_to (JumpIfNot b) c d b ts c.slots (inr refl) (λ e. cc) refl (one_taken c (TBool false) ts is) refl (sym (same_goes _ d e))
+branch_moves b (TBool true) ts c d is e = moves_to (JumpIfNot b) c d (c.at + 1) ts c.slots (inl (refl, refl)) (λ e. cc) refl
+    (one_taken c (TBool true) ts is) refl (sym (same_goes _ d e))
+branch_moves b (TBool false) ts c d is e = moves_to (JumpIfNot b) c d b ts c.slots (inr refl) (λ e. cc) refl (one_taken c (TBool false) ts is) refl
+    (sym (same_goes _ d e))
 branch_moves b t ts c d is e = absurd (ends_goes _ c.state d e)
 
 item_moves : (l : EachLoop) (t : Tree) (n : ℕ) (c d : Config) → next_item l t n c ≡ goes d → Moves (Each l) c d
@@ -166,7 +175,8 @@ require_moves r None c d e = absurd (ends_goes _ c.state d e)
 require_moves r (Some f) c d e =
     let many = pop_many_goes r.count c d (λ ts d. act_on (require r.how f ts) d) e in
     let ts = reverse (take r.count c.stack) in
-    acts (Require r) c d (drop r.count c.stack) (require r.how f ts) refl (λ e. cc) refl (omega (arith, many.0, length-drop r.count c.stack)) (keeps_require r.how f ts) many.1
+    acts (Require r) c d (drop r.count c.stack) (require r.how f ts) refl (λ e. cc) refl (omega (arith, many.0, length-drop r.count c.stack))
+    (keeps_require r.how f ts) many.1
 
 -- what one instruction changes
 pub act_moves : (texts : List (List ℕ)) (i : Instr) (c d : Config) → act texts i c ≡ goes d → Moves i c d
@@ -199,7 +209,8 @@ act_moves texts (Proj n) c d e =
 act_moves texts (Call which) c d e =
     let many = pop_many_goes (arity_of which) c d (λ ts d. act_on (by_answer (answer_of which ts)) d) e in
     let ts = reverse (take (arity_of which) c.stack) in
-    acts (Call which) c d (drop (arity_of which) c.stack) (by_answer (answer_of which ts)) refl (λ e. cc) refl (omega (arith, many.0, length-drop (arity_of which) c.stack)) (keeps_answer (answer_of which ts)) many.1
+    acts (Call which) c d (drop (arity_of which) c.stack) (by_answer (answer_of which ts)) refl (λ e. cc) refl
+    (omega (arith, many.0, length-drop (arity_of which) c.stack)) (keeps_answer (answer_of which ts)) many.1
 act_moves texts (Observe o) c d e =
     let p = pop_goes c d (λ a d. act_on (observe o a) d) e in
     acts (Observe o) c d p.1 (observe o p.0) refl (λ e. cc) refl (one_taken c p.0 p.1 p.2) (keeps_observe o p.0) p.3

@@ -1,5 +1,6 @@
 -- Running of accepted code finds an instruction with its operands wherever it comes.
-use Rattle.std.proofs.Common.{◌≡◌, inl, inr, ℕ, zero, suc, ◌+◌, ◌-◌, ◌<◌, true, false, List, length, length-append, get_or, slice_get, Option, Some, refl, sym, ap, ◌∙◌, subst, arith}
+use Rattle.std.proofs.Common.{◌≡◌, inl, inr, ℕ, zero, suc, ◌+◌, ◌-◌, ◌<◌, true, false, List, length, length-append, get_or, slice_get, Option, Some, refl, sym}
+use Rattle.std.proofs.Common.{ap, ◌∙◌, subst, arith}
 use Rattle.std.proofs.lemmas.Bool.{cases_lt}
 use Rattle.std.proofs.lemmas.Option.{slice_get_within, slice_get-get_or, same_Some}
 use Rattle.pie_value.specs.Tree.{Tree}
@@ -35,7 +36,8 @@ pub step_moves : (code : Code) (i : Instr) (c d : Config) → slice_get code.ins
 step_moves code i c d there e = act_moves code.texts.items i c d (subst (λ (found : Option Instr). act_found code.texts.items found c ≡ goes d) there e)
 
 -- behind an instruction that goes on there is another
-next_inside : (code : Code) (at : ℕ) (i : Instr) → IsAccepted code → slice_get code.instrs.items at ≡ Some i → goes_on i ≡ true → at + 1 < length code.instrs.items
+next_inside : (code : Code) (at : ℕ) (i : Instr) → IsAccepted code → slice_get code.instrs.items at ≡ Some i → goes_on i ≡ true
+    → at + 1 < length code.instrs.items
 next_inside code at i accepted there on =
     elim (cases_lt (at + 1) (length code.instrs.items)) [
       | inl l ↦ l
@@ -48,7 +50,8 @@ next_inside code at i accepted there on =
           absurd (cc)
     ]
 
-pub leads_inside : (code : Code) (at to : ℕ) (i : Instr) → IsAccepted code → slice_get code.instrs.items at ≡ Some i → Leads at i to → to < length code.instrs.items
+pub leads_inside : (code : Code) (at to : ℕ) (i : Instr) → IsAccepted code → slice_get code.instrs.items at ≡ Some i → Leads at i to
+    → to < length code.instrs.items
 leads_inside code at to i accepted there (inl next) = let l = next_inside code at i accepted there next.0 in omega (arith, next.1)
 leads_inside code at to i accepted there (inr jump) = (accepted.sound at).jumps.inside to (i, there, jump)
 
@@ -67,9 +70,11 @@ length_units : (n : ℕ) → length (units n) ≡ n
 length_units zero = refl
 length_units (suc n) = ap suc (length_units n)
 
-pub start_stands : (code : Code) (args : List Tree) (answers : List Answer) → IsAccepted code → length args ≡ code.params → Stands code (start code args answers)
+pub start_stands : (code : Code) (args : List Tree) (answers : List Answer) → IsAccepted code → length args ≡ code.params
+    → Stands code (start code args answers)
 start_stands code args answers accepted enough =
-    let last : length code.instrs.items - 1 < length code.instrs.items = slice_get_within code.instrs.items (length code.instrs.items - 1) accepted.ends.0 accepted.ends.1 in
+    let last : length code.instrs.items - 1 < length code.instrs.items = slice_get_within code.instrs.items
+    (length code.instrs.items - 1) accepted.ends.0 accepted.ends.1 in
     let fits = (accepted.sound 0).slots.params refl in
     record {
       reached = begin;
@@ -79,9 +84,11 @@ start_stands code args answers accepted enough =
 
 pub steps_stand : (code : Code) (b c : Config) → IsAccepted code → Stands code b → Steps code b c → Stands code c
 steps_stand code b c accepted stands (none {c = x}) = stands
-steps_stand code b c accepted stands (one_more {b = x} {c = mid} {d = y} before e) = step_stands code mid c accepted (steps_stand code b mid accepted stands before) e
+steps_stand code b c accepted stands (one_more {b = x} {c = mid} {d = y} before e) = step_stands code mid c accepted
+    (steps_stand code b mid accepted stands before) e
 
 -- wherever running comes from the start, an instruction is there with its operands
-pub safe : (code : Code) (args : List Tree) (answers : List Answer) (c : Config) → IsAccepted code → length args ≡ code.params → Steps code (start code args answers) c → IsReady code c
+pub safe : (code : Code) (args : List Tree) (answers : List Answer) (c : Config) → IsAccepted code → length args ≡ code.params
+    → Steps code (start code args answers) c → IsReady code c
 safe code args answers c accepted enough steps =
     ready code c accepted (steps_stand code (start code args answers) c accepted (start_stands code args answers accepted enough) steps)

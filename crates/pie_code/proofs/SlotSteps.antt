@@ -26,5 +26,6 @@ pub slots_all : (code : Code) (end : ℕ) → length code.instrs.items ≤ end �
 slots_all code end past enough before at =
     elim (cases_lt at end) [
       | inl earlier ↦ before at earlier
-      | inr out ↦ slots_at code at (λ e. enough) (λ i is. let l : at < length code.instrs.items = slice_get_within code.instrs.items at i is in absurd (omega arith))
+      | inr out ↦ slots_at code at (λ e. enough) (λ i is. let l : at < length code.instrs.items = slice_get_within code.instrs.items at i is in
+          absurd (omega arith))
     ]

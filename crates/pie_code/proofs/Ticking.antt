@@ -64,7 +64,8 @@ keeps_bytes p bs s t v = outer (is_out p)
     middle true e = absurd (fails_done _ v s t e)
     middle false e = inner (holds s.seen p) e
 
-    outer : (b : Bool) → cond b (cond (holds s.wrote p) (fails WroteTwice, s) (cond (holds s.seen p) (fails ReadThenWrite, s) (asked (Write p bs) s))) (fails BadWrite, s) ≡ (done v, t) → t.ticks ≡ s.ticks
+    outer : (b : Bool) → cond b (cond (holds s.wrote p) (fails WroteTwice, s) (cond (holds s.seen p) (fails ReadThenWrite, s) (asked (Write p bs) s)))
+        (fails BadWrite, s) ≡ (done v, t) → t.ticks ≡ s.ticks
     outer true e = middle (holds s.wrote p) e
     outer false e = absurd (fails_done _ v s t e)
 
@@ -74,10 +75,11 @@ keeps_write (TPath p) (TBytes bs) = keeps_bytes p bs
 keeps_write a b = keeps_fault Unknown
 
 pub keeps_require : (how : How) (f : List ℕ) (ts : List Tree) → Keeps (require how f ts)
-keeps_require how f ts = elim (is_small_task (record { func = f; args = ts })) as (λ b. Keeps (cond b (asked (Require (record { func = f; args = ts }) how)) (fault Big))) [
-  | true ↦ keeps_asked (Require (record { func = f; args = ts }) how)
-  | false ↦ keeps_fault Big
-]
+keeps_require how f ts = elim (is_small_task (record { func = f; args = ts })) as
+    (λ b. Keeps (cond b (asked (Require (record { func = f; args = ts }) how)) (fault Big))) [
+      | true ↦ keeps_asked (Require (record { func = f; args = ts }) how)
+      | false ↦ keeps_fault Big
+    ]
 
 -- a task that says that it fails comes to no value
 pub fail_ends : (a v : Tree) (s t : State) → fail a s ≡ (done v, t) → ⊥

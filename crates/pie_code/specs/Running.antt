@@ -1,6 +1,7 @@
 -- What code does, one instruction after another, fed with answers. Each case is total: an operand that is missing or of another kind,
 -- a bad slot and a place out of the code are the fault Unknown.
-use Rattle.std.specs.Prelude.{ℕ, zero, suc, ◌+◌, ◌-◌, true, false, cond, nat_lt, nat_le, List, [], ◌∷◌, ◌++◌, length, take, drop, reverse, slice_get, slice_set, Option, Some, None, pos}
+use Rattle.std.specs.Prelude.{ℕ, zero, suc, ◌+◌, ◌-◌, true, false, cond, nat_lt, nat_le, List, [], ◌∷◌, ◌++◌, length, take, drop, reverse, slice_get, slice_set}
+use Rattle.std.specs.Prelude.{Option, Some, None, pos}
 use Rattle.pie_base.specs.declared.fault.FaultKind.TheVariants.{Budget, Unknown}
 use Rattle.pie_value.specs.declared.event.Answer.{Answer}
 use Rattle.pie_value.specs.Tree.{Tree, TUnit, TBool, TInt, TText, TList, TTuple, TNull, Nil, list_of}

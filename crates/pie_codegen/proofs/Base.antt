@@ -1,5 +1,6 @@
 -- What the theorem on compiled code stands on: instructions at places, and what comes after a part.
-use Rattle.std.proofs.Common.{◌≡◌, ℕ, zero, suc, ◌+◌, ◌-◌, ◌<◌, ◌≤◌, Bool, true, false, cond, ◌==◌, nat_lt, nat_le, List, [], ◌∷◌, ◌++◌, length, take, drop, reverse, slice_get, slice_set, Option, Some, None, Result, Ok, Err, refl, sym, subst, ap, ◌∙◌, arith, append_assoc, rules}
+use Rattle.std.proofs.Common.{◌≡◌, ℕ, zero, suc, ◌+◌, ◌-◌, ◌<◌, ◌≤◌, Bool, true, false, cond, ◌==◌, nat_lt, nat_le, List, [], ◌∷◌, ◌++◌, length, take, drop}
+use Rattle.std.proofs.Common.{reverse, slice_get, slice_set, Option, Some, None, Result, Ok, Err, refl, sym, subst, ap, ◌∙◌, arith, append_assoc, rules}
 use lib.Pointwise.{pointwise}
 use Rattle.pie_base.specs.declared.fault.FaultKind.TheVariants.{Unknown, Budget}
 use Rattle.pie_value.specs.Tree.{TBool}
@@ -97,7 +98,8 @@ module _ (code : Code) (ev : Outcome Val × State) where
   by_turn c (ends o s) e h = (1, ap (λ t. run_on t (run code 0)) e ∙ ap (λ x. Some x) h)
 
   -- one instruction
-  pub one : (i : Instr) (a : ℕ) (k l : List Val) (s : State) → slice_get code.instrs.items a ≡ Some i → Leads (act code.texts.items i (at a k l s)) → Comes a k l s
+  pub one : (i : Instr) (a : ℕ) (k l : List Val) (s : State) → slice_get code.instrs.items a ≡ Some i → Leads (act code.texts.items i (at a k l s))
+      → Comes a k l s
   one i a k l s e h = by_turn (at a k l s) (act code.texts.items i (at a k l s)) (ap (λ o. act_found code.texts.items o (at a k l s)) e) h
 
   -- what an operator came to
@@ -119,7 +121,8 @@ module _ (code : Code) (ev : Outcome Val × State) where
   tick_run m K a k l s e h f = one Tick a k l s e (tick_by (nat_lt s.ticks 1000000) m K a k l s f h)
 
   -- a slot that isn't there
-  pub no_slot : (n : ℕ) (a : ℕ) (k l : List Val) (s : State) → slice_get code.instrs.items a ≡ Some (Load n) → length l ≤ n → (fails Unknown, s) ≡ ev → Comes a k l s
+  pub no_slot : (n : ℕ) (a : ℕ) (k l : List Val) (s : State) → slice_get code.instrs.items a ≡ Some (Load n) → length l ≤ n → (fails Unknown, s) ≡ ev
+      → Comes a k l s
   no_slot n a k l s e h x = one (Load n) a k l s e (subst (λ o. Leads (push_found o (at a k l s))) (sym (none_at l n h)) x)
 
   -- a name

@@ -1,5 +1,6 @@
 -- One turn of each loop over tokens, and ranges that are cut at the end of a text.
-use Rattle.std.proofs.Common.{◌≡◌, ℕ, zero, suc, ◌+◌, ◌-◌, ◌<◌, ◌≤◌, Bool, true, false, cond, List, [], ◌∷◌, ◌++◌, length, get_or, drop, take, ap, sym, ◌∙◌, refl, append_assoc, arith}
+use Rattle.std.proofs.Common.{◌≡◌, ℕ, zero, suc, ◌+◌, ◌-◌, ◌<◌, ◌≤◌, Bool, true, false, cond, List, [], ◌∷◌, ◌++◌, length, get_or, drop, take, ap, sym, ◌∙◌}
+use Rattle.std.proofs.Common.{refl, append_assoc, arith}
 use Rattle.std.specs.Prelude.{min, slice_range}
 use Rattle.std.proofs.lemmas.List.{drop_more, take_more, append-nil, length-drop, take_min}
 use Rattle.std.proofs.Math.Seq.{drop-length}

@@ -1,5 +1,6 @@
 -- The forms of code whose parts are values already: literals, operators, projections, calls and effects, and a loop over a list.
-use Rattle.std.proofs.Common.{◌≡◌, ℕ, zero, suc, ◌+◌, ◌-◌, ◌<◌, ◌≤◌, Bool, true, false, cond, ◌==◌, nat_lt, nat_le, List, [], ◌∷◌, ◌++◌, length, reverse, slice_get, slice_set, Option, Some, None, Result, Ok, Err, refl, sym, subst, ap, ◌∙◌, arith, append_assoc, ℤ, pos, negsuc}
+use Rattle.std.proofs.Common.{◌≡◌, ℕ, zero, suc, ◌+◌, ◌-◌, ◌<◌, ◌≤◌, Bool, true, false, cond, ◌==◌, nat_lt, nat_le, List, [], ◌∷◌, ◌++◌, length, reverse}
+use Rattle.std.proofs.Common.{slice_get, slice_set, Option, Some, None, Result, Ok, Err, refl, sym, subst, ap, ◌∙◌, arith, append_assoc, ℤ, pos, negsuc}
 use Rattle.std.proofs.lemmas.List.{length-append, length-reverse}
 use Rattle.std.proofs.lemmas.Bool.{lt-ltb, eqb-true}
 use Rattle.pie_base.specs.declared.fault.FaultKind.TheVariants.{Unknown}
@@ -20,7 +21,8 @@ use Rattle.pie_code.specs.declared.instr.Each.{Each as EachLoop}
 use Rattle.pie_code.specs.declared.instr.Instr.{Instr}
 use Rattle.pie_code.specs.declared.instr.Instr.TheVariants.{Push, PushText, Load, Binary, Proj, Call, Observe, Require, Each, ListPush, Jump}
 use Rattle.pie_code.specs.declared.code.Code.{Code}
-use Rattle.pie_code.specs.Running.{Config, Turn, act, act_on, settle, push_text, require_named, number_in, item_found, next_item, each_turn, each_from, onward, misfit as misfit_turn}
+use Rattle.pie_code.specs.Running.{Config, Turn, act, act_on, settle, push_text, require_named, number_in, item_found, next_item, each_turn, each_from, onward}
+use Rattle.pie_code.specs.Running.{misfit as misfit_turn}
 use Rattle.pie_parser.specs.declared.tree.Literal.{Literal}
 use Rattle.pie_parser.specs.declared.tree.Literal.TheVariants as literals
 use Rattle.pie_parser.specs.declared.tree.Index.{Index}
@@ -28,7 +30,8 @@ use Rattle.pie_parser.specs.declared.tree.CallKind.{CallKind}
 use Rattle.pie_parser.specs.declared.tree.CallKind.TheVariants as calls
 use Rattle.pie_parser.specs.declared.tree.EffectKind.{EffectKind}
 use Rattle.pie_parser.specs.declared.tree.EffectKind.TheVariants as effects
-use Rattle.pie_meaning.specs.Words.{literal_value, item_numbered, projected, over, Callee, ABuiltin, ReadBytes, NoCallee, callee_of, callee_arity, callee_answer, bytes_read, called_plainly, called, effect_of}
+use Rattle.pie_meaning.specs.Words.{literal_value, item_numbered, projected, over, Callee, ABuiltin, ReadBytes, NoCallee, callee_of, callee_arity}
+use Rattle.pie_meaning.specs.Words.{callee_answer, bytes_read, called_plainly, called, effect_of}
 use Rattle.pie_meaning.specs.Meaning.{turns}
 use Rattle.pie_codegen.specs.declared.spot.Spot.{Spot}
 use Rattle.pie_codegen.specs.Spots.{next, after_literal, after_indices, after_call}
@@ -47,7 +50,8 @@ module _ (code : Code) (ev : Outcome Val × State) where
   landed a k low junk room e o h = mono code ev (Lands a k low room) (λ v s. Comes code ev a (v ∷ k) (low ++ junk) s) (λ v s x. x junk e) o h
 
   -- an instruction that no operand fits
-  pub misfit_run : (a : ℕ) (k l : List Val) (s : State) → slice_get code.instrs.items a ≡ Some misfit → length l ≤ 65535 → (fails Unknown, s) ≡ ev → Comes code ev a k l s
+  pub misfit_run : (a : ℕ) (k l : List Val) (s : State) → slice_get code.instrs.items a ≡ Some misfit → length l ≤ 65535 → (fails Unknown, s) ≡ ev
+      → Comes code ev a k l s
   misfit_run a k l s e h x = no_slot code ev 65535 a k l s e h x
 
   pub literal_run : (x : Literal) (s : Spot) (k l : List Val) (t : State) → slice_get code.instrs.items (s.at + 1) ≡ Some (literal_code x s)
@@ -75,7 +79,8 @@ module _ (code : Code) (ev : Outcome Val × State) where
       (λ y u z. indices_run ns y (next s) k l u g.1 h z) (by_answer (item_numbered n.number v) t) x)
 
   -- a call by a plain name, whose arguments stand on the stack, the last one on top
-  callee_run : (c : Callee) (vs : List Val) (a : ℕ) (k l : List Val) (t : State) → slice_get code.instrs.items a ≡ Some (callee_code c) → length vs ≡ callee_arity c
+  callee_run : (c : Callee) (vs : List Val) (a : ℕ) (k l : List Val) (t : State) → slice_get code.instrs.items a ≡ Some (callee_code c)
+      → length vs ≡ callee_arity c
       → length l ≤ 65535 → Then code ev (λ x u. Comes code ev (a + 1) (x ∷ k) l u) (callee_answer c (reverse vs) t) → Comes code ev a (vs ++ k) l t
   callee_run (ABuiltin which) vs a k l t e n h x =
       one code ev (Call which) a (vs ++ k) l t e
@@ -87,18 +92,21 @@ module _ (code : Code) (ev : Outcome Val × State) where
   callee_run ReadBytes (v ∷ w ∷ vs) a k l t e n h x = absurd (omega arith)
   callee_run NoCallee vs a k l t e n h x = misfit_run a (vs ++ k) l t e h x
 
-  plain_run : (b : Bool) (c : Callee) (vs : List Val) (a : ℕ) (k l : List Val) (t : State) → slice_get code.instrs.items a ≡ Some (cond b (callee_code c) misfit)
+  plain_run : (b : Bool) (c : Callee) (vs : List Val) (a : ℕ) (k l : List Val) (t : State)
+      → slice_get code.instrs.items a ≡ Some (cond b (callee_code c) misfit)
       → (b ≡ true → length vs ≡ callee_arity c) → length l ≤ 65535
       → Then code ev (λ x u. Comes code ev (a + 1) (x ∷ k) l u) (cond b (callee_answer c (reverse vs)) (fault Unknown) t) → Comes code ev a (vs ++ k) l t
   plain_run true c vs a k l t e n h x = callee_run c vs a k l t e (n refl) h x
   plain_run false c vs a k l t e n h x = misfit_run a (vs ++ k) l t e h x
 
-  pub call_run : (c : CallKind) (n : List ℕ) (i : ℕ) (vs : List Val) (s : Spot) (k l : List Val) (t : State) → slice_get code.instrs.items s.at ≡ Some (call_code c n i s)
+  pub call_run : (c : CallKind) (n : List ℕ) (i : ℕ) (vs : List Val) (s : Spot) (k l : List Val) (t : State)
+      → slice_get code.instrs.items s.at ≡ Some (call_code c n i s)
       → HasAt code.texts.items s.text (call_texts c n) → length vs ≡ i → length l ≤ 65535
       → Then code ev (λ x u. Comes code ev (after_call c s).at (x ∷ k) l u) (called c n (reverse vs) t) → Comes code ev s.at (vs ++ k) l t
   call_run calls.Plain n i vs s k l t e g z h x =
       plain_run (i == callee_arity (callee_of n)) (callee_of n) vs s.at k l t e (λ p. z ∙ eqb-true i (callee_arity (callee_of n)) p) h
-      (subst (λ j. Then code ev (λ y u. Comes code ev (s.at + 1) (y ∷ k) l u) (cond (j == callee_arity (callee_of n)) (callee_answer (callee_of n) (reverse vs)) (fault Unknown) t))
+      (subst (λ j. Then code ev (λ y u. Comes code ev (s.at + 1) (y ∷ k) l u)
+      (cond (j == callee_arity (callee_of n)) (callee_answer (callee_of n) (reverse vs)) (fault Unknown) t))
       (length-reverse vs ∙ z) x)
   call_run calls.Require n i vs s k l t e g z h x =
       one code ev _ s.at (vs ++ k) l t e
@@ -119,8 +127,10 @@ module _ (code : Code) (ev : Outcome Val × State) where
       one code ev (Call PathOf) a (v ∷ k) l t e
       (pop_run code ev (v ∷ []) k (arity_of PathOf) a l t (λ ts d. act_on (by_answer (answer_of PathOf ts)) d) refl
       (into code ev (by_answer (answer_of PathOf (v ∷ [])) t) (at a k l t) x))
-  effect_run effects.Exists v a k l t e x = one code ev (Observe observations.Exists) a (v ∷ k) l t e (into code ev (observe observations.Exists v t) (at a k l t) x)
-  effect_run effects.Digest v a k l t e x = one code ev (Observe observations.Digest) a (v ∷ k) l t e (into code ev (observe observations.Digest v t) (at a k l t) x)
+  effect_run effects.Exists v a k l t e x = one code ev (Observe observations.Exists) a (v ∷ k) l t e
+      (into code ev (observe observations.Exists v t) (at a k l t) x)
+  effect_run effects.Digest v a k l t e x = one code ev (Observe observations.Digest) a (v ∷ k) l t e
+      (into code ev (observe observations.Digest v t) (at a k l t) x)
   effect_run effects.List v a k l t e x = one code ev (Observe observations.List) a (v ∷ k) l t e (into code ev (observe observations.List v t) (at a k l t) x)
   effect_run effects.Read v a k l t e x =
       one code ev (Observe (observations.Read Hash)) a (v ∷ k) l t e (into code ev (observe (observations.Read Hash) v t) (at a k l t) x)

@@ -33,7 +33,8 @@ use Rattle.pie_parser.specs.TypeReading.{plain_at}
 use Rattle.pie_parser.specs.TypeGrammar as types
 use Rattle.pie_parser.specs.TypeGrammar.{Eats, IsName, IsType, IsPlain, MoreTypes}
 use Rattle.pie_parser.specs.Grammar as grammar
-use Rattle.pie_parser.specs.Grammar.{IsIndex, Indices, ByOfRequire, ByOfRead, IsExpr, IsChain, IsOperand, Steps, IsComparison, IsPrefixed, IsProjected, IsPrimary, Arguments, More, IsBlock, Lines}
+use Rattle.pie_parser.specs.Grammar.{IsIndex, Indices, ByOfRequire, ByOfRead, IsExpr, IsChain, IsOperand, Steps, IsComparison, IsPrefixed, IsProjected}
+use Rattle.pie_parser.specs.Grammar.{IsPrimary, Arguments, More, IsBlock, Lines}
 use Rattle.pie_parser.specs.FunctionGrammar as functions
 use Rattle.pie_parser.specs.FunctionGrammar.{IsParam, MoreParams, IsParams, IsFunction, Functions, IsPipeline}
 use Rattle.pie_codegen.specs.Digests.{is_func, name_in as named, name_of, digests_of, function_names, row_names}
@@ -228,15 +229,19 @@ mutual
   primary_clear (grammar.tuple e x q xs g) = thens (eats _ _ _ refl e) (thens (expr_clear x) (thens (more_clear xs) (eats _ _ _ refl g)))
   primary_clear (grammar.list e x xs g) = thens (eats _ _ _ refl e) (thens (expr_clear x) (thens (more_clear xs) (eats _ _ _ refl g)))
   primary_clear (grammar.each e x g n h y i) =
-      thens (eats _ _ _ refl e) (thens (expr_clear x) (thens (eats _ _ _ refl g) (thens (name_clear _ _ _ n) (thens (eats _ _ _ refl h) (thens (expr_clear y) (eats _ _ _ refl i))))))
+      thens (eats _ _ _ refl e) (thens (expr_clear x) (thens (eats _ _ _ refl g)
+      (thens (name_clear _ _ _ n) (thens (eats _ _ _ refl h) (thens (expr_clear y) (eats _ _ _ refl i))))))
   primary_clear (grammar.if_alone e x y) = thens (eats _ _ _ refl e) (thens (expr_clear x) (block_clear y))
-  primary_clear (grammar.if_else e x y g z) = thens (eats _ _ _ refl e) (thens (expr_clear x) (thens (block_clear y) (thens (eats _ _ _ refl g) (block_clear z))))
+  primary_clear (grammar.if_else e x y g z) = thens (eats _ _ _ refl e)
+      (thens (expr_clear x) (thens (block_clear y) (thens (eats _ _ _ refl g) (block_clear z))))
   primary_clear {s = s} (grammar.effect {k = k} q e x g) =
       thens (skip s (effect_inside (next s) k q)) (thens (eats _ _ _ refl e) (thens (expr_clear x) (eats _ _ _ refl g)))
-  primary_clear (grammar.read e g x b h) = thens (eats _ _ _ refl e) (thens (eats _ _ _ refl g) (thens (expr_clear x) (thens (by_read_clear b) (eats _ _ _ refl h))))
+  primary_clear (grammar.read e g x b h) = thens (eats _ _ _ refl e)
+      (thens (eats _ _ _ refl g) (thens (expr_clear x) (thens (by_read_clear b) (eats _ _ _ refl h))))
   primary_clear (grammar.write e g x h y i) =
       thens (eats _ _ _ refl e) (thens (eats _ _ _ refl g) (thens (expr_clear x) (thens (eats _ _ _ refl h) (thens (expr_clear y) (eats _ _ _ refl i)))))
-  primary_clear (grammar.fail e x g y h) = thens (eats _ _ _ refl e) (thens (type_clear x) (thens (eats _ _ _ refl g) (thens (expr_clear y) (eats _ _ _ refl h))))
+  primary_clear (grammar.fail e x g y h) = thens (eats _ _ _ refl e)
+      (thens (type_clear x) (thens (eats _ _ _ refl g) (thens (expr_clear y) (eats _ _ _ refl h))))
   primary_clear (grammar.require e n xs b) = thens (eats _ _ _ refl e) (thens (name_clear _ _ _ n) (thens (arguments_clear xs) (by_require_clear b)))
   primary_clear (grammar.run e n xs) = thens (eats _ _ _ refl e) (thens (name_clear _ _ _ n) (arguments_clear xs))
 
@@ -299,7 +304,8 @@ begins_in text true s ts b n h k = absurd (let f : ⊥ = cc in f)
 begins_in text false s [] b n h k = absurd (let f : ⊥ = cc in f)
 begins_in text false s (t ∷ ts) b n h k = let e : is_func t.kind ≡ true = is_func_of t.kind h in rw e (ap (λ x. x ∷ row_names (digests_of text ts)) (k t))
 
-begins : (text : List ℕ) (s a b : At) (n : Name) → Eats kinds.Func s a → IsName a b n → row_names (digests_of text s.rest) ≡ n.text ∷ row_names (digests_of text a.rest)
+begins : (text : List ℕ) (s a b : At) (n : Name) → Eats kinds.Func s a → IsName a b n
+    → row_names (digests_of text s.rest) ≡ n.text ∷ row_names (digests_of text a.rest)
 begins text s a b n e x =
     subst (λ (p : At). row_names (digests_of text s.rest) ≡ n.text ∷ row_names (digests_of text p.rest)) (sym e.1)
     (begins_in text s.marked s s.rest b n e.0 (λ g. ap (λ (p : At). name_of (g ∷ p.rest)) (sym e.1) ∙ name_in_is a.marked a b a.rest n g x))

@@ -11,7 +11,8 @@ use Rattle.pie_parser.specs.Plain.{ValLine, ExprLine, LastTree, NoLast, ALast, E
 use Rattle.pie_types.specs.Checking.{count}
 use Rattle.pie_meaning.specs.Words.{Logic, Either, Both, Neither, by_logic, logic_of}
 use Rattle.pie_codegen.specs.declared.spot.Spot.{Spot}
-use Rattle.pie_codegen.specs.Spots.{next, next_text, after, after_either, after_both, after_steps, after_items, after_args, after_block, after_lines, after_last, after_else, after_indices, after_call, after_literal, loop_at}
+use Rattle.pie_codegen.specs.Spots.{next, next_text, after, after_either, after_both, after_steps, after_items, after_args, after_block, after_lines}
+use Rattle.pie_codegen.specs.Spots.{after_last, after_else, after_indices, after_call, after_literal, loop_at}
 use Rattle.pie_codegen.proofs.Base.{HasAt, has_front}
 use Rattle.pie_codegen.proofs.Places.{Sized, none, more, both}
 

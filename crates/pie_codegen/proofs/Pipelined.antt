@@ -39,7 +39,8 @@ formed_at (g ∷ fs) zero f a l e = subst (λ (x : FunctionTree). BlockFormed (n
 formed_at (g ∷ fs) (suc i) f a l e = formed_at fs i f a.1 (omega arith) e
 
 -- the code of a function whose body is formed is refused for want of memory alone
-pub no_refusal : (f : FunctionTree) (code : Code) (e : CodeError) → IsCodeOf f code → BlockFormed (names_of f.params) f.body → IsRefusal code e → e ≡ OutOfMemory
+pub no_refusal : (f : FunctionTree) (code : Code) (e : CodeError) → IsCodeOf f code → BlockFormed (names_of f.params) f.body → IsRefusal code e
+    → e ≡ OutOfMemory
 no_refusal f code e is b r = only_memory code e (verified f code is b) r
 
 -- each code means what its function means
@@ -49,7 +50,8 @@ all_mean (f ∷ fs) (c ∷ cs) h = (compiled f c h.0, all_mean fs cs h.1)
 all_mean [] (c ∷ cs) h = absurd h
 all_mean (f ∷ fs) [] h = absurd h
 
-code_at : (fs : List FunctionTree) (cs : List Code) (i : ℕ) (f : FunctionTree) → AllMean fs cs → slice_get fs i ≡ Some f → (c : Code) × (slice_get cs i ≡ Some c) × Means f c
+code_at : (fs : List FunctionTree) (cs : List Code) (i : ℕ) (f : FunctionTree) → AllMean fs cs → slice_get fs i ≡ Some f → (c : Code)
+    × (slice_get cs i ≡ Some c) × Means f c
 code_at [] [] i f a e = absurd cc
 code_at (g ∷ fs) (c ∷ cs) zero f a e = let same : g ≡ f = cc in (c, refl, subst (λ (x : FunctionTree). Means x c) same a.0)
 code_at (g ∷ fs) (c ∷ cs) (suc i) f a e = code_at fs cs i f a.1 e

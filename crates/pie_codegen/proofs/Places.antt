@@ -17,9 +17,11 @@ use Rattle.pie_meaning.specs.Words.{Logic, Either, Both, Neither, by_logic, logi
 use Rattle.pie_types.specs.Checking.{count}
 use Rattle.pie_codegen.specs.declared.spot.Spot.{Spot}
 use Rattle.pie_codegen.proofs.Base.{HasAt, has_back}
-use Rattle.pie_codegen.specs.Spots.{next, after, after_either, after_both, after_steps, after_items, after_args, after_block, after_lines, after_last, after_else, after_indices, after_call, after_literal, loop_at}
+use Rattle.pie_codegen.specs.Spots.{next, after, after_either, after_both, after_steps, after_items, after_args, after_block, after_lines, after_last}
+use Rattle.pie_codegen.specs.Spots.{after_else, after_indices, after_call, after_literal, loop_at}
 use Rattle.pie_codegen.specs.Texts.{texts_of, steps_texts, trees_texts, block_texts, lines_texts, last_texts, else_texts, literal_texts, call_texts}
-use Rattle.pie_codegen.specs.Compiled.{Scope, code_of, either_code, both_code, steps_code, items_code, args_code, block_code, lines_code, last_code, else_code, indices_code, literal_code, call_code}
+use Rattle.pie_codegen.specs.Compiled.{Scope, code_of, either_code, both_code, steps_code, items_code, args_code, block_code, lines_code, last_code, else_code}
+use Rattle.pie_codegen.specs.Compiled.{indices_code, literal_code, call_code}
 
 -- a list that begins at one place ends before another
 pub record Sized {X : Type 0} (xs : List X) (a b : ℕ) : Type 0 where

@@ -1,5 +1,6 @@
 -- Compiled code means what the tree means: if what comes behind a form's code comes to the event with the form's value, so does its code.
-use Rattle.std.proofs.Common.{◌≡◌, ℕ, zero, suc, ◌+◌, ◌-◌, ◌<◌, ◌≤◌, max, Bool, true, false, cond, List, [], ◌∷◌, ◌++◌, length, reverse, slice_get, Option, Some, None, Ok, Err, refl, sym, subst, ap, ◌∙◌, arith, append_assoc, ℤ, pos, negsuc}
+use Rattle.std.proofs.Common.{◌≡◌, ℕ, zero, suc, ◌+◌, ◌-◌, ◌<◌, ◌≤◌, max, Bool, true, false, cond, List, [], ◌∷◌, ◌++◌, length, reverse, slice_get, Option}
+use Rattle.std.proofs.Common.{Some, None, Ok, Err, refl, sym, subst, ap, ◌∙◌, arith, append_assoc, ℤ, pos, negsuc}
 use Rattle.std.proofs.lemmas.List.{length-append}
 use Rattle.pie_value.specs.Tree.{TUnit, TBool, TInt, TList, TTuple, TNull, Nil as NoVal, Cons as ConsVal}
 use Rattle.pie_value.specs.Tree.{Tree as Val}
@@ -19,20 +20,25 @@ use Rattle.pie_parser.specs.Plain.{TEach, TIf, TCall, TEffect, TWrite, TFail, Tr
 use Rattle.pie_parser.specs.Plain.{LineTrees, NoLine, ValLine, ExprLine, LastTree, NoLast, ALast, ElseTree, NoElse, AnElse}
 use Rattle.pie_meaning.specs.Words.{Env, look_up, found, literal_value, branch, Logic, Either, Both, Neither, by_logic, logic_of, infix_of}
 use Rattle.pie_meaning.specs.Words.{comparison_of, prefix_of, projected, over, called, effect_of}
-use Rattle.pie_meaning.specs.Meaning.{turns, value_of, either_value, both_value, steps_value, items_onto, values_of, block_value, lines_value, last_value, else_value}
+use Rattle.pie_meaning.specs.Meaning.{turns, value_of, either_value, both_value, steps_value, items_onto, values_of, block_value, lines_value, last_value}
+use Rattle.pie_meaning.specs.Meaning.{else_value}
 use Rattle.pie_codegen.specs.declared.spot.Spot.{Spot}
-use Rattle.pie_codegen.specs.Spots.{next, after, after_either, after_both, after_steps, after_items, after_args, after_block, after_lines, after_last, after_else, loop_at}
+use Rattle.pie_codegen.specs.Spots.{next, after, after_either, after_both, after_steps, after_items, after_args, after_block, after_lines, after_last}
+use Rattle.pie_codegen.specs.Spots.{after_else, loop_at}
 use Rattle.pie_codegen.specs.Rooms.{room_of, steps_room, trees_room, block_room, lines_room, last_room, else_room}
 use Rattle.pie_codegen.specs.Texts.{texts_of, steps_texts, trees_texts, block_texts, lines_texts, last_texts, else_texts, call_texts}
-use Rattle.pie_codegen.specs.Compiled.{Scope, code_of, either_code, both_code, steps_code, items_code, args_code, block_code, lines_code, last_code, else_code, indices_code, call_code, effect_code, each_code}
+use Rattle.pie_codegen.specs.Compiled.{Scope, code_of, either_code, both_code, steps_code, items_code, args_code, block_code, lines_code, last_code, else_code}
+use Rattle.pie_codegen.specs.Compiled.{indices_code, call_code, effect_code, each_code}
 use Rattle.pie_codegen.proofs.Base.{HasAt, has_front, at, Agree, agree_front, Fits, Comes, Then, Leads, one, into, seq, mono, tick_run, name_run}
-use Rattle.pie_codegen.proofs.Places.{Sized, behind, ends_at, texts_end, either_end, either_text, both_end, both_text, steps_end, args_end, args_text, block_end, block_text, lines_text}
+use Rattle.pie_codegen.proofs.Places.{Sized, behind, ends_at, texts_end, either_end, either_text, both_end, both_text, steps_end, args_end, args_text}
+use Rattle.pie_codegen.proofs.Places.{block_end, block_text, lines_text}
 use Rattle.pie_codegen.proofs.Steps.{at_low, store_run, branch_run, not_run}
 use Rattle.pie_codegen.proofs.Forms.{Lands, landed, literal_run, indices_run, call_run, effect_run}
 use Rattle.pie_codegen.proofs.Loops.{slots, over_run}
 
 -- the slots are no more than there may be
-few : (m : ℕ) (sc : Scope) (low : List Val) (env : Env) (room : ℕ) → Fits m sc low env room → (junk : List Val) → length junk ≡ room → length (low ++ junk) ≤ 65535
+few : (m : ℕ) (sc : Scope) (low : List Val) (env : Env) (room : ℕ) → Fits m sc low env room → (junk : List Val) → length junk ≡ room
+    → length (low ++ junk) ≤ 65535
 few m sc low env room f junk e = omega (arith, f.size, f.small, e, length-append low junk)
 
 module _ (code : Code) (ev : Outcome Val × State) where
@@ -84,7 +90,8 @@ module _ (code : Code) (ev : Outcome Val × State) where
   assoc_here xs a is js ks h = subst (HasAt xs a) (append_assoc is js ks) h
 
   -- what goes on, by the kind of a chain
-  chain_case : (x : Logic) (a : ℕ) (is js ks : List Instr) (k low : List Val) (room : ℕ) (p q r : Spot) (f g h : Val → Act Val) (v : Val) (w : State) (X : Type 0)
+  chain_case : (x : Logic) (a : ℕ) (is js ks : List Instr) (k low : List Val) (room : ℕ) (p q r : Spot) (f g h : Val → Act Val) (v : Val) (w : State)
+      (X : Type 0)
       → HasAt code.instrs.items a (by_logic x is js ks) → Then code ev (Lands code ev (by_logic x p q r).at k low room) (by_logic x f g h v w)
       → (HasAt code.instrs.items a is → Then code ev (Lands code ev p.at k low room) (f v w) → X)
       → (HasAt code.instrs.items a js → Then code ev (Lands code ev q.at k low room) (g v w) → X)
@@ -102,14 +109,19 @@ module _ (code : Code) (ev : Outcome Val × State) where
         (λ u y. literal_run code ev l s k (low ++ junk) u g.0.1.0 g.1 (landed code ev (after (TLiteral i j l) s).at k low junk room e _ y))
     runs (TName i j n) m sc low env room f s k junk t r e g h =
         tick_run code ev (found (look_up n env)) (Lands code ev (after (TName i j n) s).at k low room) s.at k (low ++ junk) t g.0.0 h
-        (λ u y. name_run code ev n sc env low junk (s.at + 1) k u f.agree (few m sc low env room f junk e) g.0.1.0 (landed code ev (after (TName i j n) s).at k low junk room e _ y))
+        (λ u y. name_run code ev n sc env low junk (s.at + 1) k u f.agree (few m sc low env room f junk e) g.0.1.0
+        (landed code ev (after (TName i j n) s).at k low junk room e _ y))
     runs (NullOf i j w) m sc low env room f s k junk t r e g h =
-        tick_run code ev (give TNull) (Lands code ev (after (NullOf i j w) s).at k low room) s.at k (low ++ junk) t g.0.0 h (λ u y. one code ev _ (s.at + 1) k (low ++ junk) u g.0.1.0 (y junk e))
+        tick_run code ev (give TNull) (Lands code ev (after (NullOf i j w) s).at k low room) s.at k (low ++ junk) t g.0.0 h
+        (λ u y. one code ev _ (s.at + 1) k (low ++ junk) u g.0.1.0 (y junk e))
     runs (TEmpty i j w) m sc low env room f s k junk t r e g h =
-        tick_run code ev (give (TList NoVal)) (Lands code ev (after (TEmpty i j w) s).at k low room) s.at k (low ++ junk) t g.0.0 h (λ u y. one code ev _ (s.at + 1) k (low ++ junk) u g.0.1.0 (y junk e))
+        tick_run code ev (give (TList NoVal)) (Lands code ev (after (TEmpty i j w) s).at k low room) s.at k (low ++ junk) t g.0.0 h
+        (λ u y. one code ev _ (s.at + 1) k (low ++ junk) u g.0.1.0 (y junk e))
     runs (TCompare i j c a b) m sc low env room f s k junk t r e g h =
-        tick_run code ev (then_do (value_of a env) (λ v. then_do (value_of b env) (λ w. by_answer (binary_answer (comparison_of c) v w)))) (Lands code ev (after (TCompare i j c a b) s).at k low room) s.at k (low ++ junk) t g.0.0 h
-        (λ u y. runs a m sc low env room f (next s) k junk u (omega (arith, r)) e (has_front _ _ (code_of a (next s) m sc) _ g.0.1, has_front _ _ (texts_of a) _ g.1)
+        tick_run code ev (then_do (value_of a env) (λ v. then_do (value_of b env) (λ w. by_answer (binary_answer (comparison_of c) v w))))
+        (Lands code ev (after (TCompare i j c a b) s).at k low room) s.at k (low ++ junk) t g.0.0 h
+        (λ u y. runs a m sc low env room f (next s) k junk u (omega (arith, r)) e
+        (has_front _ _ (code_of a (next s) m sc) _ g.0.1, has_front _ _ (texts_of a) _ g.1)
         (seq code ev _ (Lands code ev (after (TCompare i j c a b) s).at k low room) (Lands code ev (after a (next s)).at k low room)
         (λ v w z js d. let g2 = behind _ _ g.0.1 (ends_at a (next s) m sc) in
         runs b m sc low env room f (after a (next s)) (v ∷ k) js w (omega (arith, r)) d
@@ -117,11 +129,13 @@ module _ (code : Code) (ev : Outcome Val × State) where
         (seq code ev _ (Lands code ev (after (TCompare i j c a b) s).at k low room) (Lands code ev (after b (after a (next s))).at (v ∷ k) low room)
         (λ x w' z' is d'. let g3 = behind _ _ g2 (ends_at b (after a (next s)) m sc) in
         one code ev _ (after b (after a (next s))).at (x ∷ v ∷ k) (low ++ is) w' g3.0
-        (into code ev (by_answer (binary_answer (comparison_of c) v x) w') (at _ k (low ++ is) w') (landed code ev (after (TCompare i j c a b) s).at k low is room d' _ z')))
+        (into code ev (by_answer (binary_answer (comparison_of c) v x) w') (at _ k (low ++ is) w')
+        (landed code ev (after (TCompare i j c a b) s).at k low is room d' _ z')))
         (value_of b env w) z))
         (value_of a env u) y))
     runs (TPrefix i j p a) m sc low env room f s k junk t r e g h =
-        tick_run code ev (then_do (value_of a env) (λ v. by_answer (unary_answer (prefix_of p) v))) (Lands code ev (after (TPrefix i j p a) s).at k low room) s.at k (low ++ junk) t g.0.0 h
+        tick_run code ev (then_do (value_of a env) (λ v. by_answer (unary_answer (prefix_of p) v)))
+        (Lands code ev (after (TPrefix i j p a) s).at k low room) s.at k (low ++ junk) t g.0.0 h
         (λ u y. runs a m sc low env room f (next s) k junk u r e (has_front _ _ (code_of a (next s) m sc) _ g.0.1, g.1)
         (seq code ev _ (Lands code ev (after (TPrefix i j p a) s).at k low room) (Lands code ev (after a (next s)).at k low room)
         (λ v w z js d. let g2 = behind _ _ g.0.1 (ends_at a (next s) m sc) in
@@ -143,8 +157,10 @@ module _ (code : Code) (ev : Outcome Val × State) where
         effect_run code ev c v (after a (next s)).at k (low ++ js) w g2.0 (landed code ev (after (TEffect i j c a) s).at k low js room d _ z))
         (value_of a env u) y))
     runs (TWrite i j a b) m sc low env room f s k junk t r e g h =
-        tick_run code ev (then_do (value_of a env) (λ v. then_do (value_of b env) (write v))) (Lands code ev (after (TWrite i j a b) s).at k low room) s.at k (low ++ junk) t g.0.0 h
-        (λ u y. runs a m sc low env room f (next s) k junk u (omega (arith, r)) e (has_front _ _ (code_of a (next s) m sc) _ g.0.1, has_front _ _ (texts_of a) _ g.1)
+        tick_run code ev (then_do (value_of a env) (λ v. then_do (value_of b env) (write v))) (Lands code ev (after (TWrite i j a b) s).at k low room) s.at k
+        (low ++ junk) t g.0.0 h
+        (λ u y. runs a m sc low env room f (next s) k junk u (omega (arith, r)) e
+        (has_front _ _ (code_of a (next s) m sc) _ g.0.1, has_front _ _ (texts_of a) _ g.1)
         (seq code ev _ (Lands code ev (after (TWrite i j a b) s).at k low room) (Lands code ev (after a (next s)).at k low room)
         (λ v w z js d. let g2 = behind _ _ g.0.1 (ends_at a (next s) m sc) in
         runs b m sc low env room f (after a (next s)) (v ∷ k) js w (omega (arith, r)) d
@@ -174,7 +190,8 @@ module _ (code : Code) (ev : Outcome Val × State) where
         (λ u y. one code ev _ (s.at + 1) k (low ++ junk) u g.0.1.0
         (items_run es list_with ListPush (λ b w all l x ks. refl) m sc low env room f (next (next s)) (TList NoVal) k junk u r e (g.0.1.1, g.1) y))
     runs (TCall i j c n es) m sc low env room f s k junk t r e g h =
-        tick_run code ev (then_do (values_of es env []) (λ vs. called c n.text (reverse vs))) (Lands code ev (after (TCall i j c n es) s).at k low room) s.at k (low ++ junk) t g.0.0 h
+        tick_run code ev (then_do (values_of es env []) (λ vs. called c n.text (reverse vs)))
+        (Lands code ev (after (TCall i j c n es) s).at k low room) s.at k (low ++ junk) t g.0.0 h
         (λ u y. args_run es m sc low env room f (next s) k [] (count es) junk u r e (omega arith)
         (has_front _ _ (args_code es (next s) m sc) _ g.0.1, has_front _ _ (trees_texts es) _ g.1)
         (seq code ev _ (Lands code ev (after (TCall i j c n es) s).at k low room)
@@ -184,9 +201,11 @@ module _ (code : Code) (ev : Outcome Val × State) where
         (few m sc low env room f js d) (landed code ev (after (TCall i j c n es) s).at k low js room d _ z))
         (values_of es env [] u) y))
     runs (TIf i j a b o) m sc low env room f s k junk t r e g h =
-        tick_run code ev (then_do (value_of a env) (λ v. branch v (block_value b env) (else_value o env))) (Lands code ev (after (TIf i j a b o) s).at k low room)
+        tick_run code ev (then_do (value_of a env) (λ v. branch v (block_value b env) (else_value o env)))
+        (Lands code ev (after (TIf i j a b o) s).at k low room)
         s.at k (low ++ junk) t g.0.0 h
-        (λ u y. runs a m sc low env room f (next s) k junk u (omega (arith, r)) e (has_front _ _ (code_of a (next s) m sc) _ g.0.1, has_front _ _ (texts_of a) _ g.1)
+        (λ u y. runs a m sc low env room f (next s) k junk u (omega (arith, r)) e
+        (has_front _ _ (code_of a (next s) m sc) _ g.0.1, has_front _ _ (texts_of a) _ g.1)
         (seq code ev _ (Lands code ev (after (TIf i j a b o) s).at k low room) (Lands code ev (after a (next s)).at k low room)
         (λ v w z js d.
         let g2 = behind _ _ g.0.1 (ends_at a (next s) m sc) in
@@ -204,8 +223,10 @@ module _ (code : Code) (ev : Outcome Val × State) where
     runs (TChain i j a ss) m sc low env room f s k junk t r e g h =
         tick_run code ev (then_do (value_of a env) (by_logic (logic_of ss) (either_value ss env) (both_value ss env) (steps_value ss env)))
         (Lands code ev (after (TChain i j a ss) s).at k low room) s.at k (low ++ junk) t g.0.0 h
-        (λ u y. runs a m sc low env room f (next s) k junk u (omega (arith, r)) e (has_front _ _ (code_of a (next s) m sc) _ g.0.1, has_front _ _ (texts_of a) _ g.1)
-        (seq code ev (by_logic (logic_of ss) (either_value ss env) (both_value ss env) (steps_value ss env)) (Lands code ev (after (TChain i j a ss) s).at k low room)
+        (λ u y. runs a m sc low env room f (next s) k junk u (omega (arith, r)) e
+        (has_front _ _ (code_of a (next s) m sc) _ g.0.1, has_front _ _ (texts_of a) _ g.1)
+        (seq code ev (by_logic (logic_of ss) (either_value ss env) (both_value ss env) (steps_value ss env))
+        (Lands code ev (after (TChain i j a ss) s).at k low room)
         (Lands code ev (after a (next s)).at k low room)
         (λ v w z js d.
         let x2 = behind _ _ g.1 (texts_end a (next s)) in
@@ -222,8 +243,10 @@ module _ (code : Code) (ev : Outcome Val × State) where
     runs (TEach i j a x b) m sc low env room f s k junk t r e g h =
         tick_run code ev (then_do (value_of b env) (λ v. over v (λ vs. turns (λ w. value_of a ((x.text, w) ∷ env)) vs (TList NoVal))))
         (Lands code ev (after (TEach i j a x b) s).at k low room) s.at k (low ++ junk) t g.0.0 h
-        (λ u y. runs b m sc low env room f (next s) k junk u (omega (arith, r)) e (has_front _ _ (code_of b (next s) m sc) _ g.0.1, has_front _ _ (texts_of b) _ g.1)
-        (seq code ev (λ v. over v (λ vs. turns (λ w. value_of a ((x.text, w) ∷ env)) vs (TList NoVal))) (Lands code ev (after (TEach i j a x b) s).at k low room)
+        (λ u y. runs b m sc low env room f (next s) k junk u (omega (arith, r)) e
+        (has_front _ _ (code_of b (next s) m sc) _ g.0.1, has_front _ _ (texts_of b) _ g.1)
+        (seq code ev (λ v. over v (λ vs. turns (λ w. value_of a ((x.text, w) ∷ env)) vs (TList NoVal)))
+        (Lands code ev (after (TEach i j a x b) s).at k low room)
         (Lands code ev (after b (next s)).at k low room)
         (λ v w z js d.
         let g2 = behind _ _ g.0.1 (ends_at b (next s) m sc) in
@@ -233,7 +256,8 @@ module _ (code : Code) (ev : Outcome Val × State) where
         (λ x0 x1 x2 is q.
         store_run code ev m low (x1 ∷ x2 ∷ is) x0 v (after b (next s)).at k w f.size g2.0
         (one code ev _ ((after b (next s)).at + 1) k ((low ++ v ∷ []) ++ x1 ∷ x2 ∷ is) w g2.1.0
-        (store_run code ev (m + 1) (low ++ v ∷ []) (x2 ∷ is) x1 (TInt (pos 0)) ((after b (next s)).at + 1 + 1) k w (omega (arith, f.size, length-append low (v ∷ []))) g2.1.1.0
+        (store_run code ev (m + 1) (low ++ v ∷ []) (x2 ∷ is) x1 (TInt (pos 0)) ((after b (next s)).at + 1 + 1) k w
+        (omega (arith, f.size, length-append low (v ∷ []))) g2.1.1.0
         (one code ev _ ((after b (next s)).at + 1 + 1 + 1) k (((low ++ v ∷ []) ++ TInt (pos 0) ∷ []) ++ x2 ∷ is) w g2.1.1.1.0
         (subst (λ l. Comes code ev (loop_at (after b (next s))).at (TList NoVal ∷ k) l w) (sym (two_more low v (TInt (pos 0)) (x2 ∷ is)))
         (over_run code ev low k m (loop_at (after b (next s))).at ((after a (next (loop_at (after b (next s))))).at + 1 + 1) f.size g2.1.1.1.1.0 room
@@ -265,7 +289,8 @@ module _ (code : Code) (ev : Outcome Val × State) where
     either_run NoStep m sc low env room f s to q v k js w r d g out last h =
         one code ev (Jump (to + 1 + 1)) s.at (v ∷ k) (low ++ js) w (subst (λ i. slice_get code.instrs.items i ≡ Some (Jump (to + 1 + 1))) (sym q) out) (h js d)
     either_run (AStep o a ss) m sc low env room f s to q v k js w r d g out last h =
-        not_run code ev v (give (TBool true)) (then_do (value_of a env) (either_value ss env)) (Lands code ev (to + 1 + 1) k low room) (to + 1) s.at k (low ++ js) w
+        not_run code ev v (give (TBool true)) (then_do (value_of a env) (either_value ss env)) (Lands code ev (to + 1 + 1) k low room) (to + 1) s.at k
+        (low ++ js) w
         g.0.0 g.0.1.0 h
         (λ z. one code ev _ (to + 1) k (low ++ js) w last (z js d))
         (λ z. runs a m sc low env room f (next (next s)) k js w (omega (arith, r)) d
@@ -284,7 +309,8 @@ module _ (code : Code) (ev : Outcome Val × State) where
     both_run NoStep m sc low env room f s to q v k js w r d g out last h =
         one code ev (Jump (to + 1 + 1)) s.at (v ∷ k) (low ++ js) w (subst (λ i. slice_get code.instrs.items i ≡ Some (Jump (to + 1 + 1))) (sym q) out) (h js d)
     both_run (AStep o a ss) m sc low env room f s to q v k js w r d g out last h =
-        branch_run code ev v (then_do (value_of a env) (both_value ss env)) (give (TBool false)) (Lands code ev (to + 1 + 1) k low room) (to + 1) s.at k (low ++ js) w
+        branch_run code ev v (then_do (value_of a env) (both_value ss env)) (give (TBool false)) (Lands code ev (to + 1 + 1) k low room) (to + 1) s.at k
+        (low ++ js) w
         g.0.0 h
         (λ z. runs a m sc low env room f (next s) k js w (omega (arith, r)) d
         (has_front _ _ (code_of a (next s) m sc) _ g.0.1, has_front _ _ (texts_of a) _ g.1)
@@ -295,13 +321,15 @@ module _ (code : Code) (ev : Outcome Val × State) where
         (λ z. one code ev _ (to + 1) k (low ++ js) w last (z js d))
 
     -- operands, each with its operator
-    steps_run : (ss : Steps) (m : ℕ) (sc : Scope) (low : List Val) (env : Env) (room : ℕ) → Fits m sc low env room → (s : Spot) (v : Val) (k js : List Val) (w : State)
+    steps_run : (ss : Steps) (m : ℕ) (sc : Scope) (low : List Val) (env : Env) (room : ℕ) → Fits m sc low env room
+        → (s : Spot) (v : Val) (k js : List Val) (w : State)
         → steps_room ss ≤ room → length js ≡ room → Here (steps_code ss s m sc) (steps_texts ss) s
         → Then code ev (Lands code ev (after_steps ss s).at k low room) (steps_value ss env v w) → Comes code ev s.at (v ∷ k) (low ++ js) w
     steps_run NoStep m sc low env room f s v k js w r d g h = h js d
     steps_run (AStep o a ss) m sc low env room f s v k js w r d g h =
         runs a m sc low env room f s (v ∷ k) js w (omega (arith, r)) d (has_front _ _ (code_of a s m sc) _ g.0, has_front _ _ (texts_of a) _ g.1)
-        (seq code ev (λ x. then_do (by_answer (binary_answer (infix_of o) v x)) (steps_value ss env)) (Lands code ev (after_steps ss (next (after a s))).at k low room)
+        (seq code ev (λ x. then_do (by_answer (binary_answer (infix_of o) v x)) (steps_value ss env))
+        (Lands code ev (after_steps ss (next (after a s))).at k low room)
         (Lands code ev (after a s).at (v ∷ k) low room)
         (λ x w' z is d'. let g2 = behind _ _ g.0 (ends_at a s m sc) in
         one code ev (Binary (infix_of o)) (after a s).at (x ∷ v ∷ k) (low ++ is) w' g2.0
@@ -313,7 +341,8 @@ module _ (code : Code) (ev : Outcome Val × State) where
         (value_of a env w) h)
 
     -- a block
-    pub block_run : (b : BlockTree) (m : ℕ) (sc : Scope) (low : List Val) (env : Env) (room : ℕ) → Fits m sc low env room → (s : Spot) (k junk : List Val) (t : State)
+    pub block_run : (b : BlockTree) (m : ℕ) (sc : Scope) (low : List Val) (env : Env) (room : ℕ) → Fits m sc low env room
+        → (s : Spot) (k junk : List Val) (t : State)
         → block_room b ≤ room → length junk ≡ room → Here (block_code b s m sc) (block_texts b) s
         → Then code ev (Lands code ev (after_block b s).at k low room) (block_value b env t) → Comes code ev s.at k (low ++ junk) t
     block_run (TBlock i j ls l) m sc low env room f s k junk t r e g h =
@@ -331,7 +360,8 @@ module _ (code : Code) (ev : Outcome Val × State) where
     lines_run (ExprLine a ls) rest to go ts n c m sc low env room f s k junk t r e g h =
         let x = assoc_here code.texts.items s.text (texts_of a) (lines_texts ls) ts g.1 in
         runs a m sc low env room f s k junk t (omega (arith, r)) e (has_front _ _ (code_of a s m sc) _ g.0, has_front _ _ (texts_of a) _ x)
-        (seq code ev (λ v. lines_value ls env go) (Lands code ev (to (after_lines ls (next (after a s)))).at k low room) (Lands code ev (after a s).at k low room)
+        (seq code ev (λ v. lines_value ls env go) (Lands code ev (to (after_lines ls (next (after a s)))).at k low room)
+        (Lands code ev (after a s).at k low room)
         (λ v w z js d. let g2 = behind _ _ g.0 (ends_at a s m sc) in
         one code ev Drop (after a s).at (v ∷ k) (low ++ js) w g2.0
         (lines_run ls rest to go ts n c m sc low env room f (next (after a s)) k js w (omega (arith, r)) d (g2.1, behind _ _ x (texts_end a s)) z))
@@ -339,7 +369,8 @@ module _ (code : Code) (ev : Outcome Val × State) where
     lines_run (ValLine i j y a ls) rest to go ts n c m sc low env room f s k junk t r e g h =
         let x = assoc_here code.texts.items s.text (texts_of a) (lines_texts ls) ts g.1 in
         runs a m sc low env room f s k junk t (omega (arith, r)) e (has_front _ _ (code_of a s m sc) _ g.0, has_front _ _ (texts_of a) _ x)
-        (seq code ev (λ v. lines_value ls ((y.text, v) ∷ env) go) (Lands code ev (to (after_lines ls (next (after a s)))).at k low room) (Lands code ev (after a s).at k low room)
+        (seq code ev (λ v. lines_value ls ((y.text, v) ∷ env) go) (Lands code ev (to (after_lines ls (next (after a s)))).at k low room)
+        (Lands code ev (after a s).at k low room)
         (λ v w z js d. let g2 = behind _ _ g.0 (ends_at a s m sc) in
         stored m low js room v (after a s).at k w f.size d (omega (arith, r)) g2.0
         (λ is q. lines_run ls rest to go ts n c (m + 1) ((y.text, m) ∷ sc) (low ++ v ∷ []) ((y.text, v) ∷ env) (room - 1)
@@ -365,7 +396,8 @@ module _ (code : Code) (ev : Outcome Val × State) where
 
     -- items, each put onto what is on the stack
     items_run : (es : Trees) (grow : Val → Val → Answered) (i : Instr)
-        → ((b : ℕ) (w all : Val) (l : List Val) (x : State) → (ks : List Val) → act code.texts.items i (at b (w ∷ all ∷ ks) l x) ≡ settle (by_answer (grow all w) x) (at b ks l x))
+        → ((b : ℕ) (w all : Val) (l : List Val) (x : State) → (ks : List Val)
+        → act code.texts.items i (at b (w ∷ all ∷ ks) l x) ≡ settle (by_answer (grow all w) x) (at b ks l x))
         → (m : ℕ) (sc : Scope) (low : List Val) (env : Env) (room : ℕ) → Fits m sc low env room → (s : Spot) (all : Val) (k junk : List Val) (t : State)
         → trees_room es ≤ room → length junk ≡ room → Here (items_code i es s m sc) (trees_texts es) s
         → Then code ev (Lands code ev (after_items es s).at k low room) (items_onto grow es env all t) → Comes code ev s.at (all ∷ k) (low ++ junk) t
@@ -385,7 +417,8 @@ module _ (code : Code) (ev : Outcome Val × State) where
     -- arguments, which stay on the stack
     args_run : (es : Trees) (m : ℕ) (sc : Scope) (low : List Val) (env : Env) (room : ℕ) → Fits m sc low env room → (s : Spot) (k ws : List Val) (n : ℕ)
         (junk : List Val) (t : State) → trees_room es ≤ room → length junk ≡ room → length ws + count es ≡ n → Here (args_code es s m sc) (trees_texts es) s
-        → Then code ev (λ vs w. length vs ≡ n → (js : List Val) → length js ≡ room → Comes code ev (after_args es s).at (vs ++ k) (low ++ js) w) (values_of es env ws t)
+        → Then code ev (λ vs w. length vs ≡ n → (js : List Val) → length js ≡ room → Comes code ev (after_args es s).at (vs ++ k) (low ++ js) w)
+        (values_of es env ws t)
         → Comes code ev s.at (ws ++ k) (low ++ junk) t
     args_run Nil m sc low env room f s k ws n junk t r e q g h = h (omega (arith, q)) junk e
     args_run (Cons a es) m sc low env room f s k ws n junk t r e q g h =

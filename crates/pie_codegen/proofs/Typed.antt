@@ -1,5 +1,6 @@
 -- Typed trees are formed.
-use Rattle.std.proofs.Common.{◌≡◌, ◌⊎◌, inl, inr, ℕ, zero, suc, ◌+◌, Bool, true, false, cond, ◌||◌, ◌==◌, List, [], ◌∷◌, ◌++◌, codes, Option, Some, None, refl, sym, subst, ap, ◌∙◌, ℤ, pos, negsuc, rules}
+use Rattle.std.proofs.Common.{◌≡◌, ◌⊎◌, inl, inr, ℕ, zero, suc, ◌+◌, Bool, true, false, cond, ◌||◌, ◌==◌, List, [], ◌∷◌, ◌++◌, codes, Option, Some, None, refl}
+use Rattle.std.proofs.Common.{sym, subst, ap, ◌∙◌, ℤ, pos, negsuc, rules}
 use Rattle.std.specs.Prelude.{bytes_eq, option_map}
 use lib.Pointwise.{pointwise}
 use Rattle.pie_value.specs.Types.{TyTree, TyTrees}
@@ -21,7 +22,8 @@ use Rattle.pie_types.specs.Rules as rules_of
 use Rattle.pie_types.specs.WholeRules.{ParamsBring, Declares, IsTypedFunction}
 use Rattle.pie_types.specs.WholeRules as whole
 use Rattle.pie_meaning.specs.Words.{Callee, ABuiltin, ReadBytes, NoCallee, callee_of, callee_arity, callee_by}
-use Rattle.pie_codegen.specs.Formed.{is_bound, Counts, AllCount, IsThere, CallFits, Formed, StepsFormed, TreesFormed, BlockFormed, LinesFormed, LastFormed, ElseFormed}
+use Rattle.pie_codegen.specs.Formed.{is_bound, Counts, AllCount, IsThere, CallFits, Formed, StepsFormed, TreesFormed, BlockFormed, LinesFormed, LastFormed}
+use Rattle.pie_codegen.specs.Formed.{ElseFormed}
 use Rattle.pie_codegen.specs.Names.{names_onto, names_of}
 
 -- each name with a type is among some
@@ -45,7 +47,8 @@ was_there n x t u [] e = by_test (bytes_eq n x) e
 was_there n x t u (y ∷ sc) e = by_test (bytes_eq n y.name) e (was_there n x t u sc)
   where
     by_test : (b : Bool) → cond b (Some y.ty) (type_in n (with_name sc x u)) ≡ Some t
-        → (type_in n (with_name sc x u) ≡ Some t → (type_in n sc ≡ Some t) ⊎ (bytes_eq n x ≡ true)) → (cond b (Some y.ty) (type_in n sc) ≡ Some t) ⊎ (bytes_eq n x ≡ true)
+        → (type_in n (with_name sc x u) ≡ Some t → (type_in n sc ≡ Some t) ⊎ (bytes_eq n x ≡ true)) → (cond b (Some y.ty) (type_in n sc) ≡ Some t)
+        ⊎ (bytes_eq n x ≡ true)
     by_test true e again = inl e
     by_test false e again = again e
 
@@ -66,7 +69,8 @@ counts (n ∷ ns) t u (rules_of.goes {ts = ts} {t = v} e l) = (by_number n.numbe
     by_number (negsuc k) e = absurd cc
 
 -- what a plain name calls
-plain_fits : (n : List ℕ) (c : types.Callee) (k : ℕ) → types.plain_callee n ≡ Some c → k ≡ types.taken c → IsThere (callee_of n) × (k ≡ callee_arity (callee_of n))
+plain_fits : (n : List ℕ) (c : types.Callee) (k : ℕ) → types.plain_callee n ≡ Some c → k ≡ types.taken c → IsThere (callee_of n)
+    × (k ≡ callee_arity (callee_of n))
 plain_fits n c k e q = by_test (bytes_eq n (codes "read_bytes")) refl e
   where
     of_builtin : (o : Option Builtin) → builtin_of n ≡ o → option_map types.OfBuiltin o ≡ Some c → IsThere (callee_by o n) × (k ≡ callee_arity (callee_by o n))
@@ -102,8 +106,10 @@ mutual
   formed hs sc ns e t c (rules_of.each {a = a} {b = b} {n = n} {t = v} {u = u} h f k) =
       (formed hs sc ns b _ c h, formed hs (with_name sc n.text v) (n.text ∷ ns) a u (grown ns sc n.text v c) k)
   formed hs sc ns e t c (rules_of.if_alone {a = a} {b = b} h k) = (formed hs sc ns a _ c h, block_formed hs sc ns b _ c k, tt)
-  formed hs sc ns e t c (rules_of.if_else {a = a} {b = b} {o = o} h k l) = (formed hs sc ns a _ c h, block_formed hs sc ns b t c k, block_formed hs sc ns o t c l)
-  formed hs sc ns e t c (rules_of.call {k = k} {n = n} {es = es} {c = x} {ts = ts} h q l f) = (trees_formed hs sc ns es ts c l, call_fits hs k n.text x (count es) h q)
+  formed hs sc ns e t c (rules_of.if_else {a = a} {b = b} {o = o} h k l) =
+      (formed hs sc ns a _ c h, block_formed hs sc ns b t c k, block_formed hs sc ns o t c l)
+  formed hs sc ns e t c (rules_of.call {k = k} {n = n} {es = es} {c = x} {ts = ts} h q l f) =
+      (trees_formed hs sc ns es ts c l, call_fits hs k n.text x (count es) h q)
   formed hs sc ns e t c (rules_of.effect {a = a} h) = formed hs sc ns a _ c h
   formed hs sc ns e t c (rules_of.write {a = a} {b = b} {t = u} h k l) = (formed hs sc ns a _ c h, formed hs sc ns b u c k)
   formed hs sc ns e t c (rules_of.fail {a = a} h k) = formed hs sc ns a _ c k
@@ -116,13 +122,16 @@ mutual
   all_formed hs sc ns es t c rules_of.no_item = tt
   all_formed hs sc ns es t c (rules_of.an_item {e = e} {es = more} h k) = (formed hs sc ns e t c h, all_formed hs sc ns more t c k)
 
-  trees_formed : (hs : List Heading) (sc : List Entry) (ns : List (List ℕ)) (es : Trees) (ts : List TyTree) → Covers ns sc → HaveTypes hs sc es ts → TreesFormed ns es
+  trees_formed : (hs : List Heading) (sc : List Entry) (ns : List (List ℕ)) (es : Trees) (ts : List TyTree) → Covers ns sc → HaveTypes hs sc es ts
+      → TreesFormed ns es
   trees_formed hs sc ns es ts c rules_of.no_part = tt
   trees_formed hs sc ns es ts c (rules_of.a_part {e = e} {es = more} {t = t} {ts = us} h k) = (formed hs sc ns e t c h, trees_formed hs sc ns more us c k)
 
-  pub block_formed : (hs : List Heading) (sc : List Entry) (ns : List (List ℕ)) (b : BlockTree) (t : TyTree) → Covers ns sc → BlockHas hs sc b t → BlockFormed ns b
+  pub block_formed : (hs : List Heading) (sc : List Entry) (ns : List (List ℕ)) (b : BlockTree) (t : TyTree) → Covers ns sc → BlockHas hs sc b t
+      → BlockFormed ns b
   block_formed hs sc ns b t c (rules_of.no_last {inner = inner} {ls = ls} h) = lines_formed hs sc inner ns ls NoLast c h (λ ns' c'. tt)
-  block_formed hs sc ns b t c (rules_of.a_last {inner = inner} {ls = ls} {e = e} h k) = lines_formed hs sc inner ns ls (ALast e) c h (λ ns' c'. formed hs inner ns' e t c' k)
+  block_formed hs sc ns b t c (rules_of.a_last {inner = inner} {ls = ls} {e = e} h k) = lines_formed hs sc inner ns ls (ALast e) c h
+      (λ ns' c'. formed hs inner ns' e t c' k)
 
   lines_formed : (hs : List Heading) (sc inner : List Entry) (ns : List (List ℕ)) (ls : LineTrees) (l : LastTree) → Covers ns sc → LinesBring hs sc ls inner
       → ((ns' : List (List ℕ)) → Covers ns' inner → LastFormed ns' l) → LinesFormed ns ls (λ x. LastFormed x l)

@@ -1,5 +1,6 @@
 -- The code of a function whose body is formed is accepted.
-use Rattle.std.proofs.Common.{◌≡◌, inl, inr, ℕ, zero, suc, ◌+◌, ◌-◌, ◌<◌, ◌≤◌, Bool, true, false, List, [], ◌∷◌, ◌++◌, length, slice_get, Option, Some, None, refl, sym, subst, ap, ◌∙◌, arith}
+use Rattle.std.proofs.Common.{◌≡◌, inl, inr, ℕ, zero, suc, ◌+◌, ◌-◌, ◌<◌, ◌≤◌, Bool, true, false, List, [], ◌∷◌, ◌++◌, length, slice_get, Option, Some, None}
+use Rattle.std.proofs.Common.{refl, sym, subst, ap, ◌∙◌, arith}
 use Rattle.std.proofs.lemmas.Option.{slice_get_within, same_Some}
 use Rattle.std.proofs.lemmas.List.{length-append}
 use Rattle.pie_code.specs.declared.instr.Each.{Each as EachLoop}
@@ -29,7 +30,8 @@ use Rattle.pie_codegen.proofs.Whole.{has_whole}
 params_fit : (code : Code) (all : List ℕ) (ps : List Param) (n : ℕ) (sc : Scope) (ns : List (List ℕ)) → n + length ps ≤ code.slots → ScopeFits code all ns sc
     → ScopeFits code all (names_onto ps ns) (scope_onto n ps sc)
 params_fit code all [] n sc ns h f = f
-params_fit code all (p ∷ ps) n sc ns h f = params_fit code all ps (n + 1) ((p.name.text, n) ∷ sc) (p.name.text ∷ ns) (omega (arith, h)) (refl, omega (arith, h), f)
+params_fit code all (p ∷ ps) n sc ns h f = params_fit code all ps (n + 1) ((p.name.text, n) ∷ sc) (p.name.text ∷ ns) (omega (arith, h))
+    (refl, omega (arith, h), f)
 
 -- the instruction at a place is right
 right_here : (code : Code) (all : List ℕ) (is : List Instr) (a k : ℕ) (i : Instr) → AllRight code all a is → slice_get is k ≡ Some i → Right code all (a + k) i
@@ -38,7 +40,8 @@ right_here code all (j ∷ is) a zero i g e =
     let same : j ≡ i = cc in subst (λ n. Right code all n i) (omega arith) (subst (λ (x : Instr). Right code all a x) same g.0)
 right_here code all (j ∷ is) a (suc k) i g e = subst (λ n. Right code all n i) (omega arith) (right_here code all is (a + 1) k i g.1 e)
 
-module _ (code : Code) (all : List ℕ) (right : AllRight code all 0 code.instrs.items) (many : length all ≡ length code.instrs.items) (first : slice_get all 0 ≡ Some 0) where
+module _ (code : Code) (all : List ℕ) (right : AllRight code all 0 code.instrs.items) (many : length all ≡ length code.instrs.items)
+    (first : slice_get all 0 ≡ Some 0) where
   there : (a : ℕ) (i : Instr) → slice_get code.instrs.items a ≡ Some i → Right code all a i
   there a i e = subst (λ n. Right code all n i) (omega arith) (right_here code all code.instrs.items 0 a i right e)
 
@@ -120,13 +123,17 @@ verified f code is w =
     let i1 = behind _ _ i0 (block_end f.body origin (length f.params) (scope_of f.params)) in
     let h1 = behind _ _ h0 (block_places f.body 0 origin) in
     let B = block_right code all f.body (length f.params) (scope_of f.params) (names_of f.params)
-    (params_fit code all f.params 0 [] [] (omega (arith, is.slots)) tt) origin 0 w (omega (arith, is.slots))
-    (has_front _ _ whole _ i0, subst (HasAt code.texts.items 0) is.texts (has_whole code.texts.items), has_front _ _ (block_heights f.body 0) _ h0) h1.0 begin in
+    (params_fit code all f.params 0 [] [] (omega (arith, is.slots)) tt) origin 0 w (omega (arith, is.slots)) (
+      has_front _ _ whole _ i0,
+      subst (HasAt code.texts.items 0) is.texts (has_whole code.texts.items),
+      has_front _ _ (block_heights f.body 0) _ h0,
+    ) h1.0 begin in
     accepted code all
     (subst (AllRight code all 0) (sym is.instrs)
     (right_both code all whole (Return ∷ []) 0 (after_block f.body origin).at B.right (block_end f.body origin (length f.params) (scope_of f.params))
     (returns code all (after_block f.body origin).at h1.0 B.out, tt)))
-    (length-append (block_heights f.body 0) (1 ∷ []) ∙ sym (ap (λ (xs : List Instr). length xs) is.instrs ∙ length-append whole (Return ∷ []) ∙ omega (arith, size, high)))
+    (length-append (block_heights f.body 0) (1 ∷ []) ∙ sym (ap (λ (xs : List Instr). length xs) is.instrs ∙ length-append whole (Return ∷ [])
+    ∙ omega (arith, size, high)))
     (block_start code all f.body 0 0 (1 ∷ []) h0)
     (omega (arith, is.slots, is.params))
     (Return, subst (λ (xs : List Instr). slice_get xs (length xs - 1) ≡ Some Return) (sym is.instrs) (last_of whole), refl)

@@ -1,5 +1,6 @@
 -- The code of a whole function means what the function means.
-use Rattle.std.proofs.Common.{◌≡◌, ℕ, zero, suc, ◌+◌, ◌-◌, ◌<◌, ◌≤◌, List, [], ◌∷◌, ◌++◌, length, slice_get, Option, Some, None, refl, sym, subst, ap, ◌∙◌, arith, append_assoc}
+use Rattle.std.proofs.Common.{◌≡◌, ℕ, zero, suc, ◌+◌, ◌-◌, ◌<◌, ◌≤◌, List, [], ◌∷◌, ◌++◌, length, slice_get, Option, Some, None, refl, sym, subst, ap, ◌∙◌}
+use Rattle.std.proofs.Common.{arith, append_assoc}
 use Rattle.std.proofs.lemmas.List.{length-append, append-nil}
 use Rattle.pie_value.specs.declared.event.Answer.{Answer}
 use Rattle.pie_value.specs.Tree.{Tree as Val}
@@ -88,7 +89,8 @@ one_run code zero m c o p h k = absurd cc
 one_run code (suc n) zero c o p h k = absurd cc
 one_run code (suc n) (suc m) c o p h k = by_turn (step code c) (λ d. one_run code n m d o p) h k
   where
-    by_turn : (t : Turn) → ((d : Config) → run code n d ≡ Some o → run code m d ≡ Some p → o ≡ p) → run_on t (run code n) ≡ Some o → run_on t (run code m) ≡ Some p → o ≡ p
+    by_turn : (t : Turn) → ((d : Config) → run code n d ≡ Some o → run code m d ≡ Some p → o ≡ p) → run_on t (run code n) ≡ Some o
+        → run_on t (run code m) ≡ Some p → o ≡ p
     by_turn (goes d) again h k = again d h k
     by_turn (ends x s) again h k = cc
 

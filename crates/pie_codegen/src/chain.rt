@@ -47,7 +47,8 @@ impl Emitter {
     #[cycle(emit)]
     fn either(&mut self, steps: &[Step], spot: Spot, mark: u16) -> Result<Spot, OutOfMemory>
         ensures spot { IfOk result (λ n. n ≡ spots.next (spots.next (spots.after_either (steps_of steps.now) spot))) }
-        ensures added { OnOk result (Adds self.old self.new (either_part (steps_of steps.now) spot mark self.old.names) (texts.steps_texts (steps_of steps.now))) }
+        ensures added { OnOk result (Adds self.old self.new (either_part (steps_of steps.now) spot mark self.old.names)
+            (texts.steps_texts (steps_of steps.now))) }
     {
         let to = after_either(steps, spot)?;
         let spot = self.either_operands(steps, spot, to, mark)?;
@@ -58,7 +59,8 @@ impl Emitter {
     #[cycle(emit)]
     fn both(&mut self, steps: &[Step], spot: Spot, mark: u16) -> Result<Spot, OutOfMemory>
         ensures spot { IfOk result (λ n. n ≡ spots.next (spots.next (spots.after_both (steps_of steps.now) spot))) }
-        ensures added { OnOk result (Adds self.old self.new (both_part (steps_of steps.now) spot mark self.old.names) (texts.steps_texts (steps_of steps.now))) }
+        ensures added { OnOk result (Adds self.old self.new (both_part (steps_of steps.now) spot mark self.old.names)
+            (texts.steps_texts (steps_of steps.now))) }
     {
         let to = after_both(steps, spot)?;
         let spot = self.both_operands(steps, spot, to, mark)?;

@@ -98,9 +98,11 @@ row_here text t ts e = ap (λ b. cond b (row_of text (t ∷ ts) ∷ []) []) e
 first_of : (row : List ℕ × List ℕ) (rows : List (List ℕ × List ℕ)) → Contains (row ∷ rows) row
 first_of row rows = (0, omega arith, refl)
 
-among_all : (text : List ℕ) (front : List Token) (t : Token) (ts : List Token) → is_func t.kind ≡ true → Contains (digests_of text (front ++ t ∷ ts)) (row_of text (t ∷ ts))
+among_all : (text : List ℕ) (front : List Token) (t : Token) (ts : List Token) → is_func t.kind ≡ true
+    → Contains (digests_of text (front ++ t ∷ ts)) (row_of text (t ∷ ts))
 among_all text [] t ts e =
-    subst (λ rows. Contains (rows ++ digests_of text ts) (row_of text (t ∷ ts))) (sym (row_here text t ts e)) (first_of (row_of text (t ∷ ts)) (digests_of text ts))
+    subst (λ rows. Contains (rows ++ digests_of text ts) (row_of text (t ∷ ts))) (sym (row_here text t ts e))
+    (first_of (row_of text (t ∷ ts)) (digests_of text ts))
 among_all text (u ∷ us) t ts e =
     Contains-append_right (digest_here text (u ∷ (us ++ t ∷ ts))) (digests_of text (us ++ t ∷ ts)) (row_of text (t ∷ ts)) (among_all text us t ts e)
 

@@ -1,5 +1,6 @@
 -- What a crash may leave of files in memory, after one thing more.
-use Rattle.std.proofs.Common.{◌≡◌, ◌≤◌, ◌<◌, ◌+◌, ℕ, List, [], ◌∷◌, ◌++◌, length, take, Bool, true, false, refl, sym, ap, subst, ◌∙◌, arith, inl, inr, ⊎_elim, ◌⊎◌, eq-or-lt_of_le, Vec, Global}
+use Rattle.std.proofs.Common.{◌≡◌, ◌≤◌, ◌<◌, ◌+◌, ℕ, List, [], ◌∷◌, ◌++◌, length, take, Bool, true, false, refl, sym, ap, subst, ◌∙◌, arith, inl, inr, ⊎_elim}
+use Rattle.std.proofs.Common.{◌⊎◌, eq-or-lt_of_le, Vec, Global}
 use Rattle.std.specs.Prelude.{Option, None, Some, Ok, Err}
 use Rattle.std.proofs.lemmas.List.{take-append-le, take_all, length-append}
 use Rattle.pie_files.specs.declared.files.Call.{Call}
@@ -94,7 +95,8 @@ looked began same log longer call start is looks =
     grown Stays began same log longer (Asked call) start is (λ c left. (left.0, left.1, looks_stay call left.0 c looks left.2))
 
 -- a write that failed
-pub write_tried : (began same : Directory) (log longer : List Logged) (path : List ℕ) (mark : Option ℕ) → same ≡ began → longer ≡ log ++ Asked (Write path mark) ∷ []
+pub write_tried : (began same : Directory) (log longer : List Logged) (path : List ℕ) (mark : Option ℕ) → same ≡ began
+    → longer ≡ log ++ Asked (Write path mark) ∷ []
     → Elapses (MayWrite path) (length log) (length longer) (WasLeft began log) (WasLeft same longer) (IsLeft began log) (IsLeft same longer)
 write_tried began same log longer path mark start is = grown (MayWrite path) began same log longer (Asked (Write path mark)) start is (λ c left. left)
 
@@ -104,7 +106,8 @@ pub removal_tried : (began same : Directory) (log longer : List Logged) (path : 
 removal_tried began same log longer path start is = grown (MayRemove path) began same log longer (Asked (Remove path)) start is (λ c left. left)
 
 -- a write
-pub wrote : (began same : Directory) (log longer : List Logged) (path : List ℕ) (bytes : Vec ℕ Global) (mark : ℕ) → same ≡ began → longer ≡ log ++ Wrote path bytes mark ∷ []
+pub wrote : (began same : Directory) (log longer : List Logged) (path : List ℕ) (bytes : Vec ℕ Global) (mark : ℕ) → same ≡ began
+    → longer ≡ log ++ Wrote path bytes mark ∷ []
     → Elapses (MayWrite path) (length log) (length longer) (WasLeft began log) (WasLeft same longer) (IsLeft began log) (IsLeft same longer)
 wrote began same log longer path bytes mark start is = grown (MayWrite path) began same log longer (Wrote path bytes mark) start is (λ c left. left)
 
@@ -129,7 +132,8 @@ pub put_left : (began : Directory) (log longer : List Logged) (path : List ℕ) 
 put_left began log longer path bytes mark is c left = left_more began (λ d. d ≡ began) log (Put path bytes mark) c (subst (λ l. IsLeft began l c) is left)
 
 -- nothing happened
-unmoved : (step : Directory → Directory → Type 0) → ((d : Directory) → step d d) → (began start : Directory) (log same : List Logged) → start ≡ began → same ≡ log
+unmoved : (step : Directory → Directory → Type 0) → ((d : Directory) → step d d) → (began start : Directory) (log same : List Logged) → start ≡ began
+    → same ≡ log
     → Elapses step (length log) (length same) (WasLeft began log) (WasLeft start same) (IsLeft began log) (IsLeft start same)
 unmoved step still began start log same begins is = record {
   follows = λ c left. (c, subst (λ b. IsLeft b log c) begins (subst (λ l. IsLeft start l c) is left), still c);

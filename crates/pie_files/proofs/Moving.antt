@@ -8,7 +8,8 @@ use Rattle.pie_files.specs.declared.sure_files.Logged.TheVariants.{Put, Asked, W
 use Rattle.pie_files.specs.Images.{Stays, MayWrite, MayRemove, Elapses, Follows, Only, Sets}
 use Rattle.pie_files.specs.Story.{IsLeft}
 use Rattle.pie_files.specs.SureFiles.{images_by, moment_by, left_since_by}
-use Rattle.pie_files.proofs.Leaving.{Looks, looked, write_tried, removal_tried, wrote, removed, synced_all, put_left, only_done, look_unmoved, write_unmoved, removal_unmoved}
+use Rattle.pie_files.proofs.Leaving.{Looks, looked, write_tried, removal_tried, wrote, removed, synced_all, put_left, only_done, look_unmoved, write_unmoved}
+use Rattle.pie_files.proofs.Leaving.{removal_unmoved}
 
 -- a look for which there was no memory
 pub look_unnoted : (s t : SureFiles) → t.began ≡ s.began → t.log.items ≡ s.log.items
@@ -43,7 +44,8 @@ removal_noted s t path call is began story =
     removal_tried s.began t.began s.log.items t.log.items path began (story ∙ ap (λ k. s.log.items ++ Asked k ∷ []) is)
 
 -- a write
-pub write_done : (s t : SureFiles) (path copy : List ℕ) (bytes : Vec ℕ Global) (mark : ℕ) → copy ≡ path → t.began ≡ s.began → t.log.items ≡ s.log.items ++ Wrote copy bytes mark ∷ []
+pub write_done : (s t : SureFiles) (path copy : List ℕ) (bytes : Vec ℕ Global) (mark : ℕ) → copy ≡ path → t.began ≡ s.began
+    → t.log.items ≡ s.log.items ++ Wrote copy bytes mark ∷ []
     → Elapses (MayWrite path) (moment_by s) (moment_by t) (left_since_by s) (left_since_by t) (images_by s) (images_by t)
 write_done s t path copy bytes mark is began story =
     wrote s.began t.began s.log.items t.log.items path bytes mark began (story ∙ ap (λ q. s.log.items ++ Wrote q bytes mark ∷ []) is)

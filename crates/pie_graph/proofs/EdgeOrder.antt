@@ -57,7 +57,8 @@ pub nat_tie : (x y : ℕ) → is_eq (nat_cmp x y) ≡ eqb x y
 nat_tie x y = grind (arith, nat_tests)
 
 pub text_tie : (p q : List ℕ) → is_eq (slice_cmp nat_cmp p q) ≡ same_text p q
-text_tie p q = same_from_slice_cmp nat_cmp is_eq same_text refl (λ _ _. refl) (λ _ _. refl) (λ x y xs ys o h. grind (arith, nat_tests)) p q (slice_cmp nat_cmp p q) refl
+text_tie p q = same_from_slice_cmp nat_cmp is_eq same_text refl (λ _ _. refl) (λ _ _. refl) (λ x y xs ys o h. grind (arith, nat_tests)) p q
+    (slice_cmp nat_cmp p q) refl
 
 pub then_tie : (o r : Ordering) → is_eq (ordering_then o r) ≡ (is_eq o && is_eq r)
 then_tie Less r = refl

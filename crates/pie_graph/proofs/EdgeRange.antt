@@ -56,7 +56,8 @@ between_at what n l =
 from_users : (p : Use × ℕ → Bool) (edges : List (Use × ℕ)) (n : ℕ) → Contains (users_in p edges) n → (e : Use × ℕ) × Contains edges e × (p e ≡ true) × (e.1 ≡ n)
 from_users p [] n h = absurd (omega (arith, h.1))
 from_users p (e ∷ edges) n h =
-    elim (p e) as (λ b. p e ≡ b → Contains (map (λ (f : Use × ℕ). f.1) (cond b (e ∷ filter p edges) (filter p edges))) n → (f : Use × ℕ) × Contains (e ∷ edges) f × (p f ≡ true) × (f.1 ≡ n)) [
+    elim (p e) as (λ b. p e ≡ b → Contains (map (λ (f : Use × ℕ). f.1) (cond b (e ∷ filter p edges) (filter p edges))) n → (f : Use × ℕ)
+    × Contains (e ∷ edges) f × (p f ≡ true) × (f.1 ≡ n)) [
       | true ↦ λ is i. elim (contains_cases e.1 n (users_in p edges) i) [
         | inl here ↦ (e, contains_here e edges, is, here)
         | inr later ↦ let w = from_users p edges n later in (w.0, contains_later e w.0 edges w.1, w.2, w.3)
@@ -80,17 +81,20 @@ to_users p (e ∷ edges) f h is =
 
 later_more : (what : Use) (a b : Use × ℕ) → what ≡ a.0 → what ≡ b.0 → edge_cmp a b ≡ Less → a.1 < b.1
 later_more what a b ea eb h =
-    let alone : ordering_then (use_cmp what what) (nat_cmp a.1 b.1) ≡ Less = ap (λ (w : Use). ordering_then (use_cmp w what) (nat_cmp a.1 b.1)) ea ∙ ap (λ (w : Use). ordering_then (use_cmp a.0 w) (nat_cmp a.1 b.1)) eb ∙ h in
+    let alone : ordering_then (use_cmp what what) (nat_cmp a.1 b.1) ≡ Less = ap (λ (w : Use). ordering_then (use_cmp w what) (nat_cmp a.1 b.1)) ea
+    ∙ ap (λ (w : Use). ordering_then (use_cmp a.0 w) (nat_cmp a.1 b.1)) eb ∙ h in
     let less : Less ≡ nat_cmp a.1 b.1 = sym alone ∙ ap (λ o. ordering_then o (nat_cmp a.1 b.1)) (tied_itself use_laws.total-law what) in
     ranked a.1 b.1 Less less
 
 ascending : (what : Use) (edges : List (Use × ℕ)) → IsStrictlySortedBy edge_cmp edges → IsStrictlyIncreasing (users_in (between what) edges)
 ascending what [] up = λ k l. absurd (omega arith)
 ascending what (e ∷ edges) up =
-    elim (between what e) as (λ b. between what e ≡ b → IsStrictlyIncreasing (map (λ (f : Use × ℕ). f.1) (cond b (e ∷ filter (between what) edges) (filter (between what) edges)))) [
+    elim (between what e) as (λ b. between what e ≡ b → IsStrictlyIncreasing
+    (map (λ (f : Use × ℕ). f.1) (cond b (e ∷ filter (between what) edges) (filter (between what) edges)))) [
       | true ↦ λ is. increasing_cons e.1 (users_in (between what) edges)
           (λ y h. let w = from_users (between what) edges y h in
-          let less : edge_cmp e w.0 ≡ Less = All-contains (λ (f : Use × ℕ). edge_cmp e f ≡ Less) edges w.0 (All-from_recursion (λ (f : Use × ℕ). edge_cmp e f ≡ Less) edges (sorted_head edge_cmp e edges up)) w.1 in
+          let less : edge_cmp e w.0 ≡ Less = All-contains (λ (f : Use × ℕ). edge_cmp e f ≡ Less) edges w.0
+          (All-from_recursion (λ (f : Use × ℕ). edge_cmp e f ≡ Less) edges (sorted_head edge_cmp e edges up)) w.1 in
           subst (λ n. e.1 < n) w.3 (later_more what e w.0 (between_is what e is) (between_is what w.0 w.2) less))
           (ascending what edges (sorted_tail edge_cmp e edges up))
       | false ↦ λ is. ascending what edges (sorted_tail edge_cmp e edges up)
@@ -100,10 +104,12 @@ below : (rows : List Row) (n : ℕ) (what : Use) → has (row_at rows n) what �
 below rows n what h =
     elim (cases_lt n (length rows)) [
       | inl l ↦ l
-      | inr past ↦ let none : has (row_at rows n) what ≡ false = ap (λ (row : Row). has row what) (get_or_past rows n no_edges past) ∙ none_has what in absurd (cc)
+      | inr past ↦ let none : has (row_at rows n) what ≡ false = ap (λ (row : Row). has row what) (get_or_past rows n no_edges past) ∙ none_has what in
+          absurd (cc)
     ]
 
-pub users_exactly : (index : BTreeSet (Use × ℕ)) (what : Use) (rows : List Row) (found : List ℕ) → IsOrdered edge_cmp index → length rows ≤ 50000 → IsIndex index rows → found ≡ users_in (between what) index.keys → Exactly (λ n. Has (row_at rows n) what) found
+pub users_exactly : (index : BTreeSet (Use × ℕ)) (what : Use) (rows : List Row) (found : List ℕ) → IsOrdered edge_cmp index → length rows ≤ 50000
+    → IsIndex index rows → found ≡ users_in (between what) index.keys → Exactly (λ n. Has (row_at rows n) what) found
 users_exactly index what rows found up few is e =
     subst (λ (ns : List ℕ). Exactly (λ n. Has (row_at rows n) what) ns) (sym e) (record {
       ascending = ascending what index.keys up;
@@ -111,24 +117,31 @@ users_exactly index what rows found up few is e =
           let w = from_users (between what) index.keys n h in
           let held : holds index w.0 ≡ true = (btree_set_contains_iff edge_total edge_exact index w.0).1 w.1 in
           let there : has (row_at rows w.0.1) w.0.0 ≡ true = sym (is w.0) ∙ held in
-          has_true (row_at rows n) what (subst (λ m. has (row_at rows m) what ≡ true) w.3 (subst (λ (u : Use). has (row_at rows w.0.1) u ≡ true) (sym (between_is what w.0 w.2)) there));
+          has_true (row_at rows n) what (subst (λ m. has (row_at rows m) what ≡ true) w.3
+          (subst (λ (u : Use). has (row_at rows w.0.1) u ≡ true) (sym (between_is what w.0 w.2)) there));
       each = λ n h.
           let there : has (row_at rows n) what ≡ true = true_has (row_at rows n) what h in
           let l : n < 50000 = omega (arith, below rows n what there) in
-          to_users (between what) index.keys (what, n) ((btree_set_contains_iff edge_total edge_exact index (what, n)).0 (is (what, n) ∙ there)) (between_at what n l);
+          to_users (between what) index.keys (what, n) ((btree_set_contains_iff edge_total edge_exact index (what, n)).0 (is (what, n) ∙ there))
+          (between_at what n l);
     })
 
-pub users_start : (what other : Use) (index : BTreeSet (Use × ℕ)) (found : List TaskNo) (edges : List (Use × ℕ)) → found ≡ [] → other ≡ what → edges ≡ keys_between edge_cmp (Included (other, 0)) (Excluded (what, 50000)) index → numbers found ++ map (λ (e : Use × ℕ). e.1) edges ≡ users_in (between what) index.keys
+pub users_start : (what other : Use) (index : BTreeSet (Use × ℕ)) (found : List TaskNo) (edges : List (Use × ℕ)) → found ≡ [] → other ≡ what
+    → edges ≡ keys_between edge_cmp (Included (other, 0)) (Excluded (what, 50000)) index
+    → numbers found ++ map (λ (e : Use × ℕ). e.1) edges ≡ users_in (between what) index.keys
 users_start what other index found edges none same e =
     ap (λ (ts : List TaskNo). numbers ts ++ map (λ (f : Use × ℕ). f.1) edges) none
     ∙ ap (map (λ (f : Use × ℕ). f.1)) (e ∙ ap (λ (w : Use). keys_between edge_cmp (Included (w, 0)) (Excluded (what, 50000)) index) same)
 
-pub users_more : (found : List TaskNo) (task : TaskNo) (edge : Use × ℕ) (edges rest : List (Use × ℕ)) (all : List ℕ) → task.0 ≡ edge.1 → edges ≡ edge ∷ rest → numbers found ++ map (λ (e : Use × ℕ). e.1) edges ≡ all → numbers (found ++ task ∷ []) ++ map (λ (e : Use × ℕ). e.1) rest ≡ all
+pub users_more : (found : List TaskNo) (task : TaskNo) (edge : Use × ℕ) (edges rest : List (Use × ℕ)) (all : List ℕ) → task.0 ≡ edge.1 → edges ≡ edge ∷ rest
+    → numbers found ++ map (λ (e : Use × ℕ). e.1) edges ≡ all → numbers (found ++ task ∷ []) ++ map (λ (e : Use × ℕ). e.1) rest ≡ all
 users_more found task edge edges rest all same split h =
     ap (λ (ns : List ℕ). ns ++ map (λ (e : Use × ℕ). e.1) rest) (map-append (λ (t : TaskNo). t.0) found (task ∷ []))
     ∙ append_assoc (numbers found) (task.0 ∷ []) (map (λ (e : Use × ℕ). e.1) rest)
     ∙ ap (λ n. numbers found ++ (n ∷ map (λ (e : Use × ℕ). e.1) rest)) same
     ∙ ap (λ (es : List (Use × ℕ)). numbers found ++ map (λ (e : Use × ℕ). e.1) es) (sym split) ∙ h
 
-pub users_all : (found : List TaskNo) (edges : List (Use × ℕ)) (all : List ℕ) → edges ≡ [] → numbers found ++ map (λ (e : Use × ℕ). e.1) edges ≡ all → numbers found ≡ all
-users_all found edges all none h = sym (append-nil (numbers found)) ∙ ap (λ (es : List (Use × ℕ)). numbers found ++ map (λ (e : Use × ℕ). e.1) es) (sym none) ∙ h
+pub users_all : (found : List TaskNo) (edges : List (Use × ℕ)) (all : List ℕ) → edges ≡ [] → numbers found ++ map (λ (e : Use × ℕ). e.1) edges ≡ all
+    → numbers found ≡ all
+users_all found edges all none h = sym (append-nil (numbers found)) ∙ ap (λ (es : List (Use × ℕ)). numbers found ++ map (λ (e : Use × ℕ). e.1) es) (sym none)
+    ∙ h

@@ -16,7 +16,8 @@ use Rattle.pie_graph.proofs.EdgeSteps.{added_one}
 abbrev pub listed : Use × ℕ → List (Use × ℕ) → Bool
 listed edge edges = list_any (λ k. is_eq (edge_cmp edge k)) edges
 
-pub add_step : (q k : Use × ℕ) (keys rest : List (Use × ℕ)) (held now all : Bool) → keys ≡ k ∷ rest → now ≡ cond (is_eq (edge_cmp k q)) true held → (held || listed q keys) ≡ all → (now || listed q rest) ≡ all
+pub add_step : (q k : Use × ℕ) (keys rest : List (Use × ℕ)) (held now all : Bool) → keys ≡ k ∷ rest → now ≡ cond (is_eq (edge_cmp k q)) true held
+    → (held || listed q keys) ≡ all → (now || listed q rest) ≡ all
 add_step q k keys rest held now all split e inv =
     ap (λ b. b || listed q rest) (e ∙ ap (λ b. cond b true held) (edge_swap k q)) ∙ added_one (is_eq (edge_cmp q k)) held (listed q rest)
     ∙ ap (λ (ks : List (Use × ℕ)). held || listed q ks) (sym split) ∙ inv
@@ -41,7 +42,9 @@ pruned true h s k r e = ap (λ b. (h && not (true && not b)) && not (r && not s)
 pruned false true s k r e = refl
 pruned false false s k r e = refl
 
-pub remove_step : (stays : Use × ℕ → Bool) (q k : Use × ℕ) (keys rest : List (Use × ℕ)) (held now all : Bool) → keys ≡ k ∷ rest → now ≡ (held && not (is_eq (edge_cmp k q) && not (stays k))) → (held && not (listed q keys && not (stays q))) ≡ all → (now && not (listed q rest && not (stays q))) ≡ all
+pub remove_step : (stays : Use × ℕ → Bool) (q k : Use × ℕ) (keys rest : List (Use × ℕ)) (held now all : Bool) → keys ≡ k ∷ rest
+    → now ≡ (held && not (is_eq (edge_cmp k q) && not (stays k))) → (held && not (listed q keys && not (stays q))) ≡ all
+    → (now && not (listed q rest && not (stays q))) ≡ all
 remove_step stays q k keys rest held now all split e inv =
     ap (λ b. b && not (listed q rest && not (stays q))) (e ∙ ap (λ b. held && not (b && not (stays k))) (edge_swap k q))
     ∙ pruned (is_eq (edge_cmp q k)) held (stays q) (stays k) (listed q rest) (λ h. ap stays (sym (same_edge q k h)))
@@ -57,11 +60,14 @@ replaced_there true = refl
 replaced_there false = refl
 
 -- one row is replaced: what holds of an edge is what the new rows say
-pub index_set : (rows : List Row) (n : ℕ) (new : Row) (edge : Use × ℕ) (now held fresh stale : Bool) → n < length rows → now ≡ (fresh || (held && not stale)) → fresh ≡ is_of new n edge → stale ≡ is_of (row_at rows n) n edge → held ≡ has (row_at rows edge.1) edge.0 → now ≡ has (row_at (set rows n new) edge.1) edge.0
+pub index_set : (rows : List Row) (n : ℕ) (new : Row) (edge : Use × ℕ) (now held fresh stale : Bool) → n < length rows → now ≡ (fresh || (held && not stale))
+    → fresh ≡ is_of new n edge → stale ≡ is_of (row_at rows n) n edge → held ≡ has (row_at rows edge.1) edge.0
+    → now ≡ has (row_at (set rows n new) edge.1) edge.0
 index_set rows n new edge now held fresh stale l r f s h =
     let u = edge.0 in
     let both : now ≡ (is_of new n edge || (has (row_at rows edge.1) u && not (is_of (row_at rows n) n edge))) =
-    r ∙ ap (λ b. b || (held && not stale)) f ∙ ap (λ b. is_of new n edge || (held && not b)) s ∙ ap (λ b. is_of new n edge || (b && not (is_of (row_at rows n) n edge))) h in
+    r ∙ ap (λ b. b || (held && not stale)) f ∙ ap (λ b. is_of new n edge || (held && not b)) s
+    ∙ ap (λ b. is_of new n edge || (b && not (is_of (row_at rows n) n edge))) h in
     elim (eqb_tells edge.1 n) [
       | inl e ↦
           both ∙ ap (λ b. (b && has new u) || (has (row_at rows edge.1) u && not (b && has (row_at rows n) u))) e.0

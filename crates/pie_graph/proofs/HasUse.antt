@@ -62,12 +62,15 @@ none_has (Writes path) = refl
 mark_at : (rows : List Row) (what : Use) (n : ℕ) → get_or (map (λ row. has row what) rows) n false ≡ has (row_at rows n) what
 mark_at rows what n = ap (get_or (map (λ (row : Row). has row what) rows) n) (sym (none_has what)) ∙ at.get_or-map (λ (row : Row). has row what) rows n no_edges
 
-pub users_exactly : (rows : List Row) (what : Use) (marks : List Bool) (found : List ℕ) → marks ≡ map (λ row. has row what) rows → Exactly (IsMarked marks) found → Exactly (λ n. Has (row_at rows n) what) found
+pub users_exactly : (rows : List Row) (what : Use) (marks : List Bool) (found : List ℕ) → marks ≡ map (λ row. has row what) rows
+    → Exactly (IsMarked marks) found → Exactly (λ n. Has (row_at rows n) what) found
 users_exactly rows what marks found e x = record {
   ascending = x.ascending;
   only = λ n h. has_true (row_at rows n) what (sym (mark_at rows what n) ∙ ap (λ (ms : List Bool). get_or ms n false) (sym e) ∙ x.only n h);
   each = λ n h. x.each n (ap (λ (ms : List Bool). get_or ms n false) e ∙ mark_at rows what n ∙ true_has (row_at rows n) what h);
 }
 
-pub users_of : (edges : List Edges) (rows : List Row) (what : Use) (marks : List Bool) (found : List ℕ) → map row_of edges ≡ rows → marks ≡ map (λ e. has (row_of e) what) edges → Exactly (IsMarked marks) found → Exactly (λ n. Has (row_at rows n) what) found
-users_of edges rows what marks found v e x = users_exactly rows what marks found (e ∙ sym (map-map (λ (row : Row). has row what) row_of edges) ∙ ap (map (λ (row : Row). has row what)) v) x
+pub users_of : (edges : List Edges) (rows : List Row) (what : Use) (marks : List Bool) (found : List ℕ) → map row_of edges ≡ rows
+    → marks ≡ map (λ e. has (row_of e) what) edges → Exactly (IsMarked marks) found → Exactly (λ n. Has (row_at rows n) what) found
+users_of edges rows what marks found v e x = users_exactly rows what marks found
+    (e ∙ sym (map-map (λ (row : Row). has row what) row_of edges) ∙ ap (map (λ (row : Row). has row what)) v) x

@@ -36,7 +36,8 @@ only n (suc k) (false ∷ marks) h = only (suc n) k marks (let P : ℕ → Type 
 
 each : (n k : ℕ) (marks : List Bool) → get_or marks k false ≡ true → Contains (marked_from n marks) (n + k)
 each n k [] h = cc
-each n zero (true ∷ marks) h = let P : ℕ → Type 0 = λ m. Contains (n ∷ marked_from (suc n) marks) m in subst P (omega arith) (contains_here n (marked_from (suc n) marks))
+each n zero (true ∷ marks) h = let P : ℕ → Type 0 = λ m. Contains (n ∷ marked_from (suc n) marks) m in
+    subst P (omega arith) (contains_here n (marked_from (suc n) marks))
 each n (suc k) (true ∷ marks) h =
     let P : ℕ → Type 0 = λ m. Contains (n ∷ marked_from (suc n) marks) m in
     subst P (omega arith) (contains_later n (suc n + k) (marked_from (suc n) marks) (each (suc n) k marks h))
@@ -45,7 +46,8 @@ each n (suc k) (false ∷ marks) h =
     let P : ℕ → Type 0 = λ m. Contains (marked_from (suc n) marks) m in
     subst P (omega arith) (each (suc n) k marks h)
 
-pub marked_end : (found : List ℕ) (n : ℕ) (marks : List Bool) → length marks ≤ n → found ++ marked_from n (drop n marks) ≡ marked_from 0 marks → found ≡ marked_from 0 marks
+pub marked_end : (found : List ℕ) (n : ℕ) (marks : List Bool) → length marks ≤ n → found ++ marked_from n (drop n marks) ≡ marked_from 0 marks
+    → found ≡ marked_from 0 marks
 marked_end found n marks l e = sym (append-nil found) ∙ ap (λ ms. found ++ marked_from n ms) (sym (drop_all n marks l)) ∙ e
 
 pub marked_exactly : (marks : List Bool) (found : List ℕ) → found ≡ marked_from 0 marks → Exactly (IsMarked marks) found

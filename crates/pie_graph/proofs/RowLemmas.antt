@@ -17,9 +17,11 @@ needs_below_at rows n below =
 
 pub needs_below_set : (rows : List Row) (n : ℕ) (row : Row) → NeedsBelow rows → AllBelow (length rows) row.needs → NeedsBelow (set rows n row)
 needs_below_set rows n row below fits =
-    subst (λ (bound : ℕ). All (λ (r : Row). AllBelow bound r.needs) (set rows n row)) (sym (length-set rows n row)) (All-set (λ (r : Row). AllBelow (length rows) r.needs) rows n row fits below)
+    subst (λ (bound : ℕ). All (λ (r : Row). AllBelow bound r.needs) (set rows n row)) (sym (length-set rows n row))
+    (All-set (λ (r : Row). AllBelow (length rows) r.needs) rows n row fits below)
 
 -- a row that an index reads
-pub row_read : (edges : List Edges) (rows : List Row) (n : ℕ) (e : Edges) → map row_of edges ≡ rows → n < length edges → e ≡ get_or edges n e → row_of e ≡ row_at rows n
+pub row_read : (edges : List Edges) (rows : List Row) (n : ℕ) (e : Edges) → map row_of edges ≡ rows → n < length edges → e ≡ get_or edges n e
+    → row_of e ≡ row_at rows n
 row_read edges rows n e v l is =
     ap row_of is ∙ sym (get_or-map row_of edges n e no_edges l) ∙ ap (λ (rs : List Row). row_at rs n) v

@@ -150,7 +150,8 @@ pub(crate) fn users_of(
     index: &BTreeSet<(Use, u32)>,
     what: Use,
 ) -> Result<Vec<TaskNo>, OutOfMemory>
-    ensures { IfOk result (λ found. (rows : List Row) → length rows ≤ MAX_TASKS → IsIndex index.now rows → Exactly (λ k. Has (row_at rows k) what) (numbers found.items)) }
+    ensures { IfOk result (λ found. (rows : List Row) → length rows ≤ MAX_TASKS → IsIndex index.now rows
+        → Exactly (λ k. Has (row_at rows k) what) (numbers found.items)) }
 {
     let first = (what.copy()?, 0);
     let end = (what, MAX_TASKS);

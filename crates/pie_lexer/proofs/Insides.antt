@@ -1,5 +1,6 @@
 -- What stands between quotes, and where a scan over it ends.
-use Rattle.std.proofs.Common.{◌≡◌, ◌≢◌, inl, inr, ℕ, ◌+◌, ◌-◌, true, false, ◌==◌, List, [], ◌∷◌, ◌++◌, length, None, refl, subst, ap, append_assoc, length-append, arith}
+use Rattle.std.proofs.Common.{◌≡◌, ◌≢◌, inl, inr, ℕ, ◌+◌, ◌-◌, true, false, ◌==◌, List, [], ◌∷◌, ◌++◌, length, None, refl, subst, ap, append_assoc}
+use Rattle.std.proofs.Common.{length-append, arith}
 use Rattle.std.proofs.lemmas.Bool.Decides.{eqb_tells}
 use Rattle.pie_lexer.specs.Quotes.{escape_of, Inside, nothing, plain, escape, EndsOpen, IsBadEscape}
 use Rattle.pie_lexer.proofs.Prefixes.{some_or_none}
@@ -14,7 +15,8 @@ inside-append (escape e j) i = escape e (inside-append j i)
 abbrev pub Said : List ℕ → End → Type 0
 Said tail (Closes said n) = (inner : List ℕ) × (rest : List ℕ) × (tail ≡ inner ++ 34 ∷ rest) × Inside inner said × (n ≡ length inner + 2)
 Said tail Opens = (inner : List ℕ) × (said : List ℕ) × (rest : List ℕ) × (tail ≡ inner ++ rest) × Inside inner said × EndsOpen rest
-Said tail (Fails n) = (inner : List ℕ) × (said : List ℕ) × (rest : List ℕ) × (tail ≡ inner ++ rest) × Inside inner said × IsBadEscape rest × (n ≡ length inner + 1)
+Said tail (Fails n) = (inner : List ℕ) × (said : List ℕ) × (rest : List ℕ) × (tail ≡ inner ++ rest) × Inside inner said × IsBadEscape rest
+    × (n ≡ length inner + 1)
 
 -- what a byte is to a scan
 data Sort (b : ℕ) : Type 0 where

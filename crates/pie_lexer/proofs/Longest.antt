@@ -11,7 +11,8 @@ use Rattle.pie_lexer.specs.declared.token.TokenKind.{TokenKind}
 use Rattle.pie_lexer.proofs.Prefixes.{at_least, prefix_passes}
 use Rattle.pie_lexer.proofs.Spelled.{sort_of, letter_sort, digit_sort, word_is, digits_are, mark_is, nonempty}
 
-no_longer_word : (b : ℕ) (bs v after : List ℕ) (y : Lexeme) → is_letter b ≡ true → b ∷ bs ≡ v ++ after → Spells v y → length v ≤ suc (prefix_len is_word_byte bs)
+no_longer_word : (b : ℕ) (bs v after : List ℕ) (y : Lexeme) → is_letter b ≡ true → b ∷ bs ≡ v ++ after → Spells v y
+    → length v ≤ suc (prefix_len is_word_byte bs)
 no_longer_word b bs [] after y l e s = omega arith
 no_longer_word b bs (c ∷ vs) after y l e s =
     let h : b ≡ c = cc in
@@ -64,7 +65,8 @@ abbrev pub NoPair : ℕ → List ℕ → Type 0
 NoPair a [] = Unit {0}
 NoPair a (b ∷ _) = double_of a b ≡ None
 
-no_longer_byte : (a : ℕ) (bs v after : List ℕ) (y : Lexeme) → sort_of a ≡ 4 → NoPair a bs → a ∷ bs ≡ v ++ after → Spells v y → (length v ≤ 1) × (length v ≡ 1 → (k : TokenKind) × (single_of a ≡ Some k))
+no_longer_byte : (a : ℕ) (bs v after : List ℕ) (y : Lexeme) → sort_of a ≡ 4 → NoPair a bs → a ∷ bs ≡ v ++ after → Spells v y → (length v ≤ 1)
+    × (length v ≡ 1 → (k : TokenKind) × (single_of a ≡ Some k))
 no_longer_byte a bs [] after y m n e s = (omega arith, λ h. absurd (omega arith))
 no_longer_byte a bs (c ∷ []) after y m n e s =
     let h : a ≡ c = cc in

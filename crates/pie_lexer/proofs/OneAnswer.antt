@@ -1,8 +1,10 @@
 -- A text has one answer.
-use Rattle.std.proofs.Common.{◌≡◌, inl, inr, ℕ, ◌+◌, ◌≤◌, List, [], ◌∷◌, ◌++◌, length, drop, Some, Result, Ok, Err, refl, sym, subst, ap, ◌∙◌, arith, append_assoc}
+use Rattle.std.proofs.Common.{◌≡◌, inl, inr, ℕ, ◌+◌, ◌≤◌, List, [], ◌∷◌, ◌++◌, length, drop, Some, Result, Ok, Err, refl, sym, subst, ap, ◌∙◌, arith}
+use Rattle.std.proofs.Common.{append_assoc}
 use Rattle.pie_lexer.specs.Bytes.{gap_len}
 use Rattle.pie_lexer.specs.Quotes.{Inside, EndsOpen, IsBadEscape}
-use Rattle.pie_lexer.specs.Tokens.{Lexeme, Number, Kind, Spells, word, digits, quoted, mark, IsLongest, Means, Refused, wide, unclosed, escape, char, before, Lexes, ended, gap, token, refused}
+use Rattle.pie_lexer.specs.Tokens.{Lexeme, Number, Kind, Spells, word, digits, quoted, mark, IsLongest, Means, Refused, wide, unclosed, escape, char, before}
+use Rattle.pie_lexer.specs.Tokens.{Lexes, ended, gap, token, refused}
 use Rattle.pie_lexer.specs.Answers.{IsAnswer, IsOnlyAnswer}
 use Rattle.pie_lexer.specs.declared.token.Token.{Token}
 use Rattle.pie_lexer.specs.declared.token.TokenKind.{TokenKind}
@@ -54,7 +56,8 @@ not_empty w rest x h =
     let e : [] ≡ n.0 ∷ (n.1 ++ rest) = h.front ∙ ap (λ v. v ++ rest) n.2 in cc
 
 -- a text in quotes is closed only where no other ending is
-closed_only : (text inner said r w rest : List ℕ) (x : Lexeme) → text ≡ 34 ∷ (inner ++ r) → Inside inner said → Stops r → IsLongest text w rest x → r ≡ 34 ∷ rest
+closed_only : (text inner said r w rest : List ℕ) (x : Lexeme) → text ≡ 34 ∷ (inner ++ r) → Inside inner said → Stops r → IsLongest text w rest x
+    → r ≡ 34 ∷ rest
 closed_only text inner said r w rest x e i s h =
     let n = nonempty w x h.spelled in
     let t : 34 ∷ (inner ++ r) ≡ n.0 ∷ (n.1 ++ rest) = sym e ∙ h.front ∙ ap (λ v. v ++ rest) n.2 in
@@ -85,35 +88,45 @@ taken_not_refused at text w rest x k e h m (wide v q n l big) =
     let z = longest_same text w rest v q x (Number n) h l in
     let m2 : Means (Number n) k = subst (λ y. Means y k) z.2 m in
     let small = m2.0 in absurd (omega arith)
-taken_not_refused at text w rest x k e h m (unclosed inner said r t i o) = open_not_closed r rest o (closed_only text inner said r w rest x t i (stops_open r o) h)
+taken_not_refused at text w rest x k e h m (unclosed inner said r t i o) = open_not_closed r rest o
+    (closed_only text inner said r w rest x t i (stops_open r o) h)
 taken_not_refused at text w rest x k e h m (escape inner said r t i o) = bad_not_closed r rest o (closed_only text inner said r w rest x t i (stops_bad r o) h)
 taken_not_refused at text w rest x k e h m (char b r t q none) = none w rest x h.front h.spelled
 
-quote_not_wide : (text inner r w rest : List ℕ) (n : ℕ) (said : List ℕ) → text ≡ 34 ∷ (inner ++ r) → Inside inner said → Stops r → (r ≡ 34 ∷ rest → ⊥) → IsLongest text w rest (Number n) → ⊥
+quote_not_wide : (text inner r w rest : List ℕ) (n : ℕ) (said : List ℕ) → text ≡ 34 ∷ (inner ++ r) → Inside inner said → Stops r → (r ≡ 34 ∷ rest → ⊥)
+    → IsLongest text w rest (Number n) → ⊥
 quote_not_wide text inner r w rest n said e i s never h = never (closed_only text inner said r w rest (Number n) e i s h)
 
 refused_same : (at : ℕ) (text : List ℕ) (e f : LexError) → Refused at text e → Refused at text f → e ≡ f
 refused_same at text e f (wide w rest n l big) (wide w2 rest2 n2 l2 big2) = refl
-refused_same at text e f (wide w rest n l big) (unclosed inner said r t i o) = absurd (quote_not_wide text inner r w rest n said t i (stops_open r o) (open_not_closed r rest o) l)
-refused_same at text e f (wide w rest n l big) (escape inner said r t i o) = absurd (quote_not_wide text inner r w rest n said t i (stops_bad r o) (bad_not_closed r rest o) l)
+refused_same at text e f (wide w rest n l big) (unclosed inner said r t i o) = absurd
+    (quote_not_wide text inner r w rest n said t i (stops_open r o) (open_not_closed r rest o) l)
+refused_same at text e f (wide w rest n l big) (escape inner said r t i o) = absurd
+    (quote_not_wide text inner r w rest n said t i (stops_bad r o) (bad_not_closed r rest o) l)
 refused_same at text e f (wide w rest n l big) (char b r t q none) = absurd (none w rest (Number n) l.front l.spelled)
-refused_same at text e f (unclosed inner said r t i o) (wide w rest n l big) = absurd (quote_not_wide text inner r w rest n said t i (stops_open r o) (open_not_closed r rest o) l)
+refused_same at text e f (unclosed inner said r t i o) (wide w rest n l big) = absurd
+    (quote_not_wide text inner r w rest n said t i (stops_open r o) (open_not_closed r rest o) l)
 refused_same at text e f (unclosed inner said r t i o) (unclosed inner2 said2 r2 t2 i2 o2) = refl
 refused_same at text e f (unclosed inner said r t i o) (escape inner2 said2 r2 t2 i2 o2) =
     let u : inner ++ r ≡ inner2 ++ r2 = (let v : 34 ∷ (inner ++ r) ≡ 34 ∷ (inner2 ++ r2) = sym t ∙ t2 in cc) in
     let z = inside_same r r2 i i2 (stops_open r o) (stops_bad r2 o2) u in absurd (open_not_bad r r2 o o2 z.2)
-refused_same at text e f (unclosed inner said r t i o) (char b r2 t2 q none) = absurd (q (let v : 34 ∷ (inner ++ r) ≡ b ∷ r2 = sym t ∙ t2 in let w : b ≡ 34 = cc in w))
-refused_same at text e f (escape inner said r t i o) (wide w rest n l big) = absurd (quote_not_wide text inner r w rest n said t i (stops_bad r o) (bad_not_closed r rest o) l)
+refused_same at text e f (unclosed inner said r t i o) (char b r2 t2 q none) = absurd
+    (q (let v : 34 ∷ (inner ++ r) ≡ b ∷ r2 = sym t ∙ t2 in let w : b ≡ 34 = cc in w))
+refused_same at text e f (escape inner said r t i o) (wide w rest n l big) = absurd
+    (quote_not_wide text inner r w rest n said t i (stops_bad r o) (bad_not_closed r rest o) l)
 refused_same at text e f (escape inner said r t i o) (unclosed inner2 said2 r2 t2 i2 o2) =
     let u : inner ++ r ≡ inner2 ++ r2 = (let v : 34 ∷ (inner ++ r) ≡ 34 ∷ (inner2 ++ r2) = sym t ∙ t2 in cc) in
     let z = inside_same r r2 i i2 (stops_bad r o) (stops_open r2 o2) u in absurd (open_not_bad r2 r o2 o (sym z.2))
 refused_same at text e f (escape inner said r t i o) (escape inner2 said2 r2 t2 i2 o2) =
     let u : inner ++ r ≡ inner2 ++ r2 = (let v : 34 ∷ (inner ++ r) ≡ 34 ∷ (inner2 ++ r2) = sym t ∙ t2 in cc) in
     let z = inside_same r r2 i i2 (stops_bad r o) (stops_bad r2 o2) u in ap (λ v. BadEscape (at + 1 + length v)) z.0
-refused_same at text e f (escape inner said r t i o) (char b r2 t2 q none) = absurd (q (let v : 34 ∷ (inner ++ r) ≡ b ∷ r2 = sym t ∙ t2 in let w : b ≡ 34 = cc in w))
+refused_same at text e f (escape inner said r t i o) (char b r2 t2 q none) = absurd
+    (q (let v : 34 ∷ (inner ++ r) ≡ b ∷ r2 = sym t ∙ t2 in let w : b ≡ 34 = cc in w))
 refused_same at text e f (char b r2 t2 q none) (wide w rest n l big) = absurd (none w rest (Number n) l.front l.spelled)
-refused_same at text e f (char b r2 t2 q none) (unclosed inner said r t i o) = absurd (q (let v : 34 ∷ (inner ++ r) ≡ b ∷ r2 = sym t ∙ t2 in let w : b ≡ 34 = cc in w))
-refused_same at text e f (char b r2 t2 q none) (escape inner said r t i o) = absurd (q (let v : 34 ∷ (inner ++ r) ≡ b ∷ r2 = sym t ∙ t2 in let w : b ≡ 34 = cc in w))
+refused_same at text e f (char b r2 t2 q none) (unclosed inner said r t i o) = absurd
+    (q (let v : 34 ∷ (inner ++ r) ≡ b ∷ r2 = sym t ∙ t2 in let w : b ≡ 34 = cc in w))
+refused_same at text e f (char b r2 t2 q none) (escape inner said r t i o) = absurd
+    (q (let v : 34 ∷ (inner ++ r) ≡ b ∷ r2 = sym t ∙ t2 in let w : b ≡ 34 = cc in w))
 refused_same at text e f (char b r t q none) (char b2 r2 t2 q2 none2) = refl
 
 nothing_refused : (at : ℕ) (e : LexError) → Refused at [] e → ⊥
@@ -138,9 +151,12 @@ one_answer at text r s (token w rest x k {r = r1} g h m l) (token w2 rest2 x2 k2
     let n : k ≡ k2 = means_same x k k2 m (subst (λ y. Means y k2) (sym z.2) m2) in
     let p : Lexes (at + length w) rest r2 = subst (λ y. Lexes (at + length w) y r2) (sym z.1) (subst (λ y. Lexes (at + length y) rest2 r2) (sym z.0) l2) in
     let o : r1 ≡ r2 = one_answer (at + length w) rest r1 r2 l p in
-    let a : before (record { kind = k; at = at; end = at + length w }) r1 ≡ before (record { kind = k2; at = at; end = at + length w }) r1 = ap (λ j. before (record { kind = j; at = at; end = at + length w }) r1) n in
-    let b : before (record { kind = k2; at = at; end = at + length w }) r1 ≡ before (record { kind = k2; at = at; end = at + length w2 }) r1 = ap (λ y. before (record { kind = k2; at = at; end = at + length y }) r1) z.0 in
-    let c : before (record { kind = k2; at = at; end = at + length w2 }) r1 ≡ before (record { kind = k2; at = at; end = at + length w2 }) r2 = ap (λ y. before (record { kind = k2; at = at; end = at + length w2 }) y) o in
+    let a : before (record { kind = k; at = at; end = at + length w }) r1 ≡ before (record { kind = k2; at = at; end = at + length w }) r1 = ap
+    (λ j. before (record { kind = j; at = at; end = at + length w }) r1) n in
+    let b : before (record { kind = k2; at = at; end = at + length w }) r1 ≡ before (record { kind = k2; at = at; end = at + length w2 }) r1 = ap
+    (λ y. before (record { kind = k2; at = at; end = at + length y }) r1) z.0 in
+    let c : before (record { kind = k2; at = at; end = at + length w2 }) r1 ≡ before (record { kind = k2; at = at; end = at + length w2 }) r2 = ap
+    (λ y. before (record { kind = k2; at = at; end = at + length w2 }) y) o in
     a ∙ b ∙ c
 one_answer at text r s (token w rest x k g h m l) (refused {e = e} g2 f) = absurd (taken_not_refused at text w rest x k e h m f)
 one_answer at text r s (refused {e = e} g f) ended = absurd (nothing_refused at e f)

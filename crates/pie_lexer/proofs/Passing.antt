@@ -1,5 +1,6 @@
 -- From the answers at a place to those at the place before.
-use Rattle.std.proofs.Common.{◌≡◌, ℕ, ◌+◌, ◌<◌, ◌≤◌, Bool, true, false, cond, List, [], ◌∷◌, ◌++◌, length, drop, Result, Ok, Err, refl, sym, subst, ap, ◌∙◌, arith, append_assoc, length-append, length-drop}
+use Rattle.std.proofs.Common.{◌≡◌, ℕ, ◌+◌, ◌<◌, ◌≤◌, Bool, true, false, cond, List, [], ◌∷◌, ◌++◌, length, drop, Result, Ok, Err, refl, sym, subst, ap, ◌∙◌}
+use Rattle.std.proofs.Common.{arith, append_assoc, length-append, length-drop}
 use Rattle.std.specs.List.{prefix_len}
 use Rattle.std.proofs.lemmas.List.{drop-drop, drop_all}
 use Rattle.std.proofs.lemmas.List.Prefix.{front_rest}
@@ -28,13 +29,19 @@ gap_within text = by_comment (opens_comment text) (opens_space text) text (space
     space_within (b ∷ bs) = one_or_none (opens_space (b ∷ bs)) (length (b ∷ bs)) (omega arith)
 
 pub gap_carries : (text : List ℕ) (at n : ℕ) (ts : List Token) → 0 < n → n ≡ gap_len (drop at text) → Carries text at (at + n) ts ts
-gap_carries text at n ts h e = λ r l. (r, gap (subst (λ i. 0 < i) e h) (subst (λ i. Lexes (at + i) (drop i (drop at text)) r) e (subst (λ t. Lexes (at + n) t r) (sym (drop-drop n at text)) l)), refl)
+gap_carries text at n ts h e = λ r l. (
+  r,
+  gap (subst (λ i. 0 < i) e h)
+      (subst (λ i. Lexes (at + i) (drop i (drop at text)) r) e (subst (λ t. Lexes (at + n) t r) (sym (drop-drop n at text)) l)),
+  refl,
+)
 
 kept : (old : List Token) (t : Token) (r : Result (List Token) LexError) → after (old ++ t ∷ []) r ≡ after old (before t r)
 kept old t (Ok us) = ap Ok (append_assoc old (t ∷ []) us)
 kept old t (Err e) = refl
 
-pub token_carries : (text : List ℕ) (at : ℕ) (t : Token) (old new : List Token) → gap_len (drop at text) ≡ 0 → IsTokenAt at (drop at text) t → new ≡ old ++ t ∷ []
+pub token_carries : (text : List ℕ) (at : ℕ) (t : Token) (old new : List Token) → gap_len (drop at text) ≡ 0 → IsTokenAt at (drop at text) t
+    → new ≡ old ++ t ∷ []
     → Carries text at t.end old new
 token_carries text at t old new g (w, rest, x, longest, means, a, e) n = λ r l. (before t r, stands r l, ap (λ ts. after ts r) n ∙ kept old t r)
   where
@@ -64,7 +71,8 @@ pub carried : (text : List ℕ) (at next : ℕ) (old new : List Token) → Carri
 carried text at next old new c f r l =
     let s = c r l in subst (Lexes 0 text) (sym s.2) (f s.0 s.1)
 
-pub refused_passes : (text : List ℕ) (at : ℕ) (old new : List Token) (e : LexError) → gap_len (drop at text) ≡ 0 → TakesToken at (drop at text) (Err e) → Passes text at old new (Err e)
+pub refused_passes : (text : List ℕ) (at : ℕ) (old new : List Token) (e : LexError) → gap_len (drop at text) ≡ 0 → TakesToken at (drop at text) (Err e)
+    → Passes text at old new (Err e)
 refused_passes text at old new (BadChar i) g h = refused g h
 refused_passes text at old new (OpenText i) g h = refused g h
 refused_passes text at old new (BadEscape i) g h = refused g h

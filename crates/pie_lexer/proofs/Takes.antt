@@ -1,5 +1,6 @@
 -- From what the code has found at a place to the token that stands there.
-use Rattle.std.proofs.Common.{◌≡◌, inl, inr, ℕ, ◌+◌, ◌^◌, ◌<◌, ◌≤◌, suc, Bool, true, false, nat_lt, List, [], ◌∷◌, ◌++◌, length, take, drop, get_or, Option, Some, None, Result, Ok, Err, ℤ, pos, w64, refl, sym, subst, ap, ◌∙◌, arith, rules, length-append, length-drop}
+use Rattle.std.proofs.Common.{◌≡◌, inl, inr, ℕ, ◌+◌, ◌^◌, ◌<◌, ◌≤◌, suc, Bool, true, false, nat_lt, List, [], ◌∷◌, ◌++◌, length, take, drop, get_or, Option}
+use Rattle.std.proofs.Common.{Some, None, Result, Ok, Err, ℤ, pos, w64, refl, sym, subst, ap, ◌∙◌, arith, rules, length-append, length-drop}
 use Rattle.std.specs.List.{list_all, prefix_len}
 use Rattle.std.specs.Result.{OkIff, result_ok}
 use Rattle.std.proofs.lemmas.Bool.Decides.{nat_tests}
@@ -36,8 +37,15 @@ word_taken [] n at k l h e q = absurd (omega arith)
 word_taken (b ∷ bs) n at k l h e q =
     let m = prefix_len is_word_byte bs in
     let s : n ≡ suc m = one_on is_word_byte b n bs (letter_is_word b h) e in
-    let t : k ≡ word_kind (take (suc m) (b ∷ bs)) = q ∙ ap (λ i. word_kind (take i (b ∷ bs))) s in
-    (b ∷ take m bs, drop m bs, Kind (word_kind (b ∷ take m bs)), longest_word b bs m refl h, t, refl, (let z = length-prefix_len is_word_byte bs in omega arith))
+    let t : k ≡ word_kind (take (suc m) (b ∷ bs)) = q ∙ ap (λ i. word_kind (take i (b ∷ bs))) s in (
+      b ∷ take m bs,
+      drop m bs,
+      Kind (word_kind (b ∷ take m bs)),
+      longest_word b bs m refl h,
+      t,
+      refl,
+      (let z = length-prefix_len is_word_byte bs in omega arith),
+    )
 
 -- the digits in front of a text
 record Digits (text : List ℕ) (n : ℕ) : Type 0 where
@@ -49,7 +57,11 @@ digits_front [] n l h e = absurd (omega arith)
 digits_front (b ∷ bs) n l h e =
     let m = prefix_len is_digit bs in
     let s : n ≡ suc m = one_on is_digit b n bs h e in
-    let d : Digits (b ∷ bs) (suc m) = record { length_is = (let z = length-prefix_len is_digit bs in omega arith); longest_is = longest_digits b bs m refl h } in
+    let d : Digits (b ∷ bs) (suc m) = record {
+      length_is = (let z = length-prefix_len is_digit bs in
+          omega arith);
+      longest_is = longest_digits b bs m refl h;
+    } in
     subst (Digits (b ∷ bs)) (sym s) d
 
 pub narrow_some : (n : ℕ) (v : ℤ) → Some v ≡ narrow n → (n < 2 ^ 63) × (v ≡ pos n)
@@ -74,8 +86,15 @@ pub int_taken : (text : List ℕ) (n at : ℕ) (v z : ℤ) → z ≡ v → 0 < l
     → Some v ≡ narrow (number_of (take n text)) → IsTokenAt at text (record { kind = kinds.Int z; at = at; end = at + n })
 int_taken text n at v z s l h e q =
     let d = digits_front text n l h e in
-    let x = narrow_some (number_of (take n text)) v q in
-    (take n text, drop n text, Number (number_of (take n text)), d.longest_is, (x.0, ap (λ z. kinds.Int z) (s ∙ x.1)), refl, (let z = d.length_is in omega arith))
+    let x = narrow_some (number_of (take n text)) v q in (
+      take n text,
+      drop n text,
+      Number (number_of (take n text)),
+      d.longest_is,
+      (x.0, ap (λ z. kinds.Int z) (s ∙ x.1)),
+      refl,
+      (let z = d.length_is in omega arith),
+    )
 
 pub int_refused : (text : List ℕ) (n at : ℕ) → 0 < length text → is_digit (get_or text 0 0) ≡ true → n ≡ prefix_len is_digit text
     → None ≡ narrow (number_of (take n text)) → Refused at text (WideInt at)
@@ -93,19 +112,22 @@ narrowed (Err x) n l o h k e = elim (chosen (nat_lt n (2 ^ 63)) (Some (pos n)) N
   | inr c ↦ e ∙ c.1
 ]
 
-pub pair_taken : (text : List ℕ) (at : ℕ) (k : TokenKind) → sort_of (get_or text 0 0) ≡ 4 → Some k ≡ pair_at text → IsTokenAt at text (record { kind = k; at = at; end = at + 2 })
+pub pair_taken : (text : List ℕ) (at : ℕ) (k : TokenKind) → sort_of (get_or text 0 0) ≡ 4 → Some k ≡ pair_at text
+    → IsTokenAt at text (record { kind = k; at = at; end = at + 2 })
 pair_taken [] at k s h = cc
 pair_taken (a ∷ []) at k s h = cc
 pair_taken (a ∷ b ∷ bs) at k s h = (a ∷ b ∷ [], bs, Kind k, longest_pair a b bs k s (sym h), refl, refl, refl)
 
-pub byte_taken : (text : List ℕ) (at : ℕ) (k : TokenKind) → sort_of (get_or text 0 0) ≡ 4 → pair_at text ≡ None → Some k ≡ byte_at text → IsTokenAt at text (record { kind = k; at = at; end = at + 1 })
+pub byte_taken : (text : List ℕ) (at : ℕ) (k : TokenKind) → sort_of (get_or text 0 0) ≡ 4 → pair_at text ≡ None → Some k ≡ byte_at text
+    → IsTokenAt at text (record { kind = k; at = at; end = at + 1 })
 byte_taken [] at k s p h = cc
 byte_taken (a ∷ bs) at k s p h = (a ∷ [], bs, Kind k, longest_byte a bs k s (no_pair a bs p) (sym h), refl, refl, refl)
 
 not_quote : (a : ℕ) → sort_of a ≡ 4 → a ≡ 34 → ⊥
 not_quote a s h = let e : sort_of 34 ≡ 4 = subst (λ n. sort_of n ≡ 4) h s in omega arith
 
-pub char_refused : (text : List ℕ) (at : ℕ) → 0 < length text → sort_of (get_or text 0 0) ≡ 4 → pair_at text ≡ None → byte_at text ≡ None → Refused at text (BadChar at)
+pub char_refused : (text : List ℕ) (at : ℕ) → 0 < length text → sort_of (get_or text 0 0) ≡ 4 → pair_at text ≡ None → byte_at text ≡ None
+    → Refused at text (BadChar at)
 char_refused [] at l s p h = absurd (omega arith)
 char_refused (a ∷ bs) at l s p h = char a bs refl (not_quote a s) (no_mark a bs s (no_pair a bs p) h)
 

@@ -1,5 +1,6 @@
 -- The tokens of a text: at each place what parts tokens is passed by, and else the longest token is taken.
-use Rattle.std.specs.Prelude.{◌≡◌, ℕ, ◌+◌, ◌-◌, ◌*◌, ◌^◌, ◌<◌, ◌≤◌, true, cond, nat_lt, List, [], ◌∷◌, ◌++◌, length, drop, Option, Some, None, Result, Ok, Err, ℤ, pos}
+use Rattle.std.specs.Prelude.{◌≡◌, ℕ, ◌+◌, ◌-◌, ◌*◌, ◌^◌, ◌<◌, ◌≤◌, true, cond, nat_lt, List, [], ◌∷◌, ◌++◌, length, drop, Option, Some, None, Result, Ok, Err}
+use Rattle.std.specs.Prelude.{ℤ, pos}
 use Rattle.std.specs.List.{list_all}
 use Rattle.pie_lexer.specs.Bytes.{is_letter, is_digit, is_word_byte, gap_len}
 use Rattle.pie_lexer.specs.Words.{word_kind}
@@ -52,7 +53,8 @@ pub data Refused (at : ℕ) (text : List ℕ) : LexError → Type 0 where
   wide : (w rest : List ℕ) (n : ℕ) → IsLongest text w rest (Number n) → 2 ^ 63 ≤ n → Refused at text (WideInt at)
   unclosed : (inner said rest : List ℕ) → text ≡ 34 ∷ (inner ++ rest) → Inside inner said → EndsOpen rest → Refused at text (OpenText at)
   escape : (inner said rest : List ℕ) → text ≡ 34 ∷ (inner ++ rest) → Inside inner said → IsBadEscape rest → Refused at text (BadEscape (at + 1 + length inner))
-  char : (b : ℕ) (rest : List ℕ) → text ≡ b ∷ rest → (b ≡ 34 → ⊥) → ((v after : List ℕ) (y : Lexeme) → text ≡ v ++ after → Spells v y → ⊥) → Refused at text (BadChar at)
+  char : (b : ℕ) (rest : List ℕ) → text ≡ b ∷ rest → (b ≡ 34 → ⊥) → ((v after : List ℕ) (y : Lexeme) → text ≡ v ++ after → Spells v y → ⊥)
+      → Refused at text (BadChar at)
 
 -- an answer with a token before all others
 abbrev pub before : Token → Result (List Token) LexError → Result (List Token) LexError

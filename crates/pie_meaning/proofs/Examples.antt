@@ -14,7 +14,8 @@ use Rattle.pie_parser.specs.declared.tree.CallKind.TheVariants as calls
 use Rattle.pie_parser.specs.declared.tree.EffectKind.TheVariants as effects
 use Rattle.pie_parser.specs.declared.tree.Name.{Name}
 use Rattle.pie_parser.specs.declared.tree.Prefix.TheVariants as prefixes
-use Rattle.pie_parser.specs.Plain.{Tree, TLiteral, TName, TChain, TPrefix, TCall, TEffect, TEach, TList as ListOf, TIf, Trees, Nil, Cons, Steps, NoStep, AStep, BlockTree, TBlock, NoLine, NoLast, ALast, NoElse, AnElse}
+use Rattle.pie_parser.specs.Plain.{Tree, TLiteral, TName, TChain, TPrefix, TCall, TEffect, TEach, TList as ListOf, TIf, Trees, Nil, Cons, Steps, NoStep, AStep}
+use Rattle.pie_parser.specs.Plain.{BlockTree, TBlock, NoLine, NoLast, ALast, NoElse, AnElse}
 use Rattle.pie_meaning.specs.Words.{Env}
 use Rattle.pie_meaning.specs.Meaning.{value_of}
 
@@ -51,7 +52,8 @@ stops : value_of (TChain 0 0 (TLiteral 0 0 (literals.Bool false)) (AStep operato
 stops = refl
 
 -- `[-x for x in [1, 2]]`: the comprehension, the list with two items, and two nodes for each
-negates : value_of (TEach 0 0 (TPrefix 0 0 prefixes.Minus (TName 0 0 (codes "x"))) (named (codes "x")) (ListOf 0 0 (Cons (int 1) (Cons (int 2) Nil)))) [] (at_start [])
+negates : value_of (TEach 0 0 (TPrefix 0 0 prefixes.Minus (TName 0 0 (codes "x"))) (named (codes "x")) (ListOf 0 0 (Cons (int 1) (Cons (int 2) Nil)))) []
+    (at_start [])
     ≡ (done (TList (ConsVal (TInt (negsuc 0)) (ConsVal (TInt (negsuc 1)) NoVal))), record { answers = []; seen = []; wrote = []; ticks = 8 })
 negates = refl
 

@@ -2,7 +2,8 @@
 use Rattle.std.proofs.Common.{ℕ, zero, suc, ◌≡◌, Bool, false, cond, Option, Some, None, List, [], ◌∷◌, ◌++◌, length, map, codes, bytes_eq, refl}
 use Rattle.std.specs.List.{flat_map}
 use Rattle.pie_model.specs.Paths.{Path, Out, Kept, Source, kind_of, entries_among}
-use Rattle.pie_model.specs.Tasks.{Task, Exists, ByHash, ByMark, Whole, Hashed, Ran, Clash, Big, Null, Answer, Flag, Contents, HashOf, Entries, Wrote, Output, Succeeded, Event, Done, Fail, LookAt, ListOf, Write, Require}
+use Rattle.pie_model.specs.Tasks.{Task, Exists, ByHash, ByMark, Whole, Hashed, Ran, Clash, Big, Null, Answer, Flag, Contents, HashOf, Entries, Wrote, Output}
+use Rattle.pie_model.specs.Tasks.{Succeeded, Event, Done, Fail, LookAt, ListOf, Write, Require}
 use Rattle.pie_model.specs.Trees.{Ended, Failed, outcome_of}
 use Rattle.pie_model.specs.Evaluation.{World, Project, evaluation}
 use Rattle.pie_model.specs.Records.{record_of, Present, Hash, Mark, WholeValue, Looked, Required, observed}

@@ -1,10 +1,13 @@
 -- The record of a task that ended with a value agrees with the stamps on its own sources.
-use Rattle.std.proofs.Common.{ℕ, zero, suc, ◌≤◌, ◌-◌, ◌≡◌, true, false, Option, Some, None, option_map, List, [], ◌∷◌, ◌++◌, map, length, sym, ◌∙◌, ap, ap₂, refl, arith, append_assoc}
+use Rattle.std.proofs.Common.{ℕ, zero, suc, ◌≤◌, ◌-◌, ◌≡◌, true, false, Option, Some, None, option_map, List, [], ◌∷◌, ◌++◌, map, length, sym, ◌∙◌, ap, ap₂}
+use Rattle.std.proofs.Common.{refl, arith, append_assoc}
 use Rattle.pie_model.specs.Paths.{Path, kind_of, among}
 use Rattle.pie_model.specs.Tasks.{Task, Look, How, Answer, Entries, Event, Done, Fail, LookAt, ListOf, Write, Require}
-use Rattle.pie_model.specs.Trees.{Node, Trace, writes, needs, Seen, Nothing, Holds, Clashing, Outcome, Ended, Failed, Cycled, Many, outcome_of, end_of, trace_of, writes_of, is_done, is_plain}
+use Rattle.pie_model.specs.Trees.{Node, Trace, writes, needs, Seen, Nothing, Holds, Clashing, Outcome, Ended, Failed, Cycled, Many, outcome_of, end_of}
+use Rattle.pie_model.specs.Trees.{trace_of, writes_of, is_done, is_plain}
 use Rattle.pie_model.specs.Seen.{first_write, provided, visible_at}
-use Rattle.pie_model.specs.Evaluation.{World, Project, Progress, start, answered, wrote, required, absent_answer, present_answer, output_answer, listing, on_seen, on_listing, on_outcome, on_event, follow, evaluation_with, evaluation}
+use Rattle.pie_model.specs.Evaluation.{World, Project, Progress, start, answered, wrote, required, absent_answer, present_answer, output_answer, listing}
+use Rattle.pie_model.specs.Evaluation.{on_seen, on_listing, on_outcome, on_event, follow, evaluation_with, evaluation}
 use Rattle.pie_model.specs.Records.{observations_of, outcome_stamp, hashed, record_of}
 use Rattle.pie_model.specs.StampNow.{by_evaluation, told_of, look_now, listing_now, outcome_now, Agrees, RecordAgrees}
 use Rattle.pie_model.specs.Separate.{NeverWritesWhatItSaw, looked_paths}

@@ -1,10 +1,13 @@
 -- What a look or a listing is stamped with now, and that equal stamps come of equal answers.
-use Rattle.std.proofs.Common.{ℕ, zero, suc, leb, ◌≡◌, Bool, true, false, cond, Option, Some, None, option_map, List, [], ◌∷◌, ◌++◌, length, sym, ◌∙◌, ap, ap₂, subst, refl, bytes_eq, append_assoc, append-nil}
+use Rattle.std.proofs.Common.{ℕ, zero, suc, leb, ◌≡◌, Bool, true, false, cond, Option, Some, None, option_map, List, [], ◌∷◌, ◌++◌, length, sym, ◌∙◌, ap, ap₂}
+use Rattle.std.proofs.Common.{subst, refl, bytes_eq, append_assoc, append-nil}
 use Rattle.pie_model.specs.Paths.{Path, Kind, Out, Kept, Source, kind_of, among}
-use Rattle.pie_model.specs.Tasks.{Task, Value, Look, Exists, ByHash, ByMark, Digest, How, Whole, Hashed, Ran, Answer, HashOf, Output, Event, Done, Fail, LookAt, ListOf, Write, Require}
+use Rattle.pie_model.specs.Tasks.{Task, Value, Look, Exists, ByHash, ByMark, Digest, How, Whole, Hashed, Ran, Answer, HashOf, Output, Event, Done, Fail, LookAt}
+use Rattle.pie_model.specs.Tasks.{ListOf, Write, Require}
 use Rattle.pie_model.specs.Trees.{Node, Trace, Seen, Nothing, Holds, Clashing, Outcome, Ended, Failed, Cycled, Many, outcome_of, writes_of}
 use Rattle.pie_model.specs.Seen.{first_write, provided, seen_file, own_first, visible_by, visible_at}
-use Rattle.pie_model.specs.Evaluation.{World, Project, Progress, wrote, absent_answer, present_answer, output_answer, within_limit, listing, on_seen, on_listing, on_outcome, on_event, follow}
+use Rattle.pie_model.specs.Evaluation.{World, Project, Progress, wrote, absent_answer, present_answer, output_answer, within_limit, listing, on_seen}
+use Rattle.pie_model.specs.Evaluation.{on_listing, on_outcome, on_event, follow}
 use Rattle.pie_model.specs.Records.{Stamp, Absent, Hash, Mark, WholeValue, mark_stamp, contents_stamp, look_stamp, value_stamp, hashed}
 use Rattle.pie_model.specs.StampNow.{told_of, Teller, hash_stamp, told_stamp, own_told, look_now}
 use Rattle.pie_model.specs.Separate.{StampsSeparate, ListingsDiffer, MetSeen, looked_paths, path_looked, NeverWritesWhatItSaw}

@@ -1,5 +1,6 @@
 -- Records whose requires have no cycle can be ranked by the longest way.
-use Rattle.std.proofs.Common.{ℕ, zero, suc, max, ◌≤◌, ◌<◌, ◌≡◌, true, false, Option, Some, None, List, [], ◌∷◌, length, ◌⊎◌, inl, inr, sym, ap, ap₂, subst, refl, arith}
+use Rattle.std.proofs.Common.{ℕ, zero, suc, max, ◌≤◌, ◌<◌, ◌≡◌, true, false, Option, Some, None, List, [], ◌∷◌, length, ◌⊎◌, inl, inr, sym, ap, ap₂, subst}
+use Rattle.std.proofs.Common.{refl, arith}
 use Rattle.pie_model.specs.Paths.{among}
 use Rattle.pie_model.specs.Tasks.{Task}
 use Rattle.pie_model.specs.Records.{Record, needs_of}

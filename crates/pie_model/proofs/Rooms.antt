@@ -1,8 +1,10 @@
 -- Which tasks stand in a tree, how many levels it has, and that a plain tree is the same wherever it stands.
-use Rattle.std.proofs.Common.{ℕ, zero, suc, ◌≤◌, ◌<◌, ◌-◌, ◌≡◌, Bool, true, false, cond, List, [], ◌∷◌, ◌++◌, length, ◌⊎◌, inl, inr, sym, ◌∙◌, ap, subst, refl, arith, bytes_eq}
+use Rattle.std.proofs.Common.{ℕ, zero, suc, ◌≤◌, ◌<◌, ◌-◌, ◌≡◌, Bool, true, false, cond, List, [], ◌∷◌, ◌++◌, length, ◌⊎◌, inl, inr, sym, ◌∙◌, ap, subst, refl}
+use Rattle.std.proofs.Common.{arith, bytes_eq}
 use Rattle.pie_model.specs.Paths.{among}
 use Rattle.pie_model.specs.Tasks.{Task}
-use Rattle.pie_model.specs.Trees.{Node, node, Trace, ends, looks, lists, writes, needs, Outcome, Ended, Failed, Cycled, Many, outcome_of, task_of, trace_of, is_plain, HasTask, HasBelow, StandsIn, StandsBelow, levels, entered, entered_below, enter}
+use Rattle.pie_model.specs.Trees.{Node, node, Trace, ends, looks, lists, writes, needs, Outcome, Ended, Failed, Cycled, Many, outcome_of, task_of, trace_of}
+use Rattle.pie_model.specs.Trees.{is_plain, HasTask, HasBelow, StandsIn, StandsBelow, levels, entered, entered_below, enter}
 use Rattle.pie_model.specs.Evaluation.{World, Project, start, evaluation_with, evaluation}
 use Rattle.pie_model.proofs.Basics.{clash, cases, among_split, among_here, among_left, among_right, among_there, apart_rest, apart_front, front_or, same_bytes}
 use Rattle.pie_model.proofs.MovedLemmas.{opened_apart, opened_among, plain_apart, MovedNode, same_node, no_room_node, through_node, moved_with}

@@ -2,10 +2,13 @@
 use Rattle.std.proofs.Common.{ℕ, suc, ◌≡◌, true, false, Some, None, List, [], ◌∷◌, ◌++◌, inl, inr, sym, ◌∙◌, ap, subst, refl, append_assoc, append-nil}
 use Rattle.pie_model.specs.Paths.{Path, among}
 use Rattle.pie_model.specs.Tasks.{Task, Value, Look, How, FaultKind, Clash, Big, Entries, Event, Done, Fail, LookAt, ListOf, Write, Require}
-use Rattle.pie_model.specs.Trees.{Node, Trace, ends, needs, Nothing, Holds, Clashing, Outcome, Ended, Failed, Cycled, Many, outcome_of, end_of, trace_of, writes_of, is_done, StandsIn, StandsBelow, entered, entered_below, enter}
+use Rattle.pie_model.specs.Trees.{Node, Trace, ends, needs, Nothing, Holds, Clashing, Outcome, Ended, Failed, Cycled, Many, outcome_of, end_of, trace_of}
+use Rattle.pie_model.specs.Trees.{writes_of, is_done, StandsIn, StandsBelow, entered, entered_below, enter}
 use Rattle.pie_model.specs.Seen.{visible_at}
-use Rattle.pie_model.specs.Evaluation.{World, Project, Progress, start, answered, wrote, required, absent_answer, present_answer, output_answer, listing, on_seen, on_listing, on_outcome, on_event, round, evaluation_with}
-use Rattle.pie_model.specs.Records.{Absent, Hash, Looked, Listed, Required, Observation, observed, observations_of, contents_stamp, outcome_stamp, value_stamp, hashed, record_of}
+use Rattle.pie_model.specs.Evaluation.{World, Project, Progress, start, answered, wrote, required, absent_answer, present_answer, output_answer, listing}
+use Rattle.pie_model.specs.Evaluation.{on_seen, on_listing, on_outcome, on_event, round, evaluation_with}
+use Rattle.pie_model.specs.Records.{Absent, Hash, Looked, Listed, Required, Observation, observed, observations_of, contents_stamp, outcome_stamp, value_stamp}
+use Rattle.pie_model.specs.Records.{hashed, record_of}
 use Rattle.pie_model.specs.Running.{rest_of_run, entered_all, IsRunning}
 use Rattle.pie_model.proofs.Basics.{clash}
 use Rattle.pie_model.proofs.MovedLemmas.{opened_apart, opened_among}

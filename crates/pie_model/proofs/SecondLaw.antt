@@ -2,7 +2,8 @@
 use Rattle.std.proofs.Common.{ℕ, zero, suc, ◌≤◌, ◌-◌, ◌≡◌, true, false, List, [], ◌∷◌, length, ◌⊎◌, inl, inr, sym, ◌∙◌, ap, subst, refl, arith}
 use Rattle.pie_model.specs.Paths.{among}
 use Rattle.pie_model.specs.Tasks.{Task, How}
-use Rattle.pie_model.specs.Trees.{node, Trace, Outcome, Ended, Failed, Cycled, Many, outcome_of, end_of, trace_of, writes_of, is_done, is_plain, levels, HasTask}
+use Rattle.pie_model.specs.Trees.{node, Trace, Outcome, Ended, Failed, Cycled, Many, outcome_of, end_of, trace_of, writes_of, is_done, is_plain, levels}
+use Rattle.pie_model.specs.Trees.{HasTask}
 use Rattle.pie_model.specs.Evaluation.{World, Project, Progress, start, on_outcome, follow, evaluation_with, evaluation}
 use Rattle.pie_model.specs.Records.{record_of, needs_of, observations_of, hashed}
 use Rattle.pie_model.specs.StampNow.{by_evaluation, RecordAgrees}

@@ -1,15 +1,19 @@
 -- An old record all of whose stamps are the stamps now is the record of the evaluation now: the two traces side by side.
-use Rattle.std.proofs.Common.{ℕ, zero, suc, ◌≤◌, ◌≡◌, true, false, Option, Some, None, option_map, List, [], ◌∷◌, ◌++◌, map, sym, ◌∙◌, ap, ap₂, subst, refl, append_assoc}
+use Rattle.std.proofs.Common.{ℕ, zero, suc, ◌≤◌, ◌≡◌, true, false, Option, Some, None, option_map, List, [], ◌∷◌, ◌++◌, map, sym, ◌∙◌, ap, ap₂, subst, refl}
+use Rattle.std.proofs.Common.{append_assoc}
 use Rattle.pie_model.specs.Paths.{Path, Source, kind_of, among}
 use Rattle.pie_model.specs.Tasks.{Task, Value, Look, How, Answer, Entries, Wrote, Event, Done, Fail, LookAt, ListOf, Write, Require}
-use Rattle.pie_model.specs.Trees.{Node, Trace, looks, writes, needs, Seen, Nothing, Holds, Clashing, Outcome, Ended, Failed, Cycled, Many, outcome_of, end_of, writes_of, is_done, levels}
+use Rattle.pie_model.specs.Trees.{Node, Trace, looks, writes, needs, Seen, Nothing, Holds, Clashing, Outcome, Ended, Failed, Cycled, Many, outcome_of, end_of}
+use Rattle.pie_model.specs.Trees.{writes_of, is_done, levels}
 use Rattle.pie_model.specs.Seen.{first_write, provided, seen_file, visible_by, visible_at}
-use Rattle.pie_model.specs.Evaluation.{World, Project, Progress, answered, wrote, required, output_answer, listing, on_seen, on_listing, on_outcome, on_event, follow, evaluation}
+use Rattle.pie_model.specs.Evaluation.{World, Project, Progress, answered, wrote, required, output_answer, listing, on_seen, on_listing, on_outcome, on_event}
+use Rattle.pie_model.specs.Evaluation.{follow, evaluation}
 use Rattle.pie_model.specs.Records.{Stamp, Looked, Listed, Required, observed, observations_of, look_stamp, value_stamp, outcome_stamp, hashed, needs_of}
 use Rattle.pie_model.specs.StampNow.{by_evaluation, told_of, look_now, listing_now, outcome_now, Agrees}
 use Rattle.pie_model.specs.Separate.{StampsSeparate, ListingsDiffer, AllMet, MetOutcome, NeverWritesWhatItSaw, looked_paths}
 use Rattle.pie_model.proofs.Basics.{clash, among_here, among_there}
-use Rattle.pie_model.proofs.LooksLemmas.{first_write_front, first_write-hashed, hashed-append, looked_now, unwritten_later, seen_stamp, look_now_is, some_same, seen_answer, looks_alike, listings_alike, outputs_alike}
+use Rattle.pie_model.proofs.LooksLemmas.{first_write_front, first_write-hashed, hashed-append, looked_now, unwritten_later, seen_stamp, look_now_is, some_same}
+use Rattle.pie_model.proofs.LooksLemmas.{seen_answer, looks_alike, listings_alike, outputs_alike}
 
 pub map-end : {A B : Type 0} (f : A → B) (xs : List A) (x : A) → map f (xs ++ x ∷ []) ≡ map f xs ++ f x ∷ []
 map-end f [] x = refl

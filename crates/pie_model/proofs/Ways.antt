@@ -2,7 +2,8 @@
 use Rattle.std.proofs.Common.{ℕ, zero, suc, ◌-◌, ◌≡◌, true, Option, Some, List, [], ◌∷◌, length, inl, inr, sym, ◌∙◌, ap, subst, refl, arith}
 use Rattle.pie_model.specs.Paths.{among}
 use Rattle.pie_model.specs.Tasks.{Task}
-use Rattle.pie_model.specs.Trees.{Node, node, Trace, ends, looks, lists, writes, needs, outcome_of, task_of, trace_of, is_plain, StandsIn, StandsBelow, required_by}
+use Rattle.pie_model.specs.Trees.{Node, node, Trace, ends, looks, lists, writes, needs, outcome_of, task_of, trace_of, is_plain, StandsIn, StandsBelow}
+use Rattle.pie_model.specs.Trees.{required_by}
 use Rattle.pie_model.specs.Evaluation.{World, Project, evaluation_with, evaluation}
 use Rattle.pie_model.specs.Records.{Record, record_of, needs_of, observations_of}
 use Rattle.pie_model.specs.Present.{Reaches}

@@ -1,8 +1,10 @@
 -- The evaluation of a task: a tree in which every required task is evaluated again.
 use Rattle.std.specs.Prelude.{ℕ, zero, suc, ◌-◌, leb, Bool, true, false, cond, Option, Some, None, List, [], ◌∷◌, ◌++◌, length, bytes_eq}
 use Rattle.pie_model.specs.Paths.{Path, among}
-use Rattle.pie_model.specs.Tasks.{Task, Value, Look, Exists, ByHash, ByMark, Digest, How, Whole, Hashed, Ran, Clash, Budget, Big, Answer, Flag, Contents, HashOf, Entries, Wrote, Output, Succeeded, Event, Done, Fail, LookAt, ListOf, Write, Require}
-use Rattle.pie_model.specs.Trees.{Node, node, Trace, ends, looks, lists, writes, needs, Seen, Nothing, Holds, Clashing, Outcome, Ended, Failed, Cycled, Many, outcome_of}
+use Rattle.pie_model.specs.Tasks.{Task, Value, Look, Exists, ByHash, ByMark, Digest, How, Whole, Hashed, Ran, Clash, Budget, Big, Answer, Flag, Contents}
+use Rattle.pie_model.specs.Tasks.{HashOf, Entries, Wrote, Output, Succeeded, Event, Done, Fail, LookAt, ListOf, Write, Require}
+use Rattle.pie_model.specs.Trees.{Node, node, Trace, ends, looks, lists, writes, needs, Seen, Nothing, Holds, Clashing, Outcome, Ended, Failed, Cycled, Many}
+use Rattle.pie_model.specs.Trees.{outcome_of}
 use Rattle.pie_model.specs.Seen.{visible_at}
 
 -- what is the same for all builds: the hash of contents, the canonical bytes of a listing, and the limits

@@ -2,7 +2,8 @@
 use Rattle.std.specs.Prelude.{ℕ, Option, Some, None, List, [], ◌∷◌, ◌++◌}
 use Rattle.pie_model.specs.Paths.{Path, Kind, Out, Kept, Source, kind_of}
 use Rattle.pie_model.specs.Tasks.{Task, Look, Exists, ByHash, ByMark, Digest, How, Whole, Hashed, Ran}
-use Rattle.pie_model.specs.Trees.{Node, Trace, ends, looks, lists, writes, needs, Seen, Nothing, Holds, Clashing, Outcome, Ended, Failed, Cycled, Many, outcome_of, task_of, trace_of, writes_of}
+use Rattle.pie_model.specs.Trees.{Node, Trace, ends, looks, lists, writes, needs, Seen, Nothing, Holds, Clashing, Outcome, Ended, Failed, Cycled, Many}
+use Rattle.pie_model.specs.Trees.{outcome_of, task_of, trace_of, writes_of}
 use Rattle.pie_model.specs.Evaluation.{World}
 
 -- what is kept of an answer, to be compared later

@@ -4,7 +4,8 @@ use Rattle.pie_model.specs.Paths.{Path, among}
 use Rattle.pie_model.specs.Tasks.{Task, Value, Look, How, Entries, LookAt, ListOf, Write, Require}
 use Rattle.pie_model.specs.Trees.{Nothing, Holds, Ended, outcome_of, StandsIn}
 use Rattle.pie_model.specs.Seen.{visible_at}
-use Rattle.pie_model.specs.Evaluation.{World, Project, Progress, start, answered, wrote, required, absent_answer, present_answer, output_answer, listing, evaluation_with, evaluation}
+use Rattle.pie_model.specs.Evaluation.{World, Project, Progress, start, answered, wrote, required, absent_answer, present_answer, output_answer, listing}
+use Rattle.pie_model.specs.Evaluation.{evaluation_with, evaluation}
 use Rattle.pie_model.specs.Records.{Record, Absent, Hash, Looked, Listed, Required, Observation, observed, contents_stamp, value_stamp}
 use Rattle.pie_model.specs.Present.{Reaches}
 use Rattle.pie_model.specs.Consistent.{IsRecorded}

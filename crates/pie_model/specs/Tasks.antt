@@ -8,7 +8,8 @@ pub use Rattle.pie_model.specs.declared.words.How.{How}
 pub use Rattle.pie_model.specs.declared.words.How.TheVariants.{Whole, Hashed, Ran}
 -- what a task can fail by
 pub use Rattle.pie_model.specs.declared.words.FaultKind.{FaultKind}
-pub use Rattle.pie_model.specs.declared.words.FaultKind.TheVariants.{NotText, BadPath, BadWrite, WroteTwice, ReadThenWrite, Clash, Budget, Big, Overflow, Zero, Null, Said, Range, BadList, Unknown}
+pub use Rattle.pie_model.specs.declared.words.FaultKind.TheVariants.{NotText, BadPath, BadWrite, WroteTwice, ReadThenWrite, Clash, Budget, Big, Overflow, Zero}
+pub use Rattle.pie_model.specs.declared.words.FaultKind.TheVariants.{Null, Said, Range, BadList, Unknown}
 -- what a running task is answered
 pub use Rattle.pie_model.specs.declared.words.Answer.{Answer}
 pub use Rattle.pie_model.specs.declared.words.Answer.TheVariants.{Flag, Contents, HashOf, Entries, Wrote, Output, Succeeded}

@@ -5,7 +5,8 @@ use Rattle.std.specs.Cmp.Lexicographic.{slice_cmp}
 use Rattle.std.specs.Ordering.{nat_cmp, is_lt, ordering_then}
 use Rattle.pie_model.specs.Paths.{Path, Kind, Out, Kept, Source, kind_of, after_prefix}
 use Rattle.pie_model.specs.Tasks.{Task}
-use Rattle.pie_model.specs.Trees.{Node, Trace, ends, looks, lists, writes, needs, Seen, Nothing, Holds, Clashing, Outcome, Ended, Failed, Cycled, Many as TooLong, task_of, trace_of, writes_of}
+use Rattle.pie_model.specs.Trees.{Node, Trace, ends, looks, lists, writes, needs, Seen, Nothing, Holds, Clashing, Outcome, Ended, Failed, Cycled}
+use Rattle.pie_model.specs.Trees.{Many as TooLong, task_of, trace_of, writes_of}
 use Rattle.pie_model.specs.Evaluation.{World, Project}
 use Rattle.pie_model.specs.Forest.{forest, entered_tasks, live_evaluations, first_stop}
 -- accepted, or refused: too many tasks, a fault, a cycle, a path that two tasks wrote, a path below another one,

@@ -1,6 +1,7 @@
 //! A core that takes, starts and finishes tasks: its records stay consistent, and settled tasks are right.
 
-ghost use Rattle.pie_model.specs.CoreLaws.{SettledTasksAreRight, OldRecordsBegin, TakesKeepConsistent, StartsKeepConsistent, FinishesKeepConsistent, FinishesKeepSettled, StampsByRecordsAreRight, TakesKeepSettled};
+ghost use Rattle.pie_model.specs.CoreLaws.{SettledTasksAreRight, OldRecordsBegin, TakesKeepConsistent, StartsKeepConsistent, FinishesKeepConsistent};
+ghost use Rattle.pie_model.specs.CoreLaws.{FinishesKeepSettled, StampsByRecordsAreRight, TakesKeepSettled};
 ghost use Rattle.pie_model.specs.Ranks.{RecordsHaveRanks};
 
 /// The settled law: a recorded task that reaches no busy task has the record of its evaluation.

@@ -23,7 +23,8 @@ none_marked zero n is = cc
 none_marked (suc count) zero is = cc
 none_marked (suc count) (suc n) is = none_marked count n is
 
-pub resized_below : (bound count : ℕ) (old new : List ℕ) → 0 < bound → length new ≡ count → ((k d : ℕ) → k < count → k < length old → get_or new k d ≡ get_or old k d)
+pub resized_below : (bound count : ℕ) (old new : List ℕ) → 0 < bound → length new ≡ count
+    → ((k d : ℕ) → k < count → k < length old → get_or new k d ≡ get_or old k d)
     → ((k d : ℕ) → length old ≤ k → k < count → get_or new k d ≡ 0) → AllBelow bound old → AllBelow bound new
 resized_below bound count old new some size kept filled below k d l = elim (cases_lt k (length old)) [
   | inl there ↦ omega (arith, kept k d (omega (arith, l, size)) there, below k d there)

@@ -46,13 +46,15 @@ index_is ns a h = get_or_default ns h.0 0 a h.1 ∙ h.2
 abbrev Counts : List ℕ → ℕ → List ℕ → ℕ → Type 0
 Counts tasks first now n = (k : ℕ) × (k < length tasks) × (slice_index tasks k ≡ n) × (slice_index now n ≡ first + k)
 
-counts : (tasks : List ℕ) (first i : ℕ) (old now : List ℕ) → length tasks ≤ i → i ≤ length tasks → IsRunning tasks first i old now → (n : ℕ) → Contains tasks n → Counts tasks first now n
+counts : (tasks : List ℕ) (first i : ℕ) (old now : List ℕ) → length tasks ≤ i → i ≤ length tasks → IsRunning tasks first i old now → (n : ℕ)
+    → Contains tasks n → Counts tasks first now n
 counts tasks first i old now all within running n h =
     let e : slice_index tasks h.0 ≡ n = index_is tasks n h in
     let w = running.placed h.0 (omega (arith, h.1, all)) in
     (w.0, omega (arith, w.1, within), w.2 ∙ e, ap (slice_index now) (sym e) ∙ w.3)
 
-pub run_ends : (tasks : List ℕ) (first i : ℕ) (old now : List ℕ) → AreInOrder old tasks → length tasks ≤ i → i ≤ length tasks → IsRunning tasks first i old now → IsRun tasks first old now
+pub run_ends : (tasks : List ℕ) (first i : ℕ) (old now : List ℕ) → AreInOrder old tasks → length tasks ≤ i → i ≤ length tasks
+    → IsRunning tasks first i old now → IsRun tasks first old now
 run_ends tasks first i old now order all within running =
     let at = counts tasks first i old now all within running in
     record {
@@ -70,13 +72,16 @@ run_ends tasks first i old now order all within running =
     }
 
 number_at : (tasks : List TaskNo) (i : ℕ) (d : TaskNo) → i < length tasks → slice_index (numbers tasks) i ≡ (get_or tasks i d).0
-number_at tasks i d l = get_or_default (numbers tasks) i 0 d.0 (omega (arith, l, length-map tasks (λ (t : TaskNo). t.0))) ∙ at.get_or-map (λ (t : TaskNo). t.0) tasks i d
+number_at tasks i d l = get_or_default (numbers tasks) i 0 d.0 (omega (arith, l, length-map tasks (λ (t : TaskNo). t.0)))
+    ∙ at.get_or-map (λ (t : TaskNo). t.0) tasks i d
 
-pub run_goes_on : (tasks : List TaskNo) (first i : ℕ) (d : TaskNo) (old now : List ℕ) → i < length tasks → AllBelow (length old) (numbers tasks) → IsRunning (numbers tasks) first i old now
+pub run_goes_on : (tasks : List TaskNo) (first i : ℕ) (d : TaskNo) (old now : List ℕ) → i < length tasks → AllBelow (length old) (numbers tasks)
+    → IsRunning (numbers tasks) first i old now
     → IsRunning (numbers tasks) first (i + 1) old (set now (get_or tasks i d).0 (first + i))
 run_goes_on tasks first i d old now l below running =
     let inside : slice_index (numbers tasks) i < length old = below i 0 (omega (arith, l, length-map tasks (λ (t : TaskNo). t.0))) in
-    subst (λ (t : ℕ). IsRunning (numbers tasks) first (i + 1) old (set now t (first + i))) (number_at tasks i d l) (run_steps (numbers tasks) first i old now inside running)
+    subst (λ (t : ℕ). IsRunning (numbers tasks) first (i + 1) old (set now t (first + i))) (number_at tasks i d l)
+    (run_steps (numbers tasks) first i old now inside running)
 
 -- tasks in ascending order of their places
 pub in_order : (places : List ℕ) (tasks : List TaskNo) → IsNonDecreasingBy (λ (t : TaskNo). slice_index places t.0) tasks → AreInOrder places (numbers tasks)

@@ -1,5 +1,6 @@
 -- A search from one task, from its start to its end.
-use Rattle.std.proofs.Common.{◌≡◌, ◌⊎◌, ℕ, ◌<◌, ◌≤◌, ◌+◌, ◌-◌, Bool, true, false, cond, List, [], ◌∷◌, ◌++◌, length, get_or, set, replicate, refl, sym, ap, ◌∙◌, subst, inl, inr, arith}
+use Rattle.std.proofs.Common.{◌≡◌, ◌⊎◌, ℕ, ◌<◌, ◌≤◌, ◌+◌, ◌-◌, Bool, true, false, cond, List, [], ◌∷◌, ◌++◌, length, get_or, set, replicate, refl, sym, ap, ◌∙◌}
+use Rattle.std.proofs.Common.{subst, inl, inr, arith}
 use Rattle.std.specs.Prelude.{slice_index}
 use Rattle.std.specs.List.{Contains}
 use Rattle.std.proofs.lemmas.Bool.{cases_lt}
@@ -34,7 +35,8 @@ all_walked [] next w = refl
 all_walked (n ∷ ns) next w = ap (met_all ns) (one_walked n (searched next w)) ∙ all_walked ns next (meet n w)
 
 one_keeps : (n : ℕ) (s : Searched) (i : ℕ) → i < length s.met → (slice_index (met_one n s).met i ≡ slice_index s.met i) × (i < length (met_one n s).met)
-one_keeps n s i l = elim (get_or s.marks n false) as (λ b. let t : Searched = cond b s (record { marks = set s.marks n true; met = s.met ++ n ∷ []; next = s.next }) in
+one_keeps n s i l = elim (get_or s.marks n false) as (λ b. let t : Searched = cond b s
+    (record { marks = set s.marks n true; met = s.met ++ n ∷ []; next = s.next }) in
     (slice_index t.met i ≡ slice_index s.met i) × (i < length t.met)) [
       | true ↦ (refl, l)
       | false ↦ (get_or_append_left s.met (n ∷ []) 0 i l, omega (arith, length_push s.met n))
@@ -97,14 +99,16 @@ pub search_begins : (count size : ℕ) (goes : ℕ → ℕ → Type 0) (n : ℕ)
 search_begins count size goes n s same l e =
     subst (Searching count goes n) (sym e) (subst (λ (k : ℕ). Searching count goes n (begun k n)) (sym same) (search_starts count goes n l))
 
-pub bounded_steps : (count : ℕ) (goes : ℕ → ℕ → Type 0) (s t : Searched) (n : ℕ) (found : List ℕ) → GoesTo count goes n found → Bounded count s → Met found s t → Bounded count t
+pub bounded_steps : (count : ℕ) (goes : ℕ → ℕ → Type 0) (s t : Searched) (n : ℕ) (found : List ℕ) → GoesTo count goes n found → Bounded count s
+    → Met found s t → Bounded count t
 bounded_steps count goes s t n found to bounded met = record {
   sized = met.sized ∙ bounded.sized;
   below = λ k h. elim (met.met_only k h) [ inl i ↦ bounded.below k i | inr i ↦ to.below k i ];
   total = met.total ∙ bounded.total;
 }
 
-pub search_steps : (count : ℕ) (goes : ℕ → ℕ → Type 0) (start : ℕ) (s t : Searched) (found : List ℕ) → s.next < length s.met → GoesTo count goes (slice_index s.met s.next) found
+pub search_steps : (count : ℕ) (goes : ℕ → ℕ → Type 0) (start : ℕ) (s t : Searched) (found : List ℕ) → s.next < length s.met
+    → GoesTo count goes (slice_index s.met s.next) found
     → Met found (record { marks = s.marks; met = s.met; next = s.next + 1 }) t → Searching count goes start s → Searching count goes start t
 search_steps count goes start s t found l to met searching =
     let n : ℕ = slice_index s.met s.next in
@@ -139,7 +143,8 @@ Steps count goes s t = Bounded count t × ((start : ℕ) → Searching count goe
 
 task_at : (met : List TaskNo) (next : ℕ) (task : TaskNo) → next < length met → task ≡ get_or met next task → slice_index (numbers met) next ≡ task.0
 task_at met next task l e =
-    get_or_default (numbers met) next 0 task.0 (omega (arith, l, length-map met (λ (t : TaskNo). t.0))) ∙ at.get_or-map (λ (t : TaskNo). t.0) met next task ∙ sym (ap (λ (t : TaskNo). t.0) e)
+    get_or_default (numbers met) next 0 task.0 (omega (arith, l, length-map met (λ (t : TaskNo). t.0))) ∙ at.get_or-map (λ (t : TaskNo). t.0) met next task
+    ∙ sym (ap (λ (t : TaskNo). t.0) e)
 
 pub task_below : (count : ℕ) (marks : List Bool) (met : List TaskNo) (next : ℕ) (task : TaskNo) → next < length met → task ≡ get_or met next task
     → (let v : Searched = record { marks = marks; met = numbers met; next = next } in Bounded count v → task.0 < count)
@@ -158,15 +163,18 @@ stepped count goes marks met next task found given t l e to same after bounded =
     let there : next < length (numbers met) = omega (arith, l, length-map met (λ (u : TaskNo). u.0)) in
     let below : AllBelow (length marks) found = subst (λ (size : ℕ). AllBelow size found) (sym bounded.sized) (all_below count found to.below) in
     let all : Met found w t = subst (Met found w) (sym (after ∙ ap (λ (ns : List ℕ). met_all ns w) same)) (all_are_met found w below) in
-    let bounded_now : Bounded count t = bounded_steps count goes w t task.0 found to (record { sized = bounded.sized; below = bounded.below; total = bounded.total }) all in
+    let bounded_now : Bounded count t = bounded_steps count goes w t task.0 found to
+    (record { sized = bounded.sized; below = bounded.below; total = bounded.total }) all in
     let many : length (numbers met) ≤ count = few_met count v bounded in (
       bounded_now,
-      λ start searching. search_steps count goes start v t found there (subst (λ (n : ℕ). GoesTo count goes n found) (sym (task_at met next task l e)) to) all searching,
+      λ start searching. search_steps count goes start v t found there
+          (subst (λ (n : ℕ). GoesTo count goes n found) (sym (task_at met next task l e)) to) all searching,
       omega (arith, all.next, there, many),
     )
 
 -- a complete search that hasn't met the other end is a side of the edge
-pub is_side : (count : ℕ) (goes : ℕ → ℕ → Type 0) (start other : ℕ) (s : Searched) → Completed count goes start s → (IsMarked s.marks other → ⊥) → IsSide count goes start other s.met
+pub is_side : (count : ℕ) (goes : ℕ → ℕ → Type 0) (start other : ℕ) (s : Searched) → Completed count goes start s → (IsMarked s.marks other → ⊥)
+    → IsSide count goes start other s.met
 is_side count goes start other s done apart = record {
   started = done.0.listed start done.0.started;
   closed = λ a b h g. done.0.listed b (done.0.closed h.0 b (omega (arith, h.1, done.1)) h.1 (subst (λ (x : ℕ). goes x b) (sym (index_is s.met a h)) g));
@@ -181,5 +189,6 @@ is_side count goes start other s done apart = record {
 pub meets_below : (count : ℕ) (rows : List Row) (from to : ℕ) (s : Searched) → Completed count (Calls rows) to s → IsMarked s.marks from → Reaches rows to from
 meets_below count rows from to s done is = done.0.sound from is
 
-pub meets_above : (count : ℕ) (rows : List Row) (from to : ℕ) (s : Searched) → Completed count (λ a b. Calls rows b a) from s → IsMarked s.marks to → Reaches rows to from
+pub meets_above : (count : ℕ) (rows : List Row) (from to : ℕ) (s : Searched) → Completed count (λ a b. Calls rows b a) from s → IsMarked s.marks to
+    → Reaches rows to from
 meets_above count rows from to s done is = turned (Calls rows) from to (done.0.sound to is)

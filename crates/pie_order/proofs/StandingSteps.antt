@@ -36,7 +36,8 @@ stands_empty low bottom = record {
   apart = λ a b l m e. absurd (omega arith);
 }
 
-pub stands_grown : (settled low high : ℕ) (places : List ℕ) → length places < 50000 → AreStanding settled low high places → AreStanding settled low high (places ++ length places ∷ [])
+pub stands_grown : (settled low high : ℕ) (places : List ℕ) → length places < 50000 → AreStanding settled low high places
+    → AreStanding settled low high (places ++ length places ∷ [])
 stands_grown settled low high places few standing =
     let n : ℕ = length places in
     let grown : List ℕ = places ++ n ∷ [] in
@@ -128,7 +129,8 @@ run_apart tasks first old new apart run outside a b l m e =
 
 -- all tasks got new places
 pub spread_stands : (settled low high middle : ℕ) (old new tasks : List ℕ) → 50000 ≤ middle → AreStanding settled low high old
-    → ((n : ℕ) → n < length old → Contains tasks n) → length tasks ≡ length old → IsRun tasks middle old new → AreStanding (length old) middle (middle + length old) new × SameOrder old new
+    → ((n : ℕ) → n < length old → Contains tasks n) → length tasks ≡ length old → IsRun tasks middle old new
+    → AreStanding (length old) middle (middle + length old) new × SameOrder old new
 spread_stands settled low high middle old new tasks bottom standing all size run = (
   record {
     few = omega (arith, run.sized, standing.few);
@@ -152,7 +154,8 @@ settle_stands settled low high old new tasks room standing span run =
       | inl s ↦ s
       | inr s ↦ absurd (none (span_holds settled (length old) tasks n span s l))
     ] in
-    let above : (n : ℕ) → n < length old → (Contains tasks n → ⊥) → low ≤ slice_index new n = λ n l none. omega (arith, run.stays n none, standing.from n (others n l none)) in (
+    let above : (n : ℕ) → n < length old → (Contains tasks n → ⊥)
+    → low ≤ slice_index new n = λ n l none. omega (arith, run.stays n none, standing.from n (others n l none)) in (
       record {
         few = omega (arith, run.sized, standing.few);
         within = omega (arith, run.sized);
@@ -164,7 +167,8 @@ settle_stands settled low high old new tasks room standing span run =
           | inr none ↦ omega (arith, run.stays n none, standing.under n (others n l none))
         ];
         later = λ n s l. absurd (omega (arith, s, l, run.sized));
-        apart = run_apart tasks (low - length tasks) old new standing.apart run (λ n l none. inr (omega (arith, standing.from n (others n l none), room, short)));
+        apart = run_apart tasks (low - length tasks) old new standing.apart run
+            (λ n l none. inr (omega (arith, standing.from n (others n l none), room, short)));
       },
       record {
         sized = run.sized;
@@ -184,7 +188,8 @@ settle_stands settled low high old new tasks room standing span run =
     )
 
 -- tasks went before all others
-pub sink_stands : (low high : ℕ) (old new tasks : List ℕ) → 100000 ≤ low → length tasks ≤ 50000 → AreStanding (length old) low high old → IsRun tasks (low - length tasks) old new
+pub sink_stands : (low high : ℕ) (old new tasks : List ℕ) → 100000 ≤ low → length tasks ≤ 50000 → AreStanding (length old) low high old
+    → IsRun tasks (low - length tasks) old new
     → AreStanding (length old) (low - length tasks) high new
 sink_stands low high old new tasks room short standing run = record {
   few = omega (arith, run.sized, standing.few);
@@ -192,13 +197,18 @@ sink_stands low high old new tasks room short standing run = record {
   bottom = omega (arith, room, short);
   ends = omega (arith, standing.ends);
   from = λ n l. elim (held tasks n) [ inl h ↦ run.from n h | inr none ↦ omega (arith, run.stays n none, standing.from n l) ];
-  under = λ n l. elim (held tasks n) [ inl h ↦ omega (arith, run.under n h, standing.ends, room, short) | inr none ↦ omega (arith, run.stays n none, standing.under n l) ];
+  under = λ n l. elim (held tasks n) [
+    | inl h ↦ omega (arith, run.under n h, standing.ends, room, short)
+    | inr none ↦ omega
+        (arith, run.stays n none, standing.under n l)
+  ];
   later = λ n s l. absurd (omega (arith, s, l, run.sized));
   apart = run_apart tasks (low - length tasks) old new standing.apart run (λ n l none. inr (omega (arith, standing.from n l, room, short)));
 }
 
 -- tasks went behind all others
-pub lift_stands : (low high : ℕ) (old new tasks : List ℕ) → AreStanding (length old) low high old → IsRun tasks high old new → AreStanding (length old) low (high + length tasks) new
+pub lift_stands : (low high : ℕ) (old new tasks : List ℕ) → AreStanding (length old) low high old → IsRun tasks high old new
+    → AreStanding (length old) low (high + length tasks) new
 lift_stands low high old new tasks standing run = record {
   few = omega (arith, run.sized, standing.few);
   within = omega (arith, run.sized);
@@ -211,7 +221,8 @@ lift_stands low high old new tasks standing run = record {
 }
 
 -- first the same order at other places, and then some tasks before all others
-pub sunk : (low high : ℕ) (old mid new tasks : List ℕ) → 100000 ≤ low → length tasks ≤ 50000 → SameOrder old mid → AreStanding (length mid) low high mid → IsRun tasks (low - length tasks) mid new → GoFirst tasks old new
+pub sunk : (low high : ℕ) (old mid new tasks : List ℕ) → 100000 ≤ low → length tasks ≤ 50000 → SameOrder old mid → AreStanding (length mid) low high mid
+    → IsRun tasks (low - length tasks) mid new → GoFirst tasks old new
 sunk low high old mid new tasks room short same standing run = record {
   sized = run.sized ∙ same.sized;
   front_keeps = λ a b l m ha hb less. run.keeps a b ha hb (same.keeps a b l m less);
@@ -219,7 +230,8 @@ sunk low high old mid new tasks room short same standing run = record {
   parted = λ a b l m ha nb. omega (arith, run.under a ha, run.stays b nb, standing.from b (omega (arith, m, same.sized)), room, short);
 }
 
-pub lifted : (low high : ℕ) (old mid new tasks : List ℕ) → SameOrder old mid → AreStanding (length mid) low high mid → IsRun tasks high mid new → GoLast tasks old new
+pub lifted : (low high : ℕ) (old mid new tasks : List ℕ) → SameOrder old mid → AreStanding (length mid) low high mid → IsRun tasks high mid new
+    → GoLast tasks old new
 lifted low high old mid new tasks same standing run = record {
   sized = run.sized ∙ same.sized;
   front_keeps = λ a b l m na nb less. omega (arith, run.stays a na, run.stays b nb, same.keeps a b l m less);
@@ -230,25 +242,32 @@ lifted low high old mid new tasks same standing run = record {
 -- the same under the names that the program has for it
 
 pub sorted_below : (bound : ℕ) (tasks sorted : List ℕ) → ((n : ℕ) → Contains sorted n → Contains tasks n) → AllBelow bound tasks → AllBelow bound sorted
-sorted_below bound tasks sorted same below k d l = All-contains (λ n. n < bound) tasks (get_or sorted k d) below (same (get_or sorted k d) (Contains-get_or sorted k d l))
+sorted_below bound tasks sorted same below k d l = All-contains (λ n. n < bound) tasks (get_or sorted k d) below
+    (same (get_or sorted k d) (Contains-get_or sorted k d l))
 
-pub spread_all : (settled low high count middle : ℕ) (old new tasks sorted : List ℕ) → count ≡ length old → 50000 ≤ middle → AreStanding settled low high old → IsSpan 0 count tasks
+pub spread_all : (settled low high count middle : ℕ) (old new tasks sorted : List ℕ) → count ≡ length old → 50000 ≤ middle → AreStanding settled low high old
+    → IsSpan 0 count tasks
     → ((n : ℕ) → (Contains sorted n → Contains tasks n) × (Contains tasks n → Contains sorted n)) → length sorted ≡ length tasks → IsRun sorted middle old new
     → AreStanding count middle (middle + count) new × SameOrder old new
 spread_all settled low high count middle old new tasks sorted size bottom standing span same long run =
     subst (λ (c : ℕ). AreStanding c middle (middle + c) new × SameOrder old new) (sym size)
-    (spread_stands settled low high middle old new sorted bottom standing (λ n l. (same n).1 (span_holds 0 count tasks n span (omega arith) (omega (arith, l, size)))) (omega (arith, long, span.sized, size)) run)
+    (spread_stands settled low high middle old new sorted bottom standing
+    (λ n l. (same n).1 (span_holds 0 count tasks n span (omega arith) (omega (arith, l, size)))) (omega (arith, long, span.sized, size)) run)
 
-pub settle_all : (settled low high count : ℕ) (old new tasks : List ℕ) → count ≡ length old → 150000 ≤ low → AreStanding settled low high old → IsSpan settled count tasks
+pub settle_all : (settled low high count : ℕ) (old new tasks : List ℕ) → count ≡ length old → 150000 ≤ low → AreStanding settled low high old
+    → IsSpan settled count tasks
     → IsRun tasks (low - (count - settled)) old new → AreStanding count (low - (count - settled)) high new × SameOrder old new
 settle_all settled low high count old new tasks size room standing span run =
     let many : count - settled ≡ length tasks = omega (arith, span.sized) in
     let whole : IsSpan settled (length old) tasks = subst (λ (c : ℕ). IsSpan settled c tasks) size span in
     let found : AreStanding (length old) (low - length tasks) high new × SameOrder old new =
-    settle_stands settled low high old new tasks room standing whole (subst (λ (k : ℕ). IsRun tasks (low - k) old new) many run) in
-    (subst (λ (k : ℕ). AreStanding count (low - k) high new) (sym many) (subst (λ (c : ℕ). AreStanding c (low - length tasks) high new) (sym size) found.0), found.1)
+    settle_stands settled low high old new tasks room standing whole (subst (λ (k : ℕ). IsRun tasks (low - k) old new) many run) in (
+      subst (λ (k : ℕ). AreStanding count (low - k) high new) (sym many) (subst (λ (c : ℕ). AreStanding c (low - length tasks) high new) (sym size) found.0),
+      found.1,
+    )
 
-first_same : (old new tasks sorted : List ℕ) → ((n : ℕ) → (Contains sorted n → Contains tasks n) × (Contains tasks n → Contains sorted n)) → GoFirst sorted old new → GoFirst tasks old new
+first_same : (old new tasks sorted : List ℕ) → ((n : ℕ) → (Contains sorted n → Contains tasks n) × (Contains tasks n → Contains sorted n))
+    → GoFirst sorted old new → GoFirst tasks old new
 first_same old new tasks sorted same go = record {
   sized = go.sized;
   front_keeps = λ a b l m ha hb less. go.front_keeps a b l m ((same a).1 ha) ((same b).1 hb) less;
@@ -256,7 +275,8 @@ first_same old new tasks sorted same go = record {
   parted = λ a b l m ha nb. go.parted a b l m ((same a).1 ha) (λ h. nb ((same b).0 h));
 }
 
-last_same : (old new tasks sorted : List ℕ) → ((n : ℕ) → (Contains sorted n → Contains tasks n) × (Contains tasks n → Contains sorted n)) → GoLast sorted old new → GoLast tasks old new
+last_same : (old new tasks sorted : List ℕ) → ((n : ℕ) → (Contains sorted n → Contains tasks n) × (Contains tasks n → Contains sorted n))
+    → GoLast sorted old new → GoLast tasks old new
 last_same old new tasks sorted same go = record {
   sized = go.sized;
   front_keeps = λ a b l m na nb less. go.front_keeps a b l m (λ h. na ((same a).0 h)) (λ h. nb ((same b).0 h)) less;
@@ -264,22 +284,26 @@ last_same old new tasks sorted same go = record {
   parted = λ a b l m na hb. go.parted a b l m (λ h. na ((same a).0 h)) ((same b).1 hb);
 }
 
-pub sink_all : (settled low high k : ℕ) (old mid new tasks sorted : List ℕ) → settled ≡ length mid → k ≡ length sorted → k ≤ 50000 → 100000 ≤ low → SameOrder old mid → AreStanding settled low high mid
+pub sink_all : (settled low high k : ℕ) (old mid new tasks sorted : List ℕ) → settled ≡ length mid → k ≡ length sorted → k ≤ 50000 → 100000 ≤ low
+    → SameOrder old mid → AreStanding settled low high mid
     → ((n : ℕ) → (Contains sorted n → Contains tasks n) × (Contains tasks n → Contains sorted n)) → IsRun sorted (low - k) mid new
     → AreStanding settled (low - k) high new × GoFirst tasks old new
 sink_all settled low high k old mid new tasks sorted size many few room order standing same run =
     let short : length sorted ≤ 50000 = omega (arith, many, few) in
     let whole : AreStanding (length mid) low high mid = subst (λ (c : ℕ). AreStanding c low high mid) size standing in
     let moved : IsRun sorted (low - length sorted) mid new = subst (λ (n : ℕ). IsRun sorted (low - n) mid new) many run in (
-      subst (λ (n : ℕ). AreStanding settled (low - n) high new) (sym many) (subst (λ (c : ℕ). AreStanding c (low - length sorted) high new) (sym size) (sink_stands low high mid new sorted room short whole moved)),
+      subst (λ (n : ℕ). AreStanding settled (low - n) high new) (sym many)
+          (subst (λ (c : ℕ). AreStanding c (low - length sorted) high new) (sym size) (sink_stands low high mid new sorted room short whole moved)),
       first_same old new tasks sorted same (sunk low high old mid new sorted room short order whole moved),
     )
 
-pub lift_all : (settled low high k : ℕ) (old mid new tasks sorted : List ℕ) → settled ≡ length mid → k ≡ length sorted → SameOrder old mid → AreStanding settled low high mid
+pub lift_all : (settled low high k : ℕ) (old mid new tasks sorted : List ℕ) → settled ≡ length mid → k ≡ length sorted → SameOrder old mid
+    → AreStanding settled low high mid
     → ((n : ℕ) → (Contains sorted n → Contains tasks n) × (Contains tasks n → Contains sorted n)) → IsRun sorted high mid new
     → AreStanding settled low (high + k) new × GoLast tasks old new
 lift_all settled low high k old mid new tasks sorted size many order standing same run =
     let whole : AreStanding (length mid) low high mid = subst (λ (c : ℕ). AreStanding c low high mid) size standing in (
-      subst (λ (n : ℕ). AreStanding settled low (high + n) new) (sym many) (subst (λ (c : ℕ). AreStanding c low (high + length sorted) new) (sym size) (lift_stands low high mid new sorted whole run)),
+      subst (λ (n : ℕ). AreStanding settled low (high + n) new) (sym many)
+          (subst (λ (c : ℕ). AreStanding c low (high + length sorted) new) (sym size) (lift_stands low high mid new sorted whole run)),
       last_same old new tasks sorted same (lifted low high old mid new sorted order whole run),
     )

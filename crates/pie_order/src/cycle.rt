@@ -70,7 +70,8 @@ fn trail<R: TaskRows>(
 
 // The first of some tasks that has a mark.
 fn first_marked(tasks: &[TaskNo], marks: &[bool]) -> Option<TaskNo>
-    ensures { MatchOption result ((n : ℕ) → Contains (numbers tasks.now) n → IsMarked marks.now n → ⊥) (λ task. Contains (numbers tasks.now) task.0 × IsMarked marks.now task.0) }
+    ensures { MatchOption result ((n : ℕ) → Contains (numbers tasks.now) n → IsMarked marks.now n → ⊥)
+        (λ task. Contains (numbers tasks.now) task.0 × IsMarked marks.now task.0) }
 {
     for task in tasks {
         if has_mark(marks, *task) {

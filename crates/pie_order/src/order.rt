@@ -99,7 +99,8 @@ impl Order {
         requires agrees { Agrees (R.rows rows.now) self.old }
         requires from { from.0 < length self.old }
         requires to { to.0 < length self.old }
-        ensures inserted { IfOk result (λ found. MatchOption found (Agrees (R.rows rows.now) self.new × StandsBefore self.new to.0 from.0) (λ cycle. (self.new ≡ self.old) × Reaches (R.rows rows.now) to.0 from.0)) }
+        ensures inserted { IfOk result (λ found. MatchOption found (Agrees (R.rows rows.now) self.new × StandsBefore self.new to.0 from.0)
+            (λ cycle. (self.new ≡ self.old) × Reaches (R.rows rows.now) to.0 from.0)) }
         ensures cycle { IfOk result (λ found. IfSome found (λ cycle. IsCycle (WouldCall (R.rows rows.now) from.0 to.0) (numbers cycle.items))) }
         ensures unchanged { OnErr result (self.new ≡ self.old) }
     {

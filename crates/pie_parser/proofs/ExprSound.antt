@@ -1,5 +1,6 @@
 -- An expression that is read is one of the grammar.
-use Rattle.std.proofs.Common.{◌≡◌, ◌⊎◌, inl, inr, ℕ, zero, suc, Bool, true, false, cond, ◌==◌, List, [], ◌∷◌, ◌++◌, length, Option, Some, None, refl, sym, subst, ap, ◌∙◌}
+use Rattle.std.proofs.Common.{◌≡◌, ◌⊎◌, inl, inr, ℕ, zero, suc, Bool, true, false, cond, ◌==◌, List, [], ◌∷◌, ◌++◌, length, Option, Some, None, refl, sym}
+use Rattle.std.proofs.Common.{subst, ap, ◌∙◌}
 use Rattle.pie_parser.specs.declared.kind.Kind.{Kind}
 use Rattle.pie_parser.specs.declared.kind.Kind.TheVariants as kinds
 use Rattle.pie_parser.specs.declared.chain.Level.{Level}
@@ -35,7 +36,8 @@ use Rattle.pie_parser.specs.ExprReading as reads
 use Rattle.pie_parser.specs.ExprReading.{Around, around, by_conditions, expr_at, inner_at, test_at, nowhere, chain, projection}
 use Rattle.pie_parser.specs.TypeGrammar.{Eats, IsName, IsType, IsPlain}
 use Rattle.pie_parser.specs.Grammar as grammar
-use Rattle.pie_parser.specs.Grammar.{IsIndex, Indices, ByOfRequire, ByOfRead, IsExpr, IsChain, IsOperand, Steps, IsComparison, IsPrefixed, IsProjected, IsPrimary, Arguments, More, IsBlock, Lines}
+use Rattle.pie_parser.specs.Grammar.{IsIndex, Indices, ByOfRequire, ByOfRead, IsExpr, IsChain, IsOperand, Steps, IsComparison, IsPrefixed, IsProjected}
+use Rattle.pie_parser.specs.Grammar.{IsPrimary, Arguments, More, IsBlock, Lines}
 use Rattle.pie_parser.proofs.Readings.{is_same, is_other, chosen, got_same, as_got, missed, bound, eaten, opened, part_same, stopped, folded_behind}
 use Rattle.pie_parser.proofs.TypesSound.{type_is_written, plain_is_written}
 
@@ -74,7 +76,8 @@ by_of_require_sound r s m k h = elim (chosen (is (next s) kinds.By) _ (Got calls
   ]
 ]
   where
-    mark : (r : Bool) → next s ≡ kinds.By → cond r (then_on (want kinds.Mark (passed s)) (λ _ m. Got calls.Require (record m { past = s.past; marked = true }))) (Miss Expected (passed s)) ≡ Got k m
+    mark : (r : Bool) → next s ≡ kinds.By → cond r (then_on (want kinds.Mark (passed s))
+        (λ _ m. Got calls.Require (record m { past = s.past; marked = true }))) (Miss Expected (passed s)) ≡ Got k m
         → ByOfRequire r s m k
     mark true b h =
         let x = bound (want kinds.Mark (passed s)) (λ _ m. Got calls.Require (record m { past = s.past; marked = true })) k m h in
@@ -122,15 +125,18 @@ module _ (e : Around) (g : Good e) where
         | inr c ↦ some b0.1 (opened kinds.OpenRound e.room s b0.1 b0.0 b0.2) c.1
       ]
     where
-      some : (a : At) → Eats kinds.OpenRound s a → then_on (e.inner false a) (λ t b. then_on (reads.listed e t b) (λ xs c. then_on (want kinds.CloseRound c) (λ _ k. Got xs k))) ≡ Got ts m → Arguments s m ts
+      some : (a : At) → Eats kinds.OpenRound s a → then_on (e.inner false a)
+          (λ t b. then_on (reads.listed e t b) (λ xs c. then_on (want kinds.CloseRound c) (λ _ k. Got xs k))) ≡ Got ts m → Arguments s m ts
       some a q h =
           let b = bound (e.inner false a) _ ts m h in
           let c = bound (reads.listed e b.0 b.1) _ ts m b.3 in
           let d = bound (want kinds.CloseRound c.1) _ ts m c.3 in
           let z = more_sound b.0 c.0 b.1 c.1 c.2 in
-          as_got (Arguments s) (ap (λ xs. Got xs d.1) (sym z.2) ∙ d.3) (grammar.some q (g.inner false a b.1 b.0 b.2) z.1 (eaten kinds.CloseRound c.1 d.1 d.0 d.2))
+          as_got (Arguments s) (ap (λ xs. Got xs d.1) (sym z.2) ∙ d.3)
+          (grammar.some q (g.inner false a b.1 b.0 b.2) z.1 (eaten kinds.CloseRound c.1 d.1 d.0 d.2))
 
-  call_sound : (i : ℕ) (k : CallKind) (n : Name) (s m : At) (t : Tree) → reads.call e i k n s ≡ Got t m → (ts : List Tree) × Arguments s m ts × (t ≡ TCall i m.past k n (trees_of ts))
+  call_sound : (i : ℕ) (k : CallKind) (n : Name) (s m : At) (t : Tree) → reads.call e i k n s ≡ Got t m → (ts : List Tree) × Arguments s m ts
+      × (t ≡ TCall i m.past k n (trees_of ts))
   call_sound i k n s m t h =
       let b = bound (reads.arguments e s) _ t m h in
       let x = got_same b.3 in
@@ -163,7 +169,8 @@ module _ (e : Around) (g : Good e) where
       let b2 = bound (e.inner true b1.1) _ t m b1.3 in
       let b3 = bound (reads.by_of_read b2.1) _ t m b2.3 in
       let b4 = bound (want kinds.CloseRound b3.1) _ t m b3.3 in
-      as_got (IsPrimary e.in_read s) b4.3 (grammar.read (eaten kinds.Read s b0.1 b0.0 b0.2) (opened kinds.OpenRound e.room b0.1 b1.1 b1.0 b1.2) (g.inner true b1.1 b2.1 b2.0 b2.2) (by_of_read_sound b2.1 b3.1 b3.0 b3.2) (eaten kinds.CloseRound b3.1 b4.1 b4.0 b4.2))
+      as_got (IsPrimary e.in_read s) b4.3 (grammar.read (eaten kinds.Read s b0.1 b0.0 b0.2) (opened kinds.OpenRound e.room b0.1 b1.1 b1.0 b1.2)
+      (g.inner true b1.1 b2.1 b2.0 b2.2) (by_of_read_sound b2.1 b3.1 b3.0 b3.2) (eaten kinds.CloseRound b3.1 b4.1 b4.0 b4.2))
 
   write_sound : (s m : At) (t : Tree) → reads.write e s ≡ Got t m → IsPrimary e.in_read s m t
   write_sound s m t h =
@@ -173,7 +180,9 @@ module _ (e : Around) (g : Good e) where
       let b3 = bound (want kinds.Comma b2.1) _ t m b2.3 in
       let b4 = bound (e.inner false b3.1) _ t m b3.3 in
       let b5 = bound (want kinds.CloseRound b4.1) _ t m b4.3 in
-      as_got (IsPrimary e.in_read s) b5.3 (grammar.write (eaten kinds.Write s b0.1 b0.0 b0.2) (opened kinds.OpenRound e.room b0.1 b1.1 b1.0 b1.2) (g.inner false b1.1 b2.1 b2.0 b2.2) (eaten kinds.Comma b2.1 b3.1 b3.0 b3.2) (g.inner false b3.1 b4.1 b4.0 b4.2) (eaten kinds.CloseRound b4.1 b5.1 b5.0 b5.2))
+      as_got (IsPrimary e.in_read s) b5.3 (grammar.write (eaten kinds.Write s b0.1 b0.0 b0.2) (opened kinds.OpenRound e.room b0.1 b1.1 b1.0 b1.2)
+      (g.inner false b1.1 b2.1 b2.0 b2.2) (eaten kinds.Comma b2.1 b3.1 b3.0 b3.2) (g.inner false b3.1 b4.1 b4.0 b4.2)
+      (eaten kinds.CloseRound b4.1 b5.1 b5.0 b5.2))
 
   fail_sound : (s m : At) (t : Tree) → reads.fail e s ≡ Got t m → IsPrimary e.in_read s m t
   fail_sound s m t h =
@@ -182,7 +191,8 @@ module _ (e : Around) (g : Good e) where
       let b2 = bound (open_bracket kinds.OpenRound e.room b1.1) _ t m b1.3 in
       let b3 = bound (e.inner false b2.1) _ t m b2.3 in
       let b4 = bound (want kinds.CloseRound b3.1) _ t m b3.3 in
-      as_got (IsPrimary e.in_read s) b4.3 (grammar.fail (eaten kinds.Fail s b0.1 b0.0 b0.2) (type_is_written e.room b0.1 b1.1 b1.0 b1.2) (opened kinds.OpenRound e.room b1.1 b2.1 b2.0 b2.2) (g.inner false b2.1 b3.1 b3.0 b3.2) (eaten kinds.CloseRound b3.1 b4.1 b4.0 b4.2))
+      as_got (IsPrimary e.in_read s) b4.3 (grammar.fail (eaten kinds.Fail s b0.1 b0.0 b0.2) (type_is_written e.room b0.1 b1.1 b1.0 b1.2)
+      (opened kinds.OpenRound e.room b1.1 b2.1 b2.0 b2.2) (g.inner false b2.1 b3.1 b3.0 b3.2) (eaten kinds.CloseRound b3.1 b4.1 b4.0 b4.2))
 
   require_sound : (s m : At) (t : Tree) → reads.require e s ≡ Got t m → IsPrimary e.in_read s m t
   require_sound s m t h =
@@ -190,7 +200,8 @@ module _ (e : Around) (g : Good e) where
       let b1 = bound (name b0.1) _ t m b0.3 in
       let b2 = bound (reads.arguments e b1.1) _ t m b1.3 in
       let b3 = bound (reads.by_of_require e.in_read b2.1) _ t m b2.3 in
-      as_got (IsPrimary e.in_read s) b3.3 (grammar.require (eaten kinds.Require s b0.1 b0.0 b0.2) (b1.2) (arguments_sound b1.1 b2.1 b2.0 b2.2) (by_of_require_sound e.in_read b2.1 b3.1 b3.0 b3.2))
+      as_got (IsPrimary e.in_read s) b3.3 (grammar.require (eaten kinds.Require s b0.1 b0.0 b0.2) (b1.2) (arguments_sound b1.1 b2.1 b2.0 b2.2)
+      (by_of_require_sound e.in_read b2.1 b3.1 b3.0 b3.2))
 
   run_sound : (s m : At) (t : Tree) → reads.run e s ≡ Got t m → IsPrimary e.in_read s m t
   run_sound s m t h =
@@ -207,16 +218,19 @@ module _ (e : Around) (g : Good e) where
       let x = g.inner false b.1 c.1 c.0 c.2 in
       elim (chosen (is (next c.1) kinds.Comma) _ _ (Got t m) c.3) [
         | inl d ↦ items b.1 c.1 c.0 q x (is_same (next c.1) kinds.Comma d.0) d.1
-        | inr d ↦ (let f = bound (want kinds.CloseRound c.1) _ t m d.1 in as_got (IsPrimary e.in_read s) f.3 (grammar.brackets q x (eaten kinds.CloseRound c.1 f.1 f.0 f.2)))
+        | inr d ↦ (let f = bound (want kinds.CloseRound c.1) _ t m d.1 in
+            as_got (IsPrimary e.in_read s) f.3 (grammar.brackets q x (eaten kinds.CloseRound c.1 f.1 f.0 f.2)))
       ]
     where
       items : (a b : At) (u : Tree) → Eats kinds.OpenRound s a → IsExpr false a b u → next b ≡ kinds.Comma
-          → then_on (reads.listed e u b) (λ ts c. then_on (want kinds.CloseRound c) (λ _ k. Got (TTuple (start s) k.past (trees_of ts)) k)) ≡ Got t m → IsPrimary e.in_read s m t
+          → then_on (reads.listed e u b) (λ ts c. then_on (want kinds.CloseRound c) (λ _ k. Got (TTuple (start s) k.past (trees_of ts)) k)) ≡ Got t m
+          → IsPrimary e.in_read s m t
       items a b u q x k h =
           let c = bound (reads.listed e u b) _ t m h in
           let d = bound (want kinds.CloseRound c.1) _ t m c.3 in
           let z = more_sound u c.0 b c.1 c.2 in
-          as_got (IsPrimary e.in_read s) (ap (λ xs. Got (TTuple (start s) d.1.past (trees_of xs)) d.1) (sym z.2) ∙ d.3) (grammar.tuple q x k z.1 (eaten kinds.CloseRound c.1 d.1 d.0 d.2))
+          as_got (IsPrimary e.in_read s) (ap (λ xs. Got (TTuple (start s) d.1.past (trees_of xs)) d.1) (sym z.2) ∙ d.3)
+          (grammar.tuple q x k z.1 (eaten kinds.CloseRound c.1 d.1 d.0 d.2))
 
   squares_sound : (s m : At) (t : Tree) → reads.squares e s ≡ Got t m → IsPrimary e.in_read s m t
   squares_sound s m t h =
@@ -236,15 +250,18 @@ module _ (e : Around) (g : Good e) where
           let f = bound (want kinds.In d.1) _ t m d.3 in
           let i = bound (e.inner false f.1) _ t m f.3 in
           let j = bound (want kinds.CloseSquare i.1) _ t m i.3 in
-          as_got (IsPrimary e.in_read s) j.3 (grammar.each q x (eaten kinds.For b c.1 c.0 c.2) d.2 (eaten kinds.In d.1 f.1 f.0 f.2) (g.inner false f.1 i.1 i.0 i.2) (eaten kinds.CloseSquare i.1 j.1 j.0 j.2))
+          as_got (IsPrimary e.in_read s) j.3 (grammar.each q x (eaten kinds.For b c.1 c.0 c.2) d.2 (eaten kinds.In d.1 f.1 f.0 f.2)
+          (g.inner false f.1 i.1 i.0 i.2) (eaten kinds.CloseSquare i.1 j.1 j.0 j.2))
 
       items : (a b : At) (u : Tree) → Eats kinds.OpenSquare s a → IsExpr false a b u
-          → then_on (reads.listed e u b) (λ ts c. then_on (want kinds.CloseSquare c) (λ _ k. Got (TList (start s) k.past (trees_of ts)) k)) ≡ Got t m → IsPrimary e.in_read s m t
+          → then_on (reads.listed e u b) (λ ts c. then_on (want kinds.CloseSquare c) (λ _ k. Got (TList (start s) k.past (trees_of ts)) k)) ≡ Got t m
+          → IsPrimary e.in_read s m t
       items a b u q x h =
           let c = bound (reads.listed e u b) _ t m h in
           let d = bound (want kinds.CloseSquare c.1) _ t m c.3 in
           let z = more_sound u c.0 b c.1 c.2 in
-          as_got (IsPrimary e.in_read s) (ap (λ xs. Got (TList (start s) d.1.past (trees_of xs)) d.1) (sym z.2) ∙ d.3) (grammar.list q x z.1 (eaten kinds.CloseSquare c.1 d.1 d.0 d.2))
+          as_got (IsPrimary e.in_read s) (ap (λ xs. Got (TList (start s) d.1.past (trees_of xs)) d.1) (sym z.2) ∙ d.3)
+          (grammar.list q x z.1 (eaten kinds.CloseSquare c.1 d.1 d.0 d.2))
 
   effect_sound : (s m : At) (t : Tree) → reads.effect e s ≡ Got t m → IsPrimary e.in_read s m t
   effect_sound s m t h = by_effect (effect_at (next s)) refl h
@@ -255,7 +272,8 @@ module _ (e : Around) (g : Good e) where
           let b = bound (open_bracket kinds.OpenRound e.room (passed s)) _ t m h in
           let c = bound (e.inner false b.1) _ t m b.3 in
           let d = bound (want kinds.CloseRound c.1) _ t m c.3 in
-          as_got (IsPrimary e.in_read s) d.3 (grammar.effect q (opened kinds.OpenRound e.room (passed s) b.1 b.0 b.2) (g.inner false b.1 c.1 c.0 c.2) (eaten kinds.CloseRound c.1 d.1 d.0 d.2))
+          as_got (IsPrimary e.in_read s) d.3 (grammar.effect q (opened kinds.OpenRound e.room (passed s) b.1 b.0 b.2) (g.inner false b.1 c.1 c.0 c.2)
+          (eaten kinds.CloseRound c.1 d.1 d.0 d.2))
 
   -- what a line before others makes of lines
   line_sound : (s a m : At) (l : Line) (ls : List Line) (u : Option Tree) → reads.piece e s ≡ Part (Got (ALine l) a) → Lines a m ls u → Lines s m (l ∷ ls) u
@@ -273,7 +291,8 @@ module _ (e : Around) (g : Good e) where
           let n = got_same i.3 in
           let rest : Lines i.1 m ls u = subst (λ z. Lines z m ls u) (sym (n.1 ∙ w.1)) q in
           subst (λ z. Lines s m (z ∷ ls) u) (n.0 ∙ same)
-          (grammar.a_val (eaten kinds.Val s b.1 b.0 b.2) c.2 (eaten kinds.Assign c.1 d.1 d.0 d.2) (g.inner false d.1 f.1 f.0 f.2) (eaten kinds.Semicolon f.1 i.1 i.0 i.2) rest)
+          (grammar.a_val (eaten kinds.Val s b.1 b.0 b.2) c.2 (eaten kinds.Assign c.1 d.1 d.0 d.2) (g.inner false d.1 f.1 f.0 f.2)
+          (eaten kinds.Semicolon f.1 i.1 i.0 i.2) rest)
 
       expr_line : reads.expr_piece e s ≡ Got (ALine l) a → Lines s m (l ∷ ls) u
       expr_line h =
@@ -281,7 +300,8 @@ module _ (e : Around) (g : Good e) where
           elim (chosen (is (next b.1) kinds.Semicolon) (Got (ALine (line_kinds.Expr b.0)) (passed b.1)) (Got (TheLast b.0) b.1) (Got (ALine l) a) b.3) [
             | inl c ↦ (let w = got_same c.1 in
                 let same : line_kinds.Expr b.0 ≡ l = (let v = w.0 in cc) in
-                subst (λ z. Lines s m (z ∷ ls) u) same (grammar.an_expr (g.inner false s b.1 b.0 b.2) (is_same (next b.1) kinds.Semicolon c.0, refl) (subst (λ z. Lines z m ls u) (sym w.1) q)))
+                subst (λ z. Lines s m (z ∷ ls) u) same (grammar.an_expr (g.inner false s b.1 b.0 b.2) (is_same (next b.1) kinds.Semicolon c.0, refl)
+                (subst (λ z. Lines z m ls u) (sym w.1) q)))
             | inr c ↦ (let w = got_same c.1 in let v = w.0 in absurd cc)
           ]
 
@@ -305,7 +325,8 @@ module _ (e : Around) (g : Good e) where
 
       by_kind : (k : Kind) → reads.piece_by e s k ≡ Part (Got (TheLast t) m) → IsExpr false s m t
       by_kind kinds.CloseBrace h = stopped h
-      by_kind kinds.Val h = (let b = bound (reads.val e s) (λ x k. Got (ALine x) k) (TheLast t) m (part_same h) in let w = got_same b.3 in let v = w.0 in absurd cc)
+      by_kind kinds.Val h = (let b = bound (reads.val e s) (λ x k. Got (ALine x) k) (TheLast t) m (part_same h) in let w = got_same b.3 in let v = w.0 in
+          absurd cc)
       by_kind k h = last (part_same h)
 
   -- lines as one value
@@ -337,7 +358,8 @@ module _ (e : Around) (g : Good e) where
       let b = bound (open_bracket kinds.OpenBrace e.room s) _ t m h in
       let c = bound (reads.all_pieces e b.1) _ t m b.3 in
       let d = bound (want kinds.CloseBrace c.1) _ t m c.3 in
-      as_got (IsBlock s) d.3 (grammar.block (opened kinds.OpenBrace e.room s b.1 b.0 b.2) (all_pieces_sound b.1 c.1 c.0 c.2) (eaten kinds.CloseBrace c.1 d.1 d.0 d.2))
+      as_got (IsBlock s) d.3 (grammar.block (opened kinds.OpenBrace e.room s b.1 b.0 b.2) (all_pieces_sound b.1 c.1 c.0 c.2)
+      (eaten kinds.CloseBrace c.1 d.1 d.0 d.2))
 
   condition_sound : (s m : At) (t : Tree) → reads.condition e s ≡ Got t m → IsPrimary e.in_read s m t
   condition_sound s m t h = elim (chosen (e.conditions == 0) (Miss OutOfMemory s) _ (Got t m) h) [
@@ -353,7 +375,8 @@ module _ (e : Around) (g : Good e) where
           let x = g.test b.1 c.1 c.0 c.2 in
           let d = bound (reads.block e c.1) _ t m c.3 in
           let y = block_sound c.1 d.1 d.0 d.2 in
-          elim (chosen (is (next d.1) kinds.Else) (then_on (reads.block e (passed d.1)) (λ u k. Got (TIf (start s) k.past c.0 d.0 (AnElse u)) k)) (Got (TIf (start s) d.1.past c.0 d.0 NoElse) d.1) (Got t m) d.3) [
+          elim (chosen (is (next d.1) kinds.Else) (then_on (reads.block e (passed d.1)) (λ u k. Got (TIf (start s) k.past c.0 d.0 (AnElse u)) k))
+          (Got (TIf (start s) d.1.past c.0 d.0 NoElse) d.1) (Got t m) d.3) [
             | inl f ↦ (let i = bound (reads.block e (passed d.1)) (λ u k. Got (TIf (start s) k.past c.0 d.0 (AnElse u)) k) t m f.1 in
                 as_got (IsPrimary e.in_read s) i.3 (grammar.if_else q x y (is_same (next d.1) kinds.Else f.0, refl) (block_sound (passed d.1) i.1 i.0 i.2)))
             | inr f ↦ as_got (IsPrimary e.in_read s) f.1 (grammar.if_alone q x y)
@@ -363,7 +386,8 @@ module _ (e : Around) (g : Good e) where
   literal_sound s m t h =
       let b = bound (reads.literal_here s) _ t m h in
       let k = literal_stays s b.1 b.0 b.2 in
-      as_got (IsPrimary e.in_read s) (subst (λ (z : At). Got (TLiteral (start s) (passed z).past b.0) (passed z) ≡ Got t m) k b.3) (grammar.literal (subst (λ z. reads.literal_here s ≡ Got b.0 z) k b.2))
+      as_got (IsPrimary e.in_read s) (subst (λ (z : At). Got (TLiteral (start s) (passed z).past b.0) (passed z) ≡ Got t m) k b.3)
+      (grammar.literal (subst (λ z. reads.literal_here s ≡ Got b.0 z) k b.2))
 
   primary_sound : (s m : At) (t : Tree) → reads.primary e s ≡ Got t m → IsPrimary e.in_read s m t
   primary_sound s m t h = by_kind (next s) h
@@ -397,7 +421,8 @@ module _ (e : Around) (g : Good e) where
     where
       by_prefix : (o : Option Prefix) → prefix_at (next s) ≡ o → reads.prefixed_by e s o ≡ Got t m → IsPrefixed e.in_read s m t
       by_prefix None q h = grammar.plain (projected_sound s m t h)
-      by_prefix (Some p) q h = (let b = bound (reads.projected e (passed s)) _ t m h in as_got (IsPrefixed e.in_read s) b.3 (grammar.prefixed q (projected_sound (passed s) b.1 b.0 b.2)))
+      by_prefix (Some p) q h = (let b = bound (reads.projected e (passed s)) _ t m h in
+          as_got (IsPrefixed e.in_read s) b.3 (grammar.prefixed q (projected_sound (passed s) b.1 b.0 b.2)))
 
   chain_sound : (l : Level) (part : Parser Tree) → ((s m : At) (t : Tree) → part s ≡ Got t m → IsOperand l e.in_read s m t)
       → (s m : At) (t : Tree) → reads.chain_of part l s ≡ Got t m → IsChain l e.in_read s m t
@@ -407,7 +432,8 @@ module _ (e : Around) (g : Good e) where
       let z = folded_behind (reads.another_step part l) (Steps l e.in_read) (λ s. grammar.no_step) one [] c.0 b.1 c.1 c.2 in
       as_got (IsChain l e.in_read s) c.3 (grammar.chained (good s b.1 b.0 b.2) (subst (Steps l e.in_read b.1 c.1) (sym z.2) z.1) refl)
     where
-      by_operator : (s a m : At) (x : Step) (ys : List Step) (o : Option Operator) → operator_at l (next s) ≡ o → reads.step_by part s o ≡ Part (Got x a) → Steps l e.in_read a m ys → Steps l e.in_read s m (x ∷ ys)
+      by_operator : (s a m : At) (x : Step) (ys : List Step) (o : Option Operator) → operator_at l (next s) ≡ o → reads.step_by part s o ≡ Part (Got x a)
+          → Steps l e.in_read a m ys → Steps l e.in_read s m (x ∷ ys)
       by_operator s a m x ys None q h k = stopped h
       by_operator s a m x ys (Some o) q h k =
           let b = bound (part (passed s)) (λ u i. Got (record { operator = o; operand = u }) i) x a (part_same h) in
@@ -425,9 +451,11 @@ module _ (e : Around) (g : Good e) where
   comparison_sound s m t h =
       let b = bound (reads.sum e s) _ t m h in by_comparison b.0 b.1 (sum_sound s b.1 b.0 b.2) (comparison_at (next b.1)) refl b.3
     where
-      by_comparison : (u : Tree) (a : At) → IsChain levels.Sum e.in_read s a u → (o : Option Comparison) → comparison_at (next a) ≡ o → reads.compared e (start s) u a o ≡ Got t m → IsComparison e.in_read s m t
+      by_comparison : (u : Tree) (a : At) → IsChain levels.Sum e.in_read s a u → (o : Option Comparison) → comparison_at (next a) ≡ o
+          → reads.compared e (start s) u a o ≡ Got t m → IsComparison e.in_read s m t
       by_comparison u a x None q h = as_got (IsComparison e.in_read s) h (grammar.alone x)
-      by_comparison u a x (Some c) q h = (let b = bound (reads.sum e (passed a)) _ t m h in as_got (IsComparison e.in_read s) b.3 (grammar.compared x q (sum_sound (passed a) b.1 b.0 b.2)))
+      by_comparison u a x (Some c) q h = (let b = bound (reads.sum e (passed a)) _ t m h in
+          as_got (IsComparison e.in_read s) b.3 (grammar.compared x q (sum_sound (passed a) b.1 b.0 b.2)))
 
   expr_sound : (s m : At) (t : Tree) → reads.expr e s ≡ Got t m → IsExpr e.in_read s m t
   expr_sound s m t h = grammar.expr (chain_sound levels.Or (reads.operand e levels.Or)
@@ -436,7 +464,8 @@ module _ (e : Around) (g : Good e) where
 by_conditions_sound : (d : ℕ) (inner : ℕ → Bool → Parser Tree) → ((c : ℕ) (r : Bool) (s m : At) (t : Tree) → inner c r s ≡ Got t m → IsExpr r s m t)
     → (c : ℕ) (r : Bool) (s m : At) (t : Tree) → by_conditions d inner c r s ≡ Got t m → IsExpr r s m t
 by_conditions_sound d inner good zero r s m t h =
-    expr_sound (record { room = d; in_read = r; conditions = zero; inner = inner zero; test = nowhere }) (record { inner = good zero; test = λ s m t h. missed h }) s m t h
+    expr_sound (record { room = d; in_read = r; conditions = zero; inner = inner zero; test = nowhere })
+    (record { inner = good zero; test = λ s m t h. missed h }) s m t h
 by_conditions_sound d inner good (suc c) r s m t h =
     expr_sound (record { room = d; in_read = r; conditions = suc c; inner = inner (suc c); test = by_conditions d inner c false })
     (record { inner = good (suc c); test = by_conditions_sound d inner good c false }) s m t h
@@ -455,4 +484,5 @@ test_at_sound d (suc c) s m t h = expr_at_sound d c false s m t h
 
 -- a block that is read is one of the grammar
 pub block_is_written : (r : Room) (s m : At) (t : BlockTree) → reads.block (around r) s ≡ Got t m → IsBlock s m t
-block_is_written r s m t h = block_sound (around r) (record { inner = inner_at_sound r.brackets r.conditions; test = test_at_sound r.brackets r.conditions }) s m t h
+block_is_written r s m t h = block_sound (around r)
+    (record { inner = inner_at_sound r.brackets r.conditions; test = test_at_sound r.brackets r.conditions }) s m t h

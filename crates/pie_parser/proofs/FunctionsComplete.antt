@@ -1,5 +1,6 @@
 -- A pipeline of the grammar is read, or a limit is met.
-use Rattle.std.proofs.Common.{◌≡◌, ◌⊎◌, inl, inr, ℕ, ◌+◌, ◌-◌, ◌<◌, ◌≤◌, zero, suc, Bool, true, false, cond, List, [], ◌∷◌, ◌++◌, length, Result, Ok, Err, refl, sym, subst, ap, ◌∙◌, arith}
+use Rattle.std.proofs.Common.{◌≡◌, ◌⊎◌, inl, inr, ℕ, ◌+◌, ◌-◌, ◌<◌, ◌≤◌, zero, suc, Bool, true, false, cond, List, [], ◌∷◌, ◌++◌, length, Result, Ok, Err, refl}
+use Rattle.std.proofs.Common.{sym, subst, ap, ◌∙◌, arith}
 use Rattle.pie_lexer.specs.declared.token.Token.{Token}
 use Rattle.pie_parser.specs.declared.kind.Kind.{Kind}
 use Rattle.pie_parser.specs.declared.kind.Kind.TheVariants as kinds
@@ -28,19 +29,30 @@ use Rattle.pie_parser.proofs.TypesComplete.{Off, off_by, hits_by, name_kind, typ
 use Rattle.pie_parser.proofs.ExprComplete.{block_is_hit}
 
 param_less : {s m : At} {p : Param} → IsParam s m p → Less s m
-param_less {s = s} {m = m} (grammar.param {a = a} {b = b} {n = n} i q t) = omega (arith, name_less s a n i, eats_less kinds.Colon a b q (λ e. cc) (λ e. cc), type_less t)
+param_less {s = s} {m = m} (grammar.param {a = a} {b = b} {n = n} i q t) = omega
+    (arith, name_less s a n i, eats_less kinds.Colon a b q (λ e. cc) (λ e. cc), type_less t)
 
 params_count : {s m : At} {ps : List Param} → MoreParams s m ps → length ps + length m.rest ≤ length s.rest
 params_count grammar.no_more = omega arith
 params_count {s = s} {m = m} (grammar.one_more {a = a} q x k) = omega (arith, eats_less kinds.Comma s a q (λ e. cc) (λ e. cc), param_less x, params_count k)
 
 params_less : {s m : At} {ps : List Param} → IsParams s m ps → Less s m
-params_less {s = s} {m = m} (grammar.none {a = a} q p) = omega (arith, eats_less kinds.OpenRound s a q (λ e. cc) (λ e. cc), eats_less kinds.CloseRound a m p (λ e. cc) (λ e. cc))
-params_less {s = s} {m = m} (grammar.some {a = a} {c = c} q x k p) = omega (arith, eats_less kinds.OpenRound s a q (λ e. cc) (λ e. cc), param_less x, params_count k, eats_less kinds.CloseRound c m p (λ e. cc) (λ e. cc))
+params_less {s = s} {m = m} (grammar.none {a = a} q p) = omega
+    (arith, eats_less kinds.OpenRound s a q (λ e. cc) (λ e. cc), eats_less kinds.CloseRound a m p (λ e. cc) (λ e. cc))
+params_less {s = s} {m = m} (grammar.some {a = a} {c = c} q x k p) = omega
+    (arith, eats_less kinds.OpenRound s a q (λ e. cc) (λ e. cc), param_less x, params_count k, eats_less kinds.CloseRound c m p (λ e. cc) (λ e. cc))
 
 function_less : {s m : At} {t : FunctionTree} → IsFunction s m t → Less s m
 function_less {s = s} {m = m} (grammar.function {a = a} {b = b} {c = c} {d = d} {n = n} q i x p t k) =
-    omega (arith, eats_less kinds.Func s a q (λ e. cc) (λ e. cc), name_less a b n i, params_less x, eats_less kinds.Arrow c d p (λ e. cc) (λ e. cc), type_less t, block_less k)
+    omega (
+      arith,
+      eats_less kinds.Func s a q (λ e. cc) (λ e. cc),
+      name_less a b n i,
+      params_less x,
+      eats_less kinds.Arrow c d p (λ e. cc) (λ e. cc),
+      type_less t,
+      block_less k,
+    )
 
 functions_count : {s m : At} {fs : List FunctionTree} → Functions s m fs → length fs + length m.rest ≤ length s.rest
 functions_count grammar.no_function = omega arith
@@ -56,13 +68,15 @@ more_off : (k : Kind) {s m : At} {ps : List Param} → MoreParams s m ps → is 
 more_off k grammar.no_more c o = o
 more_off k {s = s} (grammar.one_more q x y) c o = off_by k kinds.Comma s q.0 c
 
-more_hits : (d n : ℕ) {s m : At} {ps : List Param} → MoreParams s m ps → length ps ≤ n → Off kinds.Comma m → Off kinds.Question m → Hits (many (reads.another_param d) n s) ps m
+more_hits : (d n : ℕ) {s m : At} {ps : List Param} → MoreParams s m ps → length ps ≤ n → Off kinds.Comma m → Off kinds.Question m
+    → Hits (many (reads.another_param d) n s) ps m
 more_hits d zero grammar.no_more l c f = (refl, refl)
 more_hits d zero (grammar.one_more q x k) l c f = absurd (omega arith)
 more_hits d (suc n) {s = s} grammar.no_more l c f =
     subst (λ y. Hits (on_turn (cond y (Part (reads.param d (passed s))) Stop) s (many (reads.another_param d) n)) [] s) (sym c) (refl, refl)
 more_hits d (suc n) {s = s} {m = m} (grammar.one_more {a = a} {b = b} {p = p} {ps = ps} q x k) l c f =
-    subst (λ y. Hits (on_turn (cond y (Part (reads.param d (passed s))) Stop) s (many (reads.another_param d) n)) (p ∷ ps) m) (sym (is_one (next s) kinds.Comma q.0))
+    subst (λ y. Hits (on_turn (cond y (Part (reads.param d (passed s))) Stop) s (many (reads.another_param d) n)) (p ∷ ps) m)
+    (sym (is_one (next s) kinds.Comma q.0))
     (after (reads.param d (passed s)) _ p b _ _ (param_hits d (subst (λ z. IsParam z b p) q.1 x) (more_off kinds.Question k refl f))
     (after (many (reads.another_param d) n b) _ ps m _ _ (more_hits d n k (omega arith) c f) (refl, refl)))
 
@@ -72,11 +86,13 @@ param_name {s = s} (grammar.param {a = a} {n = n} i q t) = name_kind s a n i
 params_hits : (d : ℕ) {s m : At} {ps : List Param} → IsParams s m ps → Hits (reads.params d s) ps m
 params_hits d {s = s} {m = m} (grammar.none {a = a} q p) = after (open_bracket kinds.OpenRound d s) _ done a _ _ (bracket kinds.OpenRound d s a q)
     (at_true (is (next a) kinds.CloseRound) (Got [] (passed a)) _ _ _ (is_one (next a) kinds.CloseRound p.0) (refl, sym p.1))
-params_hits d {s = s} {m = m} (grammar.some {a = a} {b = b} {c = c} {p = p} {ps = ps} q x k z) = after (open_bracket kinds.OpenRound d s) _ done a _ _ (bracket kinds.OpenRound d s a q)
+params_hits d {s = s} {m = m} (grammar.some {a = a} {b = b} {c = c} {p = p} {ps = ps} q x k z) = after (open_bracket kinds.OpenRound d s) _ done a _ _
+    (bracket kinds.OpenRound d s a q)
     (at_false (is (next a) kinds.CloseRound) (Got [] (passed a)) _ _ _ (off_by kinds.CloseRound kinds.Name a (param_name x) refl)
     (after (reads.param (d - 1) a) _ p b _ _ (param_hits (d - 1) x (more_off kinds.Question k refl (off_by kinds.Question kinds.CloseRound c z.0 refl)))
     (after (reads.more_params (d - 1) p b) _ (p ∷ ps) c _ _
-    (behind_them (p ∷ []) ps _ c (more_hits (d - 1) (length b.rest) k (omega (arith, params_count k)) (off_by kinds.Comma kinds.CloseRound c z.0 refl) (off_by kinds.Question kinds.CloseRound c z.0 refl)))
+    (behind_them (p ∷ []) ps _ c (more_hits (d - 1) (length b.rest) k (omega (arith, params_count k)) (off_by kinds.Comma kinds.CloseRound c z.0 refl)
+    (off_by kinds.Question kinds.CloseRound c z.0 refl)))
     (after (want kinds.CloseRound c) _ done m _ _ (wanted kinds.CloseRound c m z) (refl, refl)))))
 
 starts_block : {s m : At} {t : BlockTree} → IsBlock s m t → next s ≡ kinds.OpenBrace
@@ -88,17 +104,22 @@ function_hits r {s = s} {m = m} (grammar.function {a = a} {b = b} {c = c} {d = d
     (after (name a) _ n b _ _ (hits_by (name a) n b i)
     (after (reads.params r.brackets b) _ ps c _ _ (params_hits r.brackets k)
     (after (want kinds.Arrow c) _ done d _ _ (wanted kinds.Arrow c d p)
-    (after (written_type r.brackets (inner_type r.brackets) d) _ t e _ _ (type_is_hit r.brackets y (off_by kinds.Question kinds.OpenBrace e (starts_block z) refl))
+    (after (written_type r.brackets (inner_type r.brackets) d) _ t e _ _
+    (type_is_hit r.brackets y (off_by kinds.Question kinds.OpenBrace e (starts_block z) refl))
     (after (block (around r) e) _ x m _ _ (block_is_hit r z) (refl, refl))))))
 
-functions_hits : (r : Room) (n : ℕ) {s m : At} {fs : List FunctionTree} → Functions s m fs → length fs ≤ n → next m ≡ kinds.End → Hits (many (reads.another_function r) n s) fs m
+functions_hits : (r : Room) (n : ℕ) {s m : At} {fs : List FunctionTree} → Functions s m fs → length fs ≤ n → next m ≡ kinds.End
+    → Hits (many (reads.another_function r) n s) fs m
 functions_hits r zero grammar.no_function l e = (refl, refl)
 functions_hits r zero (grammar.a_function x k) l e = absurd (omega arith)
 functions_hits r (suc n) {s = s} grammar.no_function l e =
-    subst (λ y. Hits (on_turn (cond y Stop (Part (reads.function r s))) s (many (reads.another_function r) n)) [] s) (sym (is_one (next s) kinds.End e)) (refl, refl)
+    subst (λ y. Hits (on_turn (cond y Stop (Part (reads.function r s))) s (many (reads.another_function r) n)) [] s) (sym (is_one (next s) kinds.End e))
+    (refl, refl)
 functions_hits r (suc n) {s = s} {m = m} (grammar.a_function {a = a} {f = f} {fs = fs} x k) l e =
-    subst (λ y. Hits (on_turn (cond y Stop (Part (reads.function r s))) s (many (reads.another_function r) n)) (f ∷ fs) m) (sym (off_by kinds.End kinds.Func s (starts_function x) refl))
-    (after (reads.function r s) _ f a _ _ (function_hits r x) (after (many (reads.another_function r) n a) _ fs m _ _ (functions_hits r n k (omega arith) e) (refl, refl)))
+    subst (λ y. Hits (on_turn (cond y Stop (Part (reads.function r s))) s (many (reads.another_function r) n)) (f ∷ fs) m)
+    (sym (off_by kinds.End kinds.Func s (starts_function x) refl))
+    (after (reads.function r s) _ f a _ _ (function_hits r x)
+    (after (many (reads.another_function r) n a) _ fs m _ _ (functions_hits r n k (omega arith) e) (refl, refl)))
   where
     starts_function : {s m : At} {t : FunctionTree} → IsFunction s m t → next s ≡ kinds.Func
     starts_function (grammar.function q i k p y z) = q.0

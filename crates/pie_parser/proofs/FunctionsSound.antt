@@ -48,7 +48,8 @@ params_sound d s m ps h =
     ]
   where
     some : (d : ℕ) (a : At) → Eats kinds.OpenRound s a
-        → then_on (reads.param d a) (λ p b. then_on (reads.more_params d p b) (λ xs c. then_on (want kinds.CloseRound c) (λ _ k. Got xs k))) ≡ Got ps m → IsParams s m ps
+        → then_on (reads.param d a) (λ p b. then_on (reads.more_params d p b) (λ xs c. then_on (want kinds.CloseRound c) (λ _ k. Got xs k))) ≡ Got ps m
+        → IsParams s m ps
     some d a q h =
         let b = bound (reads.param d a) _ ps m h in
         let c = bound (reads.more_params d b.0 b.1) _ ps m b.3 in
@@ -64,7 +65,8 @@ function_sound r s m t h =
     let f = bound (want kinds.Arrow d.1) _ t m d.3 in
     let i = bound (written_type r.brackets (inner_type r.brackets) f.1) _ t m f.3 in
     let j = bound (block (around r) i.1) _ t m i.3 in
-    as_got (IsFunction s) j.3 (grammar.function (eaten kinds.Func s b.1 b.0 b.2) c.2 (params_sound r.brackets c.1 d.1 d.0 d.2) (eaten kinds.Arrow d.1 f.1 f.0 f.2)
+    as_got (IsFunction s) j.3 (grammar.function (eaten kinds.Func s b.1 b.0 b.2) c.2 (params_sound r.brackets c.1 d.1 d.0 d.2)
+    (eaten kinds.Arrow d.1 f.1 f.0 f.2)
     (type_is_written r.brackets f.1 i.1 i.0 i.2) (block_is_written r i.1 j.1 j.0 j.2))
 
 functions_sound : (r : Room) (s m : At) (fs : List FunctionTree) → reads.functions r s ≡ Got fs m → Functions s m fs
@@ -84,7 +86,10 @@ pipeline_sound ts fs m h =
     let s : At = record { past = 0; rest = ts; marked = false } in
     let b = bound (reads.functions r s) (λ fs m. cond (is (next m) kinds.End) (Got fs m) (Miss Expected m)) fs m h in
     elim (chosen (is (next b.1) kinds.End) (Got b.0 b.1) (Miss Expected b.1) (Got fs m) b.3) [
-      | inl c ↦ (let g = got_same c.1 in
-          (m, subst (λ z. Functions s m z) g.0 (subst (λ z. Functions s z b.0) g.1 (functions_sound r s b.1 b.0 b.2)), subst (λ z. next z ≡ kinds.End) g.1 (is_same (next b.1) kinds.End c.0)))
+      | inl c ↦ (let g = got_same c.1 in (
+        m,
+        subst (λ z. Functions s m z) g.0 (subst (λ z. Functions s z b.0) g.1 (functions_sound r s b.1 b.0 b.2)),
+        subst (λ z. next z ≡ kinds.End) g.1 (is_same (next b.1) kinds.End c.0),
+      ))
       | inr c ↦ missed c.1
     ]

@@ -1,5 +1,6 @@
 -- A reading that finds what stands there, or meets a limit.
-use Rattle.std.proofs.Common.{◌≡◌, ◌⊎◌, inl, inr, ℕ, ◌+◌, ◌<◌, ◌≤◌, suc, Bool, true, false, cond, ◌==◌, List, [], ◌∷◌, ◌++◌, length, Option, Some, None, refl, sym, subst, ap, ◌∙◌, arith}
+use Rattle.std.proofs.Common.{◌≡◌, ◌⊎◌, inl, inr, ℕ, ◌+◌, ◌<◌, ◌≤◌, suc, Bool, true, false, cond, ◌==◌, List, [], ◌∷◌, ◌++◌, length, Option, Some, None, refl}
+use Rattle.std.proofs.Common.{sym, subst, ap, ◌∙◌, arith}
 use Rattle.pie_lexer.specs.declared.token.Token.{Token}
 use Rattle.pie_parser.specs.declared.kind.Kind.{Kind}
 use Rattle.pie_parser.specs.declared.kind.Kind.TheVariants as kinds
@@ -38,7 +39,8 @@ pub wanted : (k : Kind) (s m : At) → Eats k s m → Hits (want k s) done m
 wanted k s m h = at_true (is (next s) k) (Got done (passed s)) (Miss Expected s) done m (is_one (next s) k h.0) (refl, sym h.1)
 
 pub bracket : (k : Kind) (d : ℕ) (s m : At) → Eats k s m → Hits (open_bracket k d s) done m
-bracket k d s m h = at_true (is (next s) k) (cond (d == 0) (Miss TooDeep s) (Got done (passed s))) (Miss Expected s) done m (is_one (next s) k h.0) (by_room (d == 0))
+bracket k d s m h = at_true (is (next s) k) (cond (d == 0) (Miss TooDeep s) (Got done (passed s))) (Miss Expected s) done m (is_one (next s) k h.0)
+    (by_room (d == 0))
   where
     by_room : (b : Bool) → Hits (cond b (Miss TooDeep s) (Got done (passed s))) done m
     by_room true = tt

@@ -11,7 +11,8 @@ use Rattle.pie_parser.specs.Turns.{Turn, Stop, Part}
 use Rattle.pie_parser.specs.Pieces.{Piece, ALine, TheLast, PieceTurns, pieces_of, on_piece, onto_lines}
 use Rattle.pie_parser.specs.ExprReading.{Around, piece, pieces}
 
-onto_more : (ls : List Line) (l : Line) (p : Parsed (List Line × Option Tree)) → onto_lines ls (then_on p (λ x k. Got (l ∷ x.0, x.1) k)) ≡ onto_lines (ls ++ l ∷ []) p
+onto_more : (ls : List Line) (l : Line) (p : Parsed (List Line × Option Tree))
+    → onto_lines ls (then_on p (λ x k. Got (l ∷ x.0, x.1) k)) ≡ onto_lines (ls ++ l ∷ []) p
 onto_more ls l (Got x m) = ap (λ zs. Got (zs, x.1) m) (sym (append_assoc ls (l ∷ []) x.0))
 onto_more ls l (Miss e m) = refl
 
@@ -25,11 +26,13 @@ at_turn : (e : Around) (n i : ℕ) (s : At) (ls : List Line) (t : Turn Piece) �
     → onto_lines ls (pieces e (n - i) s) ≡ onto_lines ls (on_piece t s (pieces e (n - (i + 1))))
 at_turn e n i s ls t h k = ap (onto_lines ls) (turned e n i s h) ∙ ap (λ u. onto_lines ls (on_piece u s (pieces e (n - (i + 1))))) k
 
-pub line_goes_on : (e : Around) (n i : ℕ) (s m : At) (ls : List Line) (l : Line) (p : Parsed (List Line × Option Tree)) → i < n → piece e s ≡ Part (Got (ALine l) m)
+pub line_goes_on : (e : Around) (n i : ℕ) (s m : At) (ls : List Line) (l : Line) (p : Parsed (List Line × Option Tree)) → i < n
+    → piece e s ≡ Part (Got (ALine l) m)
     → onto_lines ls (pieces e (n - i) s) ≡ p → onto_lines (ls ++ l ∷ []) (pieces e (n - (i + 1)) m) ≡ p
 line_goes_on e n i s m ls l p h t q = sym (onto_more ls l (pieces e (n - (i + 1)) m)) ∙ sym (at_turn e n i s ls (Part (Got (ALine l) m)) h t) ∙ q
 
-pub last_ends : (e : Around) (n i : ℕ) (s m : At) (ls : List Line) (u : Tree) (p : Parsed (List Line × Option Tree)) → i < n → piece e s ≡ Part (Got (TheLast u) m)
+pub last_ends : (e : Around) (n i : ℕ) (s m : At) (ls : List Line) (u : Tree) (p : Parsed (List Line × Option Tree)) → i < n
+    → piece e s ≡ Part (Got (TheLast u) m)
     → onto_lines ls (pieces e (n - i) s) ≡ p → p ≡ Got (ls, Some u) m
 last_ends e n i s m ls u p h t q = sym q ∙ at_turn e n i s ls (Part (Got (TheLast u) m)) h t ∙ ap (λ xs. Got (xs, Some u) m) (append-nil ls)
 
@@ -48,7 +51,8 @@ runs_out e n i s ls p h q =
     sym q ∙ ap (λ k. onto_lines ls (pieces e k s)) z ∙ ap (λ xs. Got (xs, None) s) (append-nil ls)
 
 -- where a turn fails in the code, so does the loop
-pub piece_fails_so : (e : Around) (n i : ℕ) (s m : At) (ls : List Line) (f : Fault) (p : Parsed (List Line × Option Tree)) → i < n → PieceTurns (Err f) s m (piece e s)
+pub piece_fails_so : (e : Around) (n i : ℕ) (s m : At) (ls : List Line) (f : Fault) (p : Parsed (List Line × Option Tree)) → i < n
+    → PieceTurns (Err f) s m (piece e s)
     → onto_lines ls (pieces e (n - i) s) ≡ p → Agrees pieces_of (Err f) m p
 piece_fails_so e n i s m ls Expected p h t q = fails e n i s m ls Expected p h t q
 piece_fails_so e n i s m ls TooDeep p h t q = fails e n i s m ls TooDeep p h t q

@@ -1,5 +1,6 @@
 -- What an answer says of the readings that it was made of.
-use Rattle.std.proofs.Common.{◌≡◌, ◌⊎◌, inl, inr, ℕ, zero, suc, Bool, true, false, cond, ◌==◌, List, [], ◌∷◌, ◌++◌, length, Option, Some, None, refl, sym, subst, ap, ◌∙◌, rules}
+use Rattle.std.proofs.Common.{◌≡◌, ◌⊎◌, inl, inr, ℕ, zero, suc, Bool, true, false, cond, ◌==◌, List, [], ◌∷◌, ◌++◌, length, Option, Some, None, refl, sym}
+use Rattle.std.proofs.Common.{subst, ap, ◌∙◌, rules}
 use denote.Enum.Bare.{same_true, same_false}
 use Rattle.pie_parser.specs.contracts.kind.Kind.{the_type}
 use Rattle.pie_parser.specs.declared.kind.Kind.{Kind}
@@ -31,7 +32,8 @@ as_got R {x = x} {m = m} h r = let e = got_same h in subst (R m) e.0 (subst (λ 
 pub missed : {A : Type 0} {B : Type 0} {f : Fault} {s m : At} {y : A} → Miss f s ≡ Got y m → B
 missed h = absurd cc
 
-pub bound : {A B : Type 0} (p : Parsed A) (f : A → At → Parsed B) (y : B) (m : At) → then_on p f ≡ Got y m → (x : A) × (a : At) × (p ≡ Got x a) × (f x a ≡ Got y m)
+pub bound : {A B : Type 0} (p : Parsed A) (f : A → At → Parsed B) (y : B) (m : At) → then_on p f ≡ Got y m → (x : A) × (a : At) × (p ≡ Got x a)
+    × (f x a ≡ Got y m)
 bound (Got x a) f y m h = (x, a, refl, h)
 bound (Miss e a) f y m h = missed h
 

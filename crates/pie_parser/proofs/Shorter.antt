@@ -1,5 +1,6 @@
 -- What stands between two places takes tokens.
-use Rattle.std.proofs.Common.{◌≡◌, ◌⊎◌, inl, inr, ℕ, ◌+◌, ◌<◌, ◌≤◌, suc, Bool, true, false, cond, List, [], ◌∷◌, length, Option, Some, None, refl, sym, subst, ap, ◌∙◌, arith}
+use Rattle.std.proofs.Common.{◌≡◌, ◌⊎◌, inl, inr, ℕ, ◌+◌, ◌<◌, ◌≤◌, suc, Bool, true, false, cond, List, [], ◌∷◌, length, Option, Some, None, refl, sym, subst}
+use Rattle.std.proofs.Common.{ap, ◌∙◌, arith}
 use Rattle.pie_lexer.specs.declared.token.Token.{Token}
 use Rattle.pie_lexer.specs.declared.token.TokenKind.{TokenKind}
 use Rattle.pie_lexer.specs.declared.token.TokenKind.TheVariants as tokens
@@ -29,7 +30,8 @@ use Rattle.pie_parser.specs.TypeReading.{plain_at}
 use Rattle.pie_parser.specs.TypeGrammar as types
 use Rattle.pie_parser.specs.TypeGrammar.{Eats, IsName, IsType, IsPlain, MoreTypes}
 use Rattle.pie_parser.specs.Grammar as grammar
-use Rattle.pie_parser.specs.Grammar.{IsIndex, Indices, ByOfRequire, ByOfRead, IsExpr, IsChain, IsOperand, Steps, IsComparison, IsPrefixed, IsProjected, IsPrimary, Arguments, More, IsBlock, Lines}
+use Rattle.pie_parser.specs.Grammar.{IsIndex, Indices, ByOfRequire, ByOfRead, IsExpr, IsChain, IsOperand, Steps, IsComparison, IsPrefixed, IsProjected}
+use Rattle.pie_parser.specs.Grammar.{IsPrimary, Arguments, More, IsBlock, Lines}
 use Rattle.pie_parser.specs.FunctionGrammar as functions
 use Rattle.pie_parser.specs.FunctionGrammar.{IsParam, MoreParams, IsParams, IsFunction, Functions}
 use Rattle.pie_parser.proofs.Readings.{chosen, got_same, missed}
@@ -103,26 +105,41 @@ mutual
   plain_type_less : {s m : At} {t : TypeTree} → IsPlain s m t → Less s m
   plain_type_less {s = s} {m = m} (types.keyword {p = p} h e) = subst (λ z. Less s z) (sym e) (plain_less s p h)
   plain_type_less {s = s} {m = m} (types.named {n = n} h) = name_less s m n h
-  plain_type_less {s = s} {m = m} (types.listed {a = a} {b = b} q t p) = omega (arith, eats_less kinds.OpenSquare s a q (λ e. cc) (λ e. cc), type_less t, eats_less kinds.CloseSquare b m p (λ e. cc) (λ e. cc))
-  plain_type_less {s = s} {m = m} (types.tuple {a = a} {b = b} {c = c} {d = d} {e = e} q t p u ts z) = omega (arith, eats_less kinds.OpenRound s a q (λ e. cc) (λ e. cc), type_less t, eats_less kinds.Comma b c p (λ e. cc) (λ e. cc), type_less u, more_types_count ts, eats_less kinds.CloseRound e m z (λ e. cc) (λ e. cc))
+  plain_type_less {s = s} {m = m} (types.listed {a = a} {b = b} q t p) = omega
+      (arith, eats_less kinds.OpenSquare s a q (λ e. cc) (λ e. cc), type_less t, eats_less kinds.CloseSquare b m p (λ e. cc) (λ e. cc))
+  plain_type_less {s = s} {m = m} (types.tuple {a = a} {b = b} {c = c} {d = d} {e = e} q t p u ts z) = omega (
+    arith,
+    eats_less kinds.OpenRound s a q (λ e. cc) (λ e. cc),
+    type_less t,
+    eats_less kinds.Comma b c p (λ e. cc) (λ e. cc),
+    type_less u,
+    more_types_count ts,
+    eats_less kinds.CloseRound e m z (λ e. cc) (λ e. cc),
+  )
 
   pub more_types_count : {s m : At} {ts : List TypeTree} → MoreTypes s m ts → length ts + length m.rest ≤ length s.rest
   more_types_count types.no_more = omega arith
-  more_types_count {s = s} {m = m} (types.one_more {a = a} {b = b} q t ts) = omega (arith, eats_less kinds.Comma s a q (λ e. cc) (λ e. cc), type_less t, more_types_count ts)
+  more_types_count {s = s} {m = m} (types.one_more {a = a} {b = b} q t ts) = omega
+      (arith, eats_less kinds.Comma s a q (λ e. cc) (λ e. cc), type_less t, more_types_count ts)
 
 pub indices_count : {s m : At} {ns : List Index} → Indices s m ns → length ns + length m.rest ≤ length s.rest
 indices_count grammar.no_index = omega arith
-indices_count {s = s} {m = m} (grammar.an_index {a = a} {b = b} {n = n} q i k) = omega (arith, eats_less kinds.Dot s a q (λ e. cc) (λ e. cc), index_less a b n i, indices_count k)
+indices_count {s = s} {m = m} (grammar.an_index {a = a} {b = b} {n = n} q i k) = omega
+    (arith, eats_less kinds.Dot s a q (λ e. cc) (λ e. cc), index_less a b n i, indices_count k)
 
 by_require_short : {r : Bool} {s m : At} {k : CallKind} → ByOfRequire r s m k → Short s m
 by_require_short (grammar.nothing h) = omega arith
-by_require_short {s = s} {m = m} (grammar.by_hash {a = a} q p) = omega (arith, eats_less kinds.By s a q (λ e. cc) (λ e. cc), eats_less kinds.Hash a m p (λ e. cc) (λ e. cc))
-by_require_short {s = s} (grammar.passes_mark {a = a} {b = b} q p) = omega (arith, eats_less kinds.By s a q (λ e. cc) (λ e. cc), eats_less kinds.Mark a b p (λ e. cc) (λ e. cc))
+by_require_short {s = s} {m = m} (grammar.by_hash {a = a} q p) = omega
+    (arith, eats_less kinds.By s a q (λ e. cc) (λ e. cc), eats_less kinds.Hash a m p (λ e. cc) (λ e. cc))
+by_require_short {s = s} (grammar.passes_mark {a = a} {b = b} q p) = omega
+    (arith, eats_less kinds.By s a q (λ e. cc) (λ e. cc), eats_less kinds.Mark a b p (λ e. cc) (λ e. cc))
 
 by_read_short : {s m : At} {k : EffectKind} → ByOfRead s m k → Short s m
 by_read_short grammar.nothing = omega arith
-by_read_short {s = s} {m = m} (grammar.by_hash {a = a} q p) = omega (arith, eats_less kinds.By s a q (λ e. cc) (λ e. cc), eats_less kinds.Hash a m p (λ e. cc) (λ e. cc))
-by_read_short {s = s} {m = m} (grammar.by_mark {a = a} q p) = omega (arith, eats_less kinds.By s a q (λ e. cc) (λ e. cc), eats_less kinds.Mark a m p (λ e. cc) (λ e. cc))
+by_read_short {s = s} {m = m} (grammar.by_hash {a = a} q p) = omega
+    (arith, eats_less kinds.By s a q (λ e. cc) (λ e. cc), eats_less kinds.Hash a m p (λ e. cc) (λ e. cc))
+by_read_short {s = s} {m = m} (grammar.by_mark {a = a} q p) = omega
+    (arith, eats_less kinds.By s a q (λ e. cc) (λ e. cc), eats_less kinds.Mark a m p (λ e. cc) (λ e. cc))
 by_read_short (grammar.marked h) = omega arith
 
 mutual
@@ -159,33 +176,90 @@ mutual
   primary_less {s = s} (grammar.call {a = a} {n = n} h x) = omega (arith, name_less s a n h, arguments_less x)
   primary_less {s = s} {m = m} (grammar.null {a = a} x0 x1) = omega (arith, eats_less kinds.Null s a x0 (λ e. cc) (λ e. cc), plain_type_less x1)
   primary_less {s = s} {m = m} (grammar.empty {a = a} x0 x1) = omega (arith, eats_less kinds.Empty s a x0 (λ e. cc) (λ e. cc), type_less x1)
-  primary_less {s = s} {m = m} (grammar.brackets {a = a} {b = b} x0 x1 x2) = omega (arith, eats_less kinds.OpenRound s a x0 (λ e. cc) (λ e. cc), expr_less x1, eats_less kinds.CloseRound b m x2 (λ e. cc) (λ e. cc))
-  primary_less {s = s} {m = m} (grammar.tuple {a = a} {b = b} {c = c} x0 x1 x2 x3 x4) = omega (arith, eats_less kinds.OpenRound s a x0 (λ e. cc) (λ e. cc), expr_less x1, more_count x3, eats_less kinds.CloseRound c m x4 (λ e. cc) (λ e. cc))
-  primary_less {s = s} {m = m} (grammar.list {a = a} {b = b} {c = c} x0 x1 x2 x3) = omega (arith, eats_less kinds.OpenSquare s a x0 (λ e. cc) (λ e. cc), expr_less x1, more_count x2, eats_less kinds.CloseSquare c m x3 (λ e. cc) (λ e. cc))
-  primary_less {s = s} {m = m} (grammar.each {a = a} {b = b} {c = c} {d = d} {e = e} {f = f} {n = n} x0 x1 x2 x3 x4 x5 x6) = omega (arith, eats_less kinds.OpenSquare s a x0 (λ e. cc) (λ e. cc), expr_less x1, eats_less kinds.For b c x2 (λ e. cc) (λ e. cc), name_less c d n x3, eats_less kinds.In d e x4 (λ e. cc) (λ e. cc), expr_less x5, eats_less kinds.CloseSquare f m x6 (λ e. cc) (λ e. cc))
-  primary_less {s = s} {m = m} (grammar.if_alone {a = a} {b = b} x0 x1 x2) = omega (arith, eats_less kinds.If s a x0 (λ e. cc) (λ e. cc), expr_less x1, block_less x2)
-  primary_less {s = s} {m = m} (grammar.if_else {a = a} {b = b} {c = c} {d = d} x0 x1 x2 x3 x4) = omega (arith, eats_less kinds.If s a x0 (λ e. cc) (λ e. cc), expr_less x1, block_less x2, eats_less kinds.Else c d x3 (λ e. cc) (λ e. cc), block_less x4)
-  primary_less {s = s} {m = m} (grammar.effect {a = a} {b = b} {k = k} x0 x1 x2 x3) = omega (arith, effect_less s k x0, eats_less kinds.OpenRound (passed s) a x1 (λ e. cc) (λ e. cc), expr_less x2, eats_less kinds.CloseRound b m x3 (λ e. cc) (λ e. cc))
-  primary_less {s = s} {m = m} (grammar.read {a = a} {b = b} {c = c} {d = d} x0 x1 x2 x3 x4) = omega (arith, eats_less kinds.Read s a x0 (λ e. cc) (λ e. cc), eats_less kinds.OpenRound a b x1 (λ e. cc) (λ e. cc), expr_less x2, by_read_short x3, eats_less kinds.CloseRound d m x4 (λ e. cc) (λ e. cc))
-  primary_less {s = s} {m = m} (grammar.write {a = a} {b = b} {c = c} {d = d} {e = e} x0 x1 x2 x3 x4 x5) = omega (arith, eats_less kinds.Write s a x0 (λ e. cc) (λ e. cc), eats_less kinds.OpenRound a b x1 (λ e. cc) (λ e. cc), expr_less x2, eats_less kinds.Comma c d x3 (λ e. cc) (λ e. cc), expr_less x4, eats_less kinds.CloseRound e m x5 (λ e. cc) (λ e. cc))
-  primary_less {s = s} {m = m} (grammar.fail {a = a} {b = b} {c = c} {d = d} x0 x1 x2 x3 x4) = omega (arith, eats_less kinds.Fail s a x0 (λ e. cc) (λ e. cc), type_less x1, eats_less kinds.OpenRound b c x2 (λ e. cc) (λ e. cc), expr_less x3, eats_less kinds.CloseRound d m x4 (λ e. cc) (λ e. cc))
-  primary_less {s = s} {m = m} (grammar.require {a = a} {b = b} {c = c} {n = n} x0 x1 x2 x3) = omega (arith, eats_less kinds.Require s a x0 (λ e. cc) (λ e. cc), name_less a b n x1, arguments_less x2, by_require_short x3)
-  primary_less {s = s} {m = m} (grammar.run {a = a} {b = b} {n = n} x0 x1 x2) = omega (arith, eats_less kinds.Run s a x0 (λ e. cc) (λ e. cc), name_less a b n x1, arguments_less x2)
+  primary_less {s = s} {m = m} (grammar.brackets {a = a} {b = b} x0 x1 x2) = omega
+      (arith, eats_less kinds.OpenRound s a x0 (λ e. cc) (λ e. cc), expr_less x1, eats_less kinds.CloseRound b m x2 (λ e. cc) (λ e. cc))
+  primary_less {s = s} {m = m} (grammar.tuple {a = a} {b = b} {c = c} x0 x1 x2 x3 x4) = omega
+      (arith, eats_less kinds.OpenRound s a x0 (λ e. cc) (λ e. cc), expr_less x1, more_count x3, eats_less kinds.CloseRound c m x4 (λ e. cc) (λ e. cc))
+  primary_less {s = s} {m = m} (grammar.list {a = a} {b = b} {c = c} x0 x1 x2 x3) = omega
+      (arith, eats_less kinds.OpenSquare s a x0 (λ e. cc) (λ e. cc), expr_less x1, more_count x2, eats_less kinds.CloseSquare c m x3 (λ e. cc) (λ e. cc))
+  primary_less {s = s} {m = m} (grammar.each {a = a} {b = b} {c = c} {d = d} {e = e} {f = f} {n = n} x0 x1 x2 x3 x4 x5 x6) = omega (
+    arith,
+    eats_less kinds.OpenSquare s a x0 (λ e. cc) (λ e. cc),
+    expr_less x1,
+    eats_less kinds.For b c x2 (λ e. cc) (λ e. cc),
+    name_less c d n x3,
+    eats_less kinds.In d e x4 (λ e. cc) (λ e. cc),
+    expr_less x5,
+    eats_less kinds.CloseSquare f m x6 (λ e. cc) (λ e. cc),
+  )
+  primary_less {s = s} {m = m} (grammar.if_alone {a = a} {b = b} x0 x1 x2) = omega
+      (arith, eats_less kinds.If s a x0 (λ e. cc) (λ e. cc), expr_less x1, block_less x2)
+  primary_less {s = s} {m = m} (grammar.if_else {a = a} {b = b} {c = c} {d = d} x0 x1 x2 x3 x4) = omega
+      (arith, eats_less kinds.If s a x0 (λ e. cc) (λ e. cc), expr_less x1, block_less x2, eats_less kinds.Else c d x3 (λ e. cc) (λ e. cc), block_less x4)
+  primary_less {s = s} {m = m} (grammar.effect {a = a} {b = b} {k = k} x0 x1 x2 x3) = omega (
+    arith,
+    effect_less s k x0,
+    eats_less kinds.OpenRound (passed s) a x1 (λ e. cc) (λ e. cc),
+    expr_less x2,
+    eats_less kinds.CloseRound b m x3 (λ e. cc) (λ e. cc),
+  )
+  primary_less {s = s} {m = m} (grammar.read {a = a} {b = b} {c = c} {d = d} x0 x1 x2 x3 x4) = omega (
+    arith,
+    eats_less kinds.Read s a x0 (λ e. cc) (λ e. cc),
+    eats_less kinds.OpenRound a b x1 (λ e. cc) (λ e. cc),
+    expr_less x2,
+    by_read_short x3,
+    eats_less kinds.CloseRound d m x4 (λ e. cc) (λ e. cc),
+  )
+  primary_less {s = s} {m = m} (grammar.write {a = a} {b = b} {c = c} {d = d} {e = e} x0 x1 x2 x3 x4 x5) = omega (
+    arith,
+    eats_less kinds.Write s a x0 (λ e. cc) (λ e. cc),
+    eats_less kinds.OpenRound a b x1 (λ e. cc) (λ e. cc),
+    expr_less x2,
+    eats_less kinds.Comma c d x3 (λ e. cc) (λ e. cc),
+    expr_less x4,
+    eats_less kinds.CloseRound e m x5 (λ e. cc) (λ e. cc),
+  )
+  primary_less {s = s} {m = m} (grammar.fail {a = a} {b = b} {c = c} {d = d} x0 x1 x2 x3 x4) = omega (
+    arith,
+    eats_less kinds.Fail s a x0 (λ e. cc) (λ e. cc),
+    type_less x1,
+    eats_less kinds.OpenRound b c x2 (λ e. cc) (λ e. cc),
+    expr_less x3,
+    eats_less kinds.CloseRound d m x4 (λ e. cc) (λ e. cc),
+  )
+  primary_less {s = s} {m = m} (grammar.require {a = a} {b = b} {c = c} {n = n} x0 x1 x2 x3) = omega
+      (arith, eats_less kinds.Require s a x0 (λ e. cc) (λ e. cc), name_less a b n x1, arguments_less x2, by_require_short x3)
+  primary_less {s = s} {m = m} (grammar.run {a = a} {b = b} {n = n} x0 x1 x2) = omega
+      (arith, eats_less kinds.Run s a x0 (λ e. cc) (λ e. cc), name_less a b n x1, arguments_less x2)
 
   pub arguments_less : {s m : At} {ts : List Tree} → Arguments s m ts → Less s m
-  arguments_less {s = s} {m = m} (grammar.none {a = a} q p) = omega (arith, eats_less kinds.OpenRound s a q (λ e. cc) (λ e. cc), eats_less kinds.CloseRound a m p (λ e. cc) (λ e. cc))
-  arguments_less {s = s} {m = m} (grammar.some {a = a} {b = b} {c = c} q x k p) = omega (arith, eats_less kinds.OpenRound s a q (λ e. cc) (λ e. cc), expr_less x, more_count k, eats_less kinds.CloseRound c m p (λ e. cc) (λ e. cc))
+  arguments_less {s = s} {m = m} (grammar.none {a = a} q p) = omega
+      (arith, eats_less kinds.OpenRound s a q (λ e. cc) (λ e. cc), eats_less kinds.CloseRound a m p (λ e. cc) (λ e. cc))
+  arguments_less {s = s} {m = m} (grammar.some {a = a} {b = b} {c = c} q x k p) = omega
+      (arith, eats_less kinds.OpenRound s a q (λ e. cc) (λ e. cc), expr_less x, more_count k, eats_less kinds.CloseRound c m p (λ e. cc) (λ e. cc))
 
   pub more_count : {s m : At} {ts : List Tree} → More s m ts → length ts + length m.rest ≤ length s.rest
   more_count grammar.no_more = omega arith
-  more_count {s = s} {m = m} (grammar.one_more {a = a} {b = b} q x k) = omega (arith, eats_less kinds.Comma s a q (λ e. cc) (λ e. cc), expr_less x, more_count k)
+  more_count {s = s} {m = m} (grammar.one_more {a = a} {b = b} q x k) = omega
+      (arith, eats_less kinds.Comma s a q (λ e. cc) (λ e. cc), expr_less x, more_count k)
 
   pub block_less : {s m : At} {t : BlockTree} → IsBlock s m t → Less s m
-  block_less {s = s} {m = m} (grammar.block {a = a} {b = b} q k p) = omega (arith, eats_less kinds.OpenBrace s a q (λ e. cc) (λ e. cc), lines_count k, eats_less kinds.CloseBrace b m p (λ e. cc) (λ e. cc))
+  block_less {s = s} {m = m} (grammar.block {a = a} {b = b} q k p) = omega
+      (arith, eats_less kinds.OpenBrace s a q (λ e. cc) (λ e. cc), lines_count k, eats_less kinds.CloseBrace b m p (λ e. cc) (λ e. cc))
 
   pub lines_count : {s m : At} {ls : List Line} {u : Option Tree} → Lines s m ls u → length ls + last_one u + length m.rest ≤ length s.rest
   lines_count grammar.no_line = omega arith
   lines_count (grammar.the_last x) = omega (arith, expr_less x)
-  lines_count {s = s} {m = m} (grammar.an_expr {a = a} {b = b} x q k) = omega (arith, expr_less x, eats_less kinds.Semicolon a b q (λ e. cc) (λ e. cc), lines_count k)
+  lines_count {s = s} {m = m} (grammar.an_expr {a = a} {b = b} x q k) = omega
+      (arith, expr_less x, eats_less kinds.Semicolon a b q (λ e. cc) (λ e. cc), lines_count k)
   lines_count {s = s} {m = m} (grammar.a_val {a = a} {b = b} {c = c} {d = d} {e = e} {n = n} q i p x z k) =
-      omega (arith, eats_less kinds.Val s a q (λ e. cc) (λ e. cc), name_less a b n i, eats_less kinds.Assign b c p (λ e. cc) (λ e. cc), expr_less x, eats_less kinds.Semicolon d e z (λ e. cc) (λ e. cc), lines_count k)
+      omega (
+        arith,
+        eats_less kinds.Val s a q (λ e. cc) (λ e. cc),
+        name_less a b n i,
+        eats_less kinds.Assign b c p (λ e. cc) (λ e. cc),
+        expr_less x,
+        eats_less kinds.Semicolon d e z (λ e. cc) (λ e. cc),
+        lines_count k,
+      )

@@ -20,7 +20,8 @@ turned turn n i s h = ap (λ k. many turn k s) (one_less n i h)
 pub goes_on : {A : Type 0} (turn : At → Turn A) (n i : ℕ) (s m : At) (xs : List A) (x : A) (p : Parsed (List A)) → i < n → turn s ≡ Part (Got x m)
     → onto xs (many turn (n - i) s) ≡ p → onto (xs ++ x ∷ []) (many turn (n - (i + 1)) m) ≡ p
 goes_on turn n i s m xs x p h t e =
-    sym (onto_more xs x (many turn (n - (i + 1)) m)) ∙ sym (ap (λ u. onto xs (on_turn u s (many turn (n - (i + 1))))) t) ∙ sym (ap (onto xs) (turned turn n i s h)) ∙ e
+    sym (onto_more xs x (many turn (n - (i + 1)) m)) ∙ sym (ap (λ u. onto xs (on_turn u s (many turn (n - (i + 1))))) t)
+    ∙ sym (ap (onto xs) (turned turn n i s h)) ∙ e
 
 pub stops : {A : Type 0} (turn : At → Turn A) (n i : ℕ) (s : At) (xs : List A) (p : Parsed (List A)) → i < n → turn s ≡ Stop
     → onto xs (many turn (n - i) s) ≡ p → p ≡ Got xs s
@@ -39,7 +40,8 @@ runs_out turn n i s xs p h e =
     sym e ∙ ap (λ k. onto xs (many turn k s)) z ∙ ap (λ ys. Got ys s) (append-nil xs)
 
 -- where a turn fails in the code, so does the loop
-pub fails_so : {A V : Type 0} (view : V → List A) (turn : At → Turn A) (n i : ℕ) (s m : At) (xs : List A) (f : Fault) (p : Parsed (List A)) → i < n → Turns {A = A} (Err f) s m (turn s)
+pub fails_so : {A V : Type 0} (view : V → List A) (turn : At → Turn A) (n i : ℕ) (s m : At) (xs : List A) (f : Fault) (p : Parsed (List A)) → i < n
+    → Turns {A = A} (Err f) s m (turn s)
     → onto xs (many turn (n - i) s) ≡ p → Agrees view (Err f) m p
 fails_so view turn n i s m xs Expected p h t e = fails turn n i s m xs Expected p h t e
 fails_so view turn n i s m xs TooDeep p h t e = fails turn n i s m xs TooDeep p h t e

@@ -1,5 +1,6 @@
 -- A type of the grammar is read, or a limit is met.
-use Rattle.std.proofs.Common.{◌≡◌, ◌⊎◌, inl, inr, ℕ, ◌+◌, ◌<◌, ◌≤◌, zero, suc, Bool, true, false, cond, List, [], ◌∷◌, ◌++◌, length, Option, Some, None, refl, sym, subst, ap, ◌∙◌, arith}
+use Rattle.std.proofs.Common.{◌≡◌, ◌⊎◌, inl, inr, ℕ, ◌+◌, ◌<◌, ◌≤◌, zero, suc, Bool, true, false, cond, List, [], ◌∷◌, ◌++◌, length, Option, Some, None, refl}
+use Rattle.std.proofs.Common.{sym, subst, ap, ◌∙◌, arith}
 use Rattle.pie_lexer.specs.declared.token.Token.{Token}
 use Rattle.pie_lexer.specs.declared.token.TokenKind.{TokenKind}
 use Rattle.pie_lexer.specs.declared.token.TokenKind.TheVariants as tokens
@@ -12,9 +13,11 @@ use Rattle.pie_parser.specs.Kinds.{is, kind_of_token}
 use Rattle.pie_parser.specs.PlainTypes.{TypeTree, PlainT, NamedT, ListT, TupleT, NullableT}
 use Rattle.pie_parser.specs.TypeView.{types_of}
 use Rattle.pie_parser.specs.At.{At}
-use Rattle.pie_parser.specs.Places.{Parsed, Got, Miss, Parser, then_on, Passed, done, first_kind, next, start, passed, want, open_bracket, name, name_in, name_by}
+use Rattle.pie_parser.specs.Places.{Parsed, Got, Miss, Parser, then_on, Passed, done, first_kind, next, start, passed, want, open_bracket, name, name_in}
+use Rattle.pie_parser.specs.Places.{name_by}
 use Rattle.pie_parser.specs.Turns.{Turn, Stop, Part, on_turn, many, onto, all_behind}
-use Rattle.pie_parser.specs.TypeReading.{plain_at, keyword_by, keyword_type, named_type, list_type, another_type, tuple_type, plain_by, plain_type, written_type, type_at, inner_type}
+use Rattle.pie_parser.specs.TypeReading.{plain_at, keyword_by, keyword_type, named_type, list_type, another_type, tuple_type, plain_by, plain_type}
+use Rattle.pie_parser.specs.TypeReading.{written_type, type_at, inner_type}
 use Rattle.pie_parser.specs.TypeGrammar as types
 use Rattle.pie_parser.specs.TypeGrammar.{Eats, IsName, IsType, IsPlain, MoreTypes}
 use Rattle.pie_parser.proofs.Readings.{chosen, got_same, missed}
@@ -51,13 +54,15 @@ module _ (room : ℕ) (inner : Parser TypeTree) (full : (s m : At) (t : TypeTree
   more_off types.no_more q = q
   more_off {s = s} (types.one_more e x k) q = off_by kinds.Question kinds.Comma s e.0 refl
 
-  more_hits : (n : ℕ) {s m : At} {ts : List TypeTree} → MoreTypes s m ts → length ts ≤ n → Off kinds.Comma m → Off kinds.Question m → Hits (many (another_type room inner) n s) ts m
+  more_hits : (n : ℕ) {s m : At} {ts : List TypeTree} → MoreTypes s m ts → length ts ≤ n → Off kinds.Comma m → Off kinds.Question m
+      → Hits (many (another_type room inner) n s) ts m
   more_hits zero types.no_more l c q = (refl, refl)
   more_hits zero (types.one_more e x k) l c q = absurd (omega arith)
   more_hits (suc n) {s = s} types.no_more l c q =
       subst (λ y. Hits (on_turn (cond y (Part (inner (passed s))) Stop) s (many (another_type room inner) n)) [] s) (sym c) (refl, refl)
   more_hits (suc n) {s = s} {m = m} (types.one_more {a = a} {b = b} {t = t} {ts = ts} e x k) l c q =
-      subst (λ y. Hits (on_turn (cond y (Part (inner (passed s))) Stop) s (many (another_type room inner) n)) (t ∷ ts) m) (sym (is_one (next s) kinds.Comma e.0))
+      subst (λ y. Hits (on_turn (cond y (Part (inner (passed s))) Stop) s (many (another_type room inner) n)) (t ∷ ts) m)
+      (sym (is_one (next s) kinds.Comma e.0))
       (after (inner (passed s)) _ t b _ _ (full (passed s) b t (subst (λ z. IsType z b t) e.1 x) (more_off k q))
       (after (many (another_type room inner) n b) _ ts m _ _ (more_hits n k (omega arith) c q) (refl, refl)))
 
@@ -75,7 +80,8 @@ module _ (room : ℕ) (inner : Parser TypeTree) (full : (s m : At) (t : TypeTree
       subst (λ (z : At). Hits (plain_type room inner s) (PlainT (start s) z.past p) z) (sym e)
       (subst (λ z. Hits z (PlainT (start s) (passed s).past p) (passed s)) (sym (keyword_is s (next s) p h))
       (subst (λ o. Hits (keyword_by s o) (PlainT (start s) (passed s).past p) (passed s)) (sym h) (refl, refl)))
-  plain_hits {s = s} {m = m} (types.named {n = n} h) = at_kind s m _ kinds.Name (name_kind s m n h) (after (name s) _ n m _ _ (hits_by (name s) n m h) (refl, refl))
+  plain_hits {s = s} {m = m} (types.named {n = n} h) = at_kind s m _ kinds.Name (name_kind s m n h)
+      (after (name s) _ n m _ _ (hits_by (name s) n m h) (refl, refl))
   plain_hits {s = s} {m = m} (types.listed {a = a} {b = b} {t = t} e x z) = at_kind s m _ kinds.OpenSquare e.0
       (after (open_bracket kinds.OpenSquare room s) _ done a _ _ (bracket kinds.OpenSquare room s a e)
       (after (inner a) _ t b _ _ (full a b t x (off_by kinds.Question kinds.CloseSquare b z.0 refl))
@@ -86,13 +92,16 @@ module _ (room : ℕ) (inner : Parser TypeTree) (full : (s m : At) (t : TypeTree
       (after (want kinds.Comma b) _ done c _ _ (wanted kinds.Comma b c i)
       (after (inner c) _ u d _ _ (full c d u y (more_off k (off_by kinds.Question kinds.CloseRound e z.0 refl)))
       (after (all_behind (t ∷ u ∷ []) (another_type room inner) d) _ (t ∷ u ∷ ts) e _ _
-      (behind_them (t ∷ u ∷ []) ts _ e (more_hits (length d.rest) k (omega (arith, more_types_count k)) (off_by kinds.Comma kinds.CloseRound e z.0 refl) (off_by kinds.Question kinds.CloseRound e z.0 refl)))
+      (behind_them (t ∷ u ∷ []) ts _ e (more_hits (length d.rest) k (omega (arith, more_types_count k)) (off_by kinds.Comma kinds.CloseRound e z.0 refl)
+      (off_by kinds.Question kinds.CloseRound e z.0 refl)))
       (after (want kinds.CloseRound e) _ done m _ _ (wanted kinds.CloseRound e m z) (refl, refl)))))))
 
   written_hits : {s m : At} {t : TypeTree} → IsType s m t → Off kinds.Question m → Hits (written_type room inner s) t m
-  written_hits {s = s} {m = m} {t = t} (types.plain x) q = after (plain_type room inner s) _ t m _ _ (plain_hits x) (at_false (is (next m) kinds.Question) _ _ t m q (refl, refl))
+  written_hits {s = s} {m = m} {t = t} (types.plain x) q = after (plain_type room inner s) _ t m _ _ (plain_hits x)
+      (at_false (is (next m) kinds.Question) _ _ t m q (refl, refl))
   written_hits {s = s} {m = m} (types.nullable {a = a} {t = t} x e) q = after (plain_type room inner s) _ t a _ _ (plain_hits x)
-      (at_true (is (next a) kinds.Question) (Got (NullableT (start s) (passed a).past t) (passed a)) _ _ m (is_one (next a) kinds.Question e.0) (ap (λ (z : At). NullableT (start s) z.past t) (sym e.1), sym e.1))
+      (at_true (is (next a) kinds.Question) (Got (NullableT (start s) (passed a).past t) (passed a)) _ _ m (is_one (next a) kinds.Question e.0)
+      (ap (λ (z : At). NullableT (start s) z.past t) (sym e.1), sym e.1))
 
 type_hits : (d : ℕ) (s m : At) (t : TypeTree) → IsType s m t → Off kinds.Question m → Hits (type_at d s) t m
 type_hits zero s m t x q = written_hits zero (λ s. Miss OutOfMemory s) (λ s m t x q. tt) x q

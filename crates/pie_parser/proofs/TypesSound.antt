@@ -11,7 +11,8 @@ use Rattle.pie_parser.specs.TypeView.{types_of}
 use Rattle.pie_parser.specs.At.{At}
 use Rattle.pie_parser.specs.Places.{Parsed, Got, Miss, Parser, then_on, next, start, passed, want, open_bracket, name}
 use Rattle.pie_parser.specs.Turns.{Turn, Stop, Part, all_behind}
-use Rattle.pie_parser.specs.TypeReading.{plain_at, keyword_by, keyword_type, named_type, list_type, another_type, tuple_type, plain_by, plain_type, written_type, type_at, inner_type}
+use Rattle.pie_parser.specs.TypeReading.{plain_at, keyword_by, keyword_type, named_type, list_type, another_type, tuple_type, plain_by, plain_type}
+use Rattle.pie_parser.specs.TypeReading.{written_type, type_at, inner_type}
 use Rattle.pie_parser.specs.TypeGrammar.{Eats, IsName, IsType, plain, nullable, IsPlain, keyword, named, listed, tuple, MoreTypes, no_more, one_more}
 use Rattle.pie_parser.proofs.Readings.{is_same, chosen, got_same, as_got, missed, bound, eaten, opened, part_same, stopped, folded_behind}
 
@@ -20,7 +21,8 @@ abbrev Inner : Parser TypeTree → Type 0
 Inner inner = (s m : At) (t : TypeTree) → inner s ≡ Got t m → IsType s m t
 
 module _ (room : ℕ) (inner : Parser TypeTree) (good : (s m : At) (t : TypeTree) → inner s ≡ Got t m → IsType s m t) where
-  more_types : (xs zs : List TypeTree) (s m : At) → all_behind xs (another_type room inner) s ≡ Got zs m → (ys : List TypeTree) × MoreTypes s m ys × (zs ≡ xs ++ ys)
+  more_types : (xs zs : List TypeTree) (s m : At) → all_behind xs (another_type room inner) s ≡ Got zs m → (ys : List TypeTree) × MoreTypes s m ys
+      × (zs ≡ xs ++ ys)
   more_types xs zs s m h = folded_behind (another_type room inner) MoreTypes (λ s. no_more) one xs zs s m h
     where
       one : (s a m : At) (x : TypeTree) (ys : List TypeTree) → another_type room inner s ≡ Part (Got x a) → MoreTypes a m ys → MoreTypes s m (x ∷ ys)
@@ -46,7 +48,8 @@ module _ (room : ℕ) (inner : Parser TypeTree) (good : (s m : At) (t : TypeTree
       let j = bound (want kinds.CloseRound i.1) _ t m i.3 in
       let z = more_types (c.0 ∷ f.0 ∷ []) i.0 f.1 i.1 i.2 in
       as_got (IsPlain s) (ap (λ ts. Got (TupleT (start s) j.1.past (types_of ts)) j.1) (sym z.2) ∙ j.3)
-      (tuple (opened kinds.OpenRound room s b.1 b.0 b.2) (good b.1 c.1 c.0 c.2) (eaten kinds.Comma c.1 d.1 d.0 d.2) (good d.1 f.1 f.0 f.2) z.1 (eaten kinds.CloseRound i.1 j.1 j.0 j.2))
+      (tuple (opened kinds.OpenRound room s b.1 b.0 b.2) (good b.1 c.1 c.0 c.2) (eaten kinds.Comma c.1 d.1 d.0 d.2) (good d.1 f.1 f.0 f.2) z.1
+      (eaten kinds.CloseRound i.1 j.1 j.0 j.2))
 
   keyword_sound : (s m : At) (t : TypeTree) → keyword_type s ≡ Got t m → IsPlain s m t
   keyword_sound s m t h = by_plain (plain_at (next s)) refl h

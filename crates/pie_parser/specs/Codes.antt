@@ -4,7 +4,9 @@ use Rattle.std.proofs.Common.{sym, ◌∙◌, ap, arith}
 use base.Stored.{Gv, gnil, gnum, gcons, num, Coded, coded_ℕ, coded_list, coded_bool, coded_ℤ, coded×, coded_via}
 use Rattle.pie_parser.specs.PlainTypes.{TypeTree}
 use Rattle.pie_parser.specs.TypeCodes.{coded_type}
-use Rattle.pie_parser.specs.Plain.{Tree, TLiteral, TName, TNull, TEmpty, TChain, TCompare, TPrefix, TProject, TTuple, TList, TEach, TIf, TCall, TEffect, TWrite, TFail, Trees, Nil, Cons, Steps, NoStep, AStep, BlockTree, TBlock, LineTrees, NoLine, ValLine, ExprLine, LastTree, NoLast, ALast, ElseTree, NoElse, AnElse}
+use Rattle.pie_parser.specs.Plain.{Tree, TLiteral, TName, TNull, TEmpty, TChain, TCompare, TPrefix, TProject, TTuple, TList, TEach, TIf, TCall, TEffect, TWrite}
+use Rattle.pie_parser.specs.Plain.{TFail, Trees, Nil, Cons, Steps, NoStep, AStep, BlockTree, TBlock, LineTrees, NoLine, ValLine, ExprLine, LastTree, NoLast}
+use Rattle.pie_parser.specs.Plain.{ALast, ElseTree, NoElse, AnElse}
 use Rattle.pie_parser.specs.declared.tree.Name.{Name}
 use Rattle.pie_parser.specs.declared.tree.Index.{Index}
 use Rattle.pie_parser.specs.declared.tree.Literal.{Literal}
@@ -51,7 +53,8 @@ operator_number operators.Remainder = 6
 
 -- the one of that number
 abbrev pub operator_of : ℕ → Operator
-operator_of n = cond (n == 0) operators.Or (cond (n == 1) operators.And (cond (n == 2) operators.Plus (cond (n == 3) operators.Minus (cond (n == 4) operators.Times (cond (n == 5) operators.Divide (operators.Remainder))))))
+operator_of n = cond (n == 0) operators.Or (cond (n == 1) operators.And
+    (cond (n == 2) operators.Plus (cond (n == 3) operators.Minus (cond (n == 4) operators.Times (cond (n == 5) operators.Divide (operators.Remainder))))))
 
 pub operator_back : (k : Operator) → operator_of (operator_number k) ≡ k
 operator_back operators.Or = refl
@@ -76,7 +79,8 @@ comparison_number comparisons.GreaterEqual = 5
 
 -- the one of that number
 abbrev pub comparison_of : ℕ → Comparison
-comparison_of n = cond (n == 0) comparisons.Equal (cond (n == 1) comparisons.NotEqual (cond (n == 2) comparisons.Less (cond (n == 3) comparisons.LessEqual (cond (n == 4) comparisons.Greater (comparisons.GreaterEqual)))))
+comparison_of n = cond (n == 0) comparisons.Equal (cond (n == 1) comparisons.NotEqual
+    (cond (n == 2) comparisons.Less (cond (n == 3) comparisons.LessEqual (cond (n == 4) comparisons.Greater (comparisons.GreaterEqual)))))
 
 pub comparison_back : (k : Comparison) → comparison_of (comparison_number k) ≡ k
 comparison_back comparisons.Equal = refl
@@ -87,7 +91,11 @@ comparison_back comparisons.Greater = refl
 comparison_back comparisons.GreaterEqual = refl
 
 abbrev pub coded_comparison : Coded Comparison
-coded_comparison = record { code = λ k. gnum (comparison_number k); inj = λ x y p. sym (comparison_back x) ∙ ap (λ g. comparison_of (num g)) p ∙ comparison_back y }
+coded_comparison = record {
+  code = λ k. gnum (comparison_number k);
+  inj = λ x y p. sym (comparison_back x) ∙ ap (λ g. comparison_of (num g)) p
+      ∙ comparison_back y;
+}
 
 -- Prefix as a number
 abbrev pub prefix_number : Prefix → ℕ
@@ -137,7 +145,8 @@ effect_number effects.ReadByMark = 6
 
 -- the one of that number
 abbrev pub effect_of : ℕ → EffectKind
-effect_of n = cond (n == 0) effects.Path (cond (n == 1) effects.Exists (cond (n == 2) effects.Digest (cond (n == 3) effects.List (cond (n == 4) effects.Read (cond (n == 5) effects.ReadByHash (effects.ReadByMark))))))
+effect_of n = cond (n == 0) effects.Path (cond (n == 1) effects.Exists
+    (cond (n == 2) effects.Digest (cond (n == 3) effects.List (cond (n == 4) effects.Read (cond (n == 5) effects.ReadByHash (effects.ReadByMark))))))
 
 pub effect_back : (k : EffectKind) → effect_of (effect_number k) ≡ k
 effect_back effects.Path = refl
@@ -204,14 +213,18 @@ abbrev mutual
   code_tree (TNull x0 x1 x2) = gcons (gnum 2) (gcons (gnum x0) (gcons (gnum x1) (gcons (coded_type.code x2) gnil)))
   code_tree (TEmpty x0 x1 x2) = gcons (gnum 3) (gcons (gnum x0) (gcons (gnum x1) (gcons (coded_type.code x2) gnil)))
   code_tree (TChain x0 x1 x2 x3) = gcons (gnum 4) (gcons (gnum x0) (gcons (gnum x1) (gcons (code_tree x2) (gcons (code_steps x3) gnil))))
-  code_tree (TCompare x0 x1 x2 x3 x4) = gcons (gnum 5) (gcons (gnum x0) (gcons (gnum x1) (gcons (coded_comparison.code x2) (gcons (code_tree x3) (gcons (code_tree x4) gnil)))))
+  code_tree (TCompare x0 x1 x2 x3 x4) = gcons (gnum 5) (gcons (gnum x0)
+      (gcons (gnum x1) (gcons (coded_comparison.code x2) (gcons (code_tree x3) (gcons (code_tree x4) gnil)))))
   code_tree (TPrefix x0 x1 x2 x3) = gcons (gnum 6) (gcons (gnum x0) (gcons (gnum x1) (gcons (coded_prefix.code x2) (gcons (code_tree x3) gnil))))
   code_tree (TProject x0 x1 x2 x3) = gcons (gnum 7) (gcons (gnum x0) (gcons (gnum x1) (gcons (code_tree x2) (gcons (coded_indices.code x3) gnil))))
   code_tree (TTuple x0 x1 x2) = gcons (gnum 8) (gcons (gnum x0) (gcons (gnum x1) (gcons (code_trees x2) gnil)))
   code_tree (TList x0 x1 x2) = gcons (gnum 9) (gcons (gnum x0) (gcons (gnum x1) (gcons (code_trees x2) gnil)))
-  code_tree (TEach x0 x1 x2 x3 x4) = gcons (gnum 10) (gcons (gnum x0) (gcons (gnum x1) (gcons (code_tree x2) (gcons (coded_name.code x3) (gcons (code_tree x4) gnil)))))
-  code_tree (TIf x0 x1 x2 x3 x4) = gcons (gnum 11) (gcons (gnum x0) (gcons (gnum x1) (gcons (code_tree x2) (gcons (code_block x3) (gcons (code_otherwise x4) gnil)))))
-  code_tree (TCall x0 x1 x2 x3 x4) = gcons (gnum 12) (gcons (gnum x0) (gcons (gnum x1) (gcons (coded_call.code x2) (gcons (coded_name.code x3) (gcons (code_trees x4) gnil)))))
+  code_tree (TEach x0 x1 x2 x3 x4) = gcons (gnum 10) (gcons (gnum x0)
+      (gcons (gnum x1) (gcons (code_tree x2) (gcons (coded_name.code x3) (gcons (code_tree x4) gnil)))))
+  code_tree (TIf x0 x1 x2 x3 x4) = gcons (gnum 11) (gcons (gnum x0)
+      (gcons (gnum x1) (gcons (code_tree x2) (gcons (code_block x3) (gcons (code_otherwise x4) gnil)))))
+  code_tree (TCall x0 x1 x2 x3 x4) = gcons (gnum 12) (gcons (gnum x0)
+      (gcons (gnum x1) (gcons (coded_call.code x2) (gcons (coded_name.code x3) (gcons (code_trees x4) gnil)))))
   code_tree (TEffect x0 x1 x2 x3) = gcons (gnum 13) (gcons (gnum x0) (gcons (gnum x1) (gcons (coded_effect.code x2) (gcons (code_tree x3) gnil))))
   code_tree (TWrite x0 x1 x2 x3) = gcons (gnum 14) (gcons (gnum x0) (gcons (gnum x1) (gcons (code_tree x2) (gcons (code_tree x3) gnil))))
   code_tree (TFail x0 x1 x2 x3) = gcons (gnum 15) (gcons (gnum x0) (gcons (gnum x1) (gcons (coded_type.code x2) (gcons (code_tree x3) gnil))))
@@ -229,7 +242,8 @@ abbrev mutual
 
   pub code_lines : LineTrees → Gv
   code_lines NoLine = gcons (gnum 0) (gnil)
-  code_lines (ValLine x0 x1 x2 x3 x4) = gcons (gnum 1) (gcons (gnum x0) (gcons (gnum x1) (gcons (coded_name.code x2) (gcons (code_tree x3) (gcons (code_lines x4) gnil)))))
+  code_lines (ValLine x0 x1 x2 x3 x4) = gcons (gnum 1) (gcons (gnum x0)
+      (gcons (gnum x1) (gcons (coded_name.code x2) (gcons (code_tree x3) (gcons (code_lines x4) gnil)))))
   code_lines (ExprLine x0 x1) = gcons (gnum 2) (gcons (code_tree x0) (gcons (code_lines x1) gnil))
 
   pub code_last : LastTree → Gv
@@ -242,7 +256,8 @@ abbrev mutual
 
 mutual
   pub inj_tree : (x y : Tree) → code_tree x ≡ code_tree y → x ≡ y
-  inj_tree (TLiteral x0 x1 x2) (TLiteral y0 y1 y2) p = λ i. TLiteral (same_number x0 y0 (ap (λ g. head (tail (g))) p) i) (same_number x1 y1 (ap (λ g. head (tail (tail (g)))) p) i) (coded_literal.inj x2 y2 (ap (λ g. head (tail (tail (tail (g))))) p) i)
+  inj_tree (TLiteral x0 x1 x2) (TLiteral y0 y1 y2) p = λ i. TLiteral (same_number x0 y0 (ap (λ g. head (tail (g))) p) i)
+      (same_number x1 y1 (ap (λ g. head (tail (tail (g)))) p) i) (coded_literal.inj x2 y2 (ap (λ g. head (tail (tail (tail (g))))) p) i)
   inj_tree (TLiteral x0 x1 x2) (TName y0 y1 y2) p = apart 0 1 p (λ e. omega arith)
   inj_tree (TLiteral x0 x1 x2) (TNull y0 y1 y2) p = apart 0 2 p (λ e. omega arith)
   inj_tree (TLiteral x0 x1 x2) (TEmpty y0 y1 y2) p = apart 0 3 p (λ e. omega arith)
@@ -259,7 +274,8 @@ mutual
   inj_tree (TLiteral x0 x1 x2) (TWrite y0 y1 y2 y3) p = apart 0 14 p (λ e. omega arith)
   inj_tree (TLiteral x0 x1 x2) (TFail y0 y1 y2 y3) p = apart 0 15 p (λ e. omega arith)
   inj_tree (TName x0 x1 x2) (TLiteral y0 y1 y2) p = apart 1 0 p (λ e. omega arith)
-  inj_tree (TName x0 x1 x2) (TName y0 y1 y2) p = λ i. TName (same_number x0 y0 (ap (λ g. head (tail (g))) p) i) (same_number x1 y1 (ap (λ g. head (tail (tail (g)))) p) i) (coded_text.inj x2 y2 (ap (λ g. head (tail (tail (tail (g))))) p) i)
+  inj_tree (TName x0 x1 x2) (TName y0 y1 y2) p = λ i. TName (same_number x0 y0 (ap (λ g. head (tail (g))) p) i)
+      (same_number x1 y1 (ap (λ g. head (tail (tail (g)))) p) i) (coded_text.inj x2 y2 (ap (λ g. head (tail (tail (tail (g))))) p) i)
   inj_tree (TName x0 x1 x2) (TNull y0 y1 y2) p = apart 1 2 p (λ e. omega arith)
   inj_tree (TName x0 x1 x2) (TEmpty y0 y1 y2) p = apart 1 3 p (λ e. omega arith)
   inj_tree (TName x0 x1 x2) (TChain y0 y1 y2 y3) p = apart 1 4 p (λ e. omega arith)
@@ -276,7 +292,8 @@ mutual
   inj_tree (TName x0 x1 x2) (TFail y0 y1 y2 y3) p = apart 1 15 p (λ e. omega arith)
   inj_tree (TNull x0 x1 x2) (TLiteral y0 y1 y2) p = apart 2 0 p (λ e. omega arith)
   inj_tree (TNull x0 x1 x2) (TName y0 y1 y2) p = apart 2 1 p (λ e. omega arith)
-  inj_tree (TNull x0 x1 x2) (TNull y0 y1 y2) p = λ i. TNull (same_number x0 y0 (ap (λ g. head (tail (g))) p) i) (same_number x1 y1 (ap (λ g. head (tail (tail (g)))) p) i) (coded_type.inj x2 y2 (ap (λ g. head (tail (tail (tail (g))))) p) i)
+  inj_tree (TNull x0 x1 x2) (TNull y0 y1 y2) p = λ i. TNull (same_number x0 y0 (ap (λ g. head (tail (g))) p) i)
+      (same_number x1 y1 (ap (λ g. head (tail (tail (g)))) p) i) (coded_type.inj x2 y2 (ap (λ g. head (tail (tail (tail (g))))) p) i)
   inj_tree (TNull x0 x1 x2) (TEmpty y0 y1 y2) p = apart 2 3 p (λ e. omega arith)
   inj_tree (TNull x0 x1 x2) (TChain y0 y1 y2 y3) p = apart 2 4 p (λ e. omega arith)
   inj_tree (TNull x0 x1 x2) (TCompare y0 y1 y2 y3 y4) p = apart 2 5 p (λ e. omega arith)
@@ -293,7 +310,8 @@ mutual
   inj_tree (TEmpty x0 x1 x2) (TLiteral y0 y1 y2) p = apart 3 0 p (λ e. omega arith)
   inj_tree (TEmpty x0 x1 x2) (TName y0 y1 y2) p = apart 3 1 p (λ e. omega arith)
   inj_tree (TEmpty x0 x1 x2) (TNull y0 y1 y2) p = apart 3 2 p (λ e. omega arith)
-  inj_tree (TEmpty x0 x1 x2) (TEmpty y0 y1 y2) p = λ i. TEmpty (same_number x0 y0 (ap (λ g. head (tail (g))) p) i) (same_number x1 y1 (ap (λ g. head (tail (tail (g)))) p) i) (coded_type.inj x2 y2 (ap (λ g. head (tail (tail (tail (g))))) p) i)
+  inj_tree (TEmpty x0 x1 x2) (TEmpty y0 y1 y2) p = λ i. TEmpty (same_number x0 y0 (ap (λ g. head (tail (g))) p) i)
+      (same_number x1 y1 (ap (λ g. head (tail (tail (g)))) p) i) (coded_type.inj x2 y2 (ap (λ g. head (tail (tail (tail (g))))) p) i)
   inj_tree (TEmpty x0 x1 x2) (TChain y0 y1 y2 y3) p = apart 3 4 p (λ e. omega arith)
   inj_tree (TEmpty x0 x1 x2) (TCompare y0 y1 y2 y3 y4) p = apart 3 5 p (λ e. omega arith)
   inj_tree (TEmpty x0 x1 x2) (TPrefix y0 y1 y2 y3) p = apart 3 6 p (λ e. omega arith)
@@ -310,7 +328,9 @@ mutual
   inj_tree (TChain x0 x1 x2 x3) (TName y0 y1 y2) p = apart 4 1 p (λ e. omega arith)
   inj_tree (TChain x0 x1 x2 x3) (TNull y0 y1 y2) p = apart 4 2 p (λ e. omega arith)
   inj_tree (TChain x0 x1 x2 x3) (TEmpty y0 y1 y2) p = apart 4 3 p (λ e. omega arith)
-  inj_tree (TChain x0 x1 x2 x3) (TChain y0 y1 y2 y3) p = λ i. TChain (same_number x0 y0 (ap (λ g. head (tail (g))) p) i) (same_number x1 y1 (ap (λ g. head (tail (tail (g)))) p) i) (inj_tree x2 y2 (ap (λ g. head (tail (tail (tail (g))))) p) i) (inj_steps x3 y3 (ap (λ g. head (tail (tail (tail (tail (g)))))) p) i)
+  inj_tree (TChain x0 x1 x2 x3) (TChain y0 y1 y2 y3) p = λ i.
+      TChain (same_number x0 y0 (ap (λ g. head (tail (g))) p) i) (same_number x1 y1 (ap (λ g. head (tail (tail (g)))) p) i)
+      (inj_tree x2 y2 (ap (λ g. head (tail (tail (tail (g))))) p) i) (inj_steps x3 y3 (ap (λ g. head (tail (tail (tail (tail (g)))))) p) i)
   inj_tree (TChain x0 x1 x2 x3) (TCompare y0 y1 y2 y3 y4) p = apart 4 5 p (λ e. omega arith)
   inj_tree (TChain x0 x1 x2 x3) (TPrefix y0 y1 y2 y3) p = apart 4 6 p (λ e. omega arith)
   inj_tree (TChain x0 x1 x2 x3) (TProject y0 y1 y2 y3) p = apart 4 7 p (λ e. omega arith)
@@ -327,7 +347,10 @@ mutual
   inj_tree (TCompare x0 x1 x2 x3 x4) (TNull y0 y1 y2) p = apart 5 2 p (λ e. omega arith)
   inj_tree (TCompare x0 x1 x2 x3 x4) (TEmpty y0 y1 y2) p = apart 5 3 p (λ e. omega arith)
   inj_tree (TCompare x0 x1 x2 x3 x4) (TChain y0 y1 y2 y3) p = apart 5 4 p (λ e. omega arith)
-  inj_tree (TCompare x0 x1 x2 x3 x4) (TCompare y0 y1 y2 y3 y4) p = λ i. TCompare (same_number x0 y0 (ap (λ g. head (tail (g))) p) i) (same_number x1 y1 (ap (λ g. head (tail (tail (g)))) p) i) (coded_comparison.inj x2 y2 (ap (λ g. head (tail (tail (tail (g))))) p) i) (inj_tree x3 y3 (ap (λ g. head (tail (tail (tail (tail (g)))))) p) i) (inj_tree x4 y4 (ap (λ g. head (tail (tail (tail (tail (tail (g))))))) p) i)
+  inj_tree (TCompare x0 x1 x2 x3 x4) (TCompare y0 y1 y2 y3 y4) p = λ i.
+      TCompare (same_number x0 y0 (ap (λ g. head (tail (g))) p) i) (same_number x1 y1 (ap (λ g. head (tail (tail (g)))) p) i)
+      (coded_comparison.inj x2 y2 (ap (λ g. head (tail (tail (tail (g))))) p) i) (inj_tree x3 y3 (ap (λ g. head (tail (tail (tail (tail (g)))))) p) i)
+      (inj_tree x4 y4 (ap (λ g. head (tail (tail (tail (tail (tail (g))))))) p) i)
   inj_tree (TCompare x0 x1 x2 x3 x4) (TPrefix y0 y1 y2 y3) p = apart 5 6 p (λ e. omega arith)
   inj_tree (TCompare x0 x1 x2 x3 x4) (TProject y0 y1 y2 y3) p = apart 5 7 p (λ e. omega arith)
   inj_tree (TCompare x0 x1 x2 x3 x4) (TTuple y0 y1 y2) p = apart 5 8 p (λ e. omega arith)
@@ -344,7 +367,9 @@ mutual
   inj_tree (TPrefix x0 x1 x2 x3) (TEmpty y0 y1 y2) p = apart 6 3 p (λ e. omega arith)
   inj_tree (TPrefix x0 x1 x2 x3) (TChain y0 y1 y2 y3) p = apart 6 4 p (λ e. omega arith)
   inj_tree (TPrefix x0 x1 x2 x3) (TCompare y0 y1 y2 y3 y4) p = apart 6 5 p (λ e. omega arith)
-  inj_tree (TPrefix x0 x1 x2 x3) (TPrefix y0 y1 y2 y3) p = λ i. TPrefix (same_number x0 y0 (ap (λ g. head (tail (g))) p) i) (same_number x1 y1 (ap (λ g. head (tail (tail (g)))) p) i) (coded_prefix.inj x2 y2 (ap (λ g. head (tail (tail (tail (g))))) p) i) (inj_tree x3 y3 (ap (λ g. head (tail (tail (tail (tail (g)))))) p) i)
+  inj_tree (TPrefix x0 x1 x2 x3) (TPrefix y0 y1 y2 y3) p = λ i.
+      TPrefix (same_number x0 y0 (ap (λ g. head (tail (g))) p) i) (same_number x1 y1 (ap (λ g. head (tail (tail (g)))) p) i)
+      (coded_prefix.inj x2 y2 (ap (λ g. head (tail (tail (tail (g))))) p) i) (inj_tree x3 y3 (ap (λ g. head (tail (tail (tail (tail (g)))))) p) i)
   inj_tree (TPrefix x0 x1 x2 x3) (TProject y0 y1 y2 y3) p = apart 6 7 p (λ e. omega arith)
   inj_tree (TPrefix x0 x1 x2 x3) (TTuple y0 y1 y2) p = apart 6 8 p (λ e. omega arith)
   inj_tree (TPrefix x0 x1 x2 x3) (TList y0 y1 y2) p = apart 6 9 p (λ e. omega arith)
@@ -361,7 +386,9 @@ mutual
   inj_tree (TProject x0 x1 x2 x3) (TChain y0 y1 y2 y3) p = apart 7 4 p (λ e. omega arith)
   inj_tree (TProject x0 x1 x2 x3) (TCompare y0 y1 y2 y3 y4) p = apart 7 5 p (λ e. omega arith)
   inj_tree (TProject x0 x1 x2 x3) (TPrefix y0 y1 y2 y3) p = apart 7 6 p (λ e. omega arith)
-  inj_tree (TProject x0 x1 x2 x3) (TProject y0 y1 y2 y3) p = λ i. TProject (same_number x0 y0 (ap (λ g. head (tail (g))) p) i) (same_number x1 y1 (ap (λ g. head (tail (tail (g)))) p) i) (inj_tree x2 y2 (ap (λ g. head (tail (tail (tail (g))))) p) i) (coded_indices.inj x3 y3 (ap (λ g. head (tail (tail (tail (tail (g)))))) p) i)
+  inj_tree (TProject x0 x1 x2 x3) (TProject y0 y1 y2 y3) p = λ i.
+      TProject (same_number x0 y0 (ap (λ g. head (tail (g))) p) i) (same_number x1 y1 (ap (λ g. head (tail (tail (g)))) p) i)
+      (inj_tree x2 y2 (ap (λ g. head (tail (tail (tail (g))))) p) i) (coded_indices.inj x3 y3 (ap (λ g. head (tail (tail (tail (tail (g)))))) p) i)
   inj_tree (TProject x0 x1 x2 x3) (TTuple y0 y1 y2) p = apart 7 8 p (λ e. omega arith)
   inj_tree (TProject x0 x1 x2 x3) (TList y0 y1 y2) p = apart 7 9 p (λ e. omega arith)
   inj_tree (TProject x0 x1 x2 x3) (TEach y0 y1 y2 y3 y4) p = apart 7 10 p (λ e. omega arith)
@@ -378,7 +405,8 @@ mutual
   inj_tree (TTuple x0 x1 x2) (TCompare y0 y1 y2 y3 y4) p = apart 8 5 p (λ e. omega arith)
   inj_tree (TTuple x0 x1 x2) (TPrefix y0 y1 y2 y3) p = apart 8 6 p (λ e. omega arith)
   inj_tree (TTuple x0 x1 x2) (TProject y0 y1 y2 y3) p = apart 8 7 p (λ e. omega arith)
-  inj_tree (TTuple x0 x1 x2) (TTuple y0 y1 y2) p = λ i. TTuple (same_number x0 y0 (ap (λ g. head (tail (g))) p) i) (same_number x1 y1 (ap (λ g. head (tail (tail (g)))) p) i) (inj_trees x2 y2 (ap (λ g. head (tail (tail (tail (g))))) p) i)
+  inj_tree (TTuple x0 x1 x2) (TTuple y0 y1 y2) p = λ i. TTuple (same_number x0 y0 (ap (λ g. head (tail (g))) p) i)
+      (same_number x1 y1 (ap (λ g. head (tail (tail (g)))) p) i) (inj_trees x2 y2 (ap (λ g. head (tail (tail (tail (g))))) p) i)
   inj_tree (TTuple x0 x1 x2) (TList y0 y1 y2) p = apart 8 9 p (λ e. omega arith)
   inj_tree (TTuple x0 x1 x2) (TEach y0 y1 y2 y3 y4) p = apart 8 10 p (λ e. omega arith)
   inj_tree (TTuple x0 x1 x2) (TIf y0 y1 y2 y3 y4) p = apart 8 11 p (λ e. omega arith)
@@ -395,7 +423,8 @@ mutual
   inj_tree (TList x0 x1 x2) (TPrefix y0 y1 y2 y3) p = apart 9 6 p (λ e. omega arith)
   inj_tree (TList x0 x1 x2) (TProject y0 y1 y2 y3) p = apart 9 7 p (λ e. omega arith)
   inj_tree (TList x0 x1 x2) (TTuple y0 y1 y2) p = apart 9 8 p (λ e. omega arith)
-  inj_tree (TList x0 x1 x2) (TList y0 y1 y2) p = λ i. TList (same_number x0 y0 (ap (λ g. head (tail (g))) p) i) (same_number x1 y1 (ap (λ g. head (tail (tail (g)))) p) i) (inj_trees x2 y2 (ap (λ g. head (tail (tail (tail (g))))) p) i)
+  inj_tree (TList x0 x1 x2) (TList y0 y1 y2) p = λ i. TList (same_number x0 y0 (ap (λ g. head (tail (g))) p) i)
+      (same_number x1 y1 (ap (λ g. head (tail (tail (g)))) p) i) (inj_trees x2 y2 (ap (λ g. head (tail (tail (tail (g))))) p) i)
   inj_tree (TList x0 x1 x2) (TEach y0 y1 y2 y3 y4) p = apart 9 10 p (λ e. omega arith)
   inj_tree (TList x0 x1 x2) (TIf y0 y1 y2 y3 y4) p = apart 9 11 p (λ e. omega arith)
   inj_tree (TList x0 x1 x2) (TCall y0 y1 y2 y3 y4) p = apart 9 12 p (λ e. omega arith)
@@ -412,7 +441,10 @@ mutual
   inj_tree (TEach x0 x1 x2 x3 x4) (TProject y0 y1 y2 y3) p = apart 10 7 p (λ e. omega arith)
   inj_tree (TEach x0 x1 x2 x3 x4) (TTuple y0 y1 y2) p = apart 10 8 p (λ e. omega arith)
   inj_tree (TEach x0 x1 x2 x3 x4) (TList y0 y1 y2) p = apart 10 9 p (λ e. omega arith)
-  inj_tree (TEach x0 x1 x2 x3 x4) (TEach y0 y1 y2 y3 y4) p = λ i. TEach (same_number x0 y0 (ap (λ g. head (tail (g))) p) i) (same_number x1 y1 (ap (λ g. head (tail (tail (g)))) p) i) (inj_tree x2 y2 (ap (λ g. head (tail (tail (tail (g))))) p) i) (coded_name.inj x3 y3 (ap (λ g. head (tail (tail (tail (tail (g)))))) p) i) (inj_tree x4 y4 (ap (λ g. head (tail (tail (tail (tail (tail (g))))))) p) i)
+  inj_tree (TEach x0 x1 x2 x3 x4) (TEach y0 y1 y2 y3 y4) p = λ i.
+      TEach (same_number x0 y0 (ap (λ g. head (tail (g))) p) i) (same_number x1 y1 (ap (λ g. head (tail (tail (g)))) p) i)
+      (inj_tree x2 y2 (ap (λ g. head (tail (tail (tail (g))))) p) i) (coded_name.inj x3 y3 (ap (λ g. head (tail (tail (tail (tail (g)))))) p) i)
+      (inj_tree x4 y4 (ap (λ g. head (tail (tail (tail (tail (tail (g))))))) p) i)
   inj_tree (TEach x0 x1 x2 x3 x4) (TIf y0 y1 y2 y3 y4) p = apart 10 11 p (λ e. omega arith)
   inj_tree (TEach x0 x1 x2 x3 x4) (TCall y0 y1 y2 y3 y4) p = apart 10 12 p (λ e. omega arith)
   inj_tree (TEach x0 x1 x2 x3 x4) (TEffect y0 y1 y2 y3) p = apart 10 13 p (λ e. omega arith)
@@ -429,7 +461,10 @@ mutual
   inj_tree (TIf x0 x1 x2 x3 x4) (TTuple y0 y1 y2) p = apart 11 8 p (λ e. omega arith)
   inj_tree (TIf x0 x1 x2 x3 x4) (TList y0 y1 y2) p = apart 11 9 p (λ e. omega arith)
   inj_tree (TIf x0 x1 x2 x3 x4) (TEach y0 y1 y2 y3 y4) p = apart 11 10 p (λ e. omega arith)
-  inj_tree (TIf x0 x1 x2 x3 x4) (TIf y0 y1 y2 y3 y4) p = λ i. TIf (same_number x0 y0 (ap (λ g. head (tail (g))) p) i) (same_number x1 y1 (ap (λ g. head (tail (tail (g)))) p) i) (inj_tree x2 y2 (ap (λ g. head (tail (tail (tail (g))))) p) i) (inj_block x3 y3 (ap (λ g. head (tail (tail (tail (tail (g)))))) p) i) (inj_otherwise x4 y4 (ap (λ g. head (tail (tail (tail (tail (tail (g))))))) p) i)
+  inj_tree (TIf x0 x1 x2 x3 x4) (TIf y0 y1 y2 y3 y4) p = λ i.
+      TIf (same_number x0 y0 (ap (λ g. head (tail (g))) p) i) (same_number x1 y1 (ap (λ g. head (tail (tail (g)))) p) i)
+      (inj_tree x2 y2 (ap (λ g. head (tail (tail (tail (g))))) p) i) (inj_block x3 y3 (ap (λ g. head (tail (tail (tail (tail (g)))))) p) i)
+      (inj_otherwise x4 y4 (ap (λ g. head (tail (tail (tail (tail (tail (g))))))) p) i)
   inj_tree (TIf x0 x1 x2 x3 x4) (TCall y0 y1 y2 y3 y4) p = apart 11 12 p (λ e. omega arith)
   inj_tree (TIf x0 x1 x2 x3 x4) (TEffect y0 y1 y2 y3) p = apart 11 13 p (λ e. omega arith)
   inj_tree (TIf x0 x1 x2 x3 x4) (TWrite y0 y1 y2 y3) p = apart 11 14 p (λ e. omega arith)
@@ -446,7 +481,10 @@ mutual
   inj_tree (TCall x0 x1 x2 x3 x4) (TList y0 y1 y2) p = apart 12 9 p (λ e. omega arith)
   inj_tree (TCall x0 x1 x2 x3 x4) (TEach y0 y1 y2 y3 y4) p = apart 12 10 p (λ e. omega arith)
   inj_tree (TCall x0 x1 x2 x3 x4) (TIf y0 y1 y2 y3 y4) p = apart 12 11 p (λ e. omega arith)
-  inj_tree (TCall x0 x1 x2 x3 x4) (TCall y0 y1 y2 y3 y4) p = λ i. TCall (same_number x0 y0 (ap (λ g. head (tail (g))) p) i) (same_number x1 y1 (ap (λ g. head (tail (tail (g)))) p) i) (coded_call.inj x2 y2 (ap (λ g. head (tail (tail (tail (g))))) p) i) (coded_name.inj x3 y3 (ap (λ g. head (tail (tail (tail (tail (g)))))) p) i) (inj_trees x4 y4 (ap (λ g. head (tail (tail (tail (tail (tail (g))))))) p) i)
+  inj_tree (TCall x0 x1 x2 x3 x4) (TCall y0 y1 y2 y3 y4) p = λ i.
+      TCall (same_number x0 y0 (ap (λ g. head (tail (g))) p) i) (same_number x1 y1 (ap (λ g. head (tail (tail (g)))) p) i)
+      (coded_call.inj x2 y2 (ap (λ g. head (tail (tail (tail (g))))) p) i) (coded_name.inj x3 y3 (ap (λ g. head (tail (tail (tail (tail (g)))))) p) i)
+      (inj_trees x4 y4 (ap (λ g. head (tail (tail (tail (tail (tail (g))))))) p) i)
   inj_tree (TCall x0 x1 x2 x3 x4) (TEffect y0 y1 y2 y3) p = apart 12 13 p (λ e. omega arith)
   inj_tree (TCall x0 x1 x2 x3 x4) (TWrite y0 y1 y2 y3) p = apart 12 14 p (λ e. omega arith)
   inj_tree (TCall x0 x1 x2 x3 x4) (TFail y0 y1 y2 y3) p = apart 12 15 p (λ e. omega arith)
@@ -463,7 +501,9 @@ mutual
   inj_tree (TEffect x0 x1 x2 x3) (TEach y0 y1 y2 y3 y4) p = apart 13 10 p (λ e. omega arith)
   inj_tree (TEffect x0 x1 x2 x3) (TIf y0 y1 y2 y3 y4) p = apart 13 11 p (λ e. omega arith)
   inj_tree (TEffect x0 x1 x2 x3) (TCall y0 y1 y2 y3 y4) p = apart 13 12 p (λ e. omega arith)
-  inj_tree (TEffect x0 x1 x2 x3) (TEffect y0 y1 y2 y3) p = λ i. TEffect (same_number x0 y0 (ap (λ g. head (tail (g))) p) i) (same_number x1 y1 (ap (λ g. head (tail (tail (g)))) p) i) (coded_effect.inj x2 y2 (ap (λ g. head (tail (tail (tail (g))))) p) i) (inj_tree x3 y3 (ap (λ g. head (tail (tail (tail (tail (g)))))) p) i)
+  inj_tree (TEffect x0 x1 x2 x3) (TEffect y0 y1 y2 y3) p = λ i.
+      TEffect (same_number x0 y0 (ap (λ g. head (tail (g))) p) i) (same_number x1 y1 (ap (λ g. head (tail (tail (g)))) p) i)
+      (coded_effect.inj x2 y2 (ap (λ g. head (tail (tail (tail (g))))) p) i) (inj_tree x3 y3 (ap (λ g. head (tail (tail (tail (tail (g)))))) p) i)
   inj_tree (TEffect x0 x1 x2 x3) (TWrite y0 y1 y2 y3) p = apart 13 14 p (λ e. omega arith)
   inj_tree (TEffect x0 x1 x2 x3) (TFail y0 y1 y2 y3) p = apart 13 15 p (λ e. omega arith)
   inj_tree (TWrite x0 x1 x2 x3) (TLiteral y0 y1 y2) p = apart 14 0 p (λ e. omega arith)
@@ -480,7 +520,9 @@ mutual
   inj_tree (TWrite x0 x1 x2 x3) (TIf y0 y1 y2 y3 y4) p = apart 14 11 p (λ e. omega arith)
   inj_tree (TWrite x0 x1 x2 x3) (TCall y0 y1 y2 y3 y4) p = apart 14 12 p (λ e. omega arith)
   inj_tree (TWrite x0 x1 x2 x3) (TEffect y0 y1 y2 y3) p = apart 14 13 p (λ e. omega arith)
-  inj_tree (TWrite x0 x1 x2 x3) (TWrite y0 y1 y2 y3) p = λ i. TWrite (same_number x0 y0 (ap (λ g. head (tail (g))) p) i) (same_number x1 y1 (ap (λ g. head (tail (tail (g)))) p) i) (inj_tree x2 y2 (ap (λ g. head (tail (tail (tail (g))))) p) i) (inj_tree x3 y3 (ap (λ g. head (tail (tail (tail (tail (g)))))) p) i)
+  inj_tree (TWrite x0 x1 x2 x3) (TWrite y0 y1 y2 y3) p = λ i.
+      TWrite (same_number x0 y0 (ap (λ g. head (tail (g))) p) i) (same_number x1 y1 (ap (λ g. head (tail (tail (g)))) p) i)
+      (inj_tree x2 y2 (ap (λ g. head (tail (tail (tail (g))))) p) i) (inj_tree x3 y3 (ap (λ g. head (tail (tail (tail (tail (g)))))) p) i)
   inj_tree (TWrite x0 x1 x2 x3) (TFail y0 y1 y2 y3) p = apart 14 15 p (λ e. omega arith)
   inj_tree (TFail x0 x1 x2 x3) (TLiteral y0 y1 y2) p = apart 15 0 p (λ e. omega arith)
   inj_tree (TFail x0 x1 x2 x3) (TName y0 y1 y2) p = apart 15 1 p (λ e. omega arith)
@@ -497,7 +539,9 @@ mutual
   inj_tree (TFail x0 x1 x2 x3) (TCall y0 y1 y2 y3 y4) p = apart 15 12 p (λ e. omega arith)
   inj_tree (TFail x0 x1 x2 x3) (TEffect y0 y1 y2 y3) p = apart 15 13 p (λ e. omega arith)
   inj_tree (TFail x0 x1 x2 x3) (TWrite y0 y1 y2 y3) p = apart 15 14 p (λ e. omega arith)
-  inj_tree (TFail x0 x1 x2 x3) (TFail y0 y1 y2 y3) p = λ i. TFail (same_number x0 y0 (ap (λ g. head (tail (g))) p) i) (same_number x1 y1 (ap (λ g. head (tail (tail (g)))) p) i) (coded_type.inj x2 y2 (ap (λ g. head (tail (tail (tail (g))))) p) i) (inj_tree x3 y3 (ap (λ g. head (tail (tail (tail (tail (g)))))) p) i)
+  inj_tree (TFail x0 x1 x2 x3) (TFail y0 y1 y2 y3) p = λ i. TFail (same_number x0 y0 (ap (λ g. head (tail (g))) p) i)
+      (same_number x1 y1 (ap (λ g. head (tail (tail (g)))) p) i) (coded_type.inj x2 y2 (ap (λ g. head (tail (tail (tail (g))))) p) i)
+      (inj_tree x3 y3 (ap (λ g. head (tail (tail (tail (tail (g)))))) p) i)
 
   pub inj_trees : (x y : Trees) → code_trees x ≡ code_trees y → x ≡ y
   inj_trees Nil Nil p = refl
@@ -509,21 +553,28 @@ mutual
   inj_steps NoStep NoStep p = refl
   inj_steps NoStep (AStep y0 y1 y2) p = apart 0 1 p (λ e. omega arith)
   inj_steps (AStep x0 x1 x2) NoStep p = apart 1 0 p (λ e. omega arith)
-  inj_steps (AStep x0 x1 x2) (AStep y0 y1 y2) p = λ i. AStep (coded_operator.inj x0 y0 (ap (λ g. head (tail (g))) p) i) (inj_tree x1 y1 (ap (λ g. head (tail (tail (g)))) p) i) (inj_steps x2 y2 (ap (λ g. head (tail (tail (tail (g))))) p) i)
+  inj_steps (AStep x0 x1 x2) (AStep y0 y1 y2) p = λ i. AStep (coded_operator.inj x0 y0 (ap (λ g. head (tail (g))) p) i)
+      (inj_tree x1 y1 (ap (λ g. head (tail (tail (g)))) p) i) (inj_steps x2 y2 (ap (λ g. head (tail (tail (tail (g))))) p) i)
 
   pub inj_block : (x y : BlockTree) → code_block x ≡ code_block y → x ≡ y
-  inj_block (TBlock x0 x1 x2 x3) (TBlock y0 y1 y2 y3) p = λ i. TBlock (same_number x0 y0 (ap (λ g. head (tail (g))) p) i) (same_number x1 y1 (ap (λ g. head (tail (tail (g)))) p) i) (inj_lines x2 y2 (ap (λ g. head (tail (tail (tail (g))))) p) i) (inj_last x3 y3 (ap (λ g. head (tail (tail (tail (tail (g)))))) p) i)
+  inj_block (TBlock x0 x1 x2 x3) (TBlock y0 y1 y2 y3) p = λ i.
+      TBlock (same_number x0 y0 (ap (λ g. head (tail (g))) p) i) (same_number x1 y1 (ap (λ g. head (tail (tail (g)))) p) i)
+      (inj_lines x2 y2 (ap (λ g. head (tail (tail (tail (g))))) p) i) (inj_last x3 y3 (ap (λ g. head (tail (tail (tail (tail (g)))))) p) i)
 
   pub inj_lines : (x y : LineTrees) → code_lines x ≡ code_lines y → x ≡ y
   inj_lines NoLine NoLine p = refl
   inj_lines NoLine (ValLine y0 y1 y2 y3 y4) p = apart 0 1 p (λ e. omega arith)
   inj_lines NoLine (ExprLine y0 y1) p = apart 0 2 p (λ e. omega arith)
   inj_lines (ValLine x0 x1 x2 x3 x4) NoLine p = apart 1 0 p (λ e. omega arith)
-  inj_lines (ValLine x0 x1 x2 x3 x4) (ValLine y0 y1 y2 y3 y4) p = λ i. ValLine (same_number x0 y0 (ap (λ g. head (tail (g))) p) i) (same_number x1 y1 (ap (λ g. head (tail (tail (g)))) p) i) (coded_name.inj x2 y2 (ap (λ g. head (tail (tail (tail (g))))) p) i) (inj_tree x3 y3 (ap (λ g. head (tail (tail (tail (tail (g)))))) p) i) (inj_lines x4 y4 (ap (λ g. head (tail (tail (tail (tail (tail (g))))))) p) i)
+  inj_lines (ValLine x0 x1 x2 x3 x4) (ValLine y0 y1 y2 y3 y4) p = λ i.
+      ValLine (same_number x0 y0 (ap (λ g. head (tail (g))) p) i) (same_number x1 y1 (ap (λ g. head (tail (tail (g)))) p) i)
+      (coded_name.inj x2 y2 (ap (λ g. head (tail (tail (tail (g))))) p) i) (inj_tree x3 y3 (ap (λ g. head (tail (tail (tail (tail (g)))))) p) i)
+      (inj_lines x4 y4 (ap (λ g. head (tail (tail (tail (tail (tail (g))))))) p) i)
   inj_lines (ValLine x0 x1 x2 x3 x4) (ExprLine y0 y1) p = apart 1 2 p (λ e. omega arith)
   inj_lines (ExprLine x0 x1) NoLine p = apart 2 0 p (λ e. omega arith)
   inj_lines (ExprLine x0 x1) (ValLine y0 y1 y2 y3 y4) p = apart 2 1 p (λ e. omega arith)
-  inj_lines (ExprLine x0 x1) (ExprLine y0 y1) p = λ i. ExprLine (inj_tree x0 y0 (ap (λ g. head (tail (g))) p) i) (inj_lines x1 y1 (ap (λ g. head (tail (tail (g)))) p) i)
+  inj_lines (ExprLine x0 x1) (ExprLine y0 y1) p = λ i. ExprLine (inj_tree x0 y0 (ap (λ g. head (tail (g))) p) i)
+      (inj_lines x1 y1 (ap (λ g. head (tail (tail (g)))) p) i)
 
   pub inj_last : (x y : LastTree) → code_last x ≡ code_last y → x ≡ y
   inj_last NoLast NoLast p = refl

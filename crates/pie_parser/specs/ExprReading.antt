@@ -25,7 +25,8 @@ use Rattle.pie_parser.specs.declared.tree.EffectKind.TheVariants as effects
 use Rattle.pie_parser.specs.declared.reader.Room.{Room}
 use Rattle.pie_parser.specs.Kinds.{is}
 use Rattle.pie_parser.specs.Tests.{operator_at, comparison_at, prefix_at, effect_at}
-use Rattle.pie_parser.specs.Plain.{Tree, TLiteral, TName, TNull, TEmpty, TChain, TCompare, TPrefix, TProject, TTuple, TList, TEach, TIf, TCall, TEffect, TWrite, TFail, Trees, BlockTree, TBlock, ElseTree, NoElse, AnElse}
+use Rattle.pie_parser.specs.Plain.{Tree, TLiteral, TName, TNull, TEmpty, TChain, TCompare, TPrefix, TProject, TTuple, TList, TEach, TIf, TCall, TEffect, TWrite}
+use Rattle.pie_parser.specs.Plain.{TFail, Trees, BlockTree, TBlock, ElseTree, NoElse, AnElse}
 use Rattle.pie_parser.specs.TreeView.{trees_of, steps_of, lines_of, last_of}
 use Rattle.pie_parser.specs.At.{At}
 use Rattle.pie_parser.specs.Places.{Parsed, Got, Miss, Parser, then_on, Passed, done, next, start, passed, want, open_bracket, name, index}
@@ -333,4 +334,11 @@ test_at d (suc c) = expr_at d c false
 
 -- what stands around, where there is this room
 abbrev pub around : Room → Around
-around r = record { room = r.brackets; in_read = r.in_read; conditions = r.conditions; inner = inner_at r.brackets r.conditions; test = test_at r.brackets r.conditions }
+around r = record {
+  room = r.brackets;
+  in_read = r.in_read;
+  conditions = r.conditions;
+  inner = inner_at r.brackets r.conditions;
+  test = test_at r.brackets
+      r.conditions;
+}

@@ -25,5 +25,6 @@ abbrev pub function_parts : FunctionTree → ℕ × (ℕ × (Name × (List Param
 function_parts f = (f.at, (f.end, (f.name, (f.params, (f.result, f.body)))))
 
 abbrev pub coded_function : Coded FunctionTree
-coded_function = coded_via (coded× coded_ℕ (coded× coded_ℕ (coded× coded_name (coded× (coded_list coded_param) (coded× coded_type coded_block))))) function_parts
+coded_function = coded_via
+    (coded× coded_ℕ (coded× coded_ℕ (coded× coded_name (coded× (coded_list coded_param) (coded× coded_type coded_block))))) function_parts
     (λ x y p i. record { at = (p i).0; end = (p i).1.0; name = (p i).1.1.0; params = (p i).1.1.1.0; result = (p i).1.1.1.1.0; body = (p i).1.1.1.1.1 })

@@ -15,7 +15,8 @@ use Rattle.pie_parser.specs.Grammar.{IsBlock}
 
 -- param = name ":" type
 pub data IsParam : At → At → Param → Type 0 where
-  param : {s a b m : At} {n : Name} {t : TypeTree} → IsName s a n → Eats kinds.Colon a b → IsType b m t → IsParam s m (record { at = n.at; end = m.past; name = n; kind = t })
+  param : {s a b m : At} {n : Name} {t : TypeTree} → IsName s a n → Eats kinds.Colon a b → IsType b m t
+      → IsParam s m (record { at = n.at; end = m.past; name = n; kind = t })
 
 -- { "," param }
 pub data MoreParams : At → At → List Param → Type 0 where
@@ -25,11 +26,13 @@ pub data MoreParams : At → At → List Param → Type 0 where
 -- "(" [ param { "," param } ] ")"
 pub data IsParams : At → At → List Param → Type 0 where
   none : {s a m : At} → Eats kinds.OpenRound s a → Eats kinds.CloseRound a m → IsParams s m []
-  some : {s a b c m : At} {p : Param} {ps : List Param} → Eats kinds.OpenRound s a → IsParam a b p → MoreParams b c ps → Eats kinds.CloseRound c m → IsParams s m (p ∷ ps)
+  some : {s a b c m : At} {p : Param} {ps : List Param} → Eats kinds.OpenRound s a → IsParam a b p → MoreParams b c ps → Eats kinds.CloseRound c m
+      → IsParams s m (p ∷ ps)
 
 -- func = "func" name "(" [ param { "," param } ] ")" "->" type block
 pub data IsFunction : At → At → FunctionTree → Type 0 where
-  function : {s a b c d e m : At} {n : Name} {ps : List Param} {t : TypeTree} {x : BlockTree} → Eats kinds.Func s a → IsName a b n → IsParams b c ps → Eats kinds.Arrow c d
+  function : {s a b c d e m : At} {n : Name} {ps : List Param} {t : TypeTree} {x : BlockTree} → Eats kinds.Func s a → IsName a b n → IsParams b c ps
+      → Eats kinds.Arrow c d
       → IsType d e t → IsBlock e m x → IsFunction s m (record { at = start s; end = m.past; name = n; params = ps; result = t; body = x })
 
 -- { func }

@@ -11,7 +11,8 @@ use Rattle.pie_parser.specs.declared.tree.Step.{Step}
 use Rattle.pie_parser.specs.declared.tree.Form.{Form}
 use Rattle.pie_parser.specs.declared.tree.Form.TheVariants as forms
 use Rattle.pie_parser.specs.declared.tree.Expr.TheDeep.{deep-Form, deep-Block, deep-Line, deep-Step}
-use Rattle.pie_parser.specs.TreeView.{trees_of, steps_of, lines_of, last_of, block_of, tree_of, mass, trees_mass, steps_mass, block_mass, lines_mass, last_mass, else_mass}
+use Rattle.pie_parser.specs.TreeView.{trees_of, steps_of, lines_of, last_of, block_of, tree_of, mass, trees_mass, steps_mass, block_mass, lines_mass, last_mass}
+use Rattle.pie_parser.specs.TreeView.{else_mass}
 
 most_trees : (ts : List Tree) → most (λ t. mass t + 1) ts ≤ trees_mass (trees_of ts) + 1
 most_trees [] = omega arith
@@ -29,7 +30,8 @@ most_lines [] = omega arith
 most_lines (lines.Val i j n t ∷ ls) = omega (arith, most_lines ls)
 most_lines (lines.Expr t ∷ ls) = omega (arith, most_lines ls)
 
-by_last : (i j : ℕ) (ls : Vec Line Global) (l : Option Tree) → deep-Block (record { at = i; end = j; lines = ls; last = l }) ≤ lines_mass (lines_of ls.items) + last_mass (last_of l) + 2
+by_last : (i j : ℕ) (ls : Vec Line Global) (l : Option Tree)
+    → deep-Block (record { at = i; end = j; lines = ls; last = l }) ≤ lines_mass (lines_of ls.items) + last_mass (last_of l) + 2
 by_last i j ls None = omega (arith, most_lines ls.items)
 by_last i j ls (Some t) = omega (arith, most_lines ls.items)
 

@@ -61,31 +61,37 @@ abbrev mutual
 
 mutual
   pub inj_type : (x y : TypeTree) → code_type x ≡ code_type y → x ≡ y
-  inj_type (PlainT x0 x1 x2) (PlainT y0 y1 y2) p = λ i. PlainT (same_number x0 y0 (ap (λ g. head (tail (g))) p) i) (same_number x1 y1 (ap (λ g. head (tail (tail (g)))) p) i) (coded_plain.inj x2 y2 (ap (λ g. head (tail (tail (tail (g))))) p) i)
+  inj_type (PlainT x0 x1 x2) (PlainT y0 y1 y2) p = λ i. PlainT (same_number x0 y0 (ap (λ g. head (tail (g))) p) i)
+      (same_number x1 y1 (ap (λ g. head (tail (tail (g)))) p) i) (coded_plain.inj x2 y2 (ap (λ g. head (tail (tail (tail (g))))) p) i)
   inj_type (PlainT x0 x1 x2) (NamedT y0 y1 y2) p = apart 0 1 p (λ e. omega arith)
   inj_type (PlainT x0 x1 x2) (ListT y0 y1 y2) p = apart 0 2 p (λ e. omega arith)
   inj_type (PlainT x0 x1 x2) (TupleT y0 y1 y2) p = apart 0 3 p (λ e. omega arith)
   inj_type (PlainT x0 x1 x2) (NullableT y0 y1 y2) p = apart 0 4 p (λ e. omega arith)
   inj_type (NamedT x0 x1 x2) (PlainT y0 y1 y2) p = apart 1 0 p (λ e. omega arith)
-  inj_type (NamedT x0 x1 x2) (NamedT y0 y1 y2) p = λ i. NamedT (same_number x0 y0 (ap (λ g. head (tail (g))) p) i) (same_number x1 y1 (ap (λ g. head (tail (tail (g)))) p) i) (coded_text.inj x2 y2 (ap (λ g. head (tail (tail (tail (g))))) p) i)
+  inj_type (NamedT x0 x1 x2) (NamedT y0 y1 y2) p = λ i. NamedT (same_number x0 y0 (ap (λ g. head (tail (g))) p) i)
+      (same_number x1 y1 (ap (λ g. head (tail (tail (g)))) p) i) (coded_text.inj x2 y2 (ap (λ g. head (tail (tail (tail (g))))) p) i)
   inj_type (NamedT x0 x1 x2) (ListT y0 y1 y2) p = apart 1 2 p (λ e. omega arith)
   inj_type (NamedT x0 x1 x2) (TupleT y0 y1 y2) p = apart 1 3 p (λ e. omega arith)
   inj_type (NamedT x0 x1 x2) (NullableT y0 y1 y2) p = apart 1 4 p (λ e. omega arith)
   inj_type (ListT x0 x1 x2) (PlainT y0 y1 y2) p = apart 2 0 p (λ e. omega arith)
   inj_type (ListT x0 x1 x2) (NamedT y0 y1 y2) p = apart 2 1 p (λ e. omega arith)
-  inj_type (ListT x0 x1 x2) (ListT y0 y1 y2) p = λ i. ListT (same_number x0 y0 (ap (λ g. head (tail (g))) p) i) (same_number x1 y1 (ap (λ g. head (tail (tail (g)))) p) i) (inj_type x2 y2 (ap (λ g. head (tail (tail (tail (g))))) p) i)
+  inj_type (ListT x0 x1 x2) (ListT y0 y1 y2) p = λ i. ListT (same_number x0 y0 (ap (λ g. head (tail (g))) p) i)
+      (same_number x1 y1 (ap (λ g. head (tail (tail (g)))) p) i) (inj_type x2 y2 (ap (λ g. head (tail (tail (tail (g))))) p) i)
   inj_type (ListT x0 x1 x2) (TupleT y0 y1 y2) p = apart 2 3 p (λ e. omega arith)
   inj_type (ListT x0 x1 x2) (NullableT y0 y1 y2) p = apart 2 4 p (λ e. omega arith)
   inj_type (TupleT x0 x1 x2) (PlainT y0 y1 y2) p = apart 3 0 p (λ e. omega arith)
   inj_type (TupleT x0 x1 x2) (NamedT y0 y1 y2) p = apart 3 1 p (λ e. omega arith)
   inj_type (TupleT x0 x1 x2) (ListT y0 y1 y2) p = apart 3 2 p (λ e. omega arith)
-  inj_type (TupleT x0 x1 x2) (TupleT y0 y1 y2) p = λ i. TupleT (same_number x0 y0 (ap (λ g. head (tail (g))) p) i) (same_number x1 y1 (ap (λ g. head (tail (tail (g)))) p) i) (inj_types x2 y2 (ap (λ g. head (tail (tail (tail (g))))) p) i)
+  inj_type (TupleT x0 x1 x2) (TupleT y0 y1 y2) p = λ i. TupleT (same_number x0 y0 (ap (λ g. head (tail (g))) p) i)
+      (same_number x1 y1 (ap (λ g. head (tail (tail (g)))) p) i) (inj_types x2 y2 (ap (λ g. head (tail (tail (tail (g))))) p) i)
   inj_type (TupleT x0 x1 x2) (NullableT y0 y1 y2) p = apart 3 4 p (λ e. omega arith)
   inj_type (NullableT x0 x1 x2) (PlainT y0 y1 y2) p = apart 4 0 p (λ e. omega arith)
   inj_type (NullableT x0 x1 x2) (NamedT y0 y1 y2) p = apart 4 1 p (λ e. omega arith)
   inj_type (NullableT x0 x1 x2) (ListT y0 y1 y2) p = apart 4 2 p (λ e. omega arith)
   inj_type (NullableT x0 x1 x2) (TupleT y0 y1 y2) p = apart 4 3 p (λ e. omega arith)
-  inj_type (NullableT x0 x1 x2) (NullableT y0 y1 y2) p = λ i. NullableT (same_number x0 y0 (ap (λ g. head (tail (g))) p) i) (same_number x1 y1 (ap (λ g. head (tail (tail (g)))) p) i) (inj_type x2 y2 (ap (λ g. head (tail (tail (tail (g))))) p) i)
+  inj_type (NullableT x0 x1 x2) (NullableT y0 y1 y2) p = λ i.
+      NullableT (same_number x0 y0 (ap (λ g. head (tail (g))) p) i) (same_number x1 y1 (ap (λ g. head (tail (tail (g)))) p) i)
+      (inj_type x2 y2 (ap (λ g. head (tail (tail (tail (g))))) p) i)
 
   pub inj_types : (x y : TypeTrees) → code_types x ≡ code_types y → x ≡ y
   inj_types NilT NilT p = refl

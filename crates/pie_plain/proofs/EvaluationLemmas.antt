@@ -1,5 +1,6 @@
 -- What the plain program's evaluation is by its parts.
-use Rattle.std.proofs.Common.{ℕ, zero, suc, ◌-◌, ◌<◌, ◌≡◌, Bool, true, false, List, [], ◌∷◌, ◌++◌, sym, ◌∙◌, ap, ap₂, subst, subst₂, refl, arith, Result, Ok, Err, IfOk}
+use Rattle.std.proofs.Common.{ℕ, zero, suc, ◌-◌, ◌<◌, ◌≡◌, Bool, true, false, List, [], ◌∷◌, ◌++◌, sym, ◌∙◌, ap, ap₂, subst, subst₂, refl, arith, Result, Ok}
+use Rattle.std.proofs.Common.{Err, IfOk}
 use Rattle.pie_model.specs.Paths.{among}
 use Rattle.pie_model.specs.Tasks.{Task}
 use Rattle.pie_model.specs.Trees.{Node, node, Trace, outcome_of, task_of, enter, entered}

@@ -1,5 +1,6 @@
 -- A number joins a set or leaves it; the first of the reached members.
-use Rattle.std.proofs.Common.{◌≡◌, ◌≢◌, ◌⊎◌, ℕ, ◌<◌, ◌≤◌, ◌+◌, Bool, true, false, cond, List, [], ◌∷◌, ◌++◌, Option, Some, None, length, map, refl, sym, ap, ◌∙◌, subst, inl, inr, arith}
+use Rattle.std.proofs.Common.{◌≡◌, ◌≢◌, ◌⊎◌, ℕ, ◌<◌, ◌≤◌, ◌+◌, Bool, true, false, cond, List, [], ◌∷◌, ◌++◌, Option, Some, None, length, map, refl, sym, ap}
+use Rattle.std.proofs.Common.{◌∙◌, subst, inl, inr, arith}
 use Rattle.std.specs.Prelude.{slice_index, MatchOption}
 use Rattle.std.specs.declared.cmp.Ordering.{Ordering}
 use Rattle.std.specs.declared.cmp.Ordering.TheVariants.{Less, Equal, Greater}
@@ -48,20 +49,23 @@ chosen same w old now e f = e ∙ ap (λ b. cond b w old) f
 picked : (same w old now : Bool) → now ≡ cond same w old → same ≡ true → now ≡ w
 picked same w old now e f = e ∙ ap (λ b. cond b w old) f
 
-pub joins : (old new : BTreeSet ℕ) (task : ℕ) → ((q : ℕ) → contains nat_cmp new q ≡ cond (is_eq (nat_cmp task q)) true (contains nat_cmp old q)) → Joins old.keys new.keys task
+pub joins : (old new : BTreeSet ℕ) (task : ℕ) → ((q : ℕ) → contains nat_cmp new q ≡ cond (is_eq (nat_cmp task q)) true (contains nat_cmp old q))
+    → Joins old.keys new.keys task
 joins old new task up = record {
   kept = λ n h. elim (true_or_false (is_eq (nat_cmp task n))) [
     | inl s ↦ is_in new n (picked (is_eq (nat_cmp task n)) true (contains nat_cmp old n) (contains nat_cmp new n) (up n) s)
     | inr o ↦ is_in new n (chosen (is_eq (nat_cmp task n)) true (contains nat_cmp old n) (contains nat_cmp new n) (up n) o ∙ has old n h)
   ];
-  joined = is_in new task (picked (is_eq (nat_cmp task task)) true (contains nat_cmp old task) (contains nat_cmp new task) (up task) (ap is_eq (tied_itself nat_cmp_total task)));
+  joined = is_in new task (picked (is_eq (nat_cmp task task)) true (contains nat_cmp old task) (contains nat_cmp new task) (up task)
+      (ap is_eq (tied_itself nat_cmp_total task)));
   only = λ n h. elim (true_or_false (is_eq (nat_cmp task n))) [
     | inl s ↦ inr (sym (tied task n s))
     | inr o ↦ inl (is_in old n (sym (chosen (is_eq (nat_cmp task n)) true (contains nat_cmp old n) (contains nat_cmp new n) (up n) o) ∙ has new n h))
   ];
 }
 
-pub leaves : (old new : BTreeSet ℕ) (task : ℕ) → ((q : ℕ) → contains nat_cmp new q ≡ cond (is_eq (nat_cmp task q)) false (contains nat_cmp old q)) → Leaves old.keys new.keys task
+pub leaves : (old new : BTreeSet ℕ) (task : ℕ) → ((q : ℕ) → contains nat_cmp new q ≡ cond (is_eq (nat_cmp task q)) false (contains nat_cmp old q))
+    → Leaves old.keys new.keys task
 leaves old new task up = record {
   kept = λ n h ne. elim (true_or_false (is_eq (nat_cmp task n))) [
     | inl s ↦ absurd (ne (sym (tied task n s)))
@@ -88,10 +92,12 @@ place_falls : (rows : List Row) (places : List ℕ) → Agrees rows places → (
 place_falls rows places agrees a b (itself {a = c}) = inl refl
 place_falls rows places agrees a b (step {a = x} {b = y} {c = z} first rest) = inr (omega (arith, agrees.each a y first, place_le rows places agrees y b rest))
 
-pub none_reached : (rows : List Row) (members keys : List ℕ) (root : ℕ) (marks : List Bool) → IsClosure (length rows) (Calls rows) (root ∷ []) marks → IsBest members marks keys None → ReachesNone rows members root
+pub none_reached : (rows : List Row) (members keys : List ℕ) (root : ℕ) (marks : List Bool) → IsClosure (length rows) (Calls rows) (root ∷ []) marks
+    → IsBest members marks keys None → ReachesNone rows members root
 none_reached rows members keys root marks closed none = λ n member reached. none n member (closed.each n (root, contains_here root [], reached))
 
-pub first_reached : (rows : List Row) (places members : List ℕ) (root : ℕ) (marks : List Bool) (first : TaskNo) → Agrees rows places → IsClosure (length rows) (Calls rows) (root ∷ []) marks → IsBest members marks places (Some first) → StandsFirst rows places members root first.0
+pub first_reached : (rows : List Row) (places members : List ℕ) (root : ℕ) (marks : List Bool) (first : TaskNo) → Agrees rows places
+    → IsClosure (length rows) (Calls rows) (root ∷ []) marks → IsBest members marks places (Some first) → StandsFirst rows places members root first.0
 first_reached rows places members root marks first agrees closed best =
     let led = closed.only first.0 best.1 in
     let reached : Reaches rows root first.0 = subst (λ (s : ℕ). Reaches rows s first.0) (sym (alone root led.0 led.1)) led.2 in
@@ -107,11 +113,14 @@ first_reached rows places members root marks first agrees closed best =
       ];
     }
 
-pub list_more : (list : List TaskNo) (task : TaskNo) (n : ℕ) (left rest all : List ℕ) → task.0 ≡ n → left ≡ n ∷ rest → numbers list ++ left ≡ all → numbers (list ++ task ∷ []) ++ rest ≡ all
+pub list_more : (list : List TaskNo) (task : TaskNo) (n : ℕ) (left rest all : List ℕ) → task.0 ≡ n → left ≡ n ∷ rest → numbers list ++ left ≡ all
+    → numbers (list ++ task ∷ []) ++ rest ≡ all
 list_more list task n left rest all same split h =
     ap (λ (ns : List ℕ). ns ++ rest) (map-append (λ (t : TaskNo). t.0) list (task ∷ [])) ∙ append_assoc (numbers list) (task.0 ∷ []) rest
     ∙ ap (λ m. numbers list ++ (m ∷ rest)) same ∙ ap (λ (ns : List ℕ). numbers list ++ ns) (sym split) ∙ h
 
-pub best_is : (ns members : List ℕ) (ms marks : List Bool) (ks places : List ℕ) (found : Option TaskNo) → ns ≡ members → ms ≡ marks → ks ≡ places → IsBest ns ms ks found → IsBest members marks places found
+pub best_is : (ns members : List ℕ) (ms marks : List Bool) (ks places : List ℕ) (found : Option TaskNo) → ns ≡ members → ms ≡ marks → ks ≡ places
+    → IsBest ns ms ks found → IsBest members marks places found
 best_is ns members ms marks ks places found a b c best =
-    subst (λ (x : List ℕ). IsBest x marks places found) a (subst (λ (x : List Bool). IsBest ns x places found) b (subst (λ (x : List ℕ). IsBest ns ms x found) c best))
+    subst (λ (x : List ℕ). IsBest x marks places found) a (subst (λ (x : List Bool). IsBest ns x places found) b
+    (subst (λ (x : List ℕ). IsBest ns ms x found) c best))

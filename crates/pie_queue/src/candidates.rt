@@ -65,7 +65,8 @@ impl Candidates {
         requires agrees { Agrees (R.rows rows.now) order.now }
         requires members { AllBelow (length (R.rows rows.now)) self.old }
         requires root { root.0 < length (R.rows rows.now) }
-        ensures first { IfOk result (λ found. MatchOption found (ReachesNone (R.rows rows.now) self.old root.0) (λ first. StandsFirst (R.rows rows.now) order.now self.old root.0 first.0)) }
+        ensures first { IfOk result (λ found. MatchOption found (ReachesNone (R.rows rows.now) self.old root.0)
+            (λ first. StandsFirst (R.rows rows.now) order.now self.old root.0 first.0)) }
         ensures leaves { IfOk result (λ found. MatchOption found (self.new ≡ self.old) (λ first. Leaves self.old self.new first.0)) }
         ensures unchanged { OnErr result (self.new ≡ self.old) }
     {

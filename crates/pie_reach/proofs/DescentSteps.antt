@@ -36,13 +36,17 @@ same_height states n k s fresh is =
       | inr e ↦ ap height_of (other_state states n k s e.1)
     ]
 
-same_heights : (states : List State) (n : ℕ) (s : State) (needs : List ℕ) → IsNotDone states n → ((i : ℕ) → i < length needs → IsDone states (slice_index needs i)) → map (height_at (set states n s)) needs ≡ map (height_at states) needs
+same_heights : (states : List State) (n : ℕ) (s : State) (needs : List ℕ) → IsNotDone states n
+    → ((i : ℕ) → i < length needs → IsDone states (slice_index needs i)) → map (height_at (set states n s)) needs ≡ map (height_at states) needs
 same_heights states n s needs fresh done =
-    ext_get_or 0 (map (height_at (set states n s)) needs) (map (height_at states) needs) (length-map needs (height_at (set states n s)) ∙ sym (length-map needs (height_at states)))
+    ext_get_or 0 (map (height_at (set states n s)) needs) (map (height_at states) needs)
+    (length-map needs (height_at (set states n s)) ∙ sym (length-map needs (height_at states)))
     (λ i l. let within : i < length needs = omega (arith, length-map needs (height_at (set states n s))) in
-    get_or-map (height_at (set states n s)) needs i 0 0 within ∙ same_height states n (get_or needs i 0) s fresh (done i within) ∙ sym (get_or-map (height_at states) needs i 0 0 within))
+    get_or-map (height_at (set states n s)) needs i 0 0 within ∙ same_height states n (get_or needs i 0) s fresh (done i within)
+    ∙ sym (get_or-map (height_at states) needs i 0 0 within))
 
-frame_kept : (rows : List Row) (states : List State) (n : ℕ) (s : State) (f : Frame) → f.no.0 ≢ n → IsNotDone states n → IsFrame rows states f → IsFrame rows (set states n s) f
+frame_kept : (rows : List Row) (states : List State) (n : ℕ) (s : State) (f : Frame) → f.no.0 ≢ n → IsNotDone states n → IsFrame rows states f
+    → IsFrame rows (set states n s) f
 frame_kept rows states n s f apart fresh is = record {
   inside = is.inside;
   stacked = other_state states n f.no.0 s apart ∙ is.stacked;
@@ -50,10 +54,15 @@ frame_kept rows states n s f apart fresh is = record {
   before = λ i l. still_done states n (slice_index (needs_of rows f) i) s fresh (is.before i l);
 }
 
-frames_kept : (rows : List Row) (states : List State) (n : ℕ) (s : State) (fs : List Frame) → ((g : Frame) → Contains fs g → g.no.0 ≢ n) → IsNotDone states n → AreFrames rows states fs → AreFrames rows (set states n s) fs
+frames_kept : (rows : List Row) (states : List State) (n : ℕ) (s : State) (fs : List Frame) → ((g : Frame) → Contains fs g → g.no.0 ≢ n) → IsNotDone states n
+    → AreFrames rows states fs → AreFrames rows (set states n s) fs
 frames_kept rows states n s [] apart fresh are = tt
-frames_kept rows states n s (f ∷ fs) apart fresh are =
-    (frame_kept rows states n s f (apart f (contains_here f fs)) fresh are.0, are.1, are.2, frames_kept rows states n s fs (λ g h. apart g (contains_later f g fs h)) fresh are.3)
+frames_kept rows states n s (f ∷ fs) apart fresh are = (
+  frame_kept rows states n s f (apart f (contains_here f fs)) fresh are.0,
+  are.1,
+  are.2,
+  frames_kept rows states n s fs (λ g h. apart g (contains_later f g fs h)) fresh are.3,
+)
 
 frame_in : (rows : List Row) (states : List State) (fs : List Frame) (g : Frame) → AreFrames rows states fs → Contains fs g → IsFrame rows states g
 frame_in rows states [] g are h = absurd (omega (arith, h.1))
@@ -71,7 +80,8 @@ new_is_not_done : (states : List State) (n : ℕ) → state_of states n ≡ New 
 new_is_not_done states n e = λ h d. let clash : New ≡ Done h = sym e ∙ d in absurd (cc)
 
 -- the top of the stack is done
-pub finish : (rows : List Row) (states : List State) (f : Frame) (fs : List Frame) (h : ℕ) → Holds rows states (f ∷ fs) → length (needs_of rows f) ≤ f.next → h ≡ height_over (map (height_at states) (needs_of rows f)) → Holds rows (set states f.no.0 (Done h)) fs
+pub finish : (rows : List Row) (states : List State) (f : Frame) (fs : List Frame) (h : ℕ) → Holds rows states (f ∷ fs) → length (needs_of rows f) ≤ f.next
+    → h ≡ height_over (map (height_at states) (needs_of rows f)) → Holds rows (set states f.no.0 (Done h)) fs
 finish rows states f fs h holds all over =
     let n = f.no.0 in
     let top = holds.frames.0 in
@@ -100,17 +110,24 @@ finish rows states f fs h holds all over =
       done = λ k is i l. elim (eqb_tells k n) [
         | inl e ↦
             subst (λ (m : ℕ). IsDone (set states n (Done h)) (slice_index (row_at rows m).needs i)) (sym e.1)
-            (still_done states n (slice_index (needs_of rows f) i) (Done h) fresh (top.before i (omega (arith, subst (λ (m : ℕ). i < length (row_at rows m).needs) e.1 l))))
-        | inr e ↦ still_done states n (slice_index (row_at rows k).needs i) (Done h) fresh (holds.done k (is.0, sym (other_state states n k (Done h) e.1) ∙ is.1) i l)
+            (still_done states n (slice_index (needs_of rows f) i) (Done h) fresh
+            (top.before i (omega (arith, subst (λ (m : ℕ). i < length (row_at rows m).needs) e.1 l))))
+        | inr e ↦ still_done states n (slice_index (row_at rows k).needs i) (Done h) fresh
+            (holds.done k (is.0, sym (other_state states n k (Done h) e.1) ∙ is.1) i l)
       ];
     }
 
 -- the top of the stack goes on to its next required task
-pub advance : (rows : List Row) (states : List State) (f g : Frame) (fs : List Frame) → g.no.0 ≡ f.no.0 → g.next ≡ f.next + 1 → Holds rows states (f ∷ fs) → f.next < length (needs_of rows f) → IsDone states (slice_index (needs_of rows f) f.next) → Holds rows states (g ∷ fs)
+pub advance : (rows : List Row) (states : List State) (f g : Frame) (fs : List Frame) → g.no.0 ≡ f.no.0 → g.next ≡ f.next + 1 → Holds rows states (f ∷ fs)
+    → f.next < length (needs_of rows f) → IsDone states (slice_index (needs_of rows f) f.next) → Holds rows states (g ∷ fs)
 advance rows states f g fs same next holds l is =
     let top = holds.frames.0 in
     let there : (i : ℕ) → i < f.next + 1 → IsDone states (slice_index (needs_of rows f) i) =
-    λ i m. elim (cases_lt i f.next) [ inl below ↦ top.before i below | inr above ↦ subst (λ (j : ℕ). IsDone states (slice_index (needs_of rows f) j)) (omega arith) is ] in
+    λ i m. elim (cases_lt i f.next) [
+      | inl below ↦ top.before i below
+      | inr above ↦ subst (λ (j : ℕ). IsDone states (slice_index (needs_of rows f) j))
+          (omega arith) is
+    ] in
     record {
       sized = holds.sized;
       frames = (
@@ -126,13 +143,18 @@ advance rows states f g fs same next holds l is =
       );
       stands = λ k o.
           let x = holds.stands k o in
-          elim (contains_cases f x.0 fs x.1) [ inl e ↦ (g, contains_here g fs, same ∙ ap (λ (y : Frame). y.no.0) e ∙ x.2) | inr later ↦ (x.0, contains_later g x.0 fs later, x.2) ];
+          elim (contains_cases f x.0 fs x.1) [
+            | inl e ↦ (g, contains_here g fs, same ∙ ap (λ (y : Frame). y.no.0) e ∙ x.2)
+            | inr later ↦
+                (x.0, contains_later g x.0 fs later, x.2)
+          ];
       height = holds.height;
       done = holds.done;
     }
 
 -- a new task goes on top
-pub enter : (rows : List Row) (states : List State) (f : Frame) (fs : List Frame) → f.next ≡ 0 → f.no.0 < length rows → state_of states f.no.0 ≡ New → IsAwaited rows f fs → Holds rows states fs → Holds rows (set states f.no.0 Open) (f ∷ fs)
+pub enter : (rows : List Row) (states : List State) (f : Frame) (fs : List Frame) → f.next ≡ 0 → f.no.0 < length rows → state_of states f.no.0 ≡ New
+    → IsAwaited rows f fs → Holds rows states fs → Holds rows (set states f.no.0 Open) (f ∷ fs)
 enter rows states f fs start l new awaited holds =
     let n = f.no.0 in
     let fresh = new_is_not_done states n new in
@@ -142,7 +164,12 @@ enter rows states f fs start l new awaited holds =
     λ g h e. let clash : New ≡ Open = sym new ∙ ap (state_of states) (sym e) ∙ (frame_in rows states fs g holds.frames h).stacked in cc in
     record {
       sized = length-set states n Open ∙ holds.sized;
-      frames = (record { inside = l; stacked = now; within = omega (arith, start); before = λ i m. absurd (omega (arith, start, m)) }, awaited, apart, frames_kept rows states n Open fs apart fresh holds.frames);
+      frames = (
+        record { inside = l; stacked = now; within = omega (arith, start); before = λ i m. absurd (omega (arith, start, m)) },
+        awaited,
+        apart,
+        frames_kept rows states n Open fs apart fresh holds.frames,
+      );
       stands = λ k o. elim (eqb_tells k n) [
         | inl e ↦ (f, contains_here f fs, sym e.1)
         | inr e ↦ let g = holds.stands k (sym (other_state states n k Open e.1) ∙ o) in (g.0, contains_later f g.0 fs g.1, g.2)
@@ -159,10 +186,12 @@ enter rows states f fs start l new awaited holds =
       ];
     }
 
-pub calls_at : (rows : List Row) (caller callee i : ℕ) → i < length (row_at rows caller).needs → slice_index (row_at rows caller).needs i ≡ callee → Calls rows caller callee
+pub calls_at : (rows : List Row) (caller callee i : ℕ) → i < length (row_at rows caller).needs → slice_index (row_at rows caller).needs i ≡ callee
+    → Calls rows caller callee
 calls_at rows caller callee i l e = (i, l, get_or_default (row_at rows caller).needs i callee 0 l ∙ e)
 
-chain : (rows : List Row) (states : List State) (f : Frame) (fs : List Frame) (g : Frame) → AreFrames rows states (f ∷ fs) → Contains (f ∷ fs) g → Reaches rows g.no.0 f.no.0
+chain : (rows : List Row) (states : List State) (f : Frame) (fs : List Frame) (g : Frame) → AreFrames rows states (f ∷ fs) → Contains (f ∷ fs) g
+    → Reaches rows g.no.0 f.no.0
 chain rows states f [] g are h =
     elim (contains_cases f g [] h) [ inl e ↦ subst (λ (x : Frame). Reaches rows x.no.0 f.no.0) e itself | inr later ↦ absurd (omega (arith, later.1)) ]
 chain rows states f (x ∷ fs) g are h =
@@ -172,7 +201,8 @@ chain rows states f (x ∷ fs) g are h =
     ]
 
 -- the next required task stands on the stack
-pub cycle : (rows : List Row) (states : List State) (f : Frame) (fs : List Frame) → Holds rows states (f ∷ fs) → f.next < length (needs_of rows f) → state_of states (slice_index (needs_of rows f) f.next) ≡ Open → HasCycle rows
+pub cycle : (rows : List Row) (states : List State) (f : Frame) (fs : List Frame) → Holds rows states (f ∷ fs) → f.next < length (needs_of rows f)
+    → state_of states (slice_index (needs_of rows f) f.next) ≡ Open → HasCycle rows
 cycle rows states f fs holds l o =
     let callee = slice_index (needs_of rows f) f.next in
     let g = holds.stands callee o in

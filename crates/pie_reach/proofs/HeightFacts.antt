@@ -51,7 +51,8 @@ map_agree f g same (n ∷ ns) = ap (λ m. m ∷ map f ns) (same n) ∙ ap (λ ms
 height_read : (states : List State) (n : ℕ) → slice_index (map height_of states) n ≡ height_at states n
 height_read states n = at.get_or-map height_of states n New
 
-done_height : (rows : List Row) (states : List State) → AllDone rows states → (n : ℕ) → n < length rows → (s : State) → state_of states n ≡ s → height_of s ≡ height_over (map (height_at states) (row_at rows n).needs)
+done_height : (rows : List Row) (states : List State) → AllDone rows states → (n : ℕ) → n < length rows → (s : State) → state_of states n ≡ s
+    → height_of s ≡ height_over (map (height_at states) (row_at rows n).needs)
 done_height rows states all n l New e = absurd (all.met n l e)
 done_height rows states all n l Open e = absurd (no_open rows states all.holds n e)
 done_height rows states all n l (Done h) e = all.holds.height n h e
@@ -70,7 +71,9 @@ done_acyclic rows states all = acyclic_by_heights rows (map height_of states) (h
 pub cycle_refutes : (rows : List Row) → HasCycle rows → IsAcyclic rows → ⊥
 cycle_refutes rows c acyclic = acyclic c.0 c.1 c.2 c.3
 
-pub lowest_found : (rows : List Row) (members : List ℕ) (under : ℕ) (marks : List Bool) (hs : List ℕ) (found : Option TaskNo) → IsClosure (length rows) (Calls rows) (under ∷ []) marks → AreHeights rows hs → IsBest members marks hs found → MatchOption found (ReachesNone rows members under) (λ lowest. IsLowest rows members under lowest.0)
+pub lowest_found : (rows : List Row) (members : List ℕ) (under : ℕ) (marks : List Bool) (hs : List ℕ) (found : Option TaskNo)
+    → IsClosure (length rows) (Calls rows) (under ∷ []) marks → AreHeights rows hs → IsBest members marks hs found
+    → MatchOption found (ReachesNone rows members under) (λ lowest. IsLowest rows members under lowest.0)
 lowest_found rows members under marks hs None closed are none = λ n member reached. none n member (closed.each n (under, contains_here under [], reached))
 lowest_found rows members under marks hs (Some low) closed are best =
     let led = closed.only low.0 best.1 in
@@ -80,6 +83,11 @@ lowest_found rows members under marks hs (Some low) closed are best =
       reached = reached;
       alone = λ other member down. elim (reach_falls rows hs are low.0 other down) [
         | inl e ↦ e
-        | inr falls ↦ absurd (omega (arith, falls, best.2 other member (closed.each other (under, contains_here under [], leads_trans (Calls rows) under low.0 other reached down))))
+        | inr falls ↦ absurd (omega (
+          arith,
+          falls,
+          best.2 other member
+              (closed.each other (under, contains_here under [], leads_trans (Calls rows) under low.0 other reached down)),
+        ))
       ];
     }

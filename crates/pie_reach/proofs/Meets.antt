@@ -1,5 +1,6 @@
 -- What meeting numbers leaves.
-use Rattle.std.proofs.Common.{◌≡◌, ◌⊎◌, ℕ, zero, suc, ◌<◌, ◌+◌, Bool, true, false, cond, List, [], ◌∷◌, ◌++◌, length, get_or, set, refl, sym, ap, ◌∙◌, subst, inl, inr, arith, length-set}
+use Rattle.std.proofs.Common.{◌≡◌, ◌⊎◌, ℕ, zero, suc, ◌<◌, ◌+◌, Bool, true, false, cond, List, [], ◌∷◌, ◌++◌, length, get_or, set, refl, sym, ap, ◌∙◌, subst}
+use Rattle.std.proofs.Common.{inl, inr, arith, length-set}
 use Rattle.std.specs.List.{Contains}
 use Rattle.std.proofs.lemmas.Bool.Decides.{eqb_tells}
 use Rattle.std.proofs.lemmas.List.{get_or-set_same, get_or-set_other, length_push}
@@ -51,7 +52,8 @@ old_one n w is = record {
 }
 
 -- the number gets its mark
-new_one : (n : ℕ) (w : Walked) → n < length w.marks → get_or w.marks n false ≡ false → Meets (n ∷ []) w (record { marks = set w.marks n true; work = w.work ++ n ∷ [] })
+new_one : (n : ℕ) (w : Walked) → n < length w.marks → get_or w.marks n false ≡ false
+    → Meets (n ∷ []) w (record { marks = set w.marks n true; work = w.work ++ n ∷ [] })
 new_one n w l not = record {
   sized = length-set w.marks n true;
   kept = λ k h. elim (eqb_tells k n) [
@@ -70,7 +72,8 @@ new_one n w l not = record {
 
 meets_one : (n : ℕ) (w : Walked) → n < length w.marks → Meets (n ∷ []) w (meet n w)
 meets_one n w l =
-    elim (get_or w.marks n false) as (λ b. get_or w.marks n false ≡ b → Meets (n ∷ []) w (cond b w (record { marks = set w.marks n true; work = w.work ++ n ∷ [] }))) [
+    elim (get_or w.marks n false) as (λ b. get_or w.marks n false ≡ b
+    → Meets (n ∷ []) w (cond b w (record { marks = set w.marks n true; work = w.work ++ n ∷ [] }))) [
       | true ↦ λ e. old_one n w e
       | false ↦ λ e. new_one n w l e
     ] refl

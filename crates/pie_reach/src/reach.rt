@@ -95,7 +95,8 @@ pub fn lowest<R: TaskRows>(
     requires acyclic { IsAcyclic (R.rows rows.now) }
     requires members { AllBelow (length (R.rows rows.now)) (numbers among.now) }
     requires under { under.0 < length (R.rows rows.now) }
-    ensures { IfOk result (λ found. MatchOption found (ReachesNone (R.rows rows.now) (numbers among.now) under.0) (λ lowest. IsLowest (R.rows rows.now) (numbers among.now) under.0 lowest.0)) }
+    ensures { IfOk result (λ found. MatchOption found (ReachesNone (R.rows rows.now) (numbers among.now) under.0)
+        (λ lowest. IsLowest (R.rows rows.now) (numbers among.now) under.0 lowest.0)) }
 {
     let _count = rows.count();
     let marks = closure(alloc, &Down(rows), &[under])?;

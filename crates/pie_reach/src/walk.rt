@@ -75,7 +75,8 @@ impl Walk {
     pub fn step<W: Ways>(&mut self, alloc: Global, ways: &W) -> Result<bool, OutOfMemory>
         requires { Ready (W.size ways.now) self.old }
         ensures ready { OnOk result (Ready (W.size ways.now) self.new) }
-        ensures kept { OnOk result ((starts : List ℕ) → Walking (W.size ways.now) (W.goes ways.now) starts self.old → Walking (W.size ways.now) (W.goes ways.now) starts self.new) }
+        ensures kept { OnOk result ((starts : List ℕ) → Walking (W.size ways.now) (W.goes ways.now) starts self.old
+            → Walking (W.size ways.now) (W.goes ways.now) starts self.new) }
         ensures over { IfOk result (λ went. went ≡ false → self.new.work ≡ []) }
         ensures nearer { IfOk result (λ went. went ≡ true → unmarked self.new.marks + length self.new.work < unmarked self.old.marks + length self.old.work) }
     {
@@ -91,7 +92,8 @@ impl Walk {
     pub fn run<W: Ways>(&mut self, alloc: Global, ways: &W) -> Result<(), OutOfMemory>
         requires { Ready (W.size ways.now) self.old }
         ensures ready { OnOk result (Ready (W.size ways.now) self.new) }
-        ensures kept { OnOk result ((starts : List ℕ) → Walking (W.size ways.now) (W.goes ways.now) starts self.old → Walking (W.size ways.now) (W.goes ways.now) starts self.new) }
+        ensures kept { OnOk result ((starts : List ℕ) → Walking (W.size ways.now) (W.goes ways.now) starts self.old
+            → Walking (W.size ways.now) (W.goes ways.now) starts self.new) }
         ensures over { OnOk result (self.new.work ≡ []) }
     {
         while self.step(alloc, ways)? {}

@@ -111,7 +111,8 @@ named_more {Z} keys tasks k t n c absent few = record {
 pub added : {Z : Type 0} (keys : List (Vec ℕ Z)) (bytes : List ℕ) → IsFree keys bytes → list_any (λ (k : Vec ℕ Z). bytes_eq bytes k.items) keys ≡ false
 added {Z} [] bytes f = refl
 added {Z} (k ∷ keys) bytes f =
-    let first : bytes_eq bytes k.items ≡ false = unequal (bytes_eq bytes k.items) (λ e. f.apart 0 k (omega arith) (sym ((bytes_eq-Decides bytes k.items).0 e))) in
+    let first : bytes_eq bytes k.items ≡ false = unequal (bytes_eq bytes k.items)
+    (λ e. f.apart 0 k (omega arith) (sym ((bytes_eq-Decides bytes k.items).0 e))) in
     let rest = added keys bytes (record { apart = λ i d lt. f.apart (suc i) d (omega arith) }) in
     rw (first, rest) refl
   where

@@ -79,7 +79,8 @@ stamp_back (Whole value) = refl
 stamp_back Done = refl
 
 abbrev pub coded_stamp : Coded Stamp
-coded_stamp = code_by Parts (coded⊎ coded_unit (coded⊎ coded_unit (coded⊎ (coded_list coded_ℕ) (coded⊎ coded_ℕ (coded⊎ coded_value coded_unit))))) stamp_parts stamp_of stamp_back
+coded_stamp = code_by Parts (coded⊎ coded_unit (coded⊎ coded_unit
+    (coded⊎ (coded_list coded_ℕ) (coded⊎ coded_ℕ (coded⊎ coded_value coded_unit))))) stamp_parts stamp_of stamp_back
 
 abbrev pub coded_dep : Coded Dep
 coded_dep =

@@ -1,6 +1,7 @@
 //! The tags of stamps, and which of them an observation may have.
 ghost use Rattle.std.specs.Prelude.{◌≡◌};
-ghost use Rattle.pie_record.specs.Kinds.{kind_of_byte, tag_of_byte, calls as specs_calls, allows as specs_allows, file_allows as specs_file_allows, call_allows as specs_call_allows, kind_byte, tag_byte, tag_of};
+ghost use Rattle.pie_record.specs.Kinds.{kind_of_byte, tag_of_byte, calls as specs_calls, allows as specs_allows, file_allows as specs_file_allows};
+ghost use Rattle.pie_record.specs.Kinds.{call_allows as specs_call_allows, kind_byte, tag_byte, tag_of};
 
 use crate::{DepKind, DepOn};
 use pie_value::Stamp;

@@ -1,5 +1,6 @@
 -- What is written is read.
-use Rattle.std.proofs.Common.{◌≡◌, ◌⊎◌, inl, inr, ℕ, zero, suc, ◌+◌, ◌≤◌, ◌<◌, max, pos, negsuc, ℤ, Bool, true, false, ◌&&◌, ◌==◌, cond, List, [], ◌∷◌, ◌++◌, length, drop, Option, Some, None, Ok, Err, Result, refl, sym, subst, ap, ◌∙◌, append_assoc, arith}
+use Rattle.std.proofs.Common.{◌≡◌, ◌⊎◌, inl, inr, ℕ, zero, suc, ◌+◌, ◌≤◌, ◌<◌, max, pos, negsuc, ℤ, Bool, true, false, ◌&&◌, ◌==◌, cond, List, [], ◌∷◌, ◌++◌}
+use Rattle.std.proofs.Common.{length, drop, Option, Some, None, Ok, Err, Result, refl, sym, subst, ap, ◌∙◌, append_assoc, arith}
 use Rattle.std.specs.Prelude.{nat_le, codes}
 use Rattle.std.proofs.lemmas.List.{length-append, append-nil}
 use Rattle.std.proofs.lemmas.Bool.{le-leb}
@@ -16,7 +17,8 @@ use Rattle.pie_value.proofs.Elements.{list_of_items}
 use Rattle.pie_roots.specs.declared.lead.Sign.{Sign}
 use Rattle.pie_roots.specs.declared.lead.Sign.TheVariants.{Comma, OpenRound, CloseRound, CloseSquare}
 use Rattle.pie_roots.specs.Leads.{same_text, starts}
-use Rattle.pie_roots.specs.Reading.{Parsed, then_on, kept, want, done, text, text_inside, spelled_path, digits_say, spelled_bytes, path, blob, tuple, more, listed, items, value_within, ended, task_of, name}
+use Rattle.pie_roots.specs.Reading.{Parsed, then_on, kept, want, done, text, text_inside, spelled_path, digits_say, spelled_bytes, path, blob, tuple, more}
+use Rattle.pie_roots.specs.Reading.{listed, items, value_within, ended, task_of, name}
 use Rattle.pie_roots.specs.Written.{bracketed, value_tokens, items_tokens, more_tokens, task_tokens, IsProper, AreProper}
 use Rattle.pie_roots.proofs.Readings.{after, kind_of, starts_so, want_so}
 
@@ -89,7 +91,8 @@ count_le (Cons t ts) rest =
     omega (arith, count_le ts rest, l, k)
 
 -- values that nest at most so deep are read inside a bracket
-module _ (d : ℕ) (inner : List TokenKind → Parsed Tree) (inside : (t : Tree) (rest : List TokenKind) → depth_of t ≤ d → IsProper t → inner (value_tokens t ++ rest) ≡ Some (t, rest)) where
+module _ (d : ℕ) (inner : List TokenKind → Parsed Tree) (inside : (t : Tree) (rest : List TokenKind) → depth_of t ≤ d → IsProper t
+    → inner (value_tokens t ++ rest) ≡ Some (t, rest)) where
   more_so : (n : ℕ) (ts : List Tree) (us : Trees) (s : Sign) (c : Closes s) (rest : List TokenKind) → count_of us ≤ n → deepest_of us ≤ d → AreProper us
       → more inner n ts (more_tokens us ++ kind_of s ∷ rest) ≡ Some (ts ++ list_of us, kind_of s ∷ rest)
   more_so zero ts Nil s c rest l e p = ap (λ vs. Some (vs, kind_of s ∷ rest)) (sym (append-nil ts))
@@ -99,28 +102,34 @@ module _ (d : ℕ) (inner : List TokenKind → Parsed Tree) (inside : (t : Tree)
   more_so zero ts (Cons u us) s c rest l e p = absurd (omega arith)
   more_so (suc n) ts (Cons u us) s c rest l e p =
       let tail = more_tokens us ++ kind_of s ∷ rest in
-      let seam : (value_tokens u ++ more_tokens us) ++ kind_of s ∷ rest ≡ value_tokens u ++ tail = append_assoc (value_tokens u) (more_tokens us) (kind_of s ∷ rest) in
+      let seam : (value_tokens u ++ more_tokens us) ++ kind_of s ∷ rest ≡ value_tokens u ++ tail = append_assoc (value_tokens u) (more_tokens us)
+      (kind_of s ∷ rest) in
       let one : depth_of u ≤ d = omega arith in
       let others : deepest_of us ≤ d = omega arith in
       let fewer : count_of us ≤ n = omega arith in
-      after (inner ((value_tokens u ++ more_tokens us) ++ kind_of s ∷ rest)) (λ t r. more inner n (ts ++ t ∷ []) r) u tail (Some (ts ++ list_of (Cons u us), kind_of s ∷ rest))
+      after (inner ((value_tokens u ++ more_tokens us) ++ kind_of s ∷ rest)) (λ t r. more inner n (ts ++ t ∷ []) r) u tail
+      (Some (ts ++ list_of (Cons u us), kind_of s ∷ rest))
       (ap inner seam ∙ inside u tail one p.0)
       (more_so n (ts ++ u ∷ []) us s c rest fewer others p.1 ∙ ap (λ vs. Some (vs, kind_of s ∷ rest)) (append_assoc ts (u ∷ []) (list_of us)))
 
   items_so : (us : Trees) (s : Sign) (c : Closes s) (rest : List TokenKind) → deepest_of us ≤ d → AreProper us
       → items inner s (items_tokens us ++ kind_of s ∷ rest) ≡ Some (list_of us, rest)
-  items_so Nil s c rest e p = ap (λ b. cond b (Some ([], rest)) (then_on (listed inner (kind_of s ∷ rest)) (λ ts a. then_on (want s a) (λ _ r. Some (ts, r))))) (starts_so s rest)
+  items_so Nil s c rest e p = ap (λ b. cond b (Some ([], rest))
+      (then_on (listed inner (kind_of s ∷ rest)) (λ ts a. then_on (want s a) (λ _ r. Some (ts, r))))) (starts_so s rest)
   items_so (Cons u us) s c rest e p =
       let tail = more_tokens us ++ kind_of s ∷ rest in
-      let seam : (value_tokens u ++ more_tokens us) ++ kind_of s ∷ rest ≡ value_tokens u ++ tail = append_assoc (value_tokens u) (more_tokens us) (kind_of s ∷ rest) in
+      let seam : (value_tokens u ++ more_tokens us) ++ kind_of s ∷ rest ≡ value_tokens u ++ tail = append_assoc (value_tokens u) (more_tokens us)
+      (kind_of s ∷ rest) in
       let one : depth_of u ≤ d = omega arith in
       let others : deepest_of us ≤ d = omega arith in
       let all : listed inner (value_tokens u ++ tail) ≡ Some (list_of (Cons u us), kind_of s ∷ rest) =
       after (inner (value_tokens u ++ tail)) (λ t r. more inner (length r) (t ∷ []) r) u tail (Some (list_of (Cons u us), kind_of s ∷ rest))
       (inside u tail one p.0) (more_so (length tail) (u ∷ []) us s c rest (count_le us (kind_of s ∷ rest)) others p.1) in
       ap (items inner s) seam
-      ∙ ap (λ b. cond b (Some ([], drop 1 (value_tokens u ++ tail))) (then_on (listed inner (value_tokens u ++ tail)) (λ ts a. then_on (want s a) (λ _ r. Some (ts, r))))) (not_closed s c u tail)
-      ∙ after (listed inner (value_tokens u ++ tail)) (λ ts a. then_on (want s a) (λ _ r. Some (ts, r))) (list_of (Cons u us)) (kind_of s ∷ rest) (Some (list_of (Cons u us), rest)) all
+      ∙ ap (λ b. cond b (Some ([], drop 1 (value_tokens u ++ tail)))
+      (then_on (listed inner (value_tokens u ++ tail)) (λ ts a. then_on (want s a) (λ _ r. Some (ts, r))))) (not_closed s c u tail)
+      ∙ after (listed inner (value_tokens u ++ tail)) (λ ts a. then_on (want s a) (λ _ r. Some (ts, r))) (list_of (Cons u us)) (kind_of s ∷ rest)
+      (Some (list_of (Cons u us), rest)) all
       (after (want s (kind_of s ∷ rest)) (λ _ r. Some (list_of (Cons u us), r)) done rest (Some (list_of (Cons u us), rest)) (want_so s rest) refl)
 
 value_so : (d : ℕ) (t : Tree) (rest : List TokenKind) → depth_of t ≤ d → IsProper t → value_within d (value_tokens t ++ rest) ≡ Some (t, rest)
@@ -142,19 +151,24 @@ value_so (suc d) (TText w) rest e p = refl
 value_so (suc d) (TPath w) rest e p = after (path (bracketed w ++ rest)) (λ said r. Some (TPath said, r)) w rest (Some (TPath w, rest)) (path_so w rest p) refl
 value_so (suc d) (TList ts) rest e p =
     let others : deepest_of ts ≤ d = omega arith in
-    let seam : (items_tokens ts ++ kinds.CloseSquare ∷ []) ++ rest ≡ items_tokens ts ++ kinds.CloseSquare ∷ rest = append_assoc (items_tokens ts) (kinds.CloseSquare ∷ []) rest in
-    after (items (value_within d) CloseSquare ((items_tokens ts ++ kinds.CloseSquare ∷ []) ++ rest)) (λ us r. Some (TList (items_of us), r)) (list_of ts) rest (Some (TList ts, rest))
+    let seam : (items_tokens ts ++ kinds.CloseSquare ∷ []) ++ rest ≡ items_tokens ts ++ kinds.CloseSquare ∷ rest = append_assoc (items_tokens ts)
+    (kinds.CloseSquare ∷ []) rest in
+    after (items (value_within d) CloseSquare ((items_tokens ts ++ kinds.CloseSquare ∷ []) ++ rest)) (λ us r. Some (TList (items_of us), r)) (list_of ts) rest
+    (Some (TList ts, rest))
     (ap (items (value_within d) CloseSquare) seam ∙ items_so d (value_within d) (value_so d) ts CloseSquare square rest others p)
     (ap (λ us. Some (TList us, rest)) (items_of_list ts))
 value_so (suc d) (TTuple ts) rest e p =
     let others : deepest_of ts ≤ d = omega arith in
-    let seam : (items_tokens ts ++ kinds.CloseRound ∷ []) ++ rest ≡ items_tokens ts ++ kinds.CloseRound ∷ rest = append_assoc (items_tokens ts) (kinds.CloseRound ∷ []) rest in
+    let seam : (items_tokens ts ++ kinds.CloseRound ∷ []) ++ rest ≡ items_tokens ts ++ kinds.CloseRound ∷ rest = append_assoc (items_tokens ts)
+    (kinds.CloseRound ∷ []) rest in
     let two : nat_le 2 (length (list_of ts)) ≡ true = ap (nat_le 2) (length_list ts) ∙ le-leb 2 (count_of ts) p.0 in
-    after (items (value_within d) CloseRound ((items_tokens ts ++ kinds.CloseRound ∷ []) ++ rest)) (λ us r. kept (tuple us) r) (list_of ts) rest (Some (TTuple ts, rest))
+    after (items (value_within d) CloseRound ((items_tokens ts ++ kinds.CloseRound ∷ []) ++ rest)) (λ us r. kept (tuple us) r) (list_of ts) rest
+    (Some (TTuple ts, rest))
     (ap (items (value_within d) CloseRound) seam ∙ items_so d (value_within d) (value_so d) ts CloseRound round rest others p.1)
     (ap (λ b. kept (cond b (Some (TTuple (items_of (list_of ts)))) None) rest) two ∙ ap (λ us. Some (TTuple us, rest)) (items_of_list ts))
 value_so (suc d) TNull rest e p = refl
-value_so (suc d) (TBytes w) rest e p = after (blob (bracketed (encode_lower w) ++ rest)) (λ said r. Some (TBytes said, r)) w rest (Some (TBytes w, rest)) (blob_so w rest p) refl
+value_so (suc d) (TBytes w) rest e p = after (blob (bracketed (encode_lower w) ++ rest)) (λ said r. Some (TBytes said, r)) w rest (Some (TBytes w, rest))
+    (blob_so w rest p) refl
 
 -- the tokens of a task are read as that task
 pub task_so : (t : Task) → deepest_of (items_of t.args) ≤ 64 → AreProper (items_of t.args) → task_of (task_tokens t) ≡ Some (t, [])

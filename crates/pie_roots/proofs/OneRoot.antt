@@ -40,11 +40,13 @@ one_task ks t u rest e w =
 no_tokens : (t : Task) → ¬ (Writes [] t)
 no_tokens t w = missed (written_so [] t w)
 
-by_size : (ks : List TokenKind) (t : Task) (rest : List TokenKind) → task_of ks ≡ Some (t, rest) → (ks ≡ [] → ⊥) → (small : Bool) → is_small_task t ≡ small → IsRootOf ks (limited t small)
+by_size : (ks : List TokenKind) (t : Task) (rest : List TokenKind) → task_of ks ≡ Some (t, rest) → (ks ≡ [] → ⊥) → (small : Bool) → is_small_task t ≡ small
+    → IsRootOf ks (limited t small)
 by_size ks t rest e n true s = let i = task_sound ks t rest e in record { printed = i.tokens; proper = i.proper; small = s }
 by_size ks t rest e n false s = (n, λ u w. let q = one_task ks t u rest e w in absurd (cc))
 
-pub task_root : (ks : List TokenKind) (t : Task) (rest : List TokenKind) (r : Root) → task_of ks ≡ Some (t, rest) → (ks ≡ [] → ⊥) → r ≡ limited t (is_small_task t) → IsRootOf ks r
+pub task_root : (ks : List TokenKind) (t : Task) (rest : List TokenKind) (r : Root) → task_of ks ≡ Some (t, rest) → (ks ≡ [] → ⊥)
+    → r ≡ limited t (is_small_task t) → IsRootOf ks r
 task_root ks t rest r e n q = subst (λ (x : Root). IsRootOf ks x) (sym q) (by_size ks t rest e n (is_small_task t) refl)
 
 pub bad_root : (ks : List TokenKind) (f : Fault) → f ≡ faults.Bad → Agrees {A = Task} (λ t. t) (Err f) [] (task_of ks) → (ks ≡ [] → ⊥) → IsRootOf ks roots.Bad

@@ -45,7 +45,8 @@ kept_is {A = A} (Some x) ks a rest h =
 kept_is None ks a rest h = missed h
 
 -- a reading that went well, in front of another
-pub after : {A B : Type 0} (p : Parsed A) (k : A → List TokenKind → Parsed B) (a : A) (r : List TokenKind) (q : Parsed B) → p ≡ Some (a, r) → k a r ≡ q → then_on p k ≡ q
+pub after : {A B : Type 0} (p : Parsed A) (k : A → List TokenKind → Parsed B) (a : A) (r : List TokenKind) (q : Parsed B) → p ≡ Some (a, r) → k a r ≡ q
+    → then_on p k ≡ q
 after p k a r q e h = ap (λ o. then_on o k) e ∙ h
 
 -- the token that a sign is

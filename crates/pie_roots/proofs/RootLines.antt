@@ -1,5 +1,6 @@
 -- Reading roots line after line.
-use Rattle.std.proofs.Common.{◌≡◌, ◌≤◌, ◌<◌, ◌+◌, ℕ, Bool, true, false, List, [], ◌∷◌, ◌++◌, length, Option, Some, None, Ok, Err, Result, refl, sym, subst, ap, ◌∙◌, append_assoc, arith}
+use Rattle.std.proofs.Common.{◌≡◌, ◌≤◌, ◌<◌, ◌+◌, ℕ, Bool, true, false, List, [], ◌∷◌, ◌++◌, length, Option, Some, None, Ok, Err, Result, refl, sym, subst, ap}
+use Rattle.std.proofs.Common.{◌∙◌, append_assoc, arith}
 use Rattle.std.specs.Str.{IsUtf8}
 use Rattle.std.proofs.lemmas.List.{append-nil}
 use Rattle.std.proofs.lemmas.List.Splits.{length-slice_split}
@@ -11,12 +12,19 @@ use Rattle.pie_roots.specs.declared.roots_fault.RootsFault.{RootsFault}
 use Rattle.pie_roots.specs.declared.roots_fault.RootsFault.TheVariants.{TooLong, NotText, BadRoot, OutOfMemory}
 use Rattle.pie_roots.specs.Lines.{is_newline, texts}
 use Rattle.pie_roots.specs.Roots.{IsBlank, Names, IsRoot}
-use Rattle.pie_roots.specs.RootLists.{Named, before, NameAll, ended, blank, named, stranger, bad, most, Reads, ReadsOnly, ReadsText, behind, Carries, Takes, Adds}
+use Rattle.pie_roots.specs.RootLists.{Named, before, NameAll, ended, blank, named, stranger, bad, most, Reads, ReadsOnly, ReadsText, behind, Carries, Takes}
+use Rattle.pie_roots.specs.RootLists.{Adds}
 use Rattle.pie_roots.proofs.OneRoot.{one_root}
 
 -- a text has at most one line more than bytes
 pub few_lines : (lines : List (List ℕ)) (text : List ℕ) → lines ≡ texts text → length text ≤ most → 1 + length lines ≤ most + 2
-few_lines lines text all small = omega (arith, ap (λ (l : List (List ℕ)). length l) all, length-slice_split is_newline text, count_by-le-length is_newline text, small)
+few_lines lines text all small = omega (
+  arith,
+  ap (λ (l : List (List ℕ)). length l) all,
+  length-slice_split is_newline text,
+  count_by-le-length is_newline text,
+  small,
+)
 
 behind_nil : (r : Named) → behind [] r ≡ r
 behind_nil (Ok ts) = refl
@@ -30,11 +38,13 @@ module _ (number : Task → Option ℕ) where
   pub blank_carries : (old : List Task) (line : List ℕ) (n : ℕ) → IsBlank line → Carries number old old line n
   blank_carries old line n b lines r x = (r, blank b x, refl)
 
-  pub named_carries : (old new : List Task) (line : List ℕ) (n k : ℕ) (t : Task) → Names line t → number t ≡ Some k → new ≡ old ++ t ∷ [] → Carries number old new line n
+  pub named_carries : (old new : List Task) (line : List ℕ) (n k : ℕ) (t : Task) → Names line t → number t ≡ Some k → new ≡ old ++ t ∷ []
+      → Carries number old new line n
   named_carries old new line n k t m e q lines r x = (before t r, named m e x, behind_one old t r ∙ ap (λ (ts : List Task). behind ts r) (sym q))
 
   -- what a task on its line comes to
-  pub adds_takes : {A : Type 0} (result : Result A RootsFault) (old new : List Task) (line : List ℕ) (n : ℕ) (t : Task) → Names line t → Adds number result old new t n → Takes number result old new line n
+  pub adds_takes : {A : Type 0} (result : Result A RootsFault) (old new : List Task) (line : List ℕ) (n : ℕ) (t : Task) → Names line t
+      → Adds number result old new t n → Takes number result old new line n
   adds_takes (Ok a) old new line n t m h = named_carries old new line n h.0 t m h.1 h.2
   adds_takes (Err (BadRoot k)) old new line n t m h = (h.0, λ lines. stranger m h.1)
   adds_takes (Err OutOfMemory) old new line n t m h = tt
@@ -45,7 +55,8 @@ module _ (number : Task → Option ℕ) where
   pub taken_blank : (old : List Task) (line : List ℕ) (n : ℕ) (r : Root) → IsRoot line r → r ≡ roots.Nothing → Carries number old old line n
   taken_blank old line n r h e = blank_carries old line n (subst (IsRoot line) e h)
 
-  pub taken_task : {A : Type 0} (result : Result A RootsFault) (old new : List Task) (line : List ℕ) (n : ℕ) (t : Task) (r : Root) → IsRoot line r → r ≡ roots.Task t
+  pub taken_task : {A : Type 0} (result : Result A RootsFault) (old new : List Task) (line : List ℕ) (n : ℕ) (t : Task) (r : Root) → IsRoot line r
+      → r ≡ roots.Task t
       → Adds number result old new t n → Takes number result old new line n
   taken_task result old new line n t r h e a = adds_takes result old new line n t (subst (IsRoot line) e h) a
 
@@ -61,19 +72,24 @@ module _ (number : Task → Option ℕ) where
       subst (λ (ts : List Task). NameAll number 1 (texts text) (behind ts r)) (sym q)
       (subst (λ (s : Named). NameAll number 1 (texts text) s) (sym (behind_nil r)) (subst (λ (ls : List (List ℕ)). NameAll number 1 ls r) e x))
 
-  pub left_goes_on : (text line : List ℕ) (lines rest : List (List ℕ)) (old new : List Task) (n : ℕ) → Left text lines old n → lines ≡ line ∷ rest → Carries number old new line n → Left text rest new (n + 1)
+  pub left_goes_on : (text line : List ℕ) (lines rest : List (List ℕ)) (old new : List Task) (n : ℕ) → Left text lines old n → lines ≡ line ∷ rest
+      → Carries number old new line n → Left text rest new (n + 1)
   left_goes_on text line lines rest old new n h e c r x =
       let s = c rest r x in
       subst (λ (q : Named). NameAll number 1 (texts text) q) s.2 (h s.0 (subst (λ (ls : List (List ℕ)). NameAll number n ls s.0) (sym e) s.1))
 
-  pub left_ends : (text : List ℕ) (lines : List (List ℕ)) (taken : List Task) (n : ℕ) → Left text lines taken n → lines ≡ [] → NameAll number 1 (texts text) (Ok taken)
+  pub left_ends : (text : List ℕ) (lines : List (List ℕ)) (taken : List Task) (n : ℕ) → Left text lines taken n → lines ≡ []
+      → NameAll number 1 (texts text) (Ok taken)
   left_ends text lines taken n h e =
-      subst (λ (ts : List Task). NameAll number 1 (texts text) (Ok ts)) (append-nil taken) (h (Ok []) (subst (λ (ls : List (List ℕ)). NameAll number n ls (Ok [])) (sym e) ended))
+      subst (λ (ts : List Task). NameAll number 1 (texts text) (Ok ts)) (append-nil taken)
+      (h (Ok []) (subst (λ (ls : List (List ℕ)). NameAll number n ls (Ok [])) (sym e) ended))
 
-  left_refuses : (text line : List ℕ) (lines rest : List (List ℕ)) (taken : List Task) (n : ℕ) → Left text lines taken n → lines ≡ line ∷ rest → NameAll number n (line ∷ rest) (Err n) → NameAll number 1 (texts text) (Err n)
+  left_refuses : (text line : List ℕ) (lines rest : List (List ℕ)) (taken : List Task) (n : ℕ) → Left text lines taken n → lines ≡ line ∷ rest
+      → NameAll number n (line ∷ rest) (Err n) → NameAll number 1 (texts text) (Err n)
   left_refuses text line lines rest taken n h e x = h (Err n) (subst (λ (ls : List (List ℕ)). NameAll number n ls (Err n)) (sym e) x)
 
-  pub left_fails : (A V : Type 0) (view : V → List Task) (f : RootsFault) (text line : List ℕ) (lines rest : List (List ℕ)) (old new : List Task) (n : ℕ) → Left text lines old n → lines ≡ line ∷ rest
+  pub left_fails : (A V : Type 0) (view : V → List Task) (f : RootsFault) (text line : List ℕ) (lines rest : List (List ℕ)) (old new : List Task) (n : ℕ)
+      → Left text lines old n → lines ≡ line ∷ rest
       → Takes {A = A} number (Err f) old new line n → ReadsText {A = V} number view (Err f) (texts text)
   left_fails A V view (BadRoot m) text line lines rest old new n h e t =
       subst (λ (k : ℕ). NameAll number 1 (texts text) (Err k)) (sym t.0) (left_refuses text line lines rest old n h e (t.1 rest))
@@ -115,7 +131,8 @@ module _ (number : Task → Option ℕ) where
   one_naming n (line ∷ lines) r s (bad b) (stranger k f) = refl
   one_naming n (line ∷ lines) r s (bad b) (bad c) = refl
 
-  pub reads_only : {A : Type 0} (view : A → List Task) (result : Result A RootsFault) (bytes : List ℕ) → Reads number view result bytes → ReadsOnly number view result bytes
+  pub reads_only : {A : Type 0} (view : A → List Task) (result : Result A RootsFault) (bytes : List ℕ) → Reads number view result bytes
+      → ReadsOnly number view result bytes
   reads_only view (Ok a) bytes h = λ r x. one_naming 1 (texts bytes) r (Ok (view a)) x h.2
   reads_only view (Err (BadRoot n)) bytes h = λ r x. one_naming 1 (texts bytes) r (Err n) x h.2
   reads_only view (Err OutOfMemory) bytes h = tt
@@ -123,7 +140,8 @@ module _ (number : Task → Option ℕ) where
   reads_only view (Err NotText) bytes h = tt
 
 -- bytes that are text, by the lines of the text
-pub reads_text : {A : Type 0} (number : Task → Option ℕ) (view : A → List Task) (result : Result A RootsFault) (bytes : List ℕ) → length bytes ≤ most → IsUtf8 bytes
+pub reads_text : {A : Type 0} (number : Task → Option ℕ) (view : A → List Task) (result : Result A RootsFault) (bytes : List ℕ) → length bytes ≤ most
+    → IsUtf8 bytes
     → ReadsText number view result (texts bytes) → Reads number view result bytes
 reads_text number view (Ok a) bytes l u h = (l, u, h)
 reads_text number view (Err (BadRoot n)) bytes l u h = (l, u, h)

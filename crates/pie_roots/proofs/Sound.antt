@@ -1,5 +1,6 @@
 -- What is read is what is written.
-use Rattle.std.proofs.Common.{◌≡◌, ◌⊎◌, inl, inr, ℕ, zero, suc, ◌+◌, ◌≤◌, pos, negsuc, ℤ, Bool, true, false, cond, List, [], ◌∷◌, ◌++◌, length, drop, Option, Some, None, Ok, Err, Result, refl, sym, subst, ap, ◌∙◌, append_assoc, arith}
+use Rattle.std.proofs.Common.{◌≡◌, ◌⊎◌, inl, inr, ℕ, zero, suc, ◌+◌, ◌≤◌, pos, negsuc, ℤ, Bool, true, false, cond, List, [], ◌∷◌, ◌++◌, length, drop, Option}
+use Rattle.std.proofs.Common.{Some, None, Ok, Err, Result, refl, sym, subst, ap, ◌∙◌, append_assoc, arith}
 use Rattle.std.specs.Prelude.{nat_le, codes}
 use Rattle.std.specs.Cmp.Lexicographic.{same_text as same_bytes}
 use Rattle.std.proofs.lemmas.List.{append-nil}
@@ -18,7 +19,8 @@ use Rattle.pie_roots.specs.declared.lead.Lead.TheVariants as leads
 use Rattle.pie_roots.specs.declared.lead.Sign.{Sign}
 use Rattle.pie_roots.specs.declared.lead.Sign.TheVariants.{Comma, OpenRound, CloseRound, CloseSquare}
 use Rattle.pie_roots.specs.Leads.{same_text, lead_of, digits_lead, word_lead, starts}
-use Rattle.pie_roots.specs.Reading.{Parsed, then_on, kept, want, first, negated, below_of, below_zero, lead, text_inside, spelled_path, digits_say, spelled_bytes, path, blob, tuple, more, listed, items, value_by, value_within, ended, task_of, name}
+use Rattle.pie_roots.specs.Reading.{Parsed, then_on, kept, want, first, negated, below_of, below_zero, lead, text_inside, spelled_path, digits_say}
+use Rattle.pie_roots.specs.Reading.{spelled_bytes, path, blob, tuple, more, listed, items, value_by, value_within, ended, task_of, name}
 use Rattle.pie_roots.specs.Written.{bracketed, value_tokens, items_tokens, more_tokens, task_tokens, IsProper, AreProper}
 use Rattle.pie_roots.proofs.Readings.{missed, some_same, chosen, got, bound, kept_is, kind_of, starts_is, want_is, name_is, inside_is}
 
@@ -50,9 +52,11 @@ digits_are (pos k) m h = cc
 digits_are (negsuc k) m h = missed h
 
 -- the bytes that digits say have these digits
-digits_back : (said bytes : List ℕ) (r : Result (List ℕ) FromHexError) → decode_of said ≡ r → digits_say said r ≡ Some bytes → (said ≡ encode_lower bytes) × IsBytes bytes
+digits_back : (said bytes : List ℕ) (r : Result (List ℕ) FromHexError) → decode_of said ≡ r → digits_say said r ≡ Some bytes → (said ≡ encode_lower bytes)
+    × IsBytes bytes
 digits_back said bytes (Ok bs) e h = elim (chosen (same_text (encode_lower bs) said) (Some bs) None (Some bytes) h) [
-  | inl c ↦ subst (λ (b : List ℕ). (said ≡ encode_lower b) × IsBytes b) (some_same c.1) (sym (same_bytes (encode_lower bs) said (sym c.0)), (decode_of-ok said bs e).3)
+  | inl c ↦ subst (λ (b : List ℕ). (said ≡ encode_lower b) × IsBytes b) (some_same c.1)
+      (sym (same_bytes (encode_lower bs) said (sym c.0)), (decode_of-ok said bs e).3)
   | inr c ↦ missed c.1
 ]
 digits_back said bytes (Err f) e h = missed h
@@ -70,8 +74,10 @@ word_back w l h = elim (chosen (same_text w (codes "bytes")) (Some leads.Bytes) 
 ]
 
 -- what is read inside a bracket begins with the tokens of a value
-module _ (inner : List TokenKind → Parsed Tree) (inside : (ks : List TokenKind) (t : Tree) (rest : List TokenKind) → inner ks ≡ Some (t, rest) → Spelt t ks rest) where
-  more_sound : (n : ℕ) (ts : List Tree) (ks : List TokenKind) (us : List Tree) (rest : List TokenKind) → more inner n ts ks ≡ Some (us, rest) → More ts us ks rest
+module _ (inner : List TokenKind → Parsed Tree) (inside : (ks : List TokenKind) (t : Tree) (rest : List TokenKind) → inner ks ≡ Some (t, rest)
+    → Spelt t ks rest) where
+  more_sound : (n : ℕ) (ts : List Tree) (ks : List TokenKind) (us : List Tree) (rest : List TokenKind) → more inner n ts ks ≡ Some (us, rest)
+      → More ts us ks rest
   more_sound zero ts ks us rest h =
       got (λ (vs : List Tree) (r : List TokenKind). More ts vs ks r) h (record { added = []; all = sym (append-nil ts); tokens = refl; proper = tt })
   more_sound (suc n) ts ks us rest h =
@@ -85,15 +91,18 @@ module _ (inner : List TokenKind → Parsed Tree) (inside : (ks : List TokenKind
               all = m.all ∙ append_assoc ts (b.0 ∷ []) m.added;
               tokens =
                   starts_is Comma ks c.0
-                  ∙ ap (λ r. kinds.Comma ∷ r) (v.tokens ∙ ap (λ r. value_tokens b.0 ++ r) m.tokens ∙ sym (append_assoc (value_tokens b.0) (more_tokens (items_of m.added)) rest));
+                  ∙ ap (λ r. kinds.Comma ∷ r) (v.tokens ∙ ap (λ r. value_tokens b.0 ++ r) m.tokens
+                  ∙ sym (append_assoc (value_tokens b.0) (more_tokens (items_of m.added)) rest));
               proper = (v.proper, m.proper);
             }
-        | inr c ↦ got (λ (vs : List Tree) (r : List TokenKind). More ts vs ks r) c.1 (record { added = []; all = sym (append-nil ts); tokens = refl; proper = tt })
+        | inr c ↦ got (λ (vs : List Tree) (r : List TokenKind). More ts vs ks r) c.1
+            (record { added = []; all = sym (append-nil ts); tokens = refl; proper = tt })
       ]
 
   items_sound : (close : Sign) (ks : List TokenKind) (ts : List Tree) (rest : List TokenKind) → items inner close ks ≡ Some (ts, rest) → Listed close ts ks rest
   items_sound close ks ts rest h =
-      elim (chosen (starts close ks) (Some ([], drop 1 ks)) (then_on (listed inner ks) (λ us a. then_on (want close a) (λ _ r. Some (us, r)))) (Some (ts, rest)) h) [
+      elim (chosen (starts close ks) (Some ([], drop 1 ks)) (then_on (listed inner ks) (λ us a. then_on (want close a) (λ _ r. Some (us, r))))
+      (Some (ts, rest)) h) [
         | inl c ↦ got (λ (vs : List Tree) (r : List TokenKind). Listed close vs ks r) c.1 (record { tokens = starts_is close ks c.0; proper = tt })
         | inr c ↦
             let b = bound (listed inner ks) (λ us a. then_on (want close a) (λ _ r. Some (us, r))) ts rest c.1 in
@@ -109,13 +118,15 @@ module _ (inner : List TokenKind → Parsed Tree) (inside : (ks : List TokenKind
             got P w.3 (subst (λ (vs : List Tree). Listed close vs ks w.1) (sym m.all) (record { tokens = whole; proper = (v.proper, m.proper) }))
       ]
 
-  led_sound : (k : TokenKind) (ks : List TokenKind) (t : Tree) (rest : List TokenKind) → then_on (kept (lead_of k) ks) (value_by inner) ≡ Some (t, rest) → Spelt t (k ∷ ks) rest
+  led_sound : (k : TokenKind) (ks : List TokenKind) (t : Tree) (rest : List TokenKind) → then_on (kept (lead_of k) ks) (value_by inner) ≡ Some (t, rest)
+      → Spelt t (k ∷ ks) rest
   led_sound kinds.UnitWord ks t rest h = got (λ (u : Tree) (r : List TokenKind). Spelt u (kinds.UnitWord ∷ ks) r) h (record { tokens = refl; proper = tt })
   led_sound kinds.True ks t rest h = got (λ (u : Tree) (r : List TokenKind). Spelt u (kinds.True ∷ ks) r) h (record { tokens = refl; proper = tt })
   led_sound kinds.False ks t rest h = got (λ (u : Tree) (r : List TokenKind). Spelt u (kinds.False ∷ ks) r) h (record { tokens = refl; proper = tt })
   led_sound kinds.Null ks t rest h = got (λ (u : Tree) (r : List TokenKind). Spelt u (kinds.Null ∷ ks) r) h (record { tokens = refl; proper = tt })
   led_sound (kinds.Text said) ks t rest h = got (λ (u : Tree) (r : List TokenKind). Spelt u (kinds.Text said ∷ ks) r) h (record { tokens = refl; proper = tt })
-  led_sound (kinds.Int (pos n)) ks t rest h = got (λ (u : Tree) (r : List TokenKind). Spelt u (kinds.Int (pos n) ∷ ks) r) h (record { tokens = refl; proper = tt })
+  led_sound (kinds.Int (pos n)) ks t rest h = got (λ (u : Tree) (r : List TokenKind). Spelt u (kinds.Int (pos n) ∷ ks) r) h
+      (record { tokens = refl; proper = tt })
   led_sound (kinds.Int (negsuc n)) ks t rest h = missed h
   led_sound kinds.Minus [] t rest h = missed h
   led_sound kinds.Minus (k ∷ ks) t rest h =
@@ -129,12 +140,20 @@ module _ (inner : List TokenKind → Parsed Tree) (inside : (ks : List TokenKind
       let p = kept_is (spelled_path i.0) i.1 b.0 b.1 i.3 in
       let q = path_back i.0 b.0 p.0 in
       got (λ (u : Tree) (r : List TokenKind). Spelt u (kinds.Path ∷ ks) r) b.3
-      (record { tokens = ap (λ r. kinds.Path ∷ r) (inside_is ks i.0 i.1 i.2 ∙ ap (λ w. bracketed w ++ i.1) q.0 ∙ ap (λ r. bracketed b.0 ++ r) p.1); proper = q.1 })
+      (record {
+        tokens = ap (λ r. kinds.Path ∷ r) (inside_is ks i.0 i.1 i.2 ∙ ap (λ w. bracketed w ++ i.1) q.0
+            ∙ ap (λ r. bracketed b.0 ++ r) p.1);
+        proper = q.1;
+      })
   led_sound kinds.OpenSquare ks t rest h =
       let b = bound (items inner CloseSquare ks) (λ ts r. Some (TList (items_of ts), r)) t rest h in
       let l = items_sound CloseSquare ks b.0 b.1 b.2 in
       got (λ (u : Tree) (r : List TokenKind). Spelt u (kinds.OpenSquare ∷ ks) r) b.3
-      (record { tokens = ap (λ r. kinds.OpenSquare ∷ r) (l.tokens ∙ sym (append_assoc (items_tokens (items_of b.0)) (kinds.CloseSquare ∷ []) b.1)); proper = l.proper })
+      (record {
+        tokens = ap (λ r. kinds.OpenSquare ∷ r) (l.tokens
+            ∙ sym (append_assoc (items_tokens (items_of b.0)) (kinds.CloseSquare ∷ []) b.1));
+        proper = l.proper;
+      })
   led_sound kinds.OpenRound ks t rest h =
       let b = bound (items inner CloseRound ks) (λ ts r. kept (tuple ts) r) t rest h in
       let l = items_sound CloseRound ks b.0 b.1 b.2 in
@@ -144,7 +163,8 @@ module _ (inner : List TokenKind → Parsed Tree) (inside : (ks : List TokenKind
             let two : 2 ≤ length b.0 = leb-true 2 (length b.0) c.0 in
             subst (λ (u : Tree). Spelt u (kinds.OpenRound ∷ ks) rest) (some_same c.1)
             (record {
-              tokens = ap (λ r. kinds.OpenRound ∷ r) (l.tokens ∙ sym (append_assoc (items_tokens (items_of b.0)) (kinds.CloseRound ∷ []) b.1)) ∙ ap (λ r. value_tokens (TTuple (items_of b.0)) ++ r) p.1;
+              tokens = ap (λ r. kinds.OpenRound ∷ r) (l.tokens ∙ sym (append_assoc (items_tokens (items_of b.0)) (kinds.CloseRound ∷ []) b.1))
+                  ∙ ap (λ r. value_tokens (TTuple (items_of b.0)) ++ r) p.1;
               proper = (omega (arith, count_of_items b.0), l.proper);
             })
         | inr c ↦ missed c.1
@@ -160,7 +180,8 @@ module _ (inner : List TokenKind → Parsed Tree) (inside : (ks : List TokenKind
       let q = digits_back i.0 b.0 (decode_of i.0) refl p.0 in
       got (λ (u : Tree) (r : List TokenKind). Spelt u (kinds.Name w ∷ ks) r) b.3
       (record {
-        tokens = ap (λ x. kinds.Name x ∷ ks) v.0 ∙ ap (λ r. kinds.Name (codes "bytes") ∷ r) (inside_is ks i.0 i.1 i.2 ∙ ap (λ x. bracketed x ++ i.1) q.0 ∙ ap (λ r. bracketed (encode_lower b.0) ++ r) p.1);
+        tokens = ap (λ x. kinds.Name x ∷ ks) v.0 ∙ ap (λ r. kinds.Name (codes "bytes") ∷ r)
+            (inside_is ks i.0 i.1 i.2 ∙ ap (λ x. bracketed x ++ i.1) q.0 ∙ ap (λ r. bracketed (encode_lower b.0) ++ r) p.1);
         proper = q.1;
       })
   led_sound k ks t rest h = missed h

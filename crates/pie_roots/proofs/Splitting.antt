@@ -21,7 +21,8 @@ cut text (Some x) h =
     let at = split_once_first 10 text (Some x) h (omega arith) in
     slice_split_first is_newline text 0 at.0 ∙ ap (λ l. l ∷ texts (after_first is_newline text)) (sym at.1) ∙ ap (λ l. x.0.now ∷ texts l) (sym at.2)
 
-pub first_line : (text : List ℕ) (r : Option (Bor (List ℕ) × Bor (List ℕ))) (x : Bor (List ℕ) × Bor (List ℕ)) → IsSplitOnceResult 10 text r → r ≡ Some x → texts text ≡ x.0.now ∷ texts x.1.now
+pub first_line : (text : List ℕ) (r : Option (Bor (List ℕ) × Bor (List ℕ))) (x : Bor (List ℕ) × Bor (List ℕ)) → IsSplitOnceResult 10 text r → r ≡ Some x
+    → texts text ≡ x.0.now ∷ texts x.1.now
 first_line text r x h e = subst (Cut text) e (cut text r h)
 
 pub last_line : (text : List ℕ) (r : Option (Bor (List ℕ) × Bor (List ℕ))) → IsSplitOnceResult 10 text r → r ≡ None → texts text ≡ text ∷ []

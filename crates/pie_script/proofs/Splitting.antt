@@ -8,11 +8,13 @@ use Rattle.std.proofs.lemmas.List.Splits.{slice_split_first, slice_split_none}
 use Rattle.std.proofs.lemmas.Grind.{common_steps}
 use Rattle.pie_script.specs.Line.{is_newline, texts}
 
-pub first_text : (bytes : List ℕ) (i : ℕ) → position is_newline bytes ≡ Some i → texts bytes ≡ take i bytes ∷ texts (take (length bytes - (i + 1)) (drop (i + 1) bytes))
+pub first_text : (bytes : List ℕ) (i : ℕ) → position is_newline bytes ≡ Some i
+    → texts bytes ≡ take i bytes ∷ texts (take (length bytes - (i + 1)) (drop (i + 1) bytes))
 first_text bytes i found =
     let at = position-Some is_newline bytes i 0 found in
     let is : position_or_len is_newline bytes ≡ i = position_or_len_is is_newline bytes i 0 (omega (arith, at.0)) at.2 (λ l. at.1) in
-    let whole : take (length bytes - (i + 1)) (drop (i + 1) bytes) ≡ drop (i + 1) bytes = take_all (length bytes - (i + 1)) (drop (i + 1) bytes) (omega (arith, length-drop (i + 1) bytes)) in
+    let whole : take (length bytes - (i + 1)) (drop (i + 1) bytes) ≡ drop (i + 1) bytes = take_all (length bytes - (i + 1)) (drop (i + 1) bytes)
+    (omega (arith, length-drop (i + 1) bytes)) in
     slice_split_first is_newline bytes 0 (omega (arith, is, at.0))
     ∙ ap (λ n. take n bytes ∷ texts (drop (n + 1) bytes)) is
     ∙ ap (λ (l : List ℕ). take i bytes ∷ texts l) (sym whole)

@@ -21,7 +21,8 @@ closed_front (Wrong k ∷ ls) = closed_front ls
 abbrev all_of : List Plain → Option (List ℕ × List ℕ) → List ℕ × List Plain → List Plain
 all_of done under g = done ++ (put_with under g.0 ++ g.1)
 
-all_is : (ls : List Line) (done : List Plain) (under : Option (List ℕ × List ℕ)) → closed (taken_all ls (record { done = done; under = under })) ≡ all_of done under (gathered (placed (is_some under) ls))
+all_is : (ls : List Line) (done : List Plain) (under : Option (List ℕ × List ℕ))
+    → closed (taken_all ls (record { done = done; under = under })) ≡ all_of done under (gathered (placed (is_some under) ls))
 all_is [] done None = ap (λ (x : List Plain). done ++ x) (sym (append-nil []))
 all_is [] done (Some p) = ap (λ (x : List Plain). done ++ x) (sym (append-nil (put_with (Some p) [])))
 all_is (Blank ∷ ls) done None = all_is ls done None
@@ -41,31 +42,36 @@ all_is (Del q ∷ ls) done None =
     all_is ls ((done ++ []) ++ DelFile q ∷ []) None ∙ append_assoc (done ++ []) (DelFile q ∷ []) g.1 ∙ append_assoc done [] (DelFile q ∷ g.1)
 all_is (Del q ∷ ls) done (Some p) =
     let g = gathered (placed false ls) in
-    all_is ls ((done ++ put_with (Some p) []) ++ DelFile q ∷ []) None ∙ append_assoc (done ++ put_with (Some p) []) (DelFile q ∷ []) g.1 ∙ append_assoc done (put_with (Some p) []) (DelFile q ∷ g.1)
+    all_is ls ((done ++ put_with (Some p) []) ++ DelFile q ∷ []) None ∙ append_assoc (done ++ put_with (Some p) []) (DelFile q ∷ []) g.1
+    ∙ append_assoc done (put_with (Some p) []) (DelFile q ∷ g.1)
 all_is (Change q ∷ ls) done None =
     let g = gathered (placed false ls) in
     all_is ls ((done ++ []) ++ Name q ∷ []) None ∙ append_assoc (done ++ []) (Name q ∷ []) g.1 ∙ append_assoc done [] (Name q ∷ g.1)
 all_is (Change q ∷ ls) done (Some p) =
     let g = gathered (placed false ls) in
-    all_is ls ((done ++ put_with (Some p) []) ++ Name q ∷ []) None ∙ append_assoc (done ++ put_with (Some p) []) (Name q ∷ []) g.1 ∙ append_assoc done (put_with (Some p) []) (Name q ∷ g.1)
+    all_is ls ((done ++ put_with (Some p) []) ++ Name q ∷ []) None ∙ append_assoc (done ++ put_with (Some p) []) (Name q ∷ []) g.1
+    ∙ append_assoc done (put_with (Some p) []) (Name q ∷ g.1)
 all_is (Build ∷ ls) done None =
     let g = gathered (placed false ls) in
     all_is ls ((done ++ []) ++ BuildNow ∷ []) None ∙ append_assoc (done ++ []) (BuildNow ∷ []) g.1 ∙ append_assoc done [] (BuildNow ∷ g.1)
 all_is (Build ∷ ls) done (Some p) =
     let g = gathered (placed false ls) in
-    all_is ls ((done ++ put_with (Some p) []) ++ BuildNow ∷ []) None ∙ append_assoc (done ++ put_with (Some p) []) (BuildNow ∷ []) g.1 ∙ append_assoc done (put_with (Some p) []) (BuildNow ∷ g.1)
+    all_is ls ((done ++ put_with (Some p) []) ++ BuildNow ∷ []) None ∙ append_assoc (done ++ put_with (Some p) []) (BuildNow ∷ []) g.1
+    ∙ append_assoc done (put_with (Some p) []) (BuildNow ∷ g.1)
 all_is (Wrong k ∷ ls) done None =
     let g = gathered (placed false ls) in
     all_is ls (done ++ []) None ∙ append_assoc done [] g.1
 all_is (Wrong k ∷ ls) done (Some p) =
     let g = gathered (placed false ls) in
-    all_is ls (done ++ put_with (Some p) []) None ∙ append_assoc done (put_with (Some p) []) g.1 ∙ ap (λ (c : List ℕ). done ++ (put_with (Some p) c ++ g.1)) (sym (closed_front ls))
+    all_is ls (done ++ put_with (Some p) []) None ∙ append_assoc done (put_with (Some p) []) g.1
+    ∙ ap (λ (c : List ℕ). done ++ (put_with (Some p) c ++ g.1)) (sym (closed_front ls))
 
 pub steps_are : (lines : List Line) → closed (taken_all lines nothing) ≡ steps (placed false lines)
 steps_are lines = all_is lines [] None
 
 -- a wrong line at its place is the first wrong one
-pub wrong_here : (n : ℕ) (after_put : Bool) (l : Line) (ls : List Line) (e : InputFault) → first_wrong n (placed_one after_put l ∷ []) ≡ Some e → first_wrong n (placed after_put (l ∷ ls)) ≡ Some e
+pub wrong_here : (n : ℕ) (after_put : Bool) (l : Line) (ls : List Line) (e : InputFault) → first_wrong n (placed_one after_put l ∷ []) ≡ Some e
+    → first_wrong n (placed after_put (l ∷ ls)) ≡ Some e
 wrong_here n true Blank ls e h = cc
 wrong_here n false Blank ls e h = cc
 wrong_here n true (Content b) ls e h = cc
@@ -82,7 +88,9 @@ wrong_here n true (Wrong k) ls e h = h
 wrong_here n false (Wrong k) ls e h = h
 
 -- after a good line the first wrong one is sought among the rest
-fine_at : (n : ℕ) (l : Line) (ls : List Line) (done : List Plain) (under : Option (List ℕ × List ℕ)) → first_wrong n (placed_one (is_some under) l ∷ []) ≡ None → first_wrong n (placed (is_some under) (l ∷ ls)) ≡ first_wrong (n + 1) (placed (is_some (taken l (record { done = done; under = under })).under) ls)
+fine_at : (n : ℕ) (l : Line) (ls : List Line) (done : List Plain) (under : Option (List ℕ × List ℕ))
+    → first_wrong n (placed_one (is_some under) l ∷ []) ≡ None
+    → first_wrong n (placed (is_some under) (l ∷ ls)) ≡ first_wrong (n + 1) (placed (is_some (taken l (record { done = done; under = under })).under) ls)
 fine_at n Blank ls done None h = refl
 fine_at n Blank ls done (Some p) h = refl
 fine_at n (Content b) ls done None h = cc
@@ -98,7 +106,8 @@ fine_at n Build ls done (Some p) h = refl
 fine_at n (Wrong k) ls done None h = cc
 fine_at n (Wrong k) ls done (Some p) h = cc
 
-pub fine_here : (n : ℕ) (l : Line) (ls : List Line) (s : Taken) → first_wrong n (placed_one (is_some s.under) l ∷ []) ≡ None → first_wrong n (placed (is_some s.under) (l ∷ ls)) ≡ first_wrong (n + 1) (placed (is_some (taken l s).under) ls)
+pub fine_here : (n : ℕ) (l : Line) (ls : List Line) (s : Taken) → first_wrong n (placed_one (is_some s.under) l ∷ []) ≡ None
+    → first_wrong n (placed (is_some s.under) (l ∷ ls)) ≡ first_wrong (n + 1) (placed (is_some (taken l s).under) ls)
 fine_here n l ls s h = fine_at n l ls s.done s.under h
 
 pub wrong_change : (n : ℕ) (l : Line) (ls : List Line) (e : InputFault) → first_wrong n (l ∷ []) ≡ Some e → first_wrong n (l ∷ ls) ≡ Some e

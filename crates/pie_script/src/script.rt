@@ -107,7 +107,8 @@ impl Script {
 
     // The put that goes on gets more content.
     fn add(&mut self, text: &[u8], newline: bool, line: u32) -> Result<(), InputFault>
-        ensures { ReadsOne result (placed_one (is_some self.old.under) (content_of text.now newline)) line (self.new ≡ taken (content_of text.now newline) self.old) }
+        ensures { ReadsOne result (placed_one (is_some self.old.under) (content_of text.now newline)) line
+            (self.new ≡ taken (content_of text.now newline) self.old) }
     {
         if self.path.is_none() {
             return Err(InputFault::BadWord(line));

@@ -117,10 +117,14 @@ other_sound hs NoStep env p s v h = let f : ⊥ = cc in absurd f
 other_sound hs (AStep operators.Or e ss) env p s v h = either_sound hs (AStep operators.Or e ss) env s v h
 other_sound hs (AStep operators.And e ss) env p s v h = both_sound hs (AStep operators.And e ss) env s v h
 other_sound hs (AStep operators.Plus e ss) env p s v h = infixes_sound hs IntTy (AStep operators.Plus e ss) env (int_infixes (AStep operators.Plus e ss)) s v h
-other_sound hs (AStep operators.Minus e ss) env p s v h = infixes_sound hs IntTy (AStep operators.Minus e ss) env (int_infixes (AStep operators.Minus e ss)) s v h
-other_sound hs (AStep operators.Times e ss) env p s v h = infixes_sound hs IntTy (AStep operators.Times e ss) env (int_infixes (AStep operators.Times e ss)) s v h
-other_sound hs (AStep operators.Divide e ss) env p s v h = infixes_sound hs IntTy (AStep operators.Divide e ss) env (int_infixes (AStep operators.Divide e ss)) s v h
-other_sound hs (AStep operators.Remainder e ss) env p s v h = infixes_sound hs IntTy (AStep operators.Remainder e ss) env (int_infixes (AStep operators.Remainder e ss)) s v h
+other_sound hs (AStep operators.Minus e ss) env p s v h = infixes_sound hs IntTy (AStep operators.Minus e ss) env
+    (int_infixes (AStep operators.Minus e ss)) s v h
+other_sound hs (AStep operators.Times e ss) env p s v h = infixes_sound hs IntTy (AStep operators.Times e ss) env
+    (int_infixes (AStep operators.Times e ss)) s v h
+other_sound hs (AStep operators.Divide e ss) env p s v h = infixes_sound hs IntTy (AStep operators.Divide e ss) env
+    (int_infixes (AStep operators.Divide e ss)) s v h
+other_sound hs (AStep operators.Remainder e ss) env p s v h = infixes_sound hs IntTy (AStep operators.Remainder e ss) env
+    (int_infixes (AStep operators.Remainder e ss)) s v h
 
 -- a chain behind its first operand
 pub chain_sound : (hs : List Heading) (ss : Steps) (t : TyTree) (env : Env) → OperandsHave ss t → SoundSteps hs t ss env

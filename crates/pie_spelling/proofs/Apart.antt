@@ -1,5 +1,6 @@
 -- A spelling with a space or the end behind it is read as that token alone.
-use Rattle.std.proofs.Common.{◌≡◌, inl, inr, ℕ, ◌+◌, ◌-◌, Bool, true, false, ◌==◌, ◌&&◌, not, List, [], ◌∷◌, ◌++◌, length, take, drop, Some, Ok, Err, Result, refl, sym, subst, ap, ◌∙◌, arith, append_assoc}
+use Rattle.std.proofs.Common.{◌≡◌, inl, inr, ℕ, ◌+◌, ◌-◌, Bool, true, false, ◌==◌, ◌&&◌, not, List, [], ◌∷◌, ◌++◌, length, take, drop, Some, Ok, Err, Result}
+use Rattle.std.proofs.Common.{refl, sym, subst, ap, ◌∙◌, arith, append_assoc}
 use Rattle.std.specs.List.{list_all}
 use Rattle.std.proofs.lemmas.List.{append-nil, drop-drop}
 use Rattle.std.proofs.Math.Seq.{take-append_seam, drop-append_seam}
@@ -23,7 +24,8 @@ Parts [] = Unit {0}
 Parts (b ∷ _) = b ≡ 32
 
 -- a part that meets a test is the same in two texts, where no byte behind it meets the test
-same_part : (p : ℕ → Bool) → p 32 ≡ false → (v w r q : List ℕ) → list_all p v ≡ true → list_all p w ≡ true → Parts r → Parts q → v ++ r ≡ w ++ q → (v ≡ w) × (r ≡ q)
+same_part : (p : ℕ → Bool) → p 32 ≡ false → (v w r q : List ℕ) → list_all p v ≡ true → list_all p w ≡ true → Parts r → Parts q → v ++ r ≡ w ++ q → (v ≡ w)
+    × (r ≡ q)
 same_part p n [] [] r q h k x y e = (refl, e)
 same_part p n [] (b ∷ w) [] q h k x y e = cc
 same_part p n [] (b ∷ w) (c ∷ r) q h k x y e =
@@ -139,19 +141,22 @@ not_nothing text t ts x s e =
     let n = nonempty (spelling text t) x s in
     let k : n.0 ∷ (n.1 ++ behind text ts) ≡ [] = ap (λ a. a ++ behind text ts) (sym n.2) ∙ sym (joined_is text t ts) ∙ e in cc
 
-rest_same : (text other : List ℕ) (us vs : List Token) → behind text us ≡ behind other vs → (joined text us ≡ joined other vs → kinds_of us ≡ kinds_of vs) → kinds_of us ≡ kinds_of vs
+rest_same : (text other : List ℕ) (us vs : List Token) → behind text us ≡ behind other vs → (joined text us ≡ joined other vs → kinds_of us ≡ kinds_of vs)
+    → kinds_of us ≡ kinds_of vs
 rest_same text other [] [] e again = refl
 rest_same text other [] (v ∷ vs) e again = cc
 rest_same text other (u ∷ us) [] e again = cc
 rest_same text other (u ∷ us) (v ∷ vs) e again = again (let f : joined text (u ∷ us) ≡ joined other (v ∷ vs) = cc in f)
 
 -- tokens whose joined spellings are equal have equal kinds
-pub kinds_same : (text other : List ℕ) (us vs : List Token) → AllSpelled text us → AllSpelled other vs → joined text us ≡ joined other vs → kinds_of us ≡ kinds_of vs
+pub kinds_same : (text other : List ℕ) (us vs : List Token) → AllSpelled text us → AllSpelled other vs → joined text us ≡ joined other vs
+    → kinds_of us ≡ kinds_of vs
 kinds_same text other [] [] a b e = refl
 kinds_same text other [] (v ∷ vs) a b e = absurd (not_nothing other v vs b.0.0 b.0.1 (sym e))
 kinds_same text other (u ∷ us) [] a b e = absurd (not_nothing text u us a.0.0 a.0.1 e)
 kinds_same text other (u ∷ us) (v ∷ vs) a b e =
-    let z = same_spelling (spelling text u) (spelling other v) (behind text us) (behind other vs) a.0.0 b.0.0 a.0.1 b.0.1 (behind_parts text us) (behind_parts other vs)
+    let z = same_spelling (spelling text u) (spelling other v) (behind text us) (behind other vs) a.0.0 b.0.0 a.0.1 b.0.1 (behind_parts text us)
+    (behind_parts other vs)
     (sym (joined_is text u us) ∙ e ∙ joined_is other v vs) in
     let k : u.kind ≡ v.kind = means_same b.0.0 u.kind v.kind (subst (λ x. Means x u.kind) z.1 a.0.2) b.0.2 in
     let l = rest_same text other us vs z.0 (λ f. kinds_same text other us vs a.1 b.1 f) in
@@ -162,7 +167,8 @@ abbrev AnswerSpelled : List ℕ → Result (List Token) LexError → Type 0
 AnswerSpelled text (Ok ts) = AllSpelled text ts
 AnswerSpelled text (Err e) = Unit {0}
 
-one_before : (text : List ℕ) (t : Token) (r : Result (List Token) LexError) → ((x : Lexeme) × Spells (spelling text t) x × Means x t.kind) → AnswerSpelled text r → AnswerSpelled text (before t r)
+one_before : (text : List ℕ) (t : Token) (r : Result (List Token) LexError) → ((x : Lexeme) × Spells (spelling text t) x × Means x t.kind)
+    → AnswerSpelled text r → AnswerSpelled text (before t r)
 one_before text t (Ok ts) h a = (h, a)
 one_before text t (Err e) h a = tt
 
@@ -193,4 +199,5 @@ spelled_before text (u ∷ us) vs a = (a.0, spelled_before text us vs a.1)
 
 -- a stretch of the tokens of a text is spelled
 pub stretch_spelled : (text : List ℕ) (front us rest : List Token) → Lexes 0 text (Ok (front ++ (us ++ rest))) → AllSpelled text us
-stretch_spelled text front us rest l = spelled_before text us rest (spelled_behind text front (us ++ rest) (answer_spelled text 0 text (Ok (front ++ (us ++ rest))) l refl))
+stretch_spelled text front us rest l = spelled_before text us rest
+    (spelled_behind text front (us ++ rest) (answer_spelled text 0 text (Ok (front ++ (us ++ rest))) l refl))

@@ -15,7 +15,8 @@ use Rattle.pie_parser.specs.Plain.{TEach, TIf, TCall, TEffect, TWrite, TFail, Tr
 use Rattle.pie_parser.specs.Plain.{LineTrees, NoLine, ValLine, ExprLine, LastTree, NoLast, ALast, ElseTree, NoElse, AnElse}
 use Rattle.pie_meaning.specs.Words.{Env, branch, by_logic, logic_of, infix_of}
 use Rattle.pie_meaning.specs.Words.{comparison_of, prefix_of, projected, item_numbered, over, called, effect_of}
-use Rattle.pie_meaning.specs.Meaning.{turns, value_of, either_value, both_value, steps_value, items_onto, values_of, block_value, lines_value, last_value, else_value, bound, next_of}
+use Rattle.pie_meaning.specs.Meaning.{turns, value_of, either_value, both_value, steps_value, items_onto, values_of, block_value, lines_value, last_value}
+use Rattle.pie_meaning.specs.Meaning.{else_value, bound, next_of}
 use Rattle.pie_spelling.specs.Spans.{bare_indices, bare, bare_trees, bare_steps, bare_block, bare_lines, bare_last, bare_else, bare_params, bare_function}
 
 logic_same : (ss : Steps) → logic_of (bare_steps ss) ≡ logic_of ss
@@ -98,5 +99,6 @@ next_same f args answers =
     ∙ ap (λ act. act (at_start answers)) (block_same f.body (bound f.params args []))
 
 -- functions that are equal up to spans mean the same
-pub equal_up_to_spans : (f g : FunctionTree) → bare_function f ≡ bare_function g → (args : List Val) (answers : List Answer) → next_of f args answers ≡ next_of g args answers
+pub equal_up_to_spans : (f g : FunctionTree) → bare_function f ≡ bare_function g → (args : List Val) (answers : List Answer)
+    → next_of f args answers ≡ next_of g args answers
 equal_up_to_spans f g e args answers = sym (next_same f args answers) ∙ ap (λ h. next_of h args answers) e ∙ next_same g args answers

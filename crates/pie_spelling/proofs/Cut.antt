@@ -9,19 +9,23 @@ use Rattle.pie_parser.specs.declared.tree.Line.TheVariants as line_kinds
 use Rattle.pie_parser.specs.declared.tree.CallKind.TheVariants as calls
 use Rattle.pie_parser.specs.declared.tree.Param.{Param}
 use Rattle.pie_parser.specs.Tests.{operator_at, comparison_at, prefix_at, effect_at}
-use Rattle.pie_parser.specs.Plain.{Tree, TLiteral, TNull, TEmpty, TCompare, TPrefix, TTuple, TList, TEach, TIf, TCall, TEffect, TWrite, TFail, Cons, BlockTree, TBlock, NoElse, AnElse}
+use Rattle.pie_parser.specs.Plain.{Tree, TLiteral, TNull, TEmpty, TCompare, TPrefix, TTuple, TList, TEach, TIf, TCall, TEffect, TWrite, TFail, Cons, BlockTree}
+use Rattle.pie_parser.specs.Plain.{TBlock, NoElse, AnElse}
 use Rattle.pie_parser.specs.FunctionTrees.{FunctionTree}
 use Rattle.pie_parser.specs.At.{At}
 use Rattle.pie_parser.specs.Places.{start, passed}
 use Rattle.pie_parser.specs.TypeGrammar.{Eats}
 use Rattle.pie_parser.specs.Grammar as grammar
-use Rattle.pie_parser.specs.Grammar.{IsIndex, Indices, ByOfRequire, ByOfRead, IsExpr, IsChain, IsOperand, Steps, IsComparison, IsPrefixed, IsProjected, IsPrimary, Arguments, More, IsBlock, Lines}
+use Rattle.pie_parser.specs.Grammar.{IsIndex, Indices, ByOfRequire, ByOfRead, IsExpr, IsChain, IsOperand, Steps, IsComparison, IsPrefixed, IsProjected}
+use Rattle.pie_parser.specs.Grammar.{IsPrimary, Arguments, More, IsBlock, Lines}
 use Rattle.pie_parser.specs.FunctionGrammar as functions
 use Rattle.pie_parser.specs.FunctionGrammar.{IsParam, MoreParams, IsParams, IsFunction}
 use Rattle.pie_parser.proofs.Hits.{eats_less}
-use Rattle.pie_parser.proofs.Shorter.{operator_less, name_less, literal_less, effect_less, type_less, indices_count, expr_less, steps_count, arguments_less, more_count, block_less, lines_count}
+use Rattle.pie_parser.proofs.Shorter.{operator_less, name_less, literal_less, effect_less, type_less, indices_count, expr_less, steps_count, arguments_less}
+use Rattle.pie_parser.proofs.Shorter.{more_count, block_less, lines_count}
 use Rattle.pie_spelling.specs.Spans.{bare_name, bare_type, bare, bare_block, bare_param, bare_params, bare_function}
-use Rattle.pie_spelling.proofs.Lengths.{passes, plain_less, sum_less, projected_less, operand_less, by_require_short, by_read_short, param_less, params_count, params_less}
+use Rattle.pie_spelling.proofs.Lengths.{passes, plain_less, sum_less, projected_less, operand_less, by_require_short, by_read_short, param_less, params_count}
+use Rattle.pie_spelling.proofs.Lengths.{params_less}
 use Rattle.pie_spelling.proofs.Bare.{tree_list, trees_bare, step_list, line_list, lines_bare, bare_option, last_bare, chain_bare, projection_bare}
 use Rattle.pie_spelling.proofs.Places.{cut, start_cut, next_cut, passed_cut, by_less, in_eats, eats_cut, name_cut, literal_cut}
 use Rattle.pie_spelling.proofs.PartsCut.{type_cut, plain_cut, indices_cut, by_require_cut, by_read_cut}
@@ -50,7 +54,8 @@ module _ (n : ℕ) where
     steps_cut {v = v} {r = r} {s = s} {m = m} (grammar.a_step {a = a} {o = o} {t = t} h x k) l =
         let la : n ≤ length a.rest = omega (arith, steps_count k) in
         let ls : n < length s.rest = omega (arith, operand_less x, operator_less v s o h) in
-        grammar.a_step (ap (operator_at v) (next_cut n s ls) ∙ h) (subst (λ z. IsOperand v r z (cut n a) (bare t)) (sym (passed_cut n s ls)) (operand_cut x la)) (steps_cut k l)
+        grammar.a_step (ap (operator_at v) (next_cut n s ls) ∙ h)
+        (subst (λ z. IsOperand v r z (cut n a) (bare t)) (sym (passed_cut n s ls)) (operand_cut x la)) (steps_cut k l)
 
     comparison_cut : {r : Bool} {s m : At} {t : Tree} → IsComparison r s m t → n ≤ length m.rest → IsComparison r (cut n s) (cut n m) (bare t)
     comparison_cut (grammar.alone x) l = grammar.alone (chain_cut x l)
@@ -58,7 +63,8 @@ module _ (n : ℕ) where
         let la : n < length a.rest = omega (arith, sum_less y, passes a) in
         let lb : n ≤ length a.rest = omega arith in
         subst (IsComparison r (cut n s) (cut n m)) (λ i. TCompare (start_cut n s i) 0 c (bare t) (bare u))
-        (grammar.compared (chain_cut x lb) (ap comparison_at (next_cut n a la) ∙ h) (subst (λ z. IsChain levels.Sum r z (cut n m) (bare u)) (sym (passed_cut n a la)) (chain_cut y l)))
+        (grammar.compared (chain_cut x lb) (ap comparison_at (next_cut n a la) ∙ h)
+        (subst (λ z. IsChain levels.Sum r z (cut n m) (bare u)) (sym (passed_cut n a la)) (chain_cut y l)))
 
     prefixed_cut : {r : Bool} {s m : At} {t : Tree} → IsPrefixed r s m t → n ≤ length m.rest → IsPrefixed r (cut n s) (cut n m) (bare t)
     prefixed_cut (grammar.plain x) l = grammar.plain (projected_cut x l)
@@ -97,13 +103,15 @@ module _ (n : ℕ) where
         let lo : n < length b.rest = omega (arith, more_count x3, eats_less kinds.CloseRound c m x4 (λ e. cc) (λ e. cc)) in
         let la = by_less n a b (expr_less x1) lb in
         as_tree (λ i. TTuple (start_cut n s i) 0 (Cons (bare t) (trees_bare ts i)))
-        (grammar.tuple (eats_cut n kinds.OpenRound (λ e. cc) (λ e. cc) s a x0 la) (expr_cut x1 lb) (next_cut n b lo ∙ x2) (more_cut x3 lc) (eats_cut n kinds.CloseRound (λ e. cc) (λ e. cc) c m x4 l))
+        (grammar.tuple (eats_cut n kinds.OpenRound (λ e. cc) (λ e. cc) s a x0 la) (expr_cut x1 lb) (next_cut n b lo ∙ x2) (more_cut x3 lc)
+        (eats_cut n kinds.CloseRound (λ e. cc) (λ e. cc) c m x4 l))
     primary_cut {s = s} {m = m} (grammar.list {a = a} {b = b} {c = c} {t = t} {ts = ts} x0 x1 x2 x3) l =
         let lc = in_eats n kinds.CloseSquare (λ e. cc) (λ e. cc) c m x3 l in
         let lb : n ≤ length b.rest = omega (arith, more_count x2) in
         let la = by_less n a b (expr_less x1) lb in
         as_tree (λ i. TList (start_cut n s i) 0 (Cons (bare t) (trees_bare ts i)))
-        (grammar.list (eats_cut n kinds.OpenSquare (λ e. cc) (λ e. cc) s a x0 la) (expr_cut x1 lb) (more_cut x2 lc) (eats_cut n kinds.CloseSquare (λ e. cc) (λ e. cc) c m x3 l))
+        (grammar.list (eats_cut n kinds.OpenSquare (λ e. cc) (λ e. cc) s a x0 la) (expr_cut x1 lb) (more_cut x2 lc)
+        (eats_cut n kinds.CloseSquare (λ e. cc) (λ e. cc) c m x3 l))
     primary_cut {s = s} {m = m} (grammar.each {a = a} {b = b} {c = c} {d = d} {e = e} {f = f} {t = t} {u = u} {n = x} x0 x1 x2 x3 x4 x5 x6) l =
         let lf = in_eats n kinds.CloseSquare (λ e. cc) (λ e. cc) f m x6 l in
         let le = by_less n e f (expr_less x5) lf in
@@ -112,25 +120,31 @@ module _ (n : ℕ) where
         let lb = in_eats n kinds.For (λ e. cc) (λ e. cc) b c x2 lc in
         let la = by_less n a b (expr_less x1) lb in
         as_tree (λ i. TEach (start_cut n s i) 0 (bare t) (bare_name x) (bare u))
-        (grammar.each (eats_cut n kinds.OpenSquare (λ e. cc) (λ e. cc) s a x0 la) (expr_cut x1 lb) (eats_cut n kinds.For (λ e. cc) (λ e. cc) b c x2 lc) (name_cut n c d x x3 ld) (eats_cut n kinds.In (λ e. cc) (λ e. cc) d e x4 le) (expr_cut x5 lf) (eats_cut n kinds.CloseSquare (λ e. cc) (λ e. cc) f m x6 l))
+        (grammar.each (eats_cut n kinds.OpenSquare (λ e. cc) (λ e. cc) s a x0 la) (expr_cut x1 lb) (eats_cut n kinds.For (λ e. cc) (λ e. cc) b c x2 lc)
+        (name_cut n c d x x3 ld) (eats_cut n kinds.In (λ e. cc) (λ e. cc) d e x4 le) (expr_cut x5 lf)
+        (eats_cut n kinds.CloseSquare (λ e. cc) (λ e. cc) f m x6 l))
     primary_cut {s = s} {m = m} (grammar.if_alone {a = a} {b = b} {t = t} {x = y} x0 x1 x2) l =
         let lb = by_less n b m (block_less x2) l in
         let la = by_less n a b (expr_less x1) lb in
-        as_tree (λ i. TIf (start_cut n s i) 0 (bare t) (bare_block y) NoElse) (grammar.if_alone (eats_cut n kinds.If (λ e. cc) (λ e. cc) s a x0 la) (expr_cut x1 lb) (block_cut x2 l))
+        as_tree (λ i. TIf (start_cut n s i) 0 (bare t) (bare_block y) NoElse)
+        (grammar.if_alone (eats_cut n kinds.If (λ e. cc) (λ e. cc) s a x0 la) (expr_cut x1 lb) (block_cut x2 l))
     primary_cut {s = s} {m = m} (grammar.if_else {a = a} {b = b} {c = c} {d = d} {t = t} {x = y} {y = z} x0 x1 x2 x3 x4) l =
         let ld = by_less n d m (block_less x4) l in
         let lc = in_eats n kinds.Else (λ e. cc) (λ e. cc) c d x3 ld in
         let lb = by_less n b c (block_less x2) lc in
         let la = by_less n a b (expr_less x1) lb in
         as_tree (λ i. TIf (start_cut n s i) 0 (bare t) (bare_block y) (AnElse (bare_block z)))
-        (grammar.if_else (eats_cut n kinds.If (λ e. cc) (λ e. cc) s a x0 la) (expr_cut x1 lb) (block_cut x2 lc) (eats_cut n kinds.Else (λ e. cc) (λ e. cc) c d x3 ld) (block_cut x4 l))
+        (grammar.if_else (eats_cut n kinds.If (λ e. cc) (λ e. cc) s a x0 la) (expr_cut x1 lb) (block_cut x2 lc)
+        (eats_cut n kinds.Else (λ e. cc) (λ e. cc) c d x3 ld) (block_cut x4 l))
     primary_cut {s = s} {m = m} (grammar.effect {a = a} {b = b} {k = k} {t = t} h x1 x2 x3) l =
         let lb = in_eats n kinds.CloseRound (λ e. cc) (λ e. cc) b m x3 l in
         let la = by_less n a b (expr_less x2) lb in
         let lp = in_eats n kinds.OpenRound (λ e. cc) (λ e. cc) (passed s) a x1 la in
         let ls : n < length s.rest = omega (arith, effect_less s k h) in
         as_tree (λ i. TEffect (start_cut n s i) 0 k (bare t))
-        (grammar.effect (ap effect_at (next_cut n s ls) ∙ h) (subst (λ z. Eats kinds.OpenRound z (cut n a)) (sym (passed_cut n s ls)) (eats_cut n kinds.OpenRound (λ e. cc) (λ e. cc) (passed s) a x1 la)) (expr_cut x2 lb)
+        (grammar.effect (ap effect_at (next_cut n s ls) ∙ h)
+        (subst (λ z. Eats kinds.OpenRound z (cut n a)) (sym (passed_cut n s ls)) (eats_cut n kinds.OpenRound (λ e. cc) (λ e. cc) (passed s) a x1 la))
+        (expr_cut x2 lb)
         (eats_cut n kinds.CloseRound (λ e. cc) (λ e. cc) b m x3 l))
     primary_cut {s = s} {m = m} (grammar.read {a = a} {b = b} {c = c} {d = d} {k = k} {t = t} x0 x1 x2 x3 x4) l =
         let ld = in_eats n kinds.CloseRound (λ e. cc) (λ e. cc) d m x4 l in
@@ -138,7 +152,8 @@ module _ (n : ℕ) where
         let lb = by_less n b c (expr_less x2) lc in
         let la = in_eats n kinds.OpenRound (λ e. cc) (λ e. cc) a b x1 lb in
         as_tree (λ i. TEffect (start_cut n s i) 0 k (bare t))
-        (grammar.read (eats_cut n kinds.Read (λ e. cc) (λ e. cc) s a x0 la) (eats_cut n kinds.OpenRound (λ e. cc) (λ e. cc) a b x1 lb) (expr_cut x2 lc) (by_read_cut n x3 ld) (eats_cut n kinds.CloseRound (λ e. cc) (λ e. cc) d m x4 l))
+        (grammar.read (eats_cut n kinds.Read (λ e. cc) (λ e. cc) s a x0 la) (eats_cut n kinds.OpenRound (λ e. cc) (λ e. cc) a b x1 lb) (expr_cut x2 lc)
+        (by_read_cut n x3 ld) (eats_cut n kinds.CloseRound (λ e. cc) (λ e. cc) d m x4 l))
     primary_cut {s = s} {m = m} (grammar.write {a = a} {b = b} {c = c} {d = d} {e = e} {t = t} {u = u} x0 x1 x2 x3 x4 x5) l =
         let le = in_eats n kinds.CloseRound (λ e. cc) (λ e. cc) e m x5 l in
         let ld = by_less n d e (expr_less x4) le in
@@ -146,14 +161,16 @@ module _ (n : ℕ) where
         let lb = by_less n b c (expr_less x2) lc in
         let la = in_eats n kinds.OpenRound (λ e. cc) (λ e. cc) a b x1 lb in
         as_tree (λ i. TWrite (start_cut n s i) 0 (bare t) (bare u))
-        (grammar.write (eats_cut n kinds.Write (λ e. cc) (λ e. cc) s a x0 la) (eats_cut n kinds.OpenRound (λ e. cc) (λ e. cc) a b x1 lb) (expr_cut x2 lc) (eats_cut n kinds.Comma (λ e. cc) (λ e. cc) c d x3 ld) (expr_cut x4 le) (eats_cut n kinds.CloseRound (λ e. cc) (λ e. cc) e m x5 l))
+        (grammar.write (eats_cut n kinds.Write (λ e. cc) (λ e. cc) s a x0 la) (eats_cut n kinds.OpenRound (λ e. cc) (λ e. cc) a b x1 lb) (expr_cut x2 lc)
+        (eats_cut n kinds.Comma (λ e. cc) (λ e. cc) c d x3 ld) (expr_cut x4 le) (eats_cut n kinds.CloseRound (λ e. cc) (λ e. cc) e m x5 l))
     primary_cut {s = s} {m = m} (grammar.fail {a = a} {b = b} {c = c} {d = d} {t = t} {u = u} x0 x1 x2 x3 x4) l =
         let ld = in_eats n kinds.CloseRound (λ e. cc) (λ e. cc) d m x4 l in
         let lc = by_less n c d (expr_less x3) ld in
         let lb = in_eats n kinds.OpenRound (λ e. cc) (λ e. cc) b c x2 lc in
         let la = by_less n a b (type_less x1) lb in
         as_tree (λ i. TFail (start_cut n s i) 0 (bare_type t) (bare u))
-        (grammar.fail (eats_cut n kinds.Fail (λ e. cc) (λ e. cc) s a x0 la) (type_cut n x1 lb) (eats_cut n kinds.OpenRound (λ e. cc) (λ e. cc) b c x2 lc) (expr_cut x3 ld) (eats_cut n kinds.CloseRound (λ e. cc) (λ e. cc) d m x4 l))
+        (grammar.fail (eats_cut n kinds.Fail (λ e. cc) (λ e. cc) s a x0 la) (type_cut n x1 lb) (eats_cut n kinds.OpenRound (λ e. cc) (λ e. cc) b c x2 lc)
+        (expr_cut x3 ld) (eats_cut n kinds.CloseRound (λ e. cc) (λ e. cc) d m x4 l))
     primary_cut {s = s} {m = m} (grammar.require {a = a} {b = b} {c = c} {n = x} {ts = ts} {k = k} x0 x1 x2 x3) l =
         let lc : n ≤ length c.rest = omega (arith, by_require_short x3) in
         let lb = by_less n b c (arguments_less x2) lc in
@@ -174,7 +191,8 @@ module _ (n : ℕ) where
         let lc = in_eats n kinds.CloseRound (λ e. cc) (λ e. cc) c m p l in
         let lb : n ≤ length b.rest = omega (arith, more_count k) in
         let la = by_less n a b (expr_less x) lb in
-        grammar.some (eats_cut n kinds.OpenRound (λ e. cc) (λ e. cc) s a q la) (expr_cut x lb) (more_cut k lc) (eats_cut n kinds.CloseRound (λ e. cc) (λ e. cc) c m p l)
+        grammar.some (eats_cut n kinds.OpenRound (λ e. cc) (λ e. cc) s a q la) (expr_cut x lb) (more_cut k lc)
+        (eats_cut n kinds.CloseRound (λ e. cc) (λ e. cc) c m p l)
 
     more_cut : {s m : At} {ts : List Tree} → More s m ts → n ≤ length m.rest → More (cut n s) (cut n m) (tree_list ts)
     more_cut grammar.no_more l = grammar.no_more
@@ -204,7 +222,8 @@ module _ (n : ℕ) where
         let lb = in_eats n kinds.Assign (λ e. cc) (λ e. cc) b c p lc in
         let la = by_less n a b (name_less a b x i) lb in
         subst (λ j. Lines (cut n s) (cut n m) (line_kinds.Val j 0 (bare_name x) (bare t) ∷ line_list ls) (bare_option u)) (start_cut n s)
-        (grammar.a_val (eats_cut n kinds.Val (λ e. cc) (λ e. cc) s a q la) (name_cut n a b x i lb) (eats_cut n kinds.Assign (λ e. cc) (λ e. cc) b c p lc) (expr_cut y ld) (eats_cut n kinds.Semicolon (λ e. cc) (λ e. cc) d e z le) (lines_cut k l))
+        (grammar.a_val (eats_cut n kinds.Val (λ e. cc) (λ e. cc) s a q la) (name_cut n a b x i lb) (eats_cut n kinds.Assign (λ e. cc) (λ e. cc) b c p lc)
+        (expr_cut y ld) (eats_cut n kinds.Semicolon (λ e. cc) (λ e. cc) d e z le) (lines_cut k l))
 
   param_cut : {s m : At} {p : Param} → IsParam s m p → n ≤ length m.rest → IsParam (cut n s) (cut n m) (bare_param p)
   param_cut {s = s} {m = m} (functions.param {a = a} {b = b} {n = x} i q t) l =
@@ -227,7 +246,8 @@ module _ (n : ℕ) where
       let lc = in_eats n kinds.CloseRound (λ e. cc) (λ e. cc) c m p l in
       let lb : n ≤ length b.rest = omega (arith, params_count k) in
       let la = by_less n a b (param_less x) lb in
-      functions.some (eats_cut n kinds.OpenRound (λ e. cc) (λ e. cc) s a q la) (param_cut x lb) (more_params_cut k lc) (eats_cut n kinds.CloseRound (λ e. cc) (λ e. cc) c m p l)
+      functions.some (eats_cut n kinds.OpenRound (λ e. cc) (λ e. cc) s a q la) (param_cut x lb) (more_params_cut k lc)
+      (eats_cut n kinds.CloseRound (λ e. cc) (λ e. cc) c m p l)
 
   -- a function stands there without its spans, and without the tokens behind
   pub function_cut : {s m : At} {f : FunctionTree} → IsFunction s m f → n ≤ length m.rest → IsFunction (cut n s) (cut n m) (bare_function f)
@@ -237,5 +257,8 @@ module _ (n : ℕ) where
       let lc = in_eats n kinds.Arrow (λ e. cc) (λ e. cc) c d p ld in
       let lb = by_less n b c (params_less k) lc in
       let la = by_less n a b (name_less a b x i) lb in
-      subst (λ j. IsFunction (cut n s) (cut n m) (record { at = j; end = 0; name = bare_name x; params = bare_params ps; result = bare_type t; body = bare_block y })) (start_cut n s)
-      (functions.function (eats_cut n kinds.Func (λ e. cc) (λ e. cc) s a q la) (name_cut n a b x i lb) (params_cut k lc) (eats_cut n kinds.Arrow (λ e. cc) (λ e. cc) c d p ld) (type_cut n z le) (block_cut w l))
+      subst (λ j.
+      IsFunction (cut n s) (cut n m) (record { at = j; end = 0; name = bare_name x; params = bare_params ps; result = bare_type t; body = bare_block y }))
+      (start_cut n s)
+      (functions.function (eats_cut n kinds.Func (λ e. cc) (λ e. cc) s a q la) (name_cut n a b x i lb) (params_cut k lc)
+      (eats_cut n kinds.Arrow (λ e. cc) (λ e. cc) c d p ld) (type_cut n z le) (block_cut w l))

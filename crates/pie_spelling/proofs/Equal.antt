@@ -28,7 +28,8 @@ alone us f x =
 
 pub kinds_decide : KindsDecide
 kinds_decide us vs f g x y e =
-    one_function (alone us f x) (subst (λ ks. IsFunction (record { past = 0; rest = blanks ks; marked = false }) (cut (length y.rest) y.stop) (bare_function g)) (sym e) (alone vs g y))
+    one_function (alone us f x) (subst (λ ks. IsFunction (record { past = 0; rest = blanks ks; marked = false }) (cut (length y.rest) y.stop)
+    (bare_function g)) (sym e) (alone vs g y))
 
 pub spellings_tell_kinds : SpellingsTellKinds
 spellings_tell_kinds text other us vs f g x y e =
@@ -39,4 +40,5 @@ one_tree text other us vs f g x y e = kinds_decide us vs f g x.stretch y.stretch
 
 pub equal_spellings : EqualSpellingsMeanTheSame
 equal_spellings text other ts us f g x y e =
-    equal_up_to_spans f g (one_tree text other (tokens_within f.at f.end ts) (tokens_within g.at g.end us) f g (each_stands text ts f x) (each_stands other us g y) e)
+    equal_up_to_spans f g (one_tree text other (tokens_within f.at f.end ts) (tokens_within g.at g.end us) f g (each_stands text ts f x)
+    (each_stands other us g y) e)

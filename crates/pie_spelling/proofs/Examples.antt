@@ -10,18 +10,40 @@ wide = codes "func f ( ) -> text { \"a  b\" } // the end"
 
 abbrev wide_tokens : List Token
 wide_tokens =
-    record { at = 0; end = 4; kind = kinds.Func } ∷ record { at = 5; end = 6; kind = kinds.Name (codes "f") } ∷ record { at = 7; end = 8; kind = kinds.OpenRound } ∷
-    record { at = 9; end = 10; kind = kinds.CloseRound } ∷ record { at = 11; end = 13; kind = kinds.Arrow } ∷ record { at = 14; end = 18; kind = kinds.TextWord } ∷
-    record { at = 19; end = 20; kind = kinds.OpenBrace } ∷ record { at = 21; end = 27; kind = kinds.Text (codes "a  b") } ∷ record { at = 28; end = 29; kind = kinds.CloseBrace } ∷ []
+    record { at = 0; end = 4; kind = kinds.Func } ∷ record {
+      at = 5;
+      end = 6;
+      kind = kinds.Name
+          (codes "f");
+    } ∷ record { at = 7; end = 8; kind = kinds.OpenRound } ∷
+    record { at = 9; end = 10; kind = kinds.CloseRound } ∷ record { at = 11; end = 13; kind = kinds.Arrow } ∷ record
+    { at = 14; end = 18; kind = kinds.TextWord } ∷
+    record { at = 19; end = 20; kind = kinds.OpenBrace } ∷ record {
+      at = 21;
+      end = 27;
+      kind = kinds.Text
+          (codes "a  b");
+    } ∷ record { at = 28; end = 29; kind = kinds.CloseBrace } ∷ []
 
 abbrev narrow : List ℕ
 narrow = codes "func f()->text{\"a  b\"}"
 
 abbrev narrow_tokens : List Token
 narrow_tokens =
-    record { at = 0; end = 4; kind = kinds.Func } ∷ record { at = 5; end = 6; kind = kinds.Name (codes "f") } ∷ record { at = 6; end = 7; kind = kinds.OpenRound } ∷
-    record { at = 7; end = 8; kind = kinds.CloseRound } ∷ record { at = 8; end = 10; kind = kinds.Arrow } ∷ record { at = 10; end = 14; kind = kinds.TextWord } ∷
-    record { at = 14; end = 15; kind = kinds.OpenBrace } ∷ record { at = 15; end = 21; kind = kinds.Text (codes "a  b") } ∷ record { at = 21; end = 22; kind = kinds.CloseBrace } ∷ []
+    record { at = 0; end = 4; kind = kinds.Func } ∷ record {
+      at = 5;
+      end = 6;
+      kind = kinds.Name
+          (codes "f");
+    } ∷ record { at = 6; end = 7; kind = kinds.OpenRound } ∷
+    record { at = 7; end = 8; kind = kinds.CloseRound } ∷ record { at = 8; end = 10; kind = kinds.Arrow } ∷ record
+    { at = 10; end = 14; kind = kinds.TextWord } ∷
+    record { at = 14; end = 15; kind = kinds.OpenBrace } ∷ record {
+      at = 15;
+      end = 21;
+      kind = kinds.Text
+          (codes "a  b");
+    } ∷ record { at = 21; end = 22; kind = kinds.CloseBrace } ∷ []
 
 -- spaces between tokens and comments don't count; those inside a text in quotes do
 spaced_alike : joined wide wide_tokens ≡ codes "func f ( ) -> text { \"a  b\" }"

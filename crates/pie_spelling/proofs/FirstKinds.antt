@@ -1,5 +1,6 @@
 -- What begins and what may follow the parts of an expression, and what is read of parts that hold no expression.
-use Rattle.std.proofs.Common.{◌≡◌, inl, inr, ℕ, ◌+◌, ◌≤◌, zero, suc, Bool, true, false, cond, List, [], ◌∷◌, length, Some, None, refl, sym, subst, ap, ◌∙◌, arith, rules}
+use Rattle.std.proofs.Common.{◌≡◌, inl, inr, ℕ, ◌+◌, ◌≤◌, zero, suc, Bool, true, false, cond, List, [], ◌∷◌, length, Some, None, refl, sym, subst, ap, ◌∙◌}
+use Rattle.std.proofs.Common.{arith, rules}
 use denote.Enum.Bare.{false_same}
 use Rattle.pie_parser.specs.contracts.kind.Kind.{the_type}
 use Rattle.pie_lexer.specs.declared.token.Token.{Token}
@@ -27,7 +28,8 @@ use Rattle.pie_parser.specs.ExprReading as reads
 use Rattle.pie_parser.specs.ExprReading.{Around, nowhere, chain, projection}
 use Rattle.pie_parser.specs.TypeGrammar.{Eats}
 use Rattle.pie_parser.specs.Grammar as grammar
-use Rattle.pie_parser.specs.Grammar.{IsIndex, Indices, ByOfRequire, ByOfRead, IsExpr, IsChain, IsOperand, Steps, IsComparison, IsPrefixed, IsProjected, IsPrimary, Arguments, More, IsBlock, Lines}
+use Rattle.pie_parser.specs.Grammar.{IsIndex, Indices, ByOfRequire, ByOfRead, IsExpr, IsChain, IsOperand, Steps, IsComparison, IsPrefixed, IsProjected}
+use Rattle.pie_parser.specs.Grammar.{IsPrimary, Arguments, More, IsBlock, Lines}
 use Rattle.pie_parser.proofs.Readings.{chosen, missed}
 use Rattle.pie_parser.proofs.Strength.{level_of, Ends, ends_at, is_one, operator_strength}
 use Rattle.pie_spelling.proofs.Finds.{Finds, after, at_true, at_false, finds_by, wanted}
@@ -232,27 +234,33 @@ more_off {s = s} k (grammar.one_more q x y) c o = off_by k kinds.Comma s q.0 c
 pub indices_found : (n : ℕ) {s m : At} {ns : List Index} → Indices s m ns → length ns ≤ n → Off kinds.Dot m → Finds (many reads.another_index n s) ns m
 indices_found zero grammar.no_index l c = (refl, refl)
 indices_found zero (grammar.an_index q i k) l c = absurd (omega arith)
-indices_found (suc n) {s = s} grammar.no_index l c = subst (λ y. Finds (on_turn (cond y (Part (index (passed s))) Stop) s (many reads.another_index n)) [] s) (sym c) (refl, refl)
+indices_found (suc n) {s = s} grammar.no_index l c = subst (λ y. Finds (on_turn (cond y (Part (index (passed s))) Stop) s (many reads.another_index n)) [] s)
+    (sym c) (refl, refl)
 indices_found (suc n) {s = s} {m = m} (grammar.an_index {a = a} {b = b} {n = x} {ns = ns} q i k) l c =
     subst (λ y. Finds (on_turn (cond y (Part (index (passed s))) Stop) s (many reads.another_index n)) (x ∷ ns) m) (sym (is_one (next s) kinds.Dot q.0))
     (after (index (passed s)) _ x b _ _ (finds_by (index (passed s)) x b (subst (λ z. index z ≡ Got x b) q.1 i))
     (after (many reads.another_index n b) _ ns m _ _ (indices_found n k (omega arith) c) (refl, refl)))
 
 pub by_require_found : (r : Bool) {s m : At} {k : CallKind} → ByOfRequire r s m k → Finds (reads.by_of_require r s) k m
-by_require_found r {s = s} (grammar.nothing h) = at_false (is (next s) kinds.By) _ (Got calls.Require s) calls.Require s (false_same the_type (search rules) (next s) kinds.By h) (refl, refl)
+by_require_found r {s = s} (grammar.nothing h) = at_false (is (next s) kinds.By) _ (Got calls.Require s) calls.Require s
+    (false_same the_type (search rules) (next s) kinds.By h) (refl, refl)
 by_require_found r {s = s} {m = m} (grammar.by_hash {a = a} q p) = at_true (is (next s) kinds.By) _ _ calls.RequireByHash m (is_one (next s) kinds.By q.0)
-    (at_true (is (next (passed s)) kinds.Hash) (Got calls.RequireByHash (passed (passed s))) _ calls.RequireByHash m (is_one (next (passed s)) kinds.Hash (subst (λ z. next z ≡ kinds.Hash) q.1 p.0))
+    (at_true (is (next (passed s)) kinds.Hash) (Got calls.RequireByHash (passed (passed s))) _ calls.RequireByHash m
+    (is_one (next (passed s)) kinds.Hash (subst (λ z. next z ≡ kinds.Hash) q.1 p.0))
     (refl, sym (p.1 ∙ ap passed q.1)))
 by_require_found r {s = s} (grammar.passes_mark {a = a} {b = b} q p) =
     let at_mark : Eats kinds.Mark (passed s) b = (subst (λ z. next z ≡ kinds.Mark) q.1 p.0, p.1 ∙ ap passed q.1) in
     at_true (is (next s) kinds.By) _ _ calls.Require _ (is_one (next s) kinds.By q.0)
-    (at_false (is (next (passed s)) kinds.Hash) (Got calls.RequireByHash (passed (passed s))) _ calls.Require _ (off_by kinds.Hash kinds.Mark (passed s) at_mark.0 refl)
+    (at_false (is (next (passed s)) kinds.Hash) (Got calls.RequireByHash (passed (passed s))) _ calls.Require _
+    (off_by kinds.Hash kinds.Mark (passed s) at_mark.0 refl)
     (after (want kinds.Mark (passed s)) _ done b _ _ (wanted kinds.Mark (passed s) b at_mark) (refl, refl)))
 
-pub by_keyword : (s d a : At) → Eats kinds.By s a → (k : EffectKind) → (Unit {0} → Finds (reads.read_by (passed s) (next (passed s))) k d) → Finds (reads.by_of_read s) k d
+pub by_keyword : (s d a : At) → Eats kinds.By s a → (k : EffectKind) → (Unit {0} → Finds (reads.read_by (passed s) (next (passed s))) k d)
+    → Finds (reads.by_of_read s) k d
 by_keyword s d a q k h = by_mark s.marked refl
   where
-    by_mark : (b : Bool) → s.marked ≡ b → Finds (cond b (Got effects.ReadByMark (record s { marked = false })) (cond (is (next s) kinds.By) (reads.read_by (passed s) (next (passed s))) (Got effects.Read s))) k d
+    by_mark : (b : Bool) → s.marked ≡ b → Finds (cond b (Got effects.ReadByMark (record s { marked = false }))
+        (cond (is (next s) kinds.By) (reads.read_by (passed s) (next (passed s))) (Got effects.Read s))) k d
     by_mark true e = (let y : kinds.Marked ≡ kinds.By = sym (ap (λ b. cond b kinds.Marked (first_kind s.rest)) e) ∙ q.0 in cc)
     by_mark false e = at_true (is (next s) kinds.By) _ _ k d (is_one (next s) kinds.By q.0) (h tt)
 
@@ -260,9 +268,14 @@ by_keyword s d a q k h = by_mark s.marked refl
 pub by_read_found : {s d m : At} {k : EffectKind} → ByOfRead s d k → Eats kinds.CloseRound d m → Finds (reads.by_of_read s) k d
 by_read_found {s = s} grammar.nothing z = unmarked s.marked refl
   where
-    unmarked : (b : Bool) → s.marked ≡ b → Finds (cond b (Got effects.ReadByMark (record s { marked = false })) (cond (is (next s) kinds.By) (reads.read_by (passed s) (next (passed s))) (Got effects.Read s))) effects.Read s
+    unmarked : (b : Bool) → s.marked ≡ b → Finds (cond b (Got effects.ReadByMark (record s { marked = false }))
+        (cond (is (next s) kinds.By) (reads.read_by (passed s) (next (passed s))) (Got effects.Read s))) effects.Read s
     unmarked true e = (let y : kinds.Marked ≡ kinds.CloseRound = sym (ap (λ b. cond b kinds.Marked (first_kind s.rest)) e) ∙ z.0 in cc)
     unmarked false e = at_false (is (next s) kinds.By) _ _ effects.Read s (off_by kinds.By kinds.CloseRound s z.0 refl) (refl, refl)
-by_read_found {s = s} {d = d} (grammar.by_hash {a = a} q p) z = by_keyword s d a q effects.ReadByHash (λ k. subst (λ j. Finds (reads.read_by (passed s) j) effects.ReadByHash d) (sym (subst (λ i. next i ≡ kinds.Hash) q.1 p.0)) (refl, sym (p.1 ∙ ap passed q.1)))
-by_read_found {s = s} {d = d} (grammar.by_mark {a = a} q p) z = by_keyword s d a q effects.ReadByMark (λ k. subst (λ j. Finds (reads.read_by (passed s) j) effects.ReadByMark d) (sym (subst (λ i. next i ≡ kinds.Mark) q.1 p.0)) (refl, sym (p.1 ∙ ap passed q.1)))
+by_read_found {s = s} {d = d} (grammar.by_hash {a = a} q p) z = by_keyword s d a q effects.ReadByHash
+    (λ k. subst (λ j. Finds (reads.read_by (passed s) j) effects.ReadByHash d) (sym (subst (λ i. next i ≡ kinds.Hash) q.1 p.0))
+    (refl, sym (p.1 ∙ ap passed q.1)))
+by_read_found {s = s} {d = d} (grammar.by_mark {a = a} q p) z = by_keyword s d a q effects.ReadByMark
+    (λ k. subst (λ j. Finds (reads.read_by (passed s) j) effects.ReadByMark d) (sym (subst (λ i. next i ≡ kinds.Mark) q.1 p.0))
+    (refl, sym (p.1 ∙ ap passed q.1)))
 by_read_found {s = s} (grammar.marked h) z = at_true s.marked (Got effects.ReadByMark (record s { marked = false })) _ effects.ReadByMark _ h (refl, refl)

@@ -28,21 +28,25 @@ param_found : (d : ℕ) {s m : At} {p : Param} → IsParam s m p → length s.re
 param_found d {s = s} {m = m} (grammar.param {a = a} {b = b} {n = n} {t = t} i q x) w o =
     after (name s) _ n a _ _ (finds_by (name s) n a i)
     (after (want kinds.Colon a) _ done b _ _ (wanted kinds.Colon a b q)
-    (after (written_type d (inner_type d) b) _ t m _ _ (type_is_found d x (omega (arith, w, name_less s a n i, eats_less kinds.Colon a b q (λ e. cc) (λ e. cc))) o) (refl, refl)))
+    (after (written_type d (inner_type d) b) _ t m _ _ (type_is_found d x
+    (omega (arith, w, name_less s a n i, eats_less kinds.Colon a b q (λ e. cc) (λ e. cc))) o) (refl, refl)))
 
 more_off : (k : Kind) {s m : At} {ps : List Param} → MoreParams s m ps → is kinds.Comma k ≡ false → Off k m → Off k s
 more_off k grammar.no_more c o = o
 more_off k {s = s} (grammar.one_more q x y) c o = off_by k kinds.Comma s q.0 c
 
-more_found : (d n : ℕ) {s m : At} {ps : List Param} → MoreParams s m ps → length s.rest ≤ d → length ps ≤ n → Off kinds.Comma m → Off kinds.Question m → Finds (many (reads.another_param d) n s) ps m
+more_found : (d n : ℕ) {s m : At} {ps : List Param} → MoreParams s m ps → length s.rest ≤ d → length ps ≤ n → Off kinds.Comma m → Off kinds.Question m
+    → Finds (many (reads.another_param d) n s) ps m
 more_found d zero grammar.no_more w l c f = (refl, refl)
 more_found d zero (grammar.one_more q x k) w l c f = absurd (omega arith)
 more_found d (suc n) {s = s} grammar.no_more w l c f =
     subst (λ y. Finds (on_turn (cond y (Part (reads.param d (passed s))) Stop) s (many (reads.another_param d) n)) [] s) (sym c) (refl, refl)
 more_found d (suc n) {s = s} {m = m} (grammar.one_more {a = a} {b = b} {p = p} {ps = ps} q x k) w l c f =
     let la = eats_less kinds.Comma s a q (λ e. cc) (λ e. cc) in
-    subst (λ y. Finds (on_turn (cond y (Part (reads.param d (passed s))) Stop) s (many (reads.another_param d) n)) (p ∷ ps) m) (sym (is_one (next s) kinds.Comma q.0))
-    (after (reads.param d (passed s)) _ p b _ _ (subst (λ z. Finds (reads.param d z) p b) q.1 (param_found d x (omega arith) (more_off kinds.Question k refl f)))
+    subst (λ y. Finds (on_turn (cond y (Part (reads.param d (passed s))) Stop) s (many (reads.another_param d) n)) (p ∷ ps) m)
+    (sym (is_one (next s) kinds.Comma q.0))
+    (after (reads.param d (passed s)) _ p b _ _ (subst (λ z. Finds (reads.param d z) p b) q.1
+    (param_found d x (omega arith) (more_off kinds.Question k refl f)))
     (after (many (reads.another_param d) n b) _ ps m _ _ (more_found d n k (omega (arith, param_less x)) (omega arith) c f) (refl, refl)))
 
 param_name : {s m : At} {p : Param} → IsParam s m p → next s ≡ kinds.Name
@@ -61,7 +65,8 @@ params_found d {s = s} {m = m} (grammar.some {a = a} {b = b} {c = c} {p = p} {ps
     (at_false (is (next a) kinds.CloseRound) (Got [] (passed a)) _ _ _ (off_by kinds.CloseRound kinds.Name a (param_name x) refl)
     (after (reads.param d a) _ p b _ _ (param_found d x (omega arith) (more_off kinds.Question k refl (off_by kinds.Question kinds.CloseRound c z.0 refl)))
     (after (reads.more_params d p b) _ (p ∷ ps) c _ _
-    (behind_them (p ∷ []) ps _ c (more_found d (length b.rest) k (omega (arith, param_less x)) (omega (arith, params_count k)) (off_by kinds.Comma kinds.CloseRound c z.0 refl) (off_by kinds.Question kinds.CloseRound c z.0 refl)))
+    (behind_them (p ∷ []) ps _ c (more_found d (length b.rest) k (omega (arith, param_less x)) (omega (arith, params_count k))
+    (off_by kinds.Comma kinds.CloseRound c z.0 refl) (off_by kinds.Question kinds.CloseRound c z.0 refl)))
     (after (want kinds.CloseRound c) _ done m _ _ (wanted kinds.CloseRound c m z) (refl, refl)))))
 
 starts_block : {s m : At} {t : BlockTree} → IsBlock s m t → next s ≡ kinds.OpenBrace

@@ -59,22 +59,29 @@ operand_less (grammar.of_product x) = prefixed_less x
 
 pub by_require_short : {r : Bool} {s m : At} {k : CallKind} → ByOfRequire r s m k → Short s m
 by_require_short (grammar.nothing h) = omega arith
-by_require_short {s = s} {m = m} (grammar.by_hash {a = a} q p) = omega (arith, eats_less kinds.By s a q (λ e. cc) (λ e. cc), eats_less kinds.Hash a m p (λ e. cc) (λ e. cc))
-by_require_short {s = s} (grammar.passes_mark {a = a} {b = b} q p) = omega (arith, eats_less kinds.By s a q (λ e. cc) (λ e. cc), eats_less kinds.Mark a b p (λ e. cc) (λ e. cc))
+by_require_short {s = s} {m = m} (grammar.by_hash {a = a} q p) = omega
+    (arith, eats_less kinds.By s a q (λ e. cc) (λ e. cc), eats_less kinds.Hash a m p (λ e. cc) (λ e. cc))
+by_require_short {s = s} (grammar.passes_mark {a = a} {b = b} q p) = omega
+    (arith, eats_less kinds.By s a q (λ e. cc) (λ e. cc), eats_less kinds.Mark a b p (λ e. cc) (λ e. cc))
 
 pub by_read_short : {s m : At} {k : EffectKind} → ByOfRead s m k → Short s m
 by_read_short grammar.nothing = omega arith
-by_read_short {s = s} {m = m} (grammar.by_hash {a = a} q p) = omega (arith, eats_less kinds.By s a q (λ e. cc) (λ e. cc), eats_less kinds.Hash a m p (λ e. cc) (λ e. cc))
-by_read_short {s = s} {m = m} (grammar.by_mark {a = a} q p) = omega (arith, eats_less kinds.By s a q (λ e. cc) (λ e. cc), eats_less kinds.Mark a m p (λ e. cc) (λ e. cc))
+by_read_short {s = s} {m = m} (grammar.by_hash {a = a} q p) = omega
+    (arith, eats_less kinds.By s a q (λ e. cc) (λ e. cc), eats_less kinds.Hash a m p (λ e. cc) (λ e. cc))
+by_read_short {s = s} {m = m} (grammar.by_mark {a = a} q p) = omega
+    (arith, eats_less kinds.By s a q (λ e. cc) (λ e. cc), eats_less kinds.Mark a m p (λ e. cc) (λ e. cc))
 by_read_short (grammar.marked h) = omega arith
 
 pub param_less : {s m : At} {p : Param} → IsParam s m p → Less s m
-param_less {s = s} {m = m} (functions.param {a = a} {b = b} {n = n} i q t) = omega (arith, name_less s a n i, eats_less kinds.Colon a b q (λ e. cc) (λ e. cc), type_less t)
+param_less {s = s} {m = m} (functions.param {a = a} {b = b} {n = n} i q t) = omega
+    (arith, name_less s a n i, eats_less kinds.Colon a b q (λ e. cc) (λ e. cc), type_less t)
 
 pub params_count : {s m : At} {ps : List Param} → MoreParams s m ps → length ps + length m.rest ≤ length s.rest
 params_count functions.no_more = omega arith
 params_count {s = s} {m = m} (functions.one_more {a = a} q x k) = omega (arith, eats_less kinds.Comma s a q (λ e. cc) (λ e. cc), param_less x, params_count k)
 
 pub params_less : {s m : At} {ps : List Param} → IsParams s m ps → Less s m
-params_less {s = s} {m = m} (functions.none {a = a} q p) = omega (arith, eats_less kinds.OpenRound s a q (λ e. cc) (λ e. cc), eats_less kinds.CloseRound a m p (λ e. cc) (λ e. cc))
-params_less {s = s} {m = m} (functions.some {a = a} {c = c} q x k p) = omega (arith, eats_less kinds.OpenRound s a q (λ e. cc) (λ e. cc), param_less x, params_count k, eats_less kinds.CloseRound c m p (λ e. cc) (λ e. cc))
+params_less {s = s} {m = m} (functions.none {a = a} q p) = omega
+    (arith, eats_less kinds.OpenRound s a q (λ e. cc) (λ e. cc), eats_less kinds.CloseRound a m p (λ e. cc) (λ e. cc))
+params_less {s = s} {m = m} (functions.some {a = a} {c = c} q x k p) = omega
+    (arith, eats_less kinds.OpenRound s a q (λ e. cc) (λ e. cc), param_less x, params_count k, eats_less kinds.CloseRound c m p (λ e. cc) (λ e. cc))

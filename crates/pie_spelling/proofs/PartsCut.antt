@@ -10,7 +10,8 @@ use Rattle.pie_parser.specs.At.{At}
 use Rattle.pie_parser.specs.TypeGrammar as types
 use Rattle.pie_parser.specs.TypeGrammar.{Eats, IsName, IsType, IsPlain, MoreTypes}
 use Rattle.pie_parser.specs.Grammar as grammar
-use Rattle.pie_parser.specs.Grammar.{IsIndex, Indices, ByOfRequire, ByOfRead, IsExpr, IsChain, IsOperand, Steps, IsComparison, IsPrefixed, IsProjected, IsPrimary, Arguments, More, IsBlock, Lines}
+use Rattle.pie_parser.specs.Grammar.{IsIndex, Indices, ByOfRequire, ByOfRead, IsExpr, IsChain, IsOperand, Steps, IsComparison, IsPrefixed, IsProjected}
+use Rattle.pie_parser.specs.Grammar.{IsPrimary, Arguments, More, IsBlock, Lines}
 use Rattle.pie_parser.proofs.Hits.{Less}
 use Rattle.pie_parser.proofs.Shorter.{index_less, type_less, more_types_count, indices_count}
 use Rattle.pie_spelling.specs.Spans.{bare_indices, bare_type}
@@ -24,18 +25,21 @@ module _ (n : ℕ) where
     type_cut (types.plain x) l = types.plain (plain_cut x l)
     type_cut {s = s} {m = m} (types.nullable {a = a} {t = t} x q) l =
         let la = in_eats n kinds.Question (λ e. cc) (λ e. cc) a m q l in
-        subst (λ i. IsType (cut n s) (cut n m) (NullableT i 0 (bare_type t))) (start_cut n s) (types.nullable (plain_cut x la) (eats_cut n kinds.Question (λ e. cc) (λ e. cc) a m q l))
+        subst (λ i. IsType (cut n s) (cut n m) (NullableT i 0 (bare_type t))) (start_cut n s)
+        (types.nullable (plain_cut x la) (eats_cut n kinds.Question (λ e. cc) (λ e. cc) a m q l))
 
     pub plain_cut : {s m : At} {t : TypeTree} → IsPlain s m t → n ≤ length m.rest → IsPlain (cut n s) (cut n m) (bare_type t)
     plain_cut {s = s} {m = m} (types.keyword {p = p} h e) l =
         let less : Less s m = plain_less (types.keyword h e) in
         let o : n < length s.rest = omega arith in
-        subst (λ i. IsPlain (cut n s) (cut n m) (PlainT i 0 p)) (start_cut n s) (types.keyword (ap plain_at (next_cut n s o) ∙ h) (ap (cut n) e ∙ sym (passed_cut n s o)))
+        subst (λ i. IsPlain (cut n s) (cut n m) (PlainT i 0 p)) (start_cut n s)
+        (types.keyword (ap plain_at (next_cut n s o) ∙ h) (ap (cut n) e ∙ sym (passed_cut n s o)))
     plain_cut {s = s} {m = m} (types.named {n = x} h) l = types.named (name_cut n s m x h l)
     plain_cut {s = s} {m = m} (types.listed {a = a} {b = b} {t = t} q x p) l =
         let lb = in_eats n kinds.CloseSquare (λ e. cc) (λ e. cc) b m p l in
         let la = by_less n a b (type_less x) lb in
-        subst (λ i. IsPlain (cut n s) (cut n m) (ListT i 0 (bare_type t))) (start_cut n s) (types.listed (eats_cut n kinds.OpenSquare (λ e. cc) (λ e. cc) s a q la) (type_cut x lb) (eats_cut n kinds.CloseSquare (λ e. cc) (λ e. cc) b m p l))
+        subst (λ i. IsPlain (cut n s) (cut n m) (ListT i 0 (bare_type t))) (start_cut n s)
+        (types.listed (eats_cut n kinds.OpenSquare (λ e. cc) (λ e. cc) s a q la) (type_cut x lb) (eats_cut n kinds.CloseSquare (λ e. cc) (λ e. cc) b m p l))
     plain_cut {s = s} {m = m} (types.tuple {a = a} {b = b} {c = c} {d = d} {e = e} {t = t} {u = u} {ts = ts} q x p y k z) l =
         let le = in_eats n kinds.CloseRound (λ e. cc) (λ e. cc) e m z l in
         let ld : n ≤ length d.rest = omega (arith, more_types_count k) in
@@ -43,7 +47,8 @@ module _ (n : ℕ) where
         let lb = in_eats n kinds.Comma (λ e. cc) (λ e. cc) b c p lc in
         let la = by_less n a b (type_less x) lb in
         subst (IsPlain (cut n s) (cut n m)) (λ i. TupleT (start_cut n s i) 0 (ConsT (bare_type t) (ConsT (bare_type u) (types_bare ts i))))
-        (types.tuple (eats_cut n kinds.OpenRound (λ e. cc) (λ e. cc) s a q la) (type_cut x lb) (eats_cut n kinds.Comma (λ e. cc) (λ e. cc) b c p lc) (type_cut y ld) (more_types_cut k le) (eats_cut n kinds.CloseRound (λ e. cc) (λ e. cc) e m z l))
+        (types.tuple (eats_cut n kinds.OpenRound (λ e. cc) (λ e. cc) s a q la) (type_cut x lb) (eats_cut n kinds.Comma (λ e. cc) (λ e. cc) b c p lc)
+        (type_cut y ld) (more_types_cut k le) (eats_cut n kinds.CloseRound (λ e. cc) (λ e. cc) e m z l))
 
     more_types_cut : {s m : At} {ts : List TypeTree} → MoreTypes s m ts → n ≤ length m.rest → MoreTypes (cut n s) (cut n m) (type_list ts)
     more_types_cut types.no_more l = types.no_more

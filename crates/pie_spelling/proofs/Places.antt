@@ -1,5 +1,6 @@
 -- Places among tokens without their spans, before so many that are left out at the end.
-use Rattle.std.proofs.Common.{◌≡◌, inl, inr, ℕ, ◌<◌, ◌≤◌, suc, Bool, true, false, cond, nat_lt, List, [], ◌∷◌, ◌++◌, length, refl, sym, subst, ap, ◌∙◌, arith, length-append}
+use Rattle.std.proofs.Common.{◌≡◌, inl, inr, ℕ, ◌<◌, ◌≤◌, suc, Bool, true, false, cond, nat_lt, List, [], ◌∷◌, ◌++◌, length, refl, sym, subst, ap, ◌∙◌, arith}
+use Rattle.std.proofs.Common.{length-append}
 use Rattle.std.proofs.lemmas.Bool.Decides.{nat_tests}
 use Rattle.pie_lexer.specs.declared.token.Token.{Token}
 use Rattle.pie_lexer.specs.declared.token.TokenKind.{TokenKind}
@@ -125,7 +126,8 @@ module _ (n : ℕ) where
         (by_rest s.rest (let z = name_less s m x h in omega arith) c.1)
   ]
     where
-      by_kind : (t : Token) (ts : List Token) (k : TokenKind) → name_by s t ts k ≡ Got x m → name_by (cut s) (blank t) (front n ts) k ≡ Got (bare_name x) (cut m)
+      by_kind : (t : Token) (ts : List Token) (k : TokenKind) → name_by s t ts k ≡ Got x m
+          → name_by (cut s) (blank t) (front n ts) k ≡ Got (bare_name x) (cut m)
       by_kind t ts (tokens.Name y) h = let g = got_same h in let g0 = g.0 in let g1 = g.1 in λ i. Got (bare_name (g0 i)) (cut (g1 i))
       by_kind t ts k h = missed h
 
@@ -140,7 +142,8 @@ module _ (n : ℕ) where
         (by_rest s.rest (let z = index_less s m x h in omega arith) c.1)
   ]
     where
-      by_kind : (t : Token) (ts : List Token) (k : TokenKind) → index_by s t ts k ≡ Got x m → index_by (cut s) (blank t) (front n ts) k ≡ Got (bare_index x) (cut m)
+      by_kind : (t : Token) (ts : List Token) (k : TokenKind) → index_by s t ts k ≡ Got x m
+          → index_by (cut s) (blank t) (front n ts) k ≡ Got (bare_index x) (cut m)
       by_kind t ts (tokens.Int y) h = let g = got_same h in let g0 = g.0 in let g1 = g.1 in λ i. Got (bare_index (g0 i)) (cut (g1 i))
       by_kind t ts k h = missed h
 

@@ -1,5 +1,6 @@
 -- The tokens of a function of a pipeline are those between its first byte and its last.
-use Rattle.std.proofs.Common.{◌≡◌, ℕ, ◌+◌, ◌<◌, ◌≤◌, suc, Bool, true, false, not, ◌&&◌, cond, nat_lt, List, [], ◌∷◌, ◌++◌, length, drop, Result, Ok, Err, refl, sym, subst, ap, ◌∙◌, arith, append_assoc}
+use Rattle.std.proofs.Common.{◌≡◌, ℕ, ◌+◌, ◌<◌, ◌≤◌, suc, Bool, true, false, not, ◌&&◌, cond, nat_lt, List, [], ◌∷◌, ◌++◌, length, drop, Result, Ok, Err, refl}
+use Rattle.std.proofs.Common.{sym, subst, ap, ◌∙◌, arith, append_assoc}
 use Rattle.std.proofs.lemmas.Bool.Decides.{nat_tests}
 use Rattle.std.proofs.lemmas.List.{append-nil}
 use Rattle.pie_lexer.specs.Bytes.{gap_len}
@@ -81,7 +82,8 @@ front_out b i j (t ∷ us) zs u e h =
     let l = below_first t.end us zs u h.2 in
     let p = h.1 in
     let o = is_below t.at i (omega arith) in
-    (λ k. cond (not (o k) && not (nat_lt j t.end)) (t ∷ tokens_within i j (us ++ u ∷ zs)) (tokens_within i j (us ++ u ∷ zs))) ∙ front_out t.end i j us zs u e h.2
+    (λ k. cond (not (o k) && not (nat_lt j t.end)) (t ∷ tokens_within i j (us ++ u ∷ zs)) (tokens_within i j (us ++ u ∷ zs)))
+    ∙ front_out t.end i j us zs u e h.2
 
 -- the tokens between are kept
 all_kept : (b i j : ℕ) (us zs : List Token) → i ≤ b → last_end b us ≤ j → Rising b (us ++ zs) → tokens_within i j (us ++ zs) ≡ us ++ tokens_within i j zs
@@ -92,7 +94,8 @@ all_kept b i j (t ∷ us) zs l m h =
     let v = below_last t.end us zs h.2 in
     let o = not_below t.at i (omega arith) in
     let g = not_below j t.end (omega arith) in
-    (λ k. cond (not (o k) && not (g k)) (t ∷ tokens_within i j (us ++ zs)) (tokens_within i j (us ++ zs))) ∙ ap (λ ts. t ∷ ts) (all_kept t.end i j us zs (omega arith) m h.2)
+    (λ k. cond (not (o k) && not (g k)) (t ∷ tokens_within i j (us ++ zs)) (tokens_within i j (us ++ zs)))
+    ∙ ap (λ ts. t ∷ ts) (all_kept t.end i j us zs (omega arith) m h.2)
 
 -- the tokens behind are left out
 rest_out : (b i j : ℕ) (zs : List Token) → j ≤ b → Rising b zs → tokens_within i j zs ≡ []
@@ -110,11 +113,13 @@ last_of_end b [] t = refl
 last_of_end b (u ∷ us) t = last_of_end u.end us t
 
 -- a stretch of tokens is what stands between its first byte and its last
-stretch_within : (front us rest : List Token) (last : Token) (i j n : ℕ) → Rising 0 (front ++ ((us ++ last ∷ []) ++ rest)) → i ≡ start_of n ((us ++ last ∷ []) ++ rest) → j ≡ last.end
+stretch_within : (front us rest : List Token) (last : Token) (i j n : ℕ) → Rising 0 (front ++ ((us ++ last ∷ []) ++ rest))
+    → i ≡ start_of n ((us ++ last ∷ []) ++ rest) → j ≡ last.end
     → tokens_within i j (front ++ ((us ++ last ∷ []) ++ rest)) ≡ us ++ last ∷ []
 stretch_within front us rest last i j n h e d = by_first us h e
   where
-    kept : (u : Token) (vs : List Token) → (w : List Token) → w ≡ u ∷ vs → last_end 0 w ≡ last.end → Rising 0 (front ++ (w ++ rest)) → i ≡ u.at → tokens_within i j (front ++ (w ++ rest)) ≡ w
+    kept : (u : Token) (vs : List Token) → (w : List Token) → w ≡ u ∷ vs → last_end 0 w ≡ last.end → Rising 0 (front ++ (w ++ rest)) → i ≡ u.at
+        → tokens_within i j (front ++ (w ++ rest)) ≡ w
     kept u vs w f g h e =
         let h2 : Rising 0 (front ++ u ∷ (vs ++ rest)) = subst (λ x. Rising 0 (front ++ (x ++ rest))) f h in
         let r : Rising (last_end 0 front) (u ∷ (vs ++ rest)) = behind_rises 0 front (u ∷ (vs ++ rest)) h2 in
@@ -127,7 +132,8 @@ stretch_within front us rest last i j n h e d = by_first us h e
         ∙ append-nil (u ∷ vs) in
         ap (λ x. tokens_within i j (front ++ (x ++ rest))) f ∙ o ∙ sym f
 
-    by_first : (us : List Token) → Rising 0 (front ++ ((us ++ last ∷ []) ++ rest)) → i ≡ start_of n ((us ++ last ∷ []) ++ rest) → tokens_within i j (front ++ ((us ++ last ∷ []) ++ rest)) ≡ us ++ last ∷ []
+    by_first : (us : List Token) → Rising 0 (front ++ ((us ++ last ∷ []) ++ rest)) → i ≡ start_of n ((us ++ last ∷ []) ++ rest)
+        → tokens_within i j (front ++ ((us ++ last ∷ []) ++ rest)) ≡ us ++ last ∷ []
     by_first [] h e = kept last [] (last ∷ []) refl refl h e
     by_first (u ∷ us) h e = kept u (us ++ last ∷ []) (u ∷ us ++ last ∷ []) refl (last_of_end u.end us last) h e
 
@@ -162,7 +168,8 @@ next_function : {s m : At} {fs : List FunctionTree} → Functions s m fs → nex
 next_function {s = s} functions.no_function e = ends_there s e
 next_function {s = s} (functions.a_function x k) e = let u = first_func s (starts_function x) in subst NextIsFunc (sym u.2) u.3
 
-stands : (before behind : List FunctionTree) (s m : At) (f : FunctionTree) (fs : List FunctionTree) → fs ≡ before ++ f ∷ behind → Functions s m fs → next m ≡ kinds.End → Stands s.rest f
+stands : (before behind : List FunctionTree) (s m : At) (f : FunctionTree) (fs : List FunctionTree) → fs ≡ before ++ f ∷ behind → Functions s m fs
+    → next m ≡ kinds.End → Stands s.rest f
 stands [] behind s m f fs e functions.no_function n = cc
 stands [] behind s m f fs e (functions.a_function {a = a} {f = g} x k) n =
     let h : g ≡ f = cc in record { from = s; to = a; ahead = []; splits = refl; grammar = subst (IsFunction s a) h x; next_one = next_function k n }
@@ -176,7 +183,8 @@ stands (b ∷ before) behind s m f fs e (functions.a_function {a = a} {f = g} {f
       from = z.from;
       to = z.to;
       ahead = us ++ z.ahead;
-      splits = w.splits ∙ ap (λ r. w.func ∷ r) (sym (append_assoc w.others (w.last ∷ []) a.rest)) ∙ ap (λ r. us ++ r) z.splits ∙ sym (append_assoc us z.ahead z.from.rest);
+      splits = w.splits ∙ ap (λ r. w.func ∷ r) (sym (append_assoc w.others (w.last ∷ []) a.rest)) ∙ ap (λ r. us ++ r) z.splits
+          ∙ sym (append_assoc us z.ahead z.from.rest);
       grammar = z.grammar;
       next_one = z.next_one;
     }

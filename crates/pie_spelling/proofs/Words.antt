@@ -1,5 +1,6 @@
 -- What stands between two places of the grammar is a word in front of what is left.
-use Rattle.std.proofs.Common.{◌≡◌, inl, inr, Bool, true, false, cond, List, [], ◌∷◌, ◌++◌, Option, Some, None, not, ◌&&◌, refl, sym, subst, ap, ◌∙◌, append_assoc}
+use Rattle.std.proofs.Common.{◌≡◌, inl, inr, Bool, true, false, cond, List, [], ◌∷◌, ◌++◌, Option, Some, None, not, ◌&&◌, refl, sym, subst, ap, ◌∙◌}
+use Rattle.std.proofs.Common.{append_assoc}
 use Rattle.std.specs.List.{list_all}
 use Rattle.pie_lexer.specs.declared.token.Token.{Token}
 use Rattle.pie_lexer.specs.declared.token.TokenKind.{TokenKind}
@@ -23,7 +24,8 @@ use Rattle.pie_parser.specs.Places.{Got, Miss, first_kind, next, behind, passed,
 use Rattle.pie_parser.specs.TypeGrammar as types
 use Rattle.pie_parser.specs.TypeGrammar.{Eats, IsName, IsType, IsPlain, MoreTypes}
 use Rattle.pie_parser.specs.Grammar as grammar
-use Rattle.pie_parser.specs.Grammar.{IsIndex, Indices, ByOfRequire, ByOfRead, IsExpr, IsChain, IsOperand, Steps, IsComparison, IsPrefixed, IsProjected, IsPrimary, Arguments, More, IsBlock, Lines}
+use Rattle.pie_parser.specs.Grammar.{IsIndex, Indices, ByOfRequire, ByOfRead, IsExpr, IsChain, IsOperand, Steps, IsComparison, IsPrefixed, IsProjected}
+use Rattle.pie_parser.specs.Grammar.{IsPrimary, Arguments, More, IsBlock, Lines}
 use Rattle.pie_parser.specs.FunctionGrammar as functions
 use Rattle.pie_parser.specs.FunctionGrammar.{IsParam, MoreParams, IsParams, IsFunction}
 use Rattle.pie_parser.proofs.Readings.{chosen, got_same, missed}
@@ -60,7 +62,12 @@ rest_same = record { word = []; splits = refl; none = refl }
 
 pub rest_on : {s a m : At} → Rest s a → Rest a m → Rest s m
 rest_on {m = m} x y =
-    record { word = x.word ++ y.word; splits = x.splits ∙ ap (λ i. x.word ++ i) y.splits ∙ sym (append_assoc x.word y.word m.rest); none = none_on x.word y.word x.none y.none }
+    record {
+      word = x.word ++ y.word;
+      splits = x.splits ∙ ap (λ i. x.word ++ i) y.splits
+          ∙ sym (append_assoc x.word y.word m.rest);
+      none = none_on x.word y.word x.none y.none;
+    }
 
 passed_rest : (s : At) → (next s ≡ kinds.Func → ⊥) → (next s ≡ kinds.Marked → ⊥) → Rest s (passed s)
 passed_rest s f g = by_mark s.marked refl
@@ -74,7 +81,8 @@ passed_rest s f g = by_mark s.marked refl
     by_mark false u = by_rest s.rest refl (λ e. f (ap (λ b. cond b kinds.Marked (first_kind s.rest)) u ∙ e))
 
 some_rest : {A : Type 0} (s : At) (F : Kind → Option A) (x : A) → F kinds.Func ≡ None → F kinds.Marked ≡ None → F (next s) ≡ Some x → Rest s (passed s)
-some_rest s F x n o h = passed_rest s (λ e. let y : None ≡ Some x = sym n ∙ sym (ap F e) ∙ h in cc) (λ e. let y : None ≡ Some x = sym o ∙ sym (ap F e) ∙ h in cc)
+some_rest s F x n o h = passed_rest s (λ e. let y : None ≡ Some x = sym n ∙ sym (ap F e) ∙ h in cc)
+    (λ e. let y : None ≡ Some x = sym o ∙ sym (ap F e) ∙ h in cc)
 
 no_operator : (l : Level) → (operator_at l kinds.Func ≡ None) × (operator_at l kinds.Marked ≡ None)
 no_operator levels.Or = (refl, refl)
@@ -126,8 +134,11 @@ mutual
   plain_rest : {s m : At} {t : TypeTree} → IsPlain s m t → Rest s m
   plain_rest {s = s} (types.keyword {p = p} h e) = subst (λ z. Rest s z) (sym e) (some_rest s plain_at p refl refl h)
   plain_rest {s = s} {m = m} (types.named {n = n} h) = name_rest s m n h
-  plain_rest {s = s} {m = m} (types.listed {a = a} {b = b} q x p) = rest_on (eats_rest kinds.OpenSquare (λ e. cc) (λ e. cc) s a q) (rest_on (type_rest x) (eats_rest kinds.CloseSquare (λ e. cc) (λ e. cc) b m p))
-  plain_rest {s = s} {m = m} (types.tuple {a = a} {b = b} {c = c} {e = e} q x p y k z) = rest_on (eats_rest kinds.OpenRound (λ e. cc) (λ e. cc) s a q) (rest_on (type_rest x) (rest_on (eats_rest kinds.Comma (λ e. cc) (λ e. cc) b c p) (rest_on (type_rest y) (rest_on (more_types_rest k) (eats_rest kinds.CloseRound (λ e. cc) (λ e. cc) e m z)))))
+  plain_rest {s = s} {m = m} (types.listed {a = a} {b = b} q x p) = rest_on (eats_rest kinds.OpenSquare (λ e. cc) (λ e. cc) s a q)
+      (rest_on (type_rest x) (eats_rest kinds.CloseSquare (λ e. cc) (λ e. cc) b m p))
+  plain_rest {s = s} {m = m} (types.tuple {a = a} {b = b} {c = c} {e = e} q x p y k z) = rest_on (eats_rest kinds.OpenRound (λ e. cc) (λ e. cc) s a q)
+      (rest_on (type_rest x) (rest_on (eats_rest kinds.Comma (λ e. cc) (λ e. cc) b c p)
+      (rest_on (type_rest y) (rest_on (more_types_rest k) (eats_rest kinds.CloseRound (λ e. cc) (λ e. cc) e m z)))))
 
   more_types_rest : {s m : At} {ts : List TypeTree} → MoreTypes s m ts → Rest s m
   more_types_rest types.no_more = rest_same
@@ -135,17 +146,23 @@ mutual
 
 indices_rest : {s m : At} {ns : List Index} → Indices s m ns → Rest s m
 indices_rest grammar.no_index = rest_same
-indices_rest {s = s} (grammar.an_index {a = a} {b = b} {n = n} q i k) = rest_on (eats_rest kinds.Dot (λ e. cc) (λ e. cc) s a q) (rest_on (index_rest a b n i) (indices_rest k))
+indices_rest {s = s} (grammar.an_index {a = a} {b = b} {n = n} q i k) = rest_on (eats_rest kinds.Dot (λ e. cc) (λ e. cc) s a q)
+    (rest_on (index_rest a b n i) (indices_rest k))
 
 by_require_rest : {r : Bool} {s m : At} {k : CallKind} → ByOfRequire r s m k → Rest s m
 by_require_rest (grammar.nothing h) = rest_same
-by_require_rest {s = s} {m = m} (grammar.by_hash {a = a} q p) = rest_on (eats_rest kinds.By (λ e. cc) (λ e. cc) s a q) (eats_rest kinds.Hash (λ e. cc) (λ e. cc) a m p)
-by_require_rest {s = s} (grammar.passes_mark {a = a} {b = b} q p) = (let z : Rest s b = rest_on (eats_rest kinds.By (λ e. cc) (λ e. cc) s a q) (eats_rest kinds.Mark (λ e. cc) (λ e. cc) a b p) in record { word = z.word; splits = z.splits; none = z.none })
+by_require_rest {s = s} {m = m} (grammar.by_hash {a = a} q p) = rest_on (eats_rest kinds.By (λ e. cc) (λ e. cc) s a q)
+    (eats_rest kinds.Hash (λ e. cc) (λ e. cc) a m p)
+by_require_rest {s = s} (grammar.passes_mark {a = a} {b = b} q p) =
+    (let z : Rest s b = rest_on (eats_rest kinds.By (λ e. cc) (λ e. cc) s a q) (eats_rest kinds.Mark (λ e. cc) (λ e. cc) a b p) in
+    record { word = z.word; splits = z.splits; none = z.none })
 
 by_read_rest : {s m : At} {k : EffectKind} → ByOfRead s m k → Rest s m
 by_read_rest grammar.nothing = rest_same
-by_read_rest {s = s} {m = m} (grammar.by_hash {a = a} q p) = rest_on (eats_rest kinds.By (λ e. cc) (λ e. cc) s a q) (eats_rest kinds.Hash (λ e. cc) (λ e. cc) a m p)
-by_read_rest {s = s} {m = m} (grammar.by_mark {a = a} q p) = rest_on (eats_rest kinds.By (λ e. cc) (λ e. cc) s a q) (eats_rest kinds.Mark (λ e. cc) (λ e. cc) a m p)
+by_read_rest {s = s} {m = m} (grammar.by_hash {a = a} q p) = rest_on (eats_rest kinds.By (λ e. cc) (λ e. cc) s a q)
+    (eats_rest kinds.Hash (λ e. cc) (λ e. cc) a m p)
+by_read_rest {s = s} {m = m} (grammar.by_mark {a = a} q p) = rest_on (eats_rest kinds.By (λ e. cc) (λ e. cc) s a q)
+    (eats_rest kinds.Mark (λ e. cc) (λ e. cc) a m p)
 by_read_rest (grammar.marked h) = record { word = []; splits = refl; none = refl }
 
 mutual
@@ -163,7 +180,8 @@ mutual
 
   steps_rest : {l : Level} {r : Bool} {s m : At} {xs : List Step} → Steps l r s m xs → Rest s m
   steps_rest grammar.no_step = rest_same
-  steps_rest {l = l} {s = s} (grammar.a_step {o = o} h x k) = rest_on (some_rest s (operator_at l) o (no_operator l).0 (no_operator l).1 h) (rest_on (operand_rest x) (steps_rest k))
+  steps_rest {l = l} {s = s} (grammar.a_step {o = o} h x k) = rest_on (some_rest s (operator_at l) o (no_operator l).0 (no_operator l).1 h)
+      (rest_on (operand_rest x) (steps_rest k))
 
   comparison_rest : {r : Bool} {s m : At} {t : Tree} → IsComparison r s m t → Rest s m
   comparison_rest (grammar.alone x) = chain_rest x
@@ -182,46 +200,73 @@ mutual
   primary_rest {s = s} (grammar.call {a = a} {n = n} h x) = rest_on (name_rest s a n h) (arguments_rest x)
   primary_rest {s = s} (grammar.null {a = a} x0 x1) = rest_on (eats_rest kinds.Null (λ e. cc) (λ e. cc) s a x0) (plain_rest x1)
   primary_rest {s = s} (grammar.empty {a = a} x0 x1) = rest_on (eats_rest kinds.Empty (λ e. cc) (λ e. cc) s a x0) (type_rest x1)
-  primary_rest {s = s} {m = m} (grammar.brackets {a = a} {b = b} x0 x1 x2) = rest_on (eats_rest kinds.OpenRound (λ e. cc) (λ e. cc) s a x0) (rest_on (expr_rest x1) (eats_rest kinds.CloseRound (λ e. cc) (λ e. cc) b m x2))
-  primary_rest {s = s} {m = m} (grammar.tuple {a = a} {c = c} x0 x1 x2 x3 x4) = rest_on (eats_rest kinds.OpenRound (λ e. cc) (λ e. cc) s a x0) (rest_on (expr_rest x1) (rest_on (more_rest x3) (eats_rest kinds.CloseRound (λ e. cc) (λ e. cc) c m x4)))
-  primary_rest {s = s} {m = m} (grammar.list {a = a} {c = c} x0 x1 x2 x3) = rest_on (eats_rest kinds.OpenSquare (λ e. cc) (λ e. cc) s a x0) (rest_on (expr_rest x1) (rest_on (more_rest x2) (eats_rest kinds.CloseSquare (λ e. cc) (λ e. cc) c m x3)))
-  primary_rest {s = s} {m = m} (grammar.each {a = a} {b = b} {c = c} {d = d} {e = e} {f = f} {n = n} x0 x1 x2 x3 x4 x5 x6) = rest_on (eats_rest kinds.OpenSquare (λ e. cc) (λ e. cc) s a x0) (rest_on (expr_rest x1) (rest_on (eats_rest kinds.For (λ e. cc) (λ e. cc) b c x2) (rest_on (name_rest c d n x3) (rest_on (eats_rest kinds.In (λ e. cc) (λ e. cc) d e x4) (rest_on (expr_rest x5) (eats_rest kinds.CloseSquare (λ e. cc) (λ e. cc) f m x6))))))
+  primary_rest {s = s} {m = m} (grammar.brackets {a = a} {b = b} x0 x1 x2) = rest_on (eats_rest kinds.OpenRound (λ e. cc) (λ e. cc) s a x0)
+      (rest_on (expr_rest x1) (eats_rest kinds.CloseRound (λ e. cc) (λ e. cc) b m x2))
+  primary_rest {s = s} {m = m} (grammar.tuple {a = a} {c = c} x0 x1 x2 x3 x4) = rest_on (eats_rest kinds.OpenRound (λ e. cc) (λ e. cc) s a x0)
+      (rest_on (expr_rest x1) (rest_on (more_rest x3) (eats_rest kinds.CloseRound (λ e. cc) (λ e. cc) c m x4)))
+  primary_rest {s = s} {m = m} (grammar.list {a = a} {c = c} x0 x1 x2 x3) = rest_on (eats_rest kinds.OpenSquare (λ e. cc) (λ e. cc) s a x0)
+      (rest_on (expr_rest x1) (rest_on (more_rest x2) (eats_rest kinds.CloseSquare (λ e. cc) (λ e. cc) c m x3)))
+  primary_rest {s = s} {m = m} (grammar.each {a = a} {b = b} {c = c} {d = d} {e = e} {f = f} {n = n} x0 x1 x2 x3 x4 x5 x6) = rest_on
+      (eats_rest kinds.OpenSquare (λ e. cc) (λ e. cc) s a x0)
+      (rest_on (expr_rest x1) (rest_on (eats_rest kinds.For (λ e. cc) (λ e. cc) b c x2)
+      (rest_on (name_rest c d n x3) (rest_on (eats_rest kinds.In (λ e. cc) (λ e. cc) d e x4)
+      (rest_on (expr_rest x5) (eats_rest kinds.CloseSquare (λ e. cc) (λ e. cc) f m x6))))))
   primary_rest {s = s} (grammar.if_alone {a = a} x0 x1 x2) = rest_on (eats_rest kinds.If (λ e. cc) (λ e. cc) s a x0) (rest_on (expr_rest x1) (block_rest x2))
-  primary_rest {s = s} (grammar.if_else {a = a} {c = c} {d = d} x0 x1 x2 x3 x4) = rest_on (eats_rest kinds.If (λ e. cc) (λ e. cc) s a x0) (rest_on (expr_rest x1) (rest_on (block_rest x2) (rest_on (eats_rest kinds.Else (λ e. cc) (λ e. cc) c d x3) (block_rest x4))))
-  primary_rest {s = s} {m = m} (grammar.effect {a = a} {b = b} {k = k} h x1 x2 x3) = rest_on (some_rest s effect_at k refl refl h) (rest_on (eats_rest kinds.OpenRound (λ e. cc) (λ e. cc) (passed s) a x1) (rest_on (expr_rest x2) (eats_rest kinds.CloseRound (λ e. cc) (λ e. cc) b m x3)))
-  primary_rest {s = s} {m = m} (grammar.read {a = a} {b = b} {d = d} x0 x1 x2 x3 x4) = rest_on (eats_rest kinds.Read (λ e. cc) (λ e. cc) s a x0) (rest_on (eats_rest kinds.OpenRound (λ e. cc) (λ e. cc) a b x1) (rest_on (expr_rest x2) (rest_on (by_read_rest x3) (eats_rest kinds.CloseRound (λ e. cc) (λ e. cc) d m x4))))
-  primary_rest {s = s} {m = m} (grammar.write {a = a} {b = b} {c = c} {d = d} {e = e} x0 x1 x2 x3 x4 x5) = rest_on (eats_rest kinds.Write (λ e. cc) (λ e. cc) s a x0) (rest_on (eats_rest kinds.OpenRound (λ e. cc) (λ e. cc) a b x1) (rest_on (expr_rest x2) (rest_on (eats_rest kinds.Comma (λ e. cc) (λ e. cc) c d x3) (rest_on (expr_rest x4) (eats_rest kinds.CloseRound (λ e. cc) (λ e. cc) e m x5)))))
-  primary_rest {s = s} {m = m} (grammar.fail {a = a} {b = b} {c = c} {d = d} x0 x1 x2 x3 x4) = rest_on (eats_rest kinds.Fail (λ e. cc) (λ e. cc) s a x0) (rest_on (type_rest x1) (rest_on (eats_rest kinds.OpenRound (λ e. cc) (λ e. cc) b c x2) (rest_on (expr_rest x3) (eats_rest kinds.CloseRound (λ e. cc) (λ e. cc) d m x4))))
-  primary_rest {s = s} (grammar.require {a = a} {b = b} {n = n} x0 x1 x2 x3) = rest_on (eats_rest kinds.Require (λ e. cc) (λ e. cc) s a x0) (rest_on (name_rest a b n x1) (rest_on (arguments_rest x2) (by_require_rest x3)))
-  primary_rest {s = s} (grammar.run {a = a} {b = b} {n = n} x0 x1 x2) = rest_on (eats_rest kinds.Run (λ e. cc) (λ e. cc) s a x0) (rest_on (name_rest a b n x1) (arguments_rest x2))
+  primary_rest {s = s} (grammar.if_else {a = a} {c = c} {d = d} x0 x1 x2 x3 x4) = rest_on (eats_rest kinds.If (λ e. cc) (λ e. cc) s a x0)
+      (rest_on (expr_rest x1) (rest_on (block_rest x2) (rest_on (eats_rest kinds.Else (λ e. cc) (λ e. cc) c d x3) (block_rest x4))))
+  primary_rest {s = s} {m = m} (grammar.effect {a = a} {b = b} {k = k} h x1 x2 x3) = rest_on (some_rest s effect_at k refl refl h)
+      (rest_on (eats_rest kinds.OpenRound (λ e. cc) (λ e. cc) (passed s) a x1) (rest_on (expr_rest x2) (eats_rest kinds.CloseRound (λ e. cc) (λ e. cc) b m x3)))
+  primary_rest {s = s} {m = m} (grammar.read {a = a} {b = b} {d = d} x0 x1 x2 x3 x4) = rest_on (eats_rest kinds.Read (λ e. cc) (λ e. cc) s a x0)
+      (rest_on (eats_rest kinds.OpenRound (λ e. cc) (λ e. cc) a b x1)
+      (rest_on (expr_rest x2) (rest_on (by_read_rest x3) (eats_rest kinds.CloseRound (λ e. cc) (λ e. cc) d m x4))))
+  primary_rest {s = s} {m = m} (grammar.write {a = a} {b = b} {c = c} {d = d} {e = e} x0 x1 x2 x3 x4 x5) = rest_on
+      (eats_rest kinds.Write (λ e. cc) (λ e. cc) s a x0) (rest_on (eats_rest kinds.OpenRound (λ e. cc) (λ e. cc) a b x1)
+      (rest_on (expr_rest x2) (rest_on (eats_rest kinds.Comma (λ e. cc) (λ e. cc) c d x3)
+      (rest_on (expr_rest x4) (eats_rest kinds.CloseRound (λ e. cc) (λ e. cc) e m x5)))))
+  primary_rest {s = s} {m = m} (grammar.fail {a = a} {b = b} {c = c} {d = d} x0 x1 x2 x3 x4) = rest_on (eats_rest kinds.Fail (λ e. cc) (λ e. cc) s a x0)
+      (rest_on (type_rest x1) (rest_on (eats_rest kinds.OpenRound (λ e. cc) (λ e. cc) b c x2)
+      (rest_on (expr_rest x3) (eats_rest kinds.CloseRound (λ e. cc) (λ e. cc) d m x4))))
+  primary_rest {s = s} (grammar.require {a = a} {b = b} {n = n} x0 x1 x2 x3) = rest_on (eats_rest kinds.Require (λ e. cc) (λ e. cc) s a x0)
+      (rest_on (name_rest a b n x1) (rest_on (arguments_rest x2) (by_require_rest x3)))
+  primary_rest {s = s} (grammar.run {a = a} {b = b} {n = n} x0 x1 x2) = rest_on (eats_rest kinds.Run (λ e. cc) (λ e. cc) s a x0)
+      (rest_on (name_rest a b n x1) (arguments_rest x2))
 
   arguments_rest : {s m : At} {ts : List Tree} → Arguments s m ts → Rest s m
-  arguments_rest {s = s} {m = m} (grammar.none {a = a} q p) = rest_on (eats_rest kinds.OpenRound (λ e. cc) (λ e. cc) s a q) (eats_rest kinds.CloseRound (λ e. cc) (λ e. cc) a m p)
-  arguments_rest {s = s} {m = m} (grammar.some {a = a} {c = c} q x k p) = rest_on (eats_rest kinds.OpenRound (λ e. cc) (λ e. cc) s a q) (rest_on (expr_rest x) (rest_on (more_rest k) (eats_rest kinds.CloseRound (λ e. cc) (λ e. cc) c m p)))
+  arguments_rest {s = s} {m = m} (grammar.none {a = a} q p) = rest_on (eats_rest kinds.OpenRound (λ e. cc) (λ e. cc) s a q)
+      (eats_rest kinds.CloseRound (λ e. cc) (λ e. cc) a m p)
+  arguments_rest {s = s} {m = m} (grammar.some {a = a} {c = c} q x k p) = rest_on (eats_rest kinds.OpenRound (λ e. cc) (λ e. cc) s a q)
+      (rest_on (expr_rest x) (rest_on (more_rest k) (eats_rest kinds.CloseRound (λ e. cc) (λ e. cc) c m p)))
 
   more_rest : {s m : At} {ts : List Tree} → More s m ts → Rest s m
   more_rest grammar.no_more = rest_same
   more_rest {s = s} (grammar.one_more {a = a} q x k) = rest_on (eats_rest kinds.Comma (λ e. cc) (λ e. cc) s a q) (rest_on (expr_rest x) (more_rest k))
 
   block_rest : {s m : At} {t : BlockTree} → IsBlock s m t → Rest s m
-  block_rest {s = s} {m = m} (grammar.block {a = a} {b = b} q k p) = rest_on (eats_rest kinds.OpenBrace (λ e. cc) (λ e. cc) s a q) (rest_on (lines_rest k) (eats_rest kinds.CloseBrace (λ e. cc) (λ e. cc) b m p))
+  block_rest {s = s} {m = m} (grammar.block {a = a} {b = b} q k p) = rest_on (eats_rest kinds.OpenBrace (λ e. cc) (λ e. cc) s a q)
+      (rest_on (lines_rest k) (eats_rest kinds.CloseBrace (λ e. cc) (λ e. cc) b m p))
 
   lines_rest : {s m : At} {ls : List Line} {u : Option Tree} → Lines s m ls u → Rest s m
   lines_rest grammar.no_line = rest_same
   lines_rest (grammar.the_last x) = expr_rest x
   lines_rest (grammar.an_expr {a = a} {b = b} x q k) = rest_on (expr_rest x) (rest_on (eats_rest kinds.Semicolon (λ e. cc) (λ e. cc) a b q) (lines_rest k))
-  lines_rest {s = s} (grammar.a_val {a = a} {b = b} {c = c} {d = d} {e = e} {n = n} q i p x z k) = rest_on (eats_rest kinds.Val (λ e. cc) (λ e. cc) s a q) (rest_on (name_rest a b n i) (rest_on (eats_rest kinds.Assign (λ e. cc) (λ e. cc) b c p) (rest_on (expr_rest x) (rest_on (eats_rest kinds.Semicolon (λ e. cc) (λ e. cc) d e z) (lines_rest k)))))
+  lines_rest {s = s} (grammar.a_val {a = a} {b = b} {c = c} {d = d} {e = e} {n = n} q i p x z k) = rest_on (eats_rest kinds.Val (λ e. cc) (λ e. cc) s a q)
+      (rest_on (name_rest a b n i) (rest_on (eats_rest kinds.Assign (λ e. cc) (λ e. cc) b c p)
+      (rest_on (expr_rest x) (rest_on (eats_rest kinds.Semicolon (λ e. cc) (λ e. cc) d e z) (lines_rest k)))))
 
 param_rest : {s m : At} {p : Param} → IsParam s m p → Rest s m
-param_rest {s = s} (functions.param {a = a} {b = b} {n = n} i q t) = rest_on (name_rest s a n i) (rest_on (eats_rest kinds.Colon (λ e. cc) (λ e. cc) a b q) (type_rest t))
+param_rest {s = s} (functions.param {a = a} {b = b} {n = n} i q t) = rest_on (name_rest s a n i)
+    (rest_on (eats_rest kinds.Colon (λ e. cc) (λ e. cc) a b q) (type_rest t))
 
 more_params_rest : {s m : At} {ps : List Param} → MoreParams s m ps → Rest s m
 more_params_rest functions.no_more = rest_same
-more_params_rest {s = s} (functions.one_more {a = a} q x k) = rest_on (eats_rest kinds.Comma (λ e. cc) (λ e. cc) s a q) (rest_on (param_rest x) (more_params_rest k))
+more_params_rest {s = s} (functions.one_more {a = a} q x k) = rest_on (eats_rest kinds.Comma (λ e. cc) (λ e. cc) s a q)
+    (rest_on (param_rest x) (more_params_rest k))
 
 params_rest : {s m : At} {ps : List Param} → IsParams s m ps → Rest s m
-params_rest {s = s} {m = m} (functions.none {a = a} q p) = rest_on (eats_rest kinds.OpenRound (λ e. cc) (λ e. cc) s a q) (eats_rest kinds.CloseRound (λ e. cc) (λ e. cc) a m p)
-params_rest {s = s} {m = m} (functions.some {a = a} {c = c} q x k p) = rest_on (eats_rest kinds.OpenRound (λ e. cc) (λ e. cc) s a q) (rest_on (param_rest x) (rest_on (more_params_rest k) (eats_rest kinds.CloseRound (λ e. cc) (λ e. cc) c m p)))
+params_rest {s = s} {m = m} (functions.none {a = a} q p) = rest_on (eats_rest kinds.OpenRound (λ e. cc) (λ e. cc) s a q)
+    (eats_rest kinds.CloseRound (λ e. cc) (λ e. cc) a m p)
+params_rest {s = s} {m = m} (functions.some {a = a} {c = c} q x k p) = rest_on (eats_rest kinds.OpenRound (λ e. cc) (λ e. cc) s a q)
+    (rest_on (param_rest x) (rest_on (more_params_rest k) (eats_rest kinds.CloseRound (λ e. cc) (λ e. cc) c m p)))
 
 -- a word of one `func` and others, the last of which ends with the place
 pub record FunctionWord (s m : At) : Type 0 where
@@ -248,14 +293,17 @@ first_func s h = by_mark s.marked h
     by_mark true h = cc
     by_mark false h = by_rest s.rest refl h
 
-last_token : (k : Kind) (s m : At) → (kinds.End ≡ k → ⊥) → (kinds.Marked ≡ k → ⊥) → (kinds.Func ≡ k → ⊥) → Eats k s m → (t : Token) × (s.rest ≡ t ∷ m.rest) × (m.past ≡ t.end) × (is_func t.kind ≡ false)
+last_token : (k : Kind) (s m : At) → (kinds.End ≡ k → ⊥) → (kinds.Marked ≡ k → ⊥) → (kinds.Func ≡ k → ⊥) → Eats k s m → (t : Token) × (s.rest ≡ t ∷ m.rest)
+    × (m.past ≡ t.end) × (is_func t.kind ≡ false)
 last_token k s m d g f q = subst (λ z. (t : Token) × (s.rest ≡ t ∷ z.rest) × (z.past ≡ t.end) × (is_func t.kind ≡ false)) (sym q.1) (by_mark s.marked q.0)
   where
-    by_rest : (ts : List Token) → s.rest ≡ ts → first_kind ts ≡ k → (t : Token) × (s.rest ≡ t ∷ (behind s ts).rest) × ((behind s ts).past ≡ t.end) × (is_func t.kind ≡ false)
+    by_rest : (ts : List Token) → s.rest ≡ ts → first_kind ts ≡ k → (t : Token) × (s.rest ≡ t ∷ (behind s ts).rest) × ((behind s ts).past ≡ t.end)
+        × (is_func t.kind ≡ false)
     by_rest [] e h = absurd (d h)
     by_rest (t ∷ ts) e h = (t, e, refl, not_func t.kind (λ j. f (sym j ∙ h)))
 
-    by_mark : (b : Bool) → cond b kinds.Marked (first_kind s.rest) ≡ k → (t : Token) × (s.rest ≡ t ∷ (passed s).rest) × ((passed s).past ≡ t.end) × (is_func t.kind ≡ false)
+    by_mark : (b : Bool) → cond b kinds.Marked (first_kind s.rest) ≡ k → (t : Token) × (s.rest ≡ t ∷ (passed s).rest) × ((passed s).past ≡ t.end)
+        × (is_func t.kind ≡ false)
     by_mark true h = absurd (g h)
     by_mark false h = by_rest s.rest refl h
 
@@ -266,7 +314,9 @@ behind_first s a t ts e h = ap (λ (z : At). z.rest) h ∙ ap (λ r. (behind s r
 pub function_word : {s m : At} {f : FunctionTree} → IsFunction s m f → FunctionWord s m
 function_word {s = s} {m = m} (functions.function {a = a} {b = b} {c = c} {d = d} {n = n} q i k p z (grammar.block {a = g} {b = h} o ls v)) =
     let u = first_func s q.0 in
-    let w : Rest a h = rest_on (name_rest a b n i) (rest_on (params_rest k) (rest_on (eats_rest kinds.Arrow (λ e. cc) (λ e. cc) c d p) (rest_on (type_rest z) (rest_on (eats_rest kinds.OpenBrace (λ e. cc) (λ e. cc) _ g o) (lines_rest ls))))) in
+    let w : Rest a h = rest_on (name_rest a b n i) (rest_on (params_rest k)
+    (rest_on (eats_rest kinds.Arrow (λ e. cc) (λ e. cc) c d p)
+    (rest_on (type_rest z) (rest_on (eats_rest kinds.OpenBrace (λ e. cc) (λ e. cc) _ g o) (lines_rest ls))))) in
     let l = last_token kinds.CloseBrace h m (λ e. cc) (λ e. cc) (λ e. cc) v in
     record {
       func = u.0;

@@ -4,7 +4,8 @@ use Rattle.std.proofs.Common.{refl, sym, ap, subst, ◌∙◌, arith, inl, inr}
 use Rattle.std.specs.Prelude.{All, Contains, Option, Some, None, is_some, max}
 use Rattle.std.specs.List.{AllPairs, flat_map}
 use Rattle.std.proofs.lemmas.Bool.{cases_lt}
-use Rattle.std.proofs.lemmas.List.{take-append-drop, take-append-le, drop_more, take-map, get_or-map, get_or-take, get_or_append_left, get_or_push, length_push, length-take, length-map}
+use Rattle.std.proofs.lemmas.List.{take-append-drop, take-append-le, drop_more, take-map, get_or-map, get_or-take, get_or_append_left, get_or_push, length_push}
+use Rattle.std.proofs.lemmas.List.{length-take, length-map}
 use Rattle.std.proofs.Math.Seq.{take-append_seam}
 use Rattle.std.proofs.lemmas.List.Elements.{All-nil, All-cons, All-head, All-tail}
 use Rattle.pie_value.specs.declared.task.Task.{Task}

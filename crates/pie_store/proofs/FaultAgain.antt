@@ -74,7 +74,10 @@ order_kept known rows o fit func = record {
   admitted = order_admitted known rows o fit func;
   ascending = λ i j d lt in_list.
       let inside : j < length rows = omega (arith, in_list, length-map {B = TaskRecord × ℕ} rows (λ (r : TaskRecord). (r, o.height r.task))) in
-      rw (get_or-map (λ (r : TaskRecord). (r, o.height r.task)) rows i d.0 d (omega (arith, lt, inside)), get_or-map (λ (r : TaskRecord). (r, o.height r.task)) rows j d.0 d inside)
+      rw (
+        get_or-map (λ (r : TaskRecord). (r, o.height r.task)) rows i d.0 d (omega (arith, lt, inside)),
+        get_or-map (λ (r : TaskRecord). (r, o.height r.task)) rows j d.0 d inside,
+      )
       (o.ascending i j d.0 lt inside);
 }
 
@@ -117,7 +120,8 @@ rows_misplaced known pipeline funcs end bs k w le h =
     let rest = enc_record x ++ after in
     let at = end - length rest in
     let fails : next_row known end ys rest ≡ Err (Order at) =
-    ap (λ (p : Parsed TaskRecord). then_on p (λ r left. ranked_as at (height_after known ys r) r left)) (part_again record_codec end x after (h.4.storable, h.4.parts))
+    ap (λ (p : Parsed TaskRecord). then_on p (λ r left. ranked_as at (height_after known ys r) r left))
+    (part_again record_codec end x after (h.4.storable, h.4.parts))
     ∙ ap (λ (c : Option ℕ). ranked_as at c x after) (none_after (height_after known (ranked h.3.good.1.height h.0) h.1) refl) in
     comes_at _ _ _ (ap (λ (m : ℕ). Order m) (place_is enc_record (AreRows pipeline funcs) end bs before rest k b le h.6))
     (list_err end (next_row known end) enc_record (AreRows pipeline funcs) bs before rest ys (Order at) b

@@ -68,7 +68,8 @@ number_err end bs few = by (nat_le 4 (length bs)) refl
     by : (b : Bool) → nat_le 4 (length bs) ≡ b → part_at end number_at bs ≡ Err (Row (end - length bs))
     by true y = absurd (omega (arith, few, leb-true 4 (length bs) y))
     by false y =
-        ap (λ (b : Bool). placed (end - length bs) (told (then_value (cond b (Ok (take 4 bs, drop 4 bs)) (Err TooShort)) (λ ds rest. Ok (from_be_bytes w32 ds, rest))))) y
+        ap (λ (b : Bool). placed (end - length bs) (told (then_value (cond b (Ok (take 4 bs, drop 4 bs)) (Err TooShort))
+        (λ ds rest. Ok (from_be_bytes w32 ds, rest))))) y
 
 pub back_bytes : (xs ys : List ℕ) → IsBytes (xs ++ ys) → IsBytes ys
 back_bytes xs ys h i = subst (λ (b : ℕ). b < 256) (get_or-append-add xs ys i 0) (h (length xs + i))
@@ -181,7 +182,8 @@ funcs_misplaced end bs k le h =
     ap (λ (p : Part (List ℕ × List ℕ)). then_on (placed at p) (λ f left. ordered at (name_last before f.0) f left)) (func_again x after h.4)
     ∙ ap (λ (c : Bool). ordered at c x after) (not_last (name_last before x.0) refl b.good h.4 h.5) in
     comes_at _ _ _ (ap (λ (m : ℕ). Order m) (place_is enc_func AreTable end bs before rest k b le h.6))
-    (list_err end (next_func end) enc_func AreTable bs before rest before (Order at) b (funcs_begun end before rest b.good (omega (arith, more, number))) (inl fails))
+    (list_err end (next_func end) enc_func AreTable bs before rest before (Order at) b (funcs_begun end before rest b.good (omega (arith, more, number)))
+    (inl fails))
   where
     not_last : (c : Bool) → name_last h.0 h.1.0 ≡ c → AreTable h.0 → IsFunc h.1 → ¬ (AreTable (h.0 ++ h.1 ∷ [])) → name_last h.0 h.1.0 ≡ false
     not_last true e t fit n = absurd (n (table_push h.0 h.1 t fit e))

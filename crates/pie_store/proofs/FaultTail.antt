@@ -94,7 +94,8 @@ pub tail_root : (version : ℕ) (inside : List ℕ) (h : Head version inside) (e
     → TailComes h end (Row (roots_at h + k))
 tail_root version inside h end k pl u known v p f w =
     comes_at _ _ _ (ap (λ (m : ℕ). Row (m + k)) pl.at)
-    (then_image_comes (list_at end (next_root end) h.rest) (after_roots end known v p f) (Row ((end - length h.rest) + k)) (roots_unread end h.rest k pl.fits pl.within u))
+    (then_image_comes (list_at end (next_root end) h.rest) (after_roots end known v p f) (Row ((end - length h.rest) + k))
+    (roots_unread end h.rest k pl.fits pl.within u))
 
 pub tail_row : (version : ℕ) (inside : List ℕ) (h : Head version inside) (r : Roots h.rest) (end k : ℕ) → Placed h end
     → Unreadable enc_record IsRow (AreRows h.pipeline h.funcs) r.rest k → TailComes h end (Row (rows_at h r + k))
@@ -160,7 +161,8 @@ first_is rows (x ∷ b) r a e f = by (is_some (rank_in rows x.0)) e (λ g. first
     by true g more = more g
     by false g more = absurd (cc (g))
 
-pub tail_missing : (version : ℕ) (inside : List ℕ) (h : Head version inside) (r : Roots h.rest) (w : Rows h.pipeline h.funcs r.rest) (before : List Task) (root : Task)
+pub tail_missing : (version : ℕ) (inside : List ℕ) (h : Head version inside) (r : Roots h.rest) (w : Rows h.pipeline h.funcs r.rest) (before : List Task)
+    (root : Task)
     (after : List Task) (end : ℕ) → Placed h end → r.roots ≡ before ++ root ∷ after → All (λ (t : Task). Contains (tasks_in w.rows) t) before
     → ¬ (Contains (tasks_in w.rows) root) → TailComes h end (Order (roots_at h + (4 + length (flat_map enc_task before))))
 tail_missing version inside h r w before root after end pl split found absent known v p f k =

@@ -40,7 +40,8 @@ says version inside = cond (version == 1) (contents_1 (5 + length inside) inside
 
 head_placed : (version : ℕ) (inside : List ℕ) (h : Head version inside) → IsBytes inside → Placed h (5 + length inside)
 head_placed version inside h fits =
-    let shorter : length inside ≡ length (enc_head h.pipeline h.funcs) + length h.rest = ap length h.parts ∙ length-append (enc_head h.pipeline h.funcs) h.rest in
+    let shorter : length inside ≡ length (enc_head h.pipeline h.funcs) + length h.rest = ap length h.parts
+    ∙ length-append (enc_head h.pipeline h.funcs) h.rest in
     record {
       fits = back_bytes (enc_head h.pipeline h.funcs) h.rest (subst IsBytes h.parts fits);
       within = omega (arith, shorter);
@@ -75,14 +76,16 @@ head_comes version inside h e t = by h.pipeline refl
         comes_by _ (tail_of end (knows None) 1 (Some digest) [] h.rest) e
         (ap (λ (v : ℕ). says v inside) f.0
         ∙ ap (λ (bs : List ℕ). then_image (part_at end (bytes_at 32) bs) (λ d rest. tail_of end (knows None) 1 (Some d) [] rest)) parts
-        ∙ ap (λ (x : Parsed (List ℕ)). then_image x (λ d rest. tail_of end (knows None) 1 (Some d) [] rest)) (part_again (bytes_codec 32) end digest h.rest f.1))
+        ∙ ap (λ (x : Parsed (List ℕ)). then_image x (λ d rest. tail_of end (knows None) 1 (Some d) [] rest))
+        (part_again (bytes_codec 32) end digest h.rest f.1))
         (t (knows None) 1 (Some digest) [] known)
 
 five_more : (n : ℕ) → (5 + n) - n ≡ 5
 five_more n = omega arith
 
 -- a fault in the table
-table_comes : (version : ℕ) (inside : List ℕ) (e d : StoreFault) → version ≡ 2 → e ≡ d → Comes (list_at (5 + length inside) (next_func (5 + length inside)) inside) e
+table_comes : (version : ℕ) (inside : List ℕ) (e d : StoreFault) → version ≡ 2 → e ≡ d
+    → Comes (list_at (5 + length inside) (next_func (5 + length inside)) inside) e
     → Comes (says version inside) d
 unfolding says
 table_comes version inside e d two same c =
@@ -107,7 +110,8 @@ inside_comes version inside fits (row_unread h r k u) =
 inside_comes version inside fits (row_misplaced h r k u) =
     head_comes version inside h _ (tail_misplaced version inside h r (5 + length inside) k (head_placed version inside h fits) u)
 inside_comes version inside fits (root_missing h r w before root after split found absent) =
-    head_comes version inside h _ (tail_missing version inside h r w before root after (5 + length inside) (head_placed version inside h fits) split found absent)
+    head_comes version inside h _ (tail_missing version inside h r w before root after (5 + length inside)
+    (head_placed version inside h fits) split found absent)
 inside_comes version inside fits (left_over h r w found lt) = head_comes version inside h _ (tail_left version inside h r w (5 + length inside) found lt)
 
 -- ---- the frame
@@ -159,14 +163,16 @@ body_is version inside =
 
 fault_comes : (bs : List ℕ) {e : StoreFault} → IsBytes bs → HasFault bs e → Comes (store_says bs) e
 fault_comes bs fits (too_short l) =
-    inl (ap on_body (ap (λ (b : Bool). cond b (Err Short) (cond (bytes_eq (take 4 bs) magic) (versioned (slice_index bs 4) bs) (Err Magic))) (lt-ltb (length bs) 49 l)))
+    inl (ap on_body (ap (λ (b : Bool). cond b (Err Short) (cond (bytes_eq (take 4 bs) magic) (versioned (slice_index bs 4) bs) (Err Magic)))
+    (lt-ltb (length bs) 49 l)))
 fault_comes bs fits (other_magic l m) =
     inl (ap on_body
     (ap (λ (b : Bool). cond b (Err Short) (cond (bytes_eq (take 4 bs) magic) (versioned (slice_index bs 4) bs) (Err Magic))) (le-ltb (length bs) 49 l)
     ∙ ap (λ (b : Bool). cond b (versioned (slice_index bs 4) bs) (Err Magic)) (unlike (take 4 bs) magic m)))
 fault_comes bs fits (other_version l m one two) =
     inl (ap on_body (framed_on bs (Err Version) l m
-    (ap (λ (b : Bool). cond b (cond (nat_lt (length bs) 77) (Err Short) (sealed bs)) (cond (slice_index bs 4 == 2) (sealed bs) (Err Version))) (other (slice_index bs 4) 1 one)
+    (ap (λ (b : Bool). cond b (cond (nat_lt (length bs) 77) (Err Short) (sealed bs)) (cond (slice_index bs 4 == 2) (sealed bs) (Err Version)))
+    (other (slice_index bs 4) 1 one)
     ∙ ap (λ (b : Bool). cond b (sealed bs) (Err Version)) (other (slice_index bs 4) 2 two))))
 fault_comes bs fits (too_short_for_1 l m one few) =
     inl (ap on_body (framed_on bs (Err Short) l m

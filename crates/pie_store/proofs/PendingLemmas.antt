@@ -5,7 +5,8 @@ use Rattle.std.specs.Prelude.{All, Option, Some, None, slice_get, ◌==◌}
 use Rattle.std.specs.List.{position, position_or_len}
 use Rattle.std.proofs.lemmas.List.Sums.{fails_before_first}
 use Rattle.std.proofs.lemmas.Bool.{eqb-true, ltb-false, cases_lt}
-use Rattle.std.proofs.lemmas.List.{drop_more, take-append-drop, length-take, get_or-take, length-append, get_or_append_left, get_or_push, length_push, get_or_default}
+use Rattle.std.proofs.lemmas.List.{drop_more, take-append-drop, length-take, get_or-take, length-append, get_or_append_left, get_or_push, length_push}
+use Rattle.std.proofs.lemmas.List.{get_or_default}
 use Rattle.std.proofs.lemmas.List.Quantifiers.{position-Some}
 use Rattle.std.proofs.lemmas.List.Elements.{All-nil, All-push, All-head, All-tail}
 use Rattle.std.proofs.lemmas.Option.{slice_get-get_or}

@@ -101,7 +101,8 @@ pub none_missing : (height : Task → ℕ) (rows : List TaskRecord) (roots : Lis
     → All IsStored (tasks_of roots) → All (λ (t : Task). Contains (tasks_in rows) t) (tasks_of roots) → first_missing (ranked height rows) roots ≡ None
 none_missing height rows [] a s h = refl
 none_missing height rows (r ∷ roots) a s h =
-    let found = rank_found height rows r.0 a (All-head IsStored r.0 (tasks_of roots) s) (All-head (λ (t : Task). Contains (tasks_in rows) t) r.0 (tasks_of roots) h) in
+    let found = rank_found height rows r.0 a (All-head IsStored r.0 (tasks_of roots) s)
+    (All-head (λ (t : Task). Contains (tasks_in rows) t) r.0 (tasks_of roots) h) in
     ap (λ (o : Option ℕ). cond (is_some o) (first_missing (ranked height rows) roots) (Some r.1)) found
     ∙ none_missing height rows roots a (All-tail IsStored r.0 (tasks_of roots) s) (All-tail (λ (t : Task). Contains (tasks_in rows) t) r.0 (tasks_of roots) h)
 

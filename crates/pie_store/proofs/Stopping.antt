@@ -79,7 +79,8 @@ pub record Stops {A : Type 0} (one : List A → List ℕ → Parsed A) (bytes : 
   pub fits : IsBytes rest
   pub fails : one before rest ≡ Err e
 
-pub record SomeStop {A : Type 0} (one : List A → List ℕ → Parsed A) (bytes : A → List ℕ) (P : List A → Type 0) (n : ℕ) (xs : List A) (bs : List ℕ) (e : StoreFault) : Type 0 where
+pub record SomeStop {A : Type 0} (one : List A → List ℕ → Parsed A) (bytes : A → List ℕ) (P : List A → Type 0) (n : ℕ) (xs : List A) (bs : List ℕ)
+    (e : StoreFault) : Type 0 where
   pub more : List A
   pub rest : List ℕ
   pub fewer : length more < n

@@ -48,7 +48,8 @@ root_fails end xs bs e n x = by (then_err (part_at end task_at bs) (λ t rest. O
 pub roots_fault : (end : ℕ) (bs : List ℕ) (e : StoreFault) → IsBytes bs → length bs ≤ end → Named e → list_at end (next_root end) bs ≡ Err e
     → (k : ℕ) × (e ≡ Row ((end - length bs) + k)) × Unreadable enc_task IsStored (All IsStored) bs k
 roots_fault end bs e fits le n f =
-    by (list_stop end (next_root end) root_bytes IsRoot (All IsRoot) (roots_taker end) (λ xs b x rest p fit g. All-push IsRoot xs x p fit) bs e fits (All-nil IsRoot) n f)
+    by (list_stop end (next_root end) root_bytes IsRoot (All IsRoot) (roots_taker end) (λ xs b x rest p fit g. All-push IsRoot xs x p fit) bs e fits
+    (All-nil IsRoot) n f)
   where
     by : ((length bs < 4) × (e ≡ Row (end - length bs))) ⊎ Stops (next_root end) root_bytes (All IsRoot) bs e
         → (k : ℕ) × (e ≡ Row ((end - length bs) + k)) × Unreadable enc_task IsStored (All IsStored) bs k
@@ -132,16 +133,23 @@ not_admitted known pipeline funcs rows x w k e good =
     let r = order_admitted known all o good.0 func in
     let whole = ranked o.height all in
     let long : length whole ≡ n + 1 =
-    omega (arith, length-map {B = TaskRecord × ℕ} all (λ (z : TaskRecord). (z, o.height z.task)), length_push (rows_of rows) x, length-map rows (λ (z : TaskRecord × ℕ). z.0)) in
+    omega (
+      arith,
+      length-map {B = TaskRecord × ℕ} all (λ (z : TaskRecord). (z, o.height z.task)),
+      length_push (rows_of rows) x,
+      length-map rows (λ (z : TaskRecord × ℕ). z.0),
+    ) in
     let firsts : (i : ℕ) (d : TaskRecord × ℕ) → i < length whole → i < n → (get_or whole i d).0 ≡ (get_or rows i d).0 =
     λ i d lw lr.
     ap (λ (z : TaskRecord × ℕ). z.0)
-    (get_or-map (λ (z : TaskRecord). (z, o.height z.task)) all i d.0 d (omega (arith, lr, length_push (rows_of rows) x, length-map rows (λ (z : TaskRecord × ℕ). z.0))))
+    (get_or-map (λ (z : TaskRecord). (z, o.height z.task)) all i d.0 d
+    (omega (arith, lr, length_push (rows_of rows) x, length-map rows (λ (z : TaskRecord × ℕ). z.0))))
     ∙ get_or_append_left (rows_of rows) (x ∷ []) d.0 i (omega (arith, lr, length-map rows (λ (z : TaskRecord × ℕ). z.0)))
     ∙ get_or-map (λ (z : TaskRecord × ℕ). z.0) rows i d d.0 lr in
     let front : take n whole ≡ rows = same_front known whole rows r k.admitted firsts n (omega (arith, long)) (omega arith) ∙ take-length rows in
     let last : get_or whole n (x, 0) ≡ (x, o.height x.task) =
-    get_or-map (λ (z : TaskRecord). (z, o.height z.task)) all n x (x, 0) (omega (arith, length_push (rows_of rows) x, length-map rows (λ (z : TaskRecord × ℕ). z.0)))
+    get_or-map (λ (z : TaskRecord). (z, o.height z.task)) all n x (x, 0)
+    (omega (arith, length_push (rows_of rows) x, length-map rows (λ (z : TaskRecord × ℕ). z.0)))
     ∙ ap (λ (z : TaskRecord). (z, o.height z.task)) (get_or_push (rows_of rows) x x n (length-map rows (λ (z : TaskRecord × ℕ). z.0))) in
     let a : Admits known rows x (o.height x.task) =
     subst (λ (z : TaskRecord × ℕ). Admits known rows z.0 z.1) last
@@ -157,7 +165,8 @@ row_fails known end rows bs e n x =
   where
     Answer : Type 0
     Answer = ((e ≡ Row (end - length bs)) × NoneInFront enc_record IsRow bs)
-        ⊎ ((e ≡ Order (end - length bs)) × ((r : TaskRecord) × (after : List ℕ) × (part_at end record_at bs ≡ Ok (r, after)) × (height_after known rows r ≡ None)))
+        ⊎ ((e ≡ Order (end - length bs)) × ((r : TaskRecord) × (after : List ℕ) × (part_at end record_at bs ≡ Ok (r, after))
+        × (height_after known rows r ≡ None)))
 
     late : (o : Option ℕ) (r : TaskRecord) (mid : List ℕ) → part_at end record_at bs ≡ Ok (r, mid) → height_after known rows r ≡ o
         → ranked_as (end - length bs) o r mid ≡ Err e → Answer

@@ -23,7 +23,8 @@ use Rattle.pie_store.specs.declared.store_fault.StoreFault.{StoreFault}
 use Rattle.pie_store.specs.Canonical.{enc_func, tasks_in, AreFuncs}
 use Rattle.pie_store.specs.Ranks.{Ranked, rank_in, height_after, IsStored, IsStoredOn}
 use Rattle.pie_store.specs.Texts.{IsFunc, IsRow}
-use Rattle.pie_store.specs.Reading.{Parsed, then_on, placed, part_at, ordered, some_at, list_at, func_at, name_follows, name_last, next_func, next_root, ranked_as, next_row}
+use Rattle.pie_store.specs.Reading.{Parsed, then_on, placed, part_at, ordered, some_at, list_at, func_at, name_follows, name_last, next_func, next_root}
+use Rattle.pie_store.specs.Reading.{ranked_as, next_row}
 use Rattle.pie_store.specs.Reading.{first_missing, rows_of, then_image}
 use Rattle.pie_store.proofs.Turns.{same_value, same_rest}
 use Rattle.pie_store.proofs.Pairs.{pairs_push, last_is, Ahead, ahead_is, ahead_on, ahead_trans}

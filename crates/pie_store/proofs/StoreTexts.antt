@@ -25,7 +25,8 @@ use Rattle.pie_store.specs.Ranks.{knows, IsStored}
 use Rattle.pie_store.specs.Texts.{IsFunc, IsRow, IsFormat, AreKnown, IsStore, IsStoreText}
 use Rattle.pie_store.specs.Agreement.{AgreesWhole}
 use Rattle.pie_store.specs.Reading.{part_at, list_at, next_func, next_root, next_row}
-use Rattle.pie_store.specs.Reading.{first_missing, closed, tasks_of, rows_of, then_image, image_of, tail_of, contents_1, contents_2, body_says, on_body, store_says}
+use Rattle.pie_store.specs.Reading.{first_missing, closed, tasks_of, rows_of, then_image, image_of, tail_of, contents_1, contents_2, body_says, on_body}
+use Rattle.pie_store.specs.Reading.{store_says}
 use Rattle.pie_store.proofs.Admitted.{AreKept, kept_none, kept_in_order}
 use Rattle.pie_store.proofs.StoreParts.{FuncBefore, IsRankedRow, IsRoot, deps_stored, funcs_push}
 use Rattle.pie_store.proofs.StoreParts.{funcs_taker, list_kept, list_taken, placed_ok, root_bytes, roots_found, roots_taker}
@@ -71,7 +72,8 @@ tail_taken : (end : ℕ) (known : List ℕ → Bool) (version : ℕ) (pipeline :
     → IsBytes bs → tail_of end known version pipeline funcs bs ≡ Ok s → IsTail known version pipeline funcs bs s
 tail_taken end known version pipeline funcs bs s fits e =
     let h = then_image_ok (list_at end (next_root end) bs) (λ roots after.
-    then_image (list_at end (next_row known end) after) (λ rows rest. closed (first_missing rows roots) rest (image_of version pipeline funcs roots rows))) s e in
+    then_image (list_at end (next_row known end) after) (λ rows rest.
+    closed (first_missing rows roots) rest (image_of version pipeline funcs roots rows))) s e in
     let p = list_taken end (next_root end) root_bytes IsRoot (roots_taker end) bs h.0 h.1 fits h.2 in
     let i = then_image_ok (list_at end (next_row known end) h.1)
     (λ rows rest. closed (first_missing rows h.0) rest (image_of version pipeline funcs h.0 rows)) s h.3 in
@@ -185,20 +187,22 @@ pub record IsFrame (bs body : List ℕ) : Type 0 where
   pub long : ((version ≡ 1) × (77 ≤ length bs)) ⊎ ((version ≡ 2) × (49 ≤ length bs))
   pub bytes : bs ≡ body ++ sha256 body
 
-pub cond_ok : (b : Bool) (r q : Result (List ℕ) StoreFault) (body : List ℕ) → cond b r q ≡ Ok body → ((b ≡ true) × (r ≡ Ok body)) ⊎ ((b ≡ false) × (q ≡ Ok body))
+pub cond_ok : (b : Bool) (r q : Result (List ℕ) StoreFault) (body : List ℕ) → cond b r q ≡ Ok body → ((b ≡ true) × (r ≡ Ok body))
+    ⊎ ((b ≡ false) × (q ≡ Ok body))
 cond_ok true r q body e = inl (refl, e)
 cond_ok false r q body e = inr (refl, e)
 
 sealed_ok : (bs body : List ℕ) → sealed bs ≡ Ok body → (body ≡ take (length bs - 32) bs) × (bs ≡ body ++ sha256 body)
-sealed_ok bs body e = elim (cond_ok (bytes_eq (sha256 (take (length bs - 32) bs)) (drop (length bs - 32) bs)) (Ok (take (length bs - 32) bs)) (Err Digest) body e) [
-  | inl h ↦
-      let front = take (length bs - 32) bs in
-      let back = drop (length bs - 32) bs in
-      let b : front ≡ body = cc (h.1) in
-      let d : sha256 front ≡ back = (bytes_eq-Decides (sha256 front) back).0 h.0 in
-      (sym b, sym (take-append-drop (length bs - 32) bs) ∙ ap (λ (t : List ℕ). front ++ t) (sym d) ∙ ap (λ (t : List ℕ). t ++ sha256 t) b)
-  | inr h ↦ absurd (cc (h.1))
-]
+sealed_ok bs body e = elim (cond_ok (bytes_eq (sha256 (take (length bs - 32) bs)) (drop (length bs - 32) bs)) (Ok (take (length bs - 32) bs))
+    (Err Digest) body e) [
+      | inl h ↦
+          let front = take (length bs - 32) bs in
+          let back = drop (length bs - 32) bs in
+          let b : front ≡ body = cc (h.1) in
+          let d : sha256 front ≡ back = (bytes_eq-Decides (sha256 front) back).0 h.0 in
+          (sym b, sym (take-append-drop (length bs - 32) bs) ∙ ap (λ (t : List ℕ). front ++ t) (sym d) ∙ ap (λ (t : List ℕ). t ++ sha256 t) b)
+      | inr h ↦ absurd (cc (h.1))
+    ]
 
 five : (bs : List ℕ) → 49 ≤ length bs → take 4 bs ≡ magic → bs ≡ magic ++ (slice_index bs 4 ∷ drop 5 bs)
 five bs long e =
@@ -210,13 +214,14 @@ cut n v t le =
     ap (λ (k : ℕ). take k (magic ++ (v ∷ t))) e
 
 pub frame_ok : (bs body : List ℕ) → framed bs ≡ Ok body → IsFrame bs body
-frame_ok bs body e = elim (cond_ok (nat_lt (length bs) 49) (Err Short) (cond (bytes_eq (take 4 bs) magic) (versioned (slice_index bs 4) bs) (Err Magic)) body e) [
-  | inl h ↦ absurd (cc (h.1))
-  | inr h ↦ elim (cond_ok (bytes_eq (take 4 bs) magic) (versioned (slice_index bs 4) bs) (Err Magic) body h.1) [
-    | inl m ↦ with_version (ltb-false (length bs) 49 h.0) ((bytes_eq-Decides (take 4 bs) magic).0 m.0) m.1
-    | inr m ↦ absurd (cc (m.1))
-  ]
-]
+frame_ok bs body e = elim (cond_ok (nat_lt (length bs) 49) (Err Short)
+    (cond (bytes_eq (take 4 bs) magic) (versioned (slice_index bs 4) bs) (Err Magic)) body e) [
+      | inl h ↦ absurd (cc (h.1))
+      | inr h ↦ elim (cond_ok (bytes_eq (take 4 bs) magic) (versioned (slice_index bs 4) bs) (Err Magic) body h.1) [
+        | inl m ↦ with_version (ltb-false (length bs) 49 h.0) ((bytes_eq-Decides (take 4 bs) magic).0 m.0) m.1
+        | inr m ↦ absurd (cc (m.1))
+      ]
+    ]
   where
     made : (n : 49 ≤ length bs) → take 4 bs ≡ magic → ((slice_index bs 4 ≡ 1) × (77 ≤ length bs)) ⊎ ((slice_index bs 4 ≡ 2) × (49 ≤ length bs))
         → sealed bs ≡ Ok body → IsFrame bs body

@@ -143,7 +143,8 @@ tail_fault version inside h known end v pipeline funcs e w fits le at n f = elim
       | inr g ↦ with_roots g.0 g.1 g.2 g.3
     ]
   where
-    with_rows : (roots : List (Task × ℕ)) (mid : List ℕ) (r : Roots h.rest) (rows : Ranked) (rest : List ℕ) → list_at end (next_root end) h.rest ≡ Ok (roots, mid)
+    with_rows : (roots : List (Task × ℕ)) (mid : List ℕ) (r : Roots h.rest) (rows : Ranked) (rest : List ℕ)
+        → list_at end (next_root end) h.rest ≡ Ok (roots, mid)
         → r.roots ≡ tasks_of roots → r.rest ≡ mid → (w : Rows h.pipeline h.funcs r.rest) → w.rows ≡ rows_of rows → w.rest ≡ rest
         → closed (first_missing rows roots) rest (image_of v pipeline funcs roots rows) ≡ Err e → FaultInside version inside e
     with_rows roots mid r rows rest read is left w same over g = elim (closed_err (first_missing rows roots) rest (image_of v pipeline funcs roots rows) e g) [
@@ -157,7 +158,8 @@ tail_fault version inside h known end v pipeline funcs e w fits le at n f = elim
           let fronts : All IsRoot s.before = front_all IsRoot s.before (s.root ∷ s.after) (subst (All IsRoot) s.parts named) in
           let found : All (λ (t : Task). Contains (tasks_in w.rows) t) (tasks_of s.before) =
           firsts_all {B = ℕ} (λ (t : Task). Contains (tasks_in w.rows) t) s.before
-          (subst (λ (l : List TaskRecord). All (λ (x : Task × ℕ). Contains (tasks_in l) x.0) s.before) (sym same) (roots_found rows s.before stored fronts s.found)) in
+          (subst (λ (l : List TaskRecord). All (λ (x : Task × ℕ). Contains (tasks_in l) x.0) s.before) (sym same)
+          (roots_found rows s.before stored fronts s.found)) in
           let absent : ¬ (Contains (tasks_in w.rows) s.root.0) =
           subst (λ (l : List TaskRecord). ¬ (Contains (tasks_in l) s.root.0)) (sym same) (absent_from rows s.root.0 s.missing) in
           let bytes : h.rest ≡ listed enc_task (tasks_of roots) ++ mid =
@@ -196,7 +198,8 @@ tail_fault version inside h known end v pipeline funcs e w fits le at n f = elim
         ap length r.parts ∙ length-append (listed enc_task (tasks_of roots)) mid in
         let behind : end - length mid ≡ rows_at h r = omega (arith, at, le, shorter) in
         let less : length mid ≤ end = omega (arith, le, shorter) in
-        elim (then_image_err (list_at end (next_row known end) mid) (λ rows rest. closed (first_missing rows roots) rest (image_of v pipeline funcs roots rows)) e g) [
+        elim (then_image_err (list_at end (next_row known end) mid)
+        (λ rows rest. closed (first_missing rows roots) rest (image_of v pipeline funcs roots rows)) e g) [
           | inl x ↦ elim (rows_fault known h.pipeline h.funcs end mid e w p.takes.rest_fits less n x) [
             | inl y ↦ subst (FaultInside version inside) (sym (y.1 ∙ ap (λ (m : ℕ). Row (m + y.0)) behind)) (row_unread h r y.0 y.2)
             | inr y ↦ subst (FaultInside version inside) (sym (y.1 ∙ ap (λ (m : ℕ). Order (m + y.0)) behind)) (row_misplaced h r y.0 y.2)

@@ -50,7 +50,8 @@ contents_2_again end s h none =
     ap (λ (o : Option (List ℕ)). contents_2 end (enc_head o s.funcs ++ rest_of s)) none
     ∙ ap (λ (p : Parsed (List (List ℕ × List ℕ))). then_image p (λ funcs rest. tail_of end (knows (Some funcs)) 2 None funcs rest))
     (list_again end (next_func end) enc_func s.funcs (rest_of s) (funcs_read end s.funcs h.table h.funcs) h.table.few)
-    ∙ tail_again end (knows (Some s.funcs)) s 2 None s.funcs h (sym v) (sym none) refl (λ i r lt. table_knows s.funcs (get_or s.rows i r).task.func (known i r lt))
+    ∙ tail_again end (knows (Some s.funcs)) s 2 None s.funcs h (sym v) (sym none) refl
+    (λ i r lt. table_knows s.funcs (get_or s.rows i r).task.func (known i r lt))
 
 contents_1_again : (end : ℕ) (s : StoreImage) (digest : List ℕ) → IsStore s → s.pipeline ≡ Some digest
     → contents_1 end (enc_head s.pipeline s.funcs ++ rest_of s) ≡ Ok s
@@ -58,14 +59,16 @@ unfolding rest_of
 contents_1_again end s digest h some =
     let f : (s.version ≡ 1) × (length digest ≡ 32) × (s.funcs ≡ []) = subst (λ (o : Option (List ℕ)). IsFormat s.version o s.funcs) some h.format in
     ap (λ (o : Option (List ℕ)). contents_1 end (enc_head o s.funcs ++ rest_of s)) some
-    ∙ ap (λ (p : Parsed (List ℕ)). then_image p (λ d rest. tail_of end (knows None) 1 (Some d) [] rest)) (part_again (bytes_codec 32) end digest (rest_of s) f.1)
+    ∙ ap (λ (p : Parsed (List ℕ)). then_image p (λ d rest. tail_of end (knows None) 1 (Some d) [] rest))
+    (part_again (bytes_codec 32) end digest (rest_of s) f.1)
     ∙ tail_again end (knows None) s 1 (Some digest) [] h (sym f.0) (sym some) (sym f.2) (λ i r lt. refl)
 
 -- ---- the frame
 
 -- the version, and the fewest bytes after it
 record IsHead (s : StoreImage) : Type 0 where
-  one_or_two : ((s.version ≡ 1) × (40 ≤ length (enc_head s.pipeline s.funcs ++ rest_of s))) ⊎ ((s.version ≡ 2) × (12 ≤ length (enc_head s.pipeline s.funcs ++ rest_of s)))
+  one_or_two : ((s.version ≡ 1) × (40 ≤ length (enc_head s.pipeline s.funcs ++ rest_of s)))
+      ⊎ ((s.version ≡ 2) × (12 ≤ length (enc_head s.pipeline s.funcs ++ rest_of s)))
   says : body_says (enc_body s) ≡ Ok s
 
 length_be32 : (n : ℕ) → length (be32 n) ≡ 4
@@ -126,7 +129,8 @@ frame_again v inside h =
     let body = magic ++ (v ∷ inside) in
     let bs = body ++ sha256 body in
     let long : length bs ≡ length inside + 37 = omega (arith, length-append body (sha256 body), length-sha256 body) in
-    ap (λ (b : Bool). cond b (Err Short) (cond (bytes_eq (take 4 bs) magic) (versioned (slice_index bs 4) bs) (Err Magic))) (le-ltb (length bs) 49 (enough h (length bs) long))
+    ap (λ (b : Bool). cond b (Err Short) (cond (bytes_eq (take 4 bs) magic) (versioned (slice_index bs 4) bs) (Err Magic)))
+    (le-ltb (length bs) 49 (enough h (length bs) long))
     ∙ version h long
   where
     enough : ((v ≡ 1) × (40 ≤ length inside)) ⊎ ((v ≡ 2) × (12 ≤ length inside)) → (n : ℕ) → n ≡ length inside + 37 → 49 ≤ n

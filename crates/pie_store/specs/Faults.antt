@@ -1,5 +1,6 @@
 -- Why bytes are no store: which fault they have, and where it stands. What is tested before holds.
-use Rattle.std.specs.Prelude.{◌≡◌, ◌≢◌, ◌⊎◌, ℕ, ◌+◌, ◌-◌, ◌<◌, ◌≤◌, ◌^◌, List, ◌∷◌, ◌++◌, length, take, drop, slice_index, All, Contains, Option, Result, Ok, Err, IsTrue}
+use Rattle.std.specs.Prelude.{◌≡◌, ◌≢◌, ◌⊎◌, ℕ, ◌+◌, ◌-◌, ◌<◌, ◌≤◌, ◌^◌, List, ◌∷◌, ◌++◌, length, take, drop, slice_index, All, Contains, Option, Result, Ok}
+use Rattle.std.specs.Prelude.{Err, IsTrue}
 use Rattle.std.specs.List.{AllPairs, flat_map}
 use Rattle.sha2.specs.Sha256.{sha256}
 use Rattle.pie_value.specs.declared.task.Task.{Task}

@@ -1,5 +1,6 @@
 -- What is read from the bytes of a store: what it says, or the first fault.
-use Rattle.std.specs.Prelude.{ℕ, zero, suc, ◌-◌, ◌==◌, Bool, true, cond, List, [], ◌∷◌, ◌++◌, length, map, drop, Result, Ok, Err, Option, Some, None, is_some, slice_get, slice_index}
+use Rattle.std.specs.Prelude.{ℕ, zero, suc, ◌-◌, ◌==◌, Bool, true, cond, List, [], ◌∷◌, ◌++◌, length, map, drop, Result, Ok, Err, Option, Some, None, is_some}
+use Rattle.std.specs.Prelude.{slice_get, slice_index}
 use Rattle.pie_value.specs.declared.task.Task.{Task}
 use Rattle.pie_record.specs.declared.task_record.TaskRecord.{TaskRecord}
 use Rattle.pie_record.specs.declared.record_fault.RecordFault.{RecordFault}

@@ -1,5 +1,6 @@
 //! Pending names: the paths that a refused build was told of, kept for the next one.
-ghost use Rattle.std.specs.Prelude.{◌≡◌, ◌++◌, ◌&&◌, ◌+◌, ◌<◌, ◌≤◌, ℕ, List, All, cond, take, drop, Some, None, length, IfOk, IfSome, IfNone, OnOk, MatchOption, true, false};
+ghost use Rattle.std.specs.Prelude.{◌≡◌, ◌++◌, ◌&&◌, ◌+◌, ◌<◌, ◌≤◌, ℕ, List, All, cond, take, drop, Some, None, length, IfOk, IfSome, IfNone, OnOk};
+ghost use Rattle.std.specs.Prelude.{MatchOption, true, false};
 ghost use Rattle.std.specs.List.{position};
 ghost use Rattle.std.specs.Str.{is_utf8};
 ghost use Rattle.pie_value.specs.Reading.{is_path_text};

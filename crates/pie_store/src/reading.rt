@@ -6,7 +6,8 @@ ghost use Rattle.pie_record.specs.Reading.{number_at};
 ghost use Rattle.pie_store.specs.Agreement.{Agrees};
 ghost use Rattle.pie_store.specs.Ranks.{rank_in, IsStored};
 ghost use Rattle.pie_store.specs.Known.{known_in};
-ghost use Rattle.pie_store.specs.Reading.{row_fault, part_at, grown, list_at, func_at, name_follows, name_last, next_func, next_root, next_row, first_missing, tasks_of as specs_tasks_of};
+ghost use Rattle.pie_store.specs.Reading.{row_fault, part_at, grown, list_at, func_at, name_follows, name_last, next_func, next_root, next_row, first_missing};
+ghost use Rattle.pie_store.specs.Reading.{tasks_of as specs_tasks_of};
 ghost use Rattle.pie_store.specs.Canonical.{name_before as specs_name_before};
 
 use crate::StoreFault;

@@ -14,7 +14,8 @@ use Rattle.pie_parser.specs.Places.{Got, Miss, Parser, then_on, next, passed, wa
 use Rattle.pie_parser.specs.ExprReading as reads
 use Rattle.pie_parser.specs.ExprReading.{Around, around, by_conditions, expr_at, inner_at, test_at, nowhere, chain, projection}
 use Rattle.pie_parser.proofs.Readings.{is_same}
-use Rattle.pie_syntax.proofs.Twins.{Texts, Twin, before, gone, next_is, past_is, mark_is, Alike, then_alike, any_alike, got_alike, wrong_alike, cond_alike, by_next}
+use Rattle.pie_syntax.proofs.Twins.{Texts, Twin, before, gone, next_is, past_is, mark_is, Alike, then_alike, any_alike, got_alike, wrong_alike, cond_alike}
+use Rattle.pie_syntax.proofs.Twins.{by_next}
 use Rattle.pie_syntax.proofs.Tokens.{is_plain, passing, plain_alike, index_alike}
 use Rattle.pie_syntax.proofs.Loops.{TurnsAlike, cond_turn, all_alike}
 
@@ -26,7 +27,8 @@ pub indices_alike : (z : Texts) (d : ℕ) → Reads (List Index) z 0 d reads.ind
 indices_alike z d s t w = all_alike z d reads.another_index another [] s t w
   where
     another : (s t : At) → Twin z s t → TurnsAlike Index z d s.rest (reads.another_index s) (reads.another_index t)
-    another s t w = cond_turn (ap (λ k. is k kinds.Dot) (next_is w)) (λ e. passing d index index w (ap is_plain (is_same (next s) kinds.Dot e)) (λ a b u. any_alike (index_alike u)))
+    another s t w = cond_turn (ap (λ k. is k kinds.Dot) (next_is w))
+        (λ e. passing d index index w (ap is_plain (is_same (next s) kinds.Dot e)) (λ a b u. any_alike (index_alike u)))
 
 unmark : {z : Texts} {s t : At} → Twin z s t → Twin z (record s { marked = false }) (record t { marked = false })
 unmark (before p v b) = before p v false
@@ -67,5 +69,6 @@ by_of_require_alike z d r s t w = cond_alike (ap (λ k. is k kinds.By) (next_is 
 
     behind : (i : ℕ) (m k : At) → Twin z m k → Alike CallKind z 0 d d m.rest (behind_by r i m) (behind_by r i k)
     behind i m k u = cond_alike (ap (λ k. is k kinds.Hash) (next_is u))
-        (λ e. any_alike (passing d (Got calls.RequireByHash) (Got calls.RequireByHash) u (ap is_plain (is_same (next m) kinds.Hash e)) (λ a b v. got_alike v refl)))
+        (λ e. any_alike (passing d (Got calls.RequireByHash) (Got calls.RequireByHash) u (ap is_plain (is_same (next m) kinds.Hash e))
+        (λ a b v. got_alike v refl)))
         (λ e. marks i r m k u)

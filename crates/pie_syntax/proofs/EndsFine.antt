@@ -16,11 +16,13 @@ use Rattle.pie_parser.specs.ExprReading as reads
 use Rattle.pie_parser.specs.ExprReading.{Around, around, by_conditions, expr_at, inner_at, test_at, nowhere}
 use Rattle.pie_parser.specs.TypeGrammar.{Eats}
 use Rattle.pie_parser.specs.Grammar as grammar
-use Rattle.pie_parser.specs.Grammar.{Indices, ByOfRequire, ByOfRead, IsExpr, IsChain, IsOperand, Steps, IsComparison, IsPrefixed, IsProjected, IsPrimary, Arguments, More, IsBlock, Lines}
+use Rattle.pie_parser.specs.Grammar.{Indices, ByOfRequire, ByOfRead, IsExpr, IsChain, IsOperand, Steps, IsComparison, IsPrefixed, IsProjected, IsPrimary}
+use Rattle.pie_parser.specs.Grammar.{Arguments, More, IsBlock, Lines}
 use Rattle.pie_parser.proofs.Readings.{is_same, is_other}
 use Rattle.pie_syntax.proofs.Tokens.{is_token}
 use Rattle.pie_syntax.proofs.Twins.{place}
-use Rattle.pie_syntax.proofs.Words.{Then, Word, Been, Fine, fine_got, been_then, after_been, fine_as, fine_weaker, fine_cond, fine_wrong, Nothing, fine_nothing, word_nothing, word_as}
+use Rattle.pie_syntax.proofs.Words.{Then, Word, Been, Fine, fine_got, been_then, after_been, fine_as, fine_weaker, fine_cond, fine_wrong, Nothing, fine_nothing}
+use Rattle.pie_syntax.proofs.Words.{word_nothing, word_as}
 use Rattle.pie_syntax.proofs.Samples.{been_pass, fine_pass, fine_eat, word_eats, IndexR, word_index, index_fine, a_hash}
 use Rattle.pie_syntax.proofs.Parts.{TurnFine, turn_cond, all_fine}
 use Rattle.pie_syntax.proofs.ExprWords.{IndicesR, ByReadR, ByRequireR, no_indices, word_indices}
@@ -30,7 +32,8 @@ pub word_or_none : {R : At → At → Type 0} → Word (λ s m. R s m ⊎ Nothin
 word_or_none = word_as word_nothing (λ s m e. inr e)
 
 pub indices_fine : (k : Bool) (s : At) → (k ≡ false → s.marked ≡ false) → Fine (List Index) k IndicesR s (reads.indices s)
-indices_fine k s u = all_fine k (Then (Eats kinds.Dot) IndexR) IndicesR no_indices (λ s m h. (_, grammar.an_index h.1.1 h.1.2.1 h.2.1)) word_indices reads.another_index another [] s u
+indices_fine k s u = all_fine k (Then (Eats kinds.Dot) IndexR) IndicesR no_indices
+    (λ s m h. (_, grammar.an_index h.1.1 h.1.2.1 h.2.1)) word_indices reads.another_index another [] s u
   where
     another : (s : At) → (k ≡ false → s.marked ≡ false) → TurnFine Index k (Then (Eats kinds.Dot) IndexR) s (reads.another_index s)
     another s u = turn_cond (is (next s) kinds.Dot) (λ h. let n = is_same (next s) kinds.Dot h in
@@ -38,8 +41,10 @@ indices_fine k s u = all_fine k (Then (Eats kinds.Dot) IndexR) IndicesR no_indic
 
 pub by_of_read_fine : (s : At) → Fine EffectKind false ByReadR s (reads.by_of_read s)
 by_of_read_fine s = fine_cond s.marked
-    (λ h. fine_got effects.ReadByMark (record s { marked = false }) (record { word = []; splits = refl; marks = λ e. refl; reads = λ p r f. (p, (effects.ReadByMark, grammar.marked h)) }))
-    (λ u. fine_cond (is (next s) kinds.By) (λ h. by (is_same (next s) kinds.By h)) (λ h. fine_as (fine_nothing effects.Read (λ _. u)) (λ s m e. (effects.Read, subst (λ m. ByOfRead s m effects.Read) e grammar.nothing))))
+    (λ h. fine_got effects.ReadByMark (record s { marked = false })
+    (record { word = []; splits = refl; marks = λ e. refl; reads = λ p r f. (p, (effects.ReadByMark, grammar.marked h)) }))
+    (λ u. fine_cond (is (next s) kinds.By) (λ h. by (is_same (next s) kinds.By h))
+    (λ h. fine_as (fine_nothing effects.Read (λ _. u)) (λ s m e. (effects.Read, subst (λ m. ByOfRead s m effects.Read) e grammar.nothing))))
   where
     by : next s ≡ kinds.By → Fine EffectKind false ByReadR s (reads.read_by (passed s) (next (passed s)))
     by n = by_kind (next (passed s)) refl
@@ -48,8 +53,10 @@ by_of_read_fine s = fine_cond s.marked
         first = been_pass (λ j. j ≡ kinds.By) (ap is_token n) n
 
         by_kind : (j : Kind) → next (passed s) ≡ j → Fine EffectKind false ByReadR s (reads.read_by (passed s) j)
-        by_kind kinds.Hash e = fine_as (after_been first (fine_eat kinds.Hash (λ _. effects.ReadByHash) refl e)) (λ s m h. (effects.ReadByHash, grammar.by_hash h.1 h.2))
-        by_kind kinds.Mark e = fine_as (after_been first (fine_eat kinds.Mark (λ _. effects.ReadByMark) refl e)) (λ s m h. (effects.ReadByMark, grammar.by_mark h.1 h.2))
+        by_kind kinds.Hash e = fine_as (after_been first (fine_eat kinds.Hash (λ _. effects.ReadByHash) refl e))
+            (λ s m h. (effects.ReadByHash, grammar.by_hash h.1 h.2))
+        by_kind kinds.Mark e = fine_as (after_been first (fine_eat kinds.Mark (λ _. effects.ReadByMark) refl e))
+            (λ s m h. (effects.ReadByMark, grammar.by_mark h.1 h.2))
         by_kind j e = fine_as (after_been first (fine_wrong (word_eats a_hash) (first.marks refl))) (λ s m h. (effects.ReadByHash, grammar.by_hash h.1 h.2))
 
 pub by_of_require_fine : (r : Bool) (s : At) → s.marked ≡ false → Fine CallKind r (ByRequireR r) s (reads.by_of_require r s)
@@ -74,7 +81,8 @@ by_of_require_fine r s u = fine_cond (is (next s) kinds.By) (λ h. by (is_same (
     by : next s ≡ kinds.By → Fine CallKind r (ByRequireR r) s (cond (is (next (passed s)) kinds.Hash) (Got calls.RequireByHash (passed (passed s)))
         (cond r (then_on (want kinds.Mark (passed s)) (λ _ m. Got calls.Require (record m { past = s.past; marked = true }))) (Miss Expected (passed s))))
     by n = fine_cond (is (next (passed s)) kinds.Hash)
-        (λ h. fine_as (after_been first (fine_eat kinds.Hash (λ _. calls.RequireByHash) refl (is_same (next (passed s)) kinds.Hash h))) (λ s m h. (calls.RequireByHash, grammar.by_hash h.1 h.2)))
+        (λ h. fine_as (after_been first (fine_eat kinds.Hash (λ _. calls.RequireByHash) refl (is_same (next (passed s)) kinds.Hash h)))
+        (λ s m h. (calls.RequireByHash, grammar.by_hash h.1 h.2)))
         (λ h. marks r)
       where
         first : Been false (Eats kinds.By) s (passed s)
@@ -83,7 +91,8 @@ by_of_require_fine r s u = fine_cond (is (next s) kinds.By) (λ h. by (is_same (
         wrong : (r : Bool) → Fine CallKind r (ByRequireR r) s (Miss Expected (passed s))
         wrong r = fine_as (after_been first (fine_wrong (word_eats a_hash) (first.marks refl))) (λ s m h. (calls.RequireByHash, grammar.by_hash h.1 h.2))
 
-        marked : next (passed s) ≡ kinds.Mark → Fine CallKind true (ByRequireR true) s (Got calls.Require (record (passed (passed s)) { past = s.past; marked = true }))
+        marked : next (passed s) ≡ kinds.Mark → Fine CallKind true (ByRequireR true) s
+            (Got calls.Require (record (passed (passed s)) { past = s.past; marked = true }))
         marked e =
             let x = been_then first (been_pass (λ j. j ≡ kinds.Mark) (ap is_token e) e) in
             fine_got calls.Require (record (passed (passed s)) { past = s.past; marked = true }) (record {
@@ -94,10 +103,12 @@ by_of_require_fine r s u = fine_cond (is (next s) kinds.By) (λ h. by (is_same (
             })
 
         at_mark : (b : Bool) → is (next (passed s)) kinds.Mark ≡ b
-            → Fine CallKind true (ByRequireR true) s (then_on (cond b (Got done (passed (passed s))) (Miss Expected (passed s))) (λ _ m. Got calls.Require (record m { past = s.past; marked = true })))
+            → Fine CallKind true (ByRequireR true) s (then_on (cond b (Got done (passed (passed s))) (Miss Expected (passed s)))
+            (λ _ m. Got calls.Require (record m { past = s.past; marked = true })))
         at_mark true e = marked (is_same (next (passed s)) kinds.Mark e)
         at_mark false e = wrong true
 
-        marks : (r : Bool) → Fine CallKind r (ByRequireR r) s (cond r (then_on (want kinds.Mark (passed s)) (λ _ m. Got calls.Require (record m { past = s.past; marked = true }))) (Miss Expected (passed s)))
+        marks : (r : Bool) → Fine CallKind r (ByRequireR r) s
+            (cond r (then_on (want kinds.Mark (passed s)) (λ _ m. Got calls.Require (record m { past = s.past; marked = true }))) (Miss Expected (passed s)))
         marks true = at_mark (is (next (passed s)) kinds.Mark) refl
         marks false = wrong false

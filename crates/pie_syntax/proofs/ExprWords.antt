@@ -19,7 +19,8 @@ use Rattle.pie_parser.specs.At.{At}
 use Rattle.pie_parser.specs.Places.{Got, Miss, start, passed}
 use Rattle.pie_parser.specs.ExprReading as reads
 use Rattle.pie_parser.specs.Grammar as grammar
-use Rattle.pie_parser.specs.Grammar.{Indices, ByOfRequire, ByOfRead, IsExpr, IsChain, IsOperand, Steps, IsComparison, IsPrefixed, IsProjected, IsPrimary, Arguments, More, IsBlock, Lines}
+use Rattle.pie_parser.specs.Grammar.{Indices, ByOfRequire, ByOfRead, IsExpr, IsChain, IsOperand, Steps, IsComparison, IsPrefixed, IsProjected, IsPrimary}
+use Rattle.pie_parser.specs.Grammar.{Arguments, More, IsBlock, Lines}
 use Rattle.pie_parser.proofs.Readings.{chosen, got_same, missed, bound}
 use Rattle.pie_syntax.proofs.Words.{Word, Nothing, word_nothing, word_then, word_as}
 use Rattle.pie_syntax.proofs.Samples.{LiteralR, word_name, word_eats, a_open_round, a_close_round, a_open_brace, a_close_brace}
@@ -165,5 +166,8 @@ pub literal_primary : (r : Bool) (s m : At) → LiteralR s m → PrimaryR r s m
 literal_primary r s m (t, h) =
     let b = bound (reads.literal_here s) (λ l a. Got (TLiteral (start s) (passed a).past l) (passed a)) t m h in
     let k = literal_stays s b.1 b.0 b.2 in
-    let e : passed s ≡ m = ap passed (sym k) ∙ (got_same b.3).1 in
-    (TLiteral (start s) (passed s).past b.0, subst (λ m. IsPrimary r s m (TLiteral (start s) (passed s).past b.0)) e (grammar.literal (subst (λ z. reads.literal_here s ≡ Got b.0 z) k b.2)))
+    let e : passed s ≡ m = ap passed (sym k) ∙ (got_same b.3).1 in (
+      TLiteral (start s) (passed s).past b.0,
+      subst (λ m. IsPrimary r s m (TLiteral (start s) (passed s).past b.0)) e
+          (grammar.literal (subst (λ z. reads.literal_here s ≡ Got b.0 z) k b.2)),
+    )

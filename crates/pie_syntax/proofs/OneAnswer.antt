@@ -55,7 +55,8 @@ pipeline_never_stops ts fs i k x = by_rest x.rest x.splits x.stops
     by_rest (t ∷ r) e h = h (r, fs, subst (λ us. IsPipeline us fs) (e ∙ sym (append_assoc x.before (t ∷ []) r)) k)
 
 -- a bracket inside 64 that stands before the end of a front isn't shallow in it
-deep_before : {a r rest : List Token} {x : Token} (b : List Token) → IsShallow a → opens (kind_of_token x.kind) ≡ true → open_after 0 b ≡ 64 → Longer a r b (x ∷ rest) → ⊥
+deep_before : {a r rest : List Token} {x : Token} (b : List Token) → IsShallow a → opens (kind_of_token x.kind) ≡ true → open_after 0 b ≡ 64
+    → Longer a r b (x ∷ rest) → ⊥
 deep_before {a = a} {x = x} b h o n l =
     let e : a ≡ b ++ x ∷ l.1 = l.2 ∙ ap (λ (t : Token). b ++ t ∷ l.1) (sym (heads_same l.3).0) in
     let m = h b x l.1 e o in
@@ -64,7 +65,11 @@ deep_before {a = a} {x = x} b h o n l =
 deep_once : (ts : List Token) (i j : ℕ) → NestsTooDeepAt ts i → NestsTooDeepAt ts j → i ≡ j
 deep_once ts i j x y = elim (two_fronts x.before (x.bracket ∷ x.rest) y.before (y.bracket ∷ y.rest) (sym x.splits ∙ y.splits)) [
   | inl q ↦ x.place ∙ ap (λ (t : Token). t.at) (heads_same q.1).0 ∙ sym y.place
-  | inr q ↦ elim q [ inl l ↦ absurd (deep_before y.before x.shallow y.opening y.inside l) | inr l ↦ absurd (deep_before x.before y.shallow x.opening x.inside l) ]
+  | inr q ↦ elim q [
+    | inl l ↦ absurd (deep_before y.before x.shallow y.opening y.inside l)
+    | inr l ↦ absurd
+        (deep_before x.before y.shallow x.opening x.inside l)
+  ]
 ]
 
 pub shallow_not_deep : (ts : List Token) (i : ℕ) → IsShallow ts → NestsTooDeepAt ts i → ⊥
@@ -75,7 +80,8 @@ stops_not_deep ts i j x y = elim (two_fronts x.before x.rest y.before (y.bracket
   | inl q ↦ subst (CannotGoOn x.before) q.1 x.stops (subst (λ us. BeginsPipeline (us ++ y.bracket ∷ [])) (sym q.0) y.begins)
   | inr q ↦ elim q [
     | inl l ↦ deep_before y.before x.shallow y.opening y.inside l
-    | inr l ↦ (let e : y.before ++ y.bracket ∷ [] ≡ x.before ++ l.0 ∷ (l.1 ++ y.bracket ∷ []) = ap (λ us. us ++ y.bracket ∷ []) l.2 ∙ append_assoc x.before (l.0 ∷ l.1) (y.bracket ∷ []) in
+    | inr l ↦ (let e : y.before ++ y.bracket ∷ [] ≡ x.before ++ l.0 ∷ (l.1 ++ y.bracket ∷ []) = ap (λ us. us ++ y.bracket ∷ []) l.2
+        ∙ append_assoc x.before (l.0 ∷ l.1) (y.bracket ∷ []) in
         subst (CannotGoOn x.before) l.3 x.stops (front_begins x.before (l.1 ++ y.bracket ∷ []) l.0 (subst BeginsPipeline e y.begins)))
   ]
 ]

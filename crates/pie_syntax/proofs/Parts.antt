@@ -11,11 +11,13 @@ pub data TurnFine (A : Type 0) (k : Bool) (R : At → At → Type 0) (s : At) : 
   fine_stop : TurnFine A k R s Stop
   fine_part : (p : Parsed A) → Fine A k R s p → TurnFine A k R s (Part p)
 
-pub turn_cond : {A : Type 0} {k : Bool} {R : At → At → Type 0} {s : At} {p : Parsed A} (x : Bool) → (x ≡ true → Fine A k R s p) → TurnFine A k R s (cond x (Part p) Stop)
+pub turn_cond : {A : Type 0} {k : Bool} {R : At → At → Type 0} {s : At} {p : Parsed A} (x : Bool) → (x ≡ true → Fine A k R s p)
+    → TurnFine A k R s (cond x (Part p) Stop)
 turn_cond {p = p} true h = fine_part p (h refl)
 turn_cond false h = fine_stop
 
-onto_fine : {A : Type 0} {k : Bool} {R : At → At → Type 0} {s : At} {p : Parsed (List A)} (xs : List A) → Fine (List A) k R s p → Fine (List A) k R s (onto xs p)
+onto_fine : {A : Type 0} {k : Bool} {R : At → At → Type 0} {s : At} {p : Parsed (List A)} (xs : List A) → Fine (List A) k R s p
+    → Fine (List A) k R s (onto xs p)
 onto_fine xs (fine_got a m x) = fine_got (xs ++ a) m x
 onto_fine xs (fine_miss f m x) = fine_miss f m x
 onto_fine xs (no_memory m) = no_memory m
@@ -26,7 +28,8 @@ module _ {A : Type 0} (k : Bool) (R Q : At → At → Type 0) (nil : (s m : At) 
   many_fine zero s u = fine_as (fine_nothing [] u) nil
   many_fine (suc n) s u = by_turn (turn s) (good s u) (many_fine n)
     where
-      by_turn : (t : Turn A) → TurnFine A k R s t → ((m : At) → (k ≡ false → m.marked ≡ false) → Fine (List A) k Q m (many turn n m)) → Fine (List A) k Q s (on_turn t s (many turn n))
+      by_turn : (t : Turn A) → TurnFine A k R s t → ((m : At) → (k ≡ false → m.marked ≡ false) → Fine (List A) k Q m (many turn n m))
+          → Fine (List A) k Q s (on_turn t s (many turn n))
       by_turn _ fine_stop again = fine_as (fine_nothing [] u) nil
       by_turn _ (fine_part p h) again = fine_as (fine_then h w (λ x m i. fine_last _ (again m i))) more
 
@@ -37,7 +40,8 @@ module _ {A : Type 0} (k : Bool) (R Q : At → At → Type 0) (nil : (s m : At) 
   pub some_fine : (xs : List A) (s : At) (x : Token) (us : List Token) (p : Parsed A) → s.rest ≡ x ∷ us → turn s ≡ Part p → (k ≡ false → s.marked ≡ false)
       → Fine (List A) k (Then R Q) s (all_behind xs turn s)
   some_fine xs s x us p e h u = onto_fine xs (subst (λ (ts : List Token). Fine (List A) k (Then R Q) s (many turn (length ts) s)) (sym e)
-      (subst (λ t. Fine (List A) k (Then R Q) s (on_turn t s (many turn (length us)))) (sym h) (fine_then part w (λ x m i. fine_last _ (many_fine (length us) m i)))))
+      (subst (λ t. Fine (List A) k (Then R Q) s (on_turn t s (many turn (length us)))) (sym h)
+      (fine_then part w (λ x m i. fine_last _ (many_fine (length us) m i)))))
     where
       of_part : (t : Turn A) → TurnFine A k R s t → t ≡ Part p → Fine A k R s p
       of_part _ fine_stop i = absurd cc

@@ -12,7 +12,8 @@ use Rattle.pie_parser.specs.declared.tree.Literal.{Literal}
 use Rattle.pie_parser.specs.Plain.{Tree, TLiteral}
 use Rattle.pie_parser.specs.Kinds.{is, kind_of_token}
 use Rattle.pie_parser.specs.At.{At}
-use Rattle.pie_parser.specs.Places.{Parsed, Got, Miss, Parser, then_on, Passed, done, first_kind, next, start, behind, passed, want, open_bracket, name, name_in, name_by, index, index_in, index_by}
+use Rattle.pie_parser.specs.Places.{Parsed, Got, Miss, Parser, then_on, Passed, done, first_kind, next, start, behind, passed, want, open_bracket, name}
+use Rattle.pie_parser.specs.Places.{name_in, name_by, index, index_in, index_by}
 use Rattle.pie_parser.specs.ExprReading.{literal_in, literal}
 use Rattle.pie_parser.specs.TypeGrammar.{Eats, IsName}
 use Rattle.pie_parser.proofs.Readings.{is_same, is_other}
@@ -56,13 +57,22 @@ here s h = by_rest s.rest refl
   where
     by_rest : (ts : List Token) → s.rest ≡ ts → Here s
     by_rest [] e = let z : false ≡ true = sym (ap is_token (next_first s h ∙ ap first_kind e)) ∙ h in absurd cc
-    by_rest (x ∷ ts) e = record { first = x; others = ts; rest = e; kind = next_first s h ∙ ap first_kind e; unmarked = unmarked_by s.marked (first_kind s.rest) h; behind = ap (behind s) e }
+    by_rest (x ∷ ts) e = record {
+      first = x;
+      others = ts;
+      rest = e;
+      kind = next_first s h
+          ∙ ap first_kind e;
+      unmarked = unmarked_by s.marked (first_kind s.rest) h;
+      behind = ap (behind s) e;
+    }
 
 -- the token that is next is a word
 pub been_pass : {s : At} (P : Kind → Type 0) → is_token (next s) ≡ true → P (next s) → Been false (Token_of P) s (passed s)
 been_pass {s = s} P h q =
     let x = here s h in
-    let k : kind_of_token x.first.kind ≡ cond s.marked kinds.Marked (kind_of_token x.first.kind) = ap (λ b. cond b kinds.Marked (kind_of_token x.first.kind)) (sym x.unmarked) in
+    let k : kind_of_token x.first.kind ≡ cond s.marked kinds.Marked (kind_of_token x.first.kind) = ap (λ b. cond b kinds.Marked (kind_of_token x.first.kind))
+    (sym x.unmarked) in
     subst (Been false (Token_of P) s) (sym x.behind) (record {
       word = x.first ∷ [];
       splits = x.rest;
@@ -80,11 +90,13 @@ fine_pass P F h q w j = fine_then {f = λ _ m. F m} (pass_fine P h q) w (λ a m 
 
 -- a token of this kind that is next, and a value of the place behind it
 pub fine_eat : {A : Type 0} {j : Bool} {s : At} (k : Kind) (F : At → A) → is_token k ≡ true → next s ≡ k → Fine A j (Eats k) s (Got (F (passed s)) (passed s))
-fine_eat {s = s} k F i n = fine_got (F (passed s)) (passed s) (let x = been_pass (λ j. j ≡ k) (ap is_token n ∙ i) n in record { word = x.word; splits = x.splits; marks = λ e. x.marks refl; reads = x.reads })
+fine_eat {s = s} k F i n = fine_got (F (passed s)) (passed s)
+    (let x = been_pass (λ j. j ≡ k) (ap is_token n ∙ i) n in record { word = x.word; splits = x.splits; marks = λ e. x.marks refl; reads = x.reads })
 
 -- a token of this kind
 pub want_fine : {k : Kind} {s : At} → Sample k → s.marked ≡ false → Fine Passed false (Eats k) s (want k s)
-want_fine {k = k} {s = s} x u = fine_cond (is (next s) k) (λ h. let n = is_same (next s) k h in pass_fine (λ j. j ≡ k) (ap is_token n ∙ x.token) n) (λ h. fine_wrong (word_eats x) u)
+want_fine {k = k} {s = s} x u = fine_cond (is (next s) k) (λ h. let n = is_same (next s) k h in pass_fine (λ j. j ≡ k) (ap is_token n ∙ x.token) n)
+    (λ h. fine_wrong (word_eats x) u)
 
 -- an opening bracket
 pub open_fine : {k : Kind} {s : At} (d : ℕ) → Sample k → opens k ≡ true → s.marked ≡ false → Fine Passed false (Eats k) s (open_bracket k d s)

@@ -1,5 +1,6 @@
 -- What a refusal of the parser on lists says of the tokens.
-use Rattle.std.proofs.Common.{◌≡◌, ℕ, ◌<◌, Bool, true, false, cond, inl, inr, List, [], ◌∷◌, ◌++◌, length, Result, Ok, Err, IfOk, IfErr, refl, sym, subst, ap, ◌∙◌, append_assoc, arith}
+use Rattle.std.proofs.Common.{◌≡◌, ℕ, ◌<◌, Bool, true, false, cond, inl, inr, List, [], ◌∷◌, ◌++◌, length, Result, Ok, Err, IfOk, IfErr, refl, sym, subst, ap}
+use Rattle.std.proofs.Common.{◌∙◌, append_assoc, arith}
 use Rattle.std.proofs.lemmas.List.{append-nil, append_cancel_right}
 use Rattle.pie_lexer.specs.declared.token.Token.{Token}
 use Rattle.pie_lexer.specs.declared.token.TokenKind.{TokenKind}
@@ -32,23 +33,28 @@ use Rattle.pie_syntax.proofs.Nesting.{open_is, shallow_is}
 miss_same : {A : Type 0} {f g : Fault} {m k : At} → (let p : Parsed A = Miss f m in p) ≡ Miss g k → (f ≡ g) × (m ≡ k)
 miss_same h = (cc, cc)
 
-missed_is : {A : Type 0} {z : Texts} {c d e : ℕ} {ts : List Token} {p q : Parsed A} (f : Fault) (m : At) → Alike A z c d e ts p q → p ≡ Miss f m → Missed z.limit d ts f m.rest
+missed_is : {A : Type 0} {z : Texts} {c d e : ℕ} {ts : List Token} {p q : Parsed A} (f : Fault) (m : At) → Alike A z c d e ts p q → p ≡ Miss f m
+    → Missed z.limit d ts f m.rest
 missed_is f m (both_got a k i w x) h = absurd cc
-missed_is {z = z} {d = d} {ts = ts} f m (both_miss g k i w x) h = let s = miss_same h in subst (λ g. Missed z.limit d ts g m.rest) s.0 (subst (λ (k : At). Missed z.limit d ts g k.rest) s.1 x)
+missed_is {z = z} {d = d} {ts = ts} f m (both_miss g k i w x) h = let s = miss_same h in
+    subst (λ g. Missed z.limit d ts g m.rest) s.0 (subst (λ (k : At). Missed z.limit d ts g k.rest) s.1 x)
 missed_is f m (past_got a k q l x) h = absurd cc
-missed_is {z = z} {d = d} {ts = ts} f m (past_miss g k q l x) h = let s = miss_same h in subst (λ g. Missed z.limit d ts g m.rest) s.0 (subst (λ (k : At). Missed z.limit d ts g k.rest) s.1 x)
+missed_is {z = z} {d = d} {ts = ts} f m (past_miss g k q l x) h = let s = miss_same h in
+    subst (λ g. Missed z.limit d ts g m.rest) s.0 (subst (λ (k : At). Missed z.limit d ts g k.rest) s.1 x)
 
 got_same : {A : Type 0} {a b : A} {m k : At} → Got a m ≡ Got b k → (a ≡ b) × (m ≡ k)
 got_same h = (cc, cc)
 
-got_is : {A : Type 0} {z : Texts} {c d e : ℕ} {ts : List Token} {p q : Parsed A} (a : A) (m : At) → Alike A z c d e ts p q → p ≡ Got a m → Takes z.limit c d e ts m.rest
+got_is : {A : Type 0} {z : Texts} {c d e : ℕ} {ts : List Token} {p q : Parsed A} (a : A) (m : At) → Alike A z c d e ts p q → p ≡ Got a m
+    → Takes z.limit c d e ts m.rest
 got_is {z = z} {c = c} {d = d} {e = e} {ts = ts} a m (both_got b k i w x) h = subst (λ (k : At). Takes z.limit c d e ts k.rest) (got_same h).1 x
 got_is a m (both_miss g k i w x) h = absurd cc
 got_is {z = z} {c = c} {d = d} {e = e} {ts = ts} a m (past_got b k q l x) h = subst (λ (k : At). Takes z.limit c d e ts k.rest) (got_same h).1 x
 got_is a m (past_miss g k q l x) h = absurd cc
 
 -- a refusal before the shared token is that of the second text too
-also_missed : {A : Type 0} {z : Texts} {c d e : ℕ} {ts : List Token} {p q : Parsed A} (f : Fault) (m : At) → Alike A z c d e ts p q → p ≡ Miss f m → length z.one < length m.rest → (k : At) × (q ≡ Miss f k)
+also_missed : {A : Type 0} {z : Texts} {c d e : ℕ} {ts : List Token} {p q : Parsed A} (f : Fault) (m : At) → Alike A z c d e ts p q → p ≡ Miss f m
+    → length z.one < length m.rest → (k : At) × (q ≡ Miss f k)
 also_missed f m (both_got a k i w x) h l = absurd cc
 also_missed f m (both_miss g k i w x) h l = (i, ap (λ g. Miss g i) (miss_same h).0)
 also_missed f m (past_got a k q o x) h l = absurd cc
@@ -58,11 +64,16 @@ abbrev start_at : List Token → At
 start_at ts = place 0 ts false
 
 -- all tokens, with no second text
-alone : (ts : List Token) → Alike (List FunctionTree) (record { token = record { kind = tokens.Func; at = 0; end = 0 }; one = ts; two = []; limit = 64 }) 0 64 64 ts (read_all ts) (read_all ts)
-alone ts = pipeline_alike _ (record { brackets = 64; conditions = 100; in_read = false }) (omega arith) (start_at ts) (start_at ts) (gone (start_at ts) (omega arith))
+alone : (ts : List Token)
+    → Alike (List FunctionTree) (record { token = record { kind = tokens.Func; at = 0; end = 0 }; one = ts; two = []; limit = 64 }) 0 64 64 ts (read_all ts)
+    (read_all ts)
+alone ts = pipeline_alike _ (record { brackets = 64; conditions = 100; in_read = false }) (omega arith) (start_at ts) (start_at ts)
+    (gone (start_at ts) (omega arith))
 
-beside : (a : List Token) (x : Token) (r u : List Token) → Alike (List FunctionTree) (record { token = x; one = r; two = u; limit = 64 }) 0 64 64 (a ++ x ∷ r) (read_all (a ++ x ∷ r)) (read_all (a ++ x ∷ u))
-beside a x r u = pipeline_alike _ (record { brackets = 64; conditions = 100; in_read = false }) (omega arith) (start_at (a ++ x ∷ r)) (start_at (a ++ x ∷ u)) (before 0 a false)
+beside : (a : List Token) (x : Token) (r u : List Token) → Alike (List FunctionTree) (record { token = x; one = r; two = u; limit = 64 }) 0 64 64 (a ++ x ∷ r)
+    (read_all (a ++ x ∷ r)) (read_all (a ++ x ∷ u))
+beside a x r u = pipeline_alike _ (record { brackets = 64; conditions = 100; in_read = false }) (omega arith) (start_at (a ++ x ∷ r)) (start_at (a ++ x ∷ u))
+    (before 0 a false)
 
 never_expected : (ts : List Token) (fs : List FunctionTree) (m : At) → read_all ts ≡ Miss faults.Expected m → IsPipeline ts fs → ⊥
 never_expected ts fs m h k = let z = pipeline_hits ts fs k in subst (λ q. Hits q fs z.0) h z.1
@@ -74,7 +85,8 @@ ends_before a (x ∷ r) m h e = λ b.
     let z = also_missed faults.Expected m (beside a x r b.0) h (omega arith) in
     never_expected (a ++ x ∷ b.0) b.1 z.0 z.1 (subst (λ ts. IsPipeline ts b.1) (append_assoc a (x ∷ []) b.0) b.2)
 
-open_of : {A : Type 0} {k : Bool} {R : At → At → Type 0} {s : At} {p : Parsed A} (f : Fault) (m : At) → Fine A k R s p → p ≡ Miss f m → (faults.OutOfMemory ≡ f → ⊥) → Open f R s m
+open_of : {A : Type 0} {k : Bool} {R : At → At → Type 0} {s : At} {p : Parsed A} (f : Fault) (m : At) → Fine A k R s p → p ≡ Miss f m
+    → (faults.OutOfMemory ≡ f → ⊥) → Open f R s m
 open_of f m (fine_got a k x) h n = absurd cc
 open_of {R = R} {s = s} f m (fine_miss g k x) h n = let e = miss_same h in subst (λ g. Open g R s m) e.0 (subst (λ (k : At). Open g R s k) e.1 x)
 open_of f m (no_memory k) h n = absurd (n (miss_same h).0)
@@ -138,7 +150,8 @@ at_end m h = by_mark m.marked h
 
 reads_to_end : (ts : List Token) (fs : List FunctionTree) (m : At) → read_all ts ≡ Got fs m → m.rest ≡ []
 reads_to_end ts fs m h =
-    let b = bound (functions (record { brackets = 64; conditions = 100; in_read = false }) (start_at ts)) (λ fs m. cond (is (next m) kinds.End) (Got fs m) (Miss faults.Expected m)) fs m h in
+    let b = bound (functions (record { brackets = 64; conditions = 100; in_read = false }) (start_at ts))
+    (λ fs m. cond (is (next m) kinds.End) (Got fs m) (Miss faults.Expected m)) fs m h in
     elim (chosen (is (next b.1) kinds.End) (Got b.0 b.1) (Miss faults.Expected b.1) (Got fs m) b.3) [
       | inl c ↦ (let e = (got_same c.1).1 in ap (λ (k : At). k.rest) (sym e) ∙ at_end b.1 (is_same (next b.1) kinds.End c.0))
       | inr c ↦ missed c.1

@@ -1,5 +1,6 @@
 -- A token, a name, a bracket: read alike in two texts.
-use Rattle.std.proofs.Common.{◌≡◌, ◌⊎◌, inl, inr, ℕ, ◌≤◌, zero, suc, Bool, true, false, cond, ◌==◌, List, [], ◌∷◌, ◌++◌, length, refl, sym, subst, ap, ◌∙◌, arith, rules}
+use Rattle.std.proofs.Common.{◌≡◌, ◌⊎◌, inl, inr, ℕ, ◌≤◌, zero, suc, Bool, true, false, cond, ◌==◌, List, [], ◌∷◌, ◌++◌, length, refl, sym, subst, ap, ◌∙◌}
+use Rattle.std.proofs.Common.{arith, rules}
 use Rattle.pie_lexer.specs.declared.token.Token.{Token}
 use Rattle.pie_lexer.specs.declared.token.TokenKind.{TokenKind}
 use Rattle.pie_lexer.specs.declared.token.TokenKind.TheVariants as tokens
@@ -11,13 +12,15 @@ use Rattle.pie_parser.specs.declared.tree.Index.{Index}
 use Rattle.pie_parser.specs.declared.tree.Literal.{Literal}
 use Rattle.pie_parser.specs.Kinds.{is, kind_of_token}
 use Rattle.pie_parser.specs.At.{At}
-use Rattle.pie_parser.specs.Places.{Parsed, Got, Miss, then_on, Passed, done, first_kind, next, start, start_of, behind, passed, want, open_bracket, name, name_in, name_by, index, index_in, index_by}
+use Rattle.pie_parser.specs.Places.{Parsed, Got, Miss, then_on, Passed, done, first_kind, next, start, start_of, behind, passed, want, open_bracket, name}
+use Rattle.pie_parser.specs.Places.{name_in, name_by, index, index_in, index_by}
 use Rattle.pie_parser.specs.declared.tree.Literal.TheVariants as literals
 use Rattle.pie_parser.specs.Plain.{Tree, TLiteral}
 use Rattle.pie_parser.specs.ExprReading.{literal_by, literal_in, literal}
 use Rattle.pie_parser.proofs.Readings.{is_same}
 use Rattle.pie_syntax.specs.Brackets.{opens, closes}
-use Rattle.pie_syntax.proofs.Twins.{Texts, place, Twin, before, gone, next_is, Keeps, kept, opening, closing, other, Takes, takes_none, Alike, both_got, both_miss, past_got, then_alike, got_alike, wrong_alike, cond_alike, cond_then}
+use Rattle.pie_syntax.proofs.Twins.{Texts, place, Twin, before, gone, next_is, Keeps, kept, opening, closing, other, Takes, takes_none, Alike, both_got}
+use Rattle.pie_syntax.proofs.Twins.{both_miss, past_got, then_alike, got_alike, wrong_alike, cond_alike, cond_then}
 
 -- the kinds that are tokens and no brackets
 abbrev pub is_plain : Kind → Bool
@@ -91,13 +94,15 @@ one_token : {l d e : ℕ} (x : Token) (ts : List Token) → Keeps l d (x ∷ [])
 one_token x ts k = record { word = x ∷ []; splits = refl; takes = omega arith; keeps = k }
 
 -- the token that is next is passed alike
-pub pass_as : {z : Texts} {d e : ℕ} {s t : At} → Twin z s t → is_token (next s) ≡ true → Counts z.limit (next s) d e → Alike Passed z 1 d e s.rest (Got done (passed s)) (Got done (passed t))
+pub pass_as : {z : Texts} {d e : ℕ} {s t : At} → Twin z s t → is_token (next s) ≡ true → Counts z.limit (next s) d e
+    → Alike Passed z 1 d e s.rest (Got done (passed s)) (Got done (passed t))
 pass_as {z = z} {d = d} {e = e} (before p [] b) i c =
     let s : At = place p (z.token ∷ z.one) b in
     past_got done (place z.token.end z.one b) (Got done (place z.token.end z.two b)) (omega arith) (one_token z.token z.one (c z.token (sym (next_first s i))))
 pass_as {z = z} {d = d} {e = e} (before p (y ∷ v) b) i c =
     let s : At = place p (y ∷ v ++ z.token ∷ z.one) b in
-    both_got done (place y.end (v ++ z.token ∷ z.one) b) (place y.end (v ++ z.token ∷ z.two) b) (before y.end v b) (one_token y (v ++ z.token ∷ z.one) (c y (sym (next_first s i))))
+    both_got done (place y.end (v ++ z.token ∷ z.one) b) (place y.end (v ++ z.token ∷ z.two) b) (before y.end v b)
+    (one_token y (v ++ z.token ∷ z.one) (c y (sym (next_first s i))))
 pass_as {z = z} {d = d} {e = e} (gone s l) i c = by_rest s.rest refl
   where
     by_rest : (ts : List Token) → s.rest ≡ ts → Alike Passed z 1 d e s.rest (Got done (behind s s.rest)) (Got done (behind s s.rest))
@@ -105,7 +110,8 @@ pass_as {z = z} {d = d} {e = e} (gone s l) i c = by_rest s.rest refl
     by_rest (y ∷ ts) q = subst (λ us. Alike Passed z 1 d e us (Got done (behind s us)) (Got done (behind s us))) (sym q)
         (past_got done (place y.end ts s.marked) _ (let n = ap length q in omega arith) (one_token y ts (c y (sym (next_first s i ∙ ap first_kind q)))))
 
-pub pass_alike : {z : Texts} {s t : At} (d : ℕ) → Twin z s t → is_plain (next s) ≡ true → Alike Passed z 1 d d s.rest (Got done (passed s)) (Got done (passed t))
+pub pass_alike : {z : Texts} {s t : At} (d : ℕ) → Twin z s t → is_plain (next s) ≡ true
+    → Alike Passed z 1 d d s.rest (Got done (passed s)) (Got done (passed t))
 pass_alike {s = s} d w h = pass_as w (plain_token (next s) h) (plain_counts (next s) d h)
 
 -- what is read behind the token that is next
@@ -119,7 +125,8 @@ pub closing_by : {A : Type 0} {z : Texts} {b h e : ℕ} {s t : At} (d : ℕ) (F 
 closing_by {e = e} {s = s} d F G w i n f h =
     then_alike {f = λ _ m. F m} {g = λ _ m. G m} (pass_as w (closes_token (next s) i) (closes_counts (next s) d e i n f)) (λ a m k v l. h m k v)
 
-want_as : {z : Texts} {d e : ℕ} {s t : At} (k : Kind) → Twin z s t → is_token k ≡ true → Counts z.limit k d e → Alike Passed z 1 d e s.rest (want k s) (want k t)
+want_as : {z : Texts} {d e : ℕ} {s t : At} (k : Kind) → Twin z s t → is_token k ≡ true → Counts z.limit k d e
+    → Alike Passed z 1 d e s.rest (want k s) (want k t)
 want_as {z = z} {d = d} {e = e} {s = s} {t = t} k w i c = cond_alike (ap (λ j. is j k) (next_is w)) pass (λ q. wrong_alike w)
   where
     pass : is (next s) k ≡ true → Alike Passed z 1 d e s.rest (Got done (passed s)) (Got done (passed t))
@@ -130,7 +137,8 @@ pub plain_alike : {z : Texts} {d : ℕ} {s t : At} (k : Kind) → Twin z s t →
 plain_alike {d = d} k w h = want_as k w (plain_token k h) (plain_counts k d h)
 
 -- a closing bracket
-pub close_alike : {z : Texts} {d e : ℕ} {s t : At} (k : Kind) → Twin z s t → closes k ≡ true → e ≡ suc d → e ≤ z.limit → Alike Passed z 1 d e s.rest (want k s) (want k t)
+pub close_alike : {z : Texts} {d e : ℕ} {s t : At} (k : Kind) → Twin z s t → closes k ≡ true → e ≡ suc d → e ≤ z.limit
+    → Alike Passed z 1 d e s.rest (want k s) (want k t)
 close_alike {d = d} {e = e} k w h n f = want_as k w (closes_token k h) (closes_counts k d e h n f)
 
 some_room : (e : ℕ) → (suc e == 0) ≡ false
@@ -138,29 +146,37 @@ some_room e = search rules
 
 -- an opening bracket, and what is read inside it
 pub open_alike : {A : Type 0} {z : Texts} {b h : ℕ} {s t : At} (f g : Passed → At → Parsed A) (k : Kind) (d : ℕ) → Twin z s t → opens k ≡ true
-    → ((e : ℕ) → d ≡ suc e → (m n : At) → Twin z m n → Alike A z b e h m.rest (f done m) (g done n)) → Alike A z 1 d h s.rest (then_on (open_bracket k d s) f) (then_on (open_bracket k d t) g)
-open_alike {A = A} {z = z} {b = b} {h = h} {s = s} {t = t} f g k d w o inside = cond_then _ _ _ _ _ _ (ap (λ j. is j k) (next_is w)) (λ q. by_room d (is_same (next s) k q) inside) (λ q. wrong_alike w)
+    → ((e : ℕ) → d ≡ suc e → (m n : At) → Twin z m n → Alike A z b e h m.rest (f done m) (g done n))
+    → Alike A z 1 d h s.rest (then_on (open_bracket k d s) f) (then_on (open_bracket k d t) g)
+open_alike {A = A} {z = z} {b = b} {h = h} {s = s} {t = t} f g k d w o inside = cond_then _ _ _ _ _ _ (ap (λ j. is j k) (next_is w))
+    (λ q. by_room d (is_same (next s) k q) inside) (λ q. wrong_alike w)
   where
-    by_done : (e : ℕ) (a : Passed) (m n : At) → Twin z m n → ((m n : At) → Twin z m n → Alike A z b e h m.rest (f done m) (g done n)) → Alike A z b e h m.rest (f a m) (g a n)
+    by_done : (e : ℕ) (a : Passed) (m n : At) → Twin z m n → ((m n : At) → Twin z m n → Alike A z b e h m.rest (f done m) (g done n))
+        → Alike A z b e h m.rest (f a m) (g a n)
     by_done e done m n w i = i m n w
 
     by_room : (d : ℕ) → next s ≡ k → ((e : ℕ) → d ≡ suc e → (m n : At) → Twin z m n → Alike A z b e h m.rest (f done m) (g done n))
-        → Alike A z 1 d h s.rest (then_on (cond (d == 0) (Miss TooDeep s) (Got done (passed s))) f) (then_on (cond (d == 0) (Miss TooDeep t) (Got done (passed t))) g)
+        → Alike A z 1 d h s.rest (then_on (cond (d == 0) (Miss TooDeep s) (Got done (passed s))) f)
+        (then_on (cond (d == 0) (Miss TooDeep t) (Got done (passed t))) g)
     by_room zero n inside = both_miss TooDeep s t w
         (record { room = zero; word = takes_none; deep = λ e. (refl, ap opens (sym (next_first s (ap is_token n ∙ opens_token k o)) ∙ n) ∙ o) })
-    by_room (suc e) n inside = subst (λ x. Alike A z 1 (suc e) h s.rest (then_on (cond x (Miss TooDeep s) (Got done (passed s))) f) (then_on (cond x (Miss TooDeep t) (Got done (passed t))) g)) (sym (some_room e))
-        (then_alike {f = f} {g = g} (pass_as w (ap is_token n ∙ opens_token k o) (subst (λ j. Counts z.limit j (suc e) e) (sym n) (opens_counts k (suc e) e o refl)))
+    by_room (suc e) n inside = subst (λ x. Alike A z 1 (suc e) h s.rest (then_on (cond x (Miss TooDeep s) (Got done (passed s))) f)
+        (then_on (cond x (Miss TooDeep t) (Got done (passed t))) g)) (sym (some_room e))
+        (then_alike {f = f} {g = g} (pass_as w (ap is_token n ∙ opens_token k o)
+        (subst (λ j. Counts z.limit j (suc e) e) (sym n) (opens_counts k (suc e) e o refl)))
         (λ a m i w l. by_done e a m i w (inside e refl)))
 
 -- what a reading by the first token makes of a token of this kind: nothing, or a value of the token, which it passes
 abbrev pub ByKind : {A : Type 0} → (At → Token → List Token → TokenKind → Parsed A) → TokenKind → Type 0
 ByKind {A = A} F k = ((s : At) (x : Token) (ts : List Token) → F s x ts k ≡ Miss Expected s)
-    ⊎ ((is_plain (kind_of_token k) ≡ true) × (a : Token → A) × ((s : At) (x : Token) (ts : List Token) → s.rest ≡ x ∷ ts → F s x ts k ≡ Got (a x) (place x.end ts s.marked)))
+    ⊎ ((is_plain (kind_of_token k) ≡ true) × (a : Token → A)
+    × ((s : At) (x : Token) (ts : List Token) → s.rest ≡ x ∷ ts → F s x ts k ≡ Got (a x) (place x.end ts s.marked)))
 
 by_token : {A : Type 0} {z : Texts} {d : ℕ} {s t : At} (F : At → Token → List Token → TokenKind → Parsed A) (x : Token) (us vs : List Token) → ByKind F x.kind
     → Twin z s t → s.rest ≡ x ∷ us → t.rest ≡ x ∷ vs → s.marked ≡ false → Alike A z 1 d d s.rest (F s x us x.kind) (F t x vs x.kind)
 by_token {A = A} {z = z} {d = d} {s = s} {t = t} F x us vs (inl h) w p q m =
-    subst (λ i. Alike A z 1 d d s.rest i (F t x vs x.kind)) (sym (h s x us)) (subst (λ j. Alike A z 1 d d s.rest (Miss Expected s) j) (sym (h t x vs)) (wrong_alike w))
+    subst (λ i. Alike A z 1 d d s.rest i (F t x vs x.kind)) (sym (h s x us))
+    (subst (λ j. Alike A z 1 d d s.rest (Miss Expected s) j) (sym (h t x vs)) (wrong_alike w))
 by_token {A = A} {z = z} {d = d} {s = s} {t = t} F x us vs (inr h) w p q m =
     let n : next s ≡ kind_of_token x.kind = ap (λ b. cond b kinds.Marked (first_kind s.rest)) m ∙ ap first_kind p in
     let here : F s x us x.kind ≡ Got (h.1 x) (passed s) = h.2 s x us p ∙ ap (λ r. Got (h.1 x) (behind s r)) (sym p) in
@@ -180,7 +196,8 @@ index_kinds k = inl (λ s x ts. refl)
 abbrev pub literal_of : At → Token → List Token → TokenKind → Parsed Tree
 literal_of s x ts k = then_on (literal_by s k) (λ l a. Got (TLiteral (start s) (passed a).past l) (passed a))
 
-literal_is : (l : Literal) (s : At) (x : Token) (ts : List Token) → s.rest ≡ x ∷ ts → Got (TLiteral (start s) (passed s).past l) (passed s) ≡ Got (TLiteral x.at x.end l) (place x.end ts s.marked)
+literal_is : (l : Literal) (s : At) (x : Token) (ts : List Token) → s.rest ≡ x ∷ ts
+    → Got (TLiteral (start s) (passed s).past l) (passed s) ≡ Got (TLiteral x.at x.end l) (place x.end ts s.marked)
 literal_is l s x ts e = ap (λ r. Got (TLiteral (start_of s.past r) (behind s r).past l) (behind s r)) e
 
 pub literal_kinds : (k : TokenKind) → ByKind literal_of k
@@ -198,7 +215,8 @@ name_alike {z = z} {d = d} (before p (y ∷ v) b) = let w = before p (y ∷ v) b
     cond_alike refl (λ e. wrong_alike w) (λ e. by_token name_by y (v ++ z.token ∷ z.one) (v ++ z.token ∷ z.two) (name_kinds y.kind) w refl refl e)
 name_alike {z = z} {d = d} (gone s l) = by_rest s.rest refl
   where
-    by_rest : (ts : List Token) → s.rest ≡ ts → Alike Name z 1 d d s.rest (cond s.marked (Miss Expected s) (name_in s ts)) (cond s.marked (Miss Expected s) (name_in s ts))
+    by_rest : (ts : List Token) → s.rest ≡ ts → Alike Name z 1 d d s.rest (cond s.marked (Miss Expected s) (name_in s ts))
+        (cond s.marked (Miss Expected s) (name_in s ts))
     by_rest [] q = cond_alike refl (λ e. wrong_alike (gone s l)) (λ e. wrong_alike (gone s l))
     by_rest (x ∷ ts) q = cond_alike refl (λ e. wrong_alike (gone s l)) (λ e. by_token name_by x ts ts (name_kinds x.kind) (gone s l) q q e)
 
@@ -209,7 +227,8 @@ index_alike {z = z} {d = d} (before p (y ∷ v) b) = let w = before p (y ∷ v) 
     cond_alike refl (λ e. wrong_alike w) (λ e. by_token index_by y (v ++ z.token ∷ z.one) (v ++ z.token ∷ z.two) (index_kinds y.kind) w refl refl e)
 index_alike {z = z} {d = d} (gone s l) = by_rest s.rest refl
   where
-    by_rest : (ts : List Token) → s.rest ≡ ts → Alike Index z 1 d d s.rest (cond s.marked (Miss Expected s) (index_in s ts)) (cond s.marked (Miss Expected s) (index_in s ts))
+    by_rest : (ts : List Token) → s.rest ≡ ts → Alike Index z 1 d d s.rest (cond s.marked (Miss Expected s) (index_in s ts))
+        (cond s.marked (Miss Expected s) (index_in s ts))
     by_rest [] q = cond_alike refl (λ e. wrong_alike (gone s l)) (λ e. wrong_alike (gone s l))
     by_rest (x ∷ ts) q = cond_alike refl (λ e. wrong_alike (gone s l)) (λ e. by_token index_by x ts ts (index_kinds x.kind) (gone s l) q q e)
 
@@ -217,12 +236,15 @@ pub literal_alike : {z : Texts} {d : ℕ} {s t : At} → Twin z s t → Alike Tr
 literal_alike {z = z} {d = d} (before p [] b) = let w = before p [] b in
     cond_then _ _ _ _ _ _ refl (λ e. wrong_alike w) (λ e. by_token literal_of z.token z.one z.two (literal_kinds z.token.kind) w refl refl e)
 literal_alike {z = z} {d = d} (before p (y ∷ v) b) = let w = before p (y ∷ v) b in
-    cond_then _ _ _ _ _ _ refl (λ e. wrong_alike w) (λ e. by_token literal_of y (v ++ z.token ∷ z.one) (v ++ z.token ∷ z.two) (literal_kinds y.kind) w refl refl e)
+    cond_then _ _ _ _ _ _ refl (λ e. wrong_alike w) (λ e. by_token literal_of y (v ++ z.token ∷ z.one) (v ++ z.token ∷ z.two)
+    (literal_kinds y.kind) w refl refl e)
 literal_alike {z = z} {d = d} (gone s l) = by_rest s.rest refl
   where
     f : Literal → At → Parsed Tree
     f i a = Got (TLiteral (start s) (passed a).past i) (passed a)
 
-    by_rest : (ts : List Token) → s.rest ≡ ts → Alike Tree z 1 d d s.rest (then_on (cond s.marked (Miss Expected s) (literal_in s ts)) f) (then_on (cond s.marked (Miss Expected s) (literal_in s ts)) f)
+    by_rest : (ts : List Token) → s.rest ≡ ts → Alike Tree z 1 d d s.rest (then_on (cond s.marked (Miss Expected s) (literal_in s ts)) f)
+        (then_on (cond s.marked (Miss Expected s) (literal_in s ts)) f)
     by_rest [] q = cond_then {x = s.marked} {y = s.marked} _ _ _ _ f f refl (λ e. wrong_alike (gone s l)) (λ e. wrong_alike (gone s l))
-    by_rest (x ∷ ts) q = cond_then {x = s.marked} {y = s.marked} _ _ _ _ f f refl (λ e. wrong_alike (gone s l)) (λ e. by_token literal_of x ts ts (literal_kinds x.kind) (gone s l) q q e)
+    by_rest (x ∷ ts) q = cond_then {x = s.marked} {y = s.marked} _ _ _ _ f f refl (λ e. wrong_alike (gone s l))
+        (λ e. by_token literal_of x ts ts (literal_kinds x.kind) (gone s l) q q e)

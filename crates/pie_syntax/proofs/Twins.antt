@@ -1,5 +1,6 @@
 -- Two texts that go on alike up to a token: what is read before that token is read alike in both.
-use Rattle.std.proofs.Common.{◌≡◌, ℕ, ◌+◌, ◌≤◌, suc, Bool, true, false, cond, List, [], ◌∷◌, ◌++◌, length, refl, sym, subst, ap, ◌∙◌, append_assoc, arith, length-append}
+use Rattle.std.proofs.Common.{◌≡◌, ℕ, ◌+◌, ◌≤◌, suc, Bool, true, false, cond, List, [], ◌∷◌, ◌++◌, length, refl, sym, subst, ap, ◌∙◌, append_assoc, arith}
+use Rattle.std.proofs.Common.{length-append}
 use Rattle.pie_lexer.specs.declared.token.Token.{Token}
 use Rattle.pie_parser.specs.declared.kind.Kind.{Kind}
 use Rattle.pie_parser.specs.declared.error.Fault.{Fault}
@@ -47,7 +48,8 @@ pub data Keeps (limit : ℕ) : ℕ → List Token → ℕ → Type 0 where
   kept : {d : ℕ} → Keeps limit d [] d
   opening : {d e : ℕ} {t : Token} {ts : List Token} → opens (kind_of_token t.kind) ≡ true → Keeps limit d ts e → Keeps limit (suc d) (t ∷ ts) e
   closing : {d e : ℕ} {t : Token} {ts : List Token} → closes (kind_of_token t.kind) ≡ true → suc d ≤ limit → Keeps limit (suc d) ts e → Keeps limit d (t ∷ ts) e
-  other : {d e : ℕ} {t : Token} {ts : List Token} → opens (kind_of_token t.kind) ≡ false → closes (kind_of_token t.kind) ≡ false → Keeps limit d ts e → Keeps limit d (t ∷ ts) e
+  other : {d e : ℕ} {t : Token} {ts : List Token} → opens (kind_of_token t.kind) ≡ false → closes (kind_of_token t.kind) ≡ false → Keeps limit d ts e
+      → Keeps limit d (t ∷ ts) e
 
 keeps_on : {l d e f : ℕ} {v w : List Token} → Keeps l d v e → Keeps l e w f → Keeps l d (v ++ w) f
 keeps_on kept k = k
@@ -96,21 +98,24 @@ pub data Alike (A : Type 0) (z : Texts) (c d e : ℕ) (ts : List Token) : Parsed
   past_miss : (f : Fault) (m : At) (q : Parsed A) → length m.rest ≤ length z.one → Missed z.limit d ts f m.rest → Alike A z c d e ts (Miss f m) q
 
 -- a reading behind a word
-pub behind_word : {A : Type 0} {z : Texts} {b c d e h : ℕ} {ts ms : List Token} {p q : Parsed A} → Takes z.limit c d e ts ms → Alike A z b e h ms p q → Alike A z c d h ts p q
+pub behind_word : {A : Type 0} {z : Texts} {b c d e h : ℕ} {ts ms : List Token} {p q : Parsed A} → Takes z.limit c d e ts ms → Alike A z b e h ms p q
+    → Alike A z c d h ts p q
 behind_word t (both_got a m k w x) = both_got a m k w (takes_on t x)
 behind_word t (both_miss f m k w x) = both_miss f m k w (missed_on t x)
 behind_word t (past_got a m q l x) = past_got a m q l (takes_on t x)
 behind_word t (past_miss f m q l x) = past_miss f m q l (missed_on t x)
 
 -- a reading from behind the shared token says nothing of the second text
-pub from_gone : {A : Type 0} {z : Texts} {c d e : ℕ} {ts : List Token} {p q : Parsed A} (r : Parsed A) → length ts ≤ length z.one → Alike A z c d e ts p q → Alike A z c d e ts p r
+pub from_gone : {A : Type 0} {z : Texts} {c d e : ℕ} {ts : List Token} {p q : Parsed A} (r : Parsed A) → length ts ≤ length z.one → Alike A z c d e ts p q
+    → Alike A z c d e ts p r
 from_gone r l (both_got a m k w x) = past_got a m r (let y = takes_less x in omega arith) x
 from_gone r l (both_miss f m k w x) = past_miss f m r (let y = takes_less x.word in omega arith) x
 from_gone r l (past_got a m q g x) = past_got a m r g x
 from_gone r l (past_miss f m q g x) = past_miss f m r g x
 
 pub then_alike : {A B : Type 0} {z : Texts} {b c d e h : ℕ} {ts : List Token} {p q : Parsed A} {f g : A → At → Parsed B} → Alike A z c d e ts p q
-    → ((a : A) (m k : At) → Twin z m k → c + length m.rest ≤ length ts → Alike B z b e h m.rest (f a m) (g a k)) → Alike B z c d h ts (then_on p f) (then_on q g)
+    → ((a : A) (m k : At) → Twin z m k → c + length m.rest ≤ length ts → Alike B z b e h m.rest (f a m) (g a k))
+    → Alike B z c d h ts (then_on p f) (then_on q g)
 then_alike (both_got a m k w x) j = behind_word x (j a m k w (takes_less x))
 then_alike (both_miss f m k w x) j = both_miss f m k w x
 then_alike {q = q} {g = g} (past_got a m r l x) j = behind_word x (from_gone (then_on q g) l (j a m m (gone m l) (takes_less x)))
@@ -145,11 +150,13 @@ cond_alike {A = A} {z = z} {c = c} {d = d} {e = e} {ts = ts} {x = x} {p = p} {q 
 
 -- one of two readings and what is read behind it, by a test that answers alike
 pub cond_then : {A B : Type 0} {z : Texts} {c d e : ℕ} {ts : List Token} {x y : Bool} (p q r u : Parsed A) (f g : A → At → Parsed B) → x ≡ y
-    → (x ≡ true → Alike B z c d e ts (then_on p f) (then_on r g)) → (x ≡ false → Alike B z c d e ts (then_on q f) (then_on u g)) → Alike B z c d e ts (then_on (cond x p q) f) (then_on (cond y r u) g)
+    → (x ≡ true → Alike B z c d e ts (then_on p f) (then_on r g)) → (x ≡ false → Alike B z c d e ts (then_on q f) (then_on u g))
+    → Alike B z c d e ts (then_on (cond x p q) f) (then_on (cond y r u) g)
 cond_then {A = A} {B = B} {z = z} {c = c} {d = d} {e = e} {ts = ts} {x = x} p q r u f g h i j =
     subst (λ y. Alike B z c d e ts (then_on (cond x p q) f) (then_on (cond y r u) g)) h (by_test x i j)
   where
-    by_test : (x : Bool) → (x ≡ true → Alike B z c d e ts (then_on p f) (then_on r g)) → (x ≡ false → Alike B z c d e ts (then_on q f) (then_on u g)) → Alike B z c d e ts (then_on (cond x p q) f) (then_on (cond x r u) g)
+    by_test : (x : Bool) → (x ≡ true → Alike B z c d e ts (then_on p f) (then_on r g)) → (x ≡ false → Alike B z c d e ts (then_on q f) (then_on u g))
+        → Alike B z c d e ts (then_on (cond x p q) f) (then_on (cond x r u) g)
     by_test true i j = i refl
     by_test false i j = j refl
 

@@ -8,9 +8,11 @@ use Rattle.pie_parser.specs.Kinds.{is}
 use Rattle.pie_parser.specs.PlainTypes.{TypeTree, PlainT, NullableT}
 use Rattle.pie_parser.specs.At.{At}
 use Rattle.pie_parser.specs.Places.{Got, Miss, Parser, next, start}
-use Rattle.pie_parser.specs.TypeReading.{plain_at, keyword_by, keyword_type, named_type, list_type, another_type, tuple_type, plain_by, plain_type, written_type, type_at, inner_type}
+use Rattle.pie_parser.specs.TypeReading.{plain_at, keyword_by, keyword_type, named_type, list_type, another_type, tuple_type, plain_by, plain_type}
+use Rattle.pie_parser.specs.TypeReading.{written_type, type_at, inner_type}
 use Rattle.pie_parser.proofs.Readings.{is_same}
-use Rattle.pie_syntax.proofs.Twins.{Texts, Twin, next_is, start_is, past_is, Alike, then_alike, any_alike, got_alike, wrong_alike, memory_alike, cond_alike, by_next}
+use Rattle.pie_syntax.proofs.Twins.{Texts, Twin, next_is, start_is, past_is, Alike, then_alike, any_alike, got_alike, wrong_alike, memory_alike, cond_alike}
+use Rattle.pie_syntax.proofs.Twins.{by_next}
 use Rattle.pie_syntax.proofs.Tokens.{is_plain, passing, plain_alike, close_alike, open_alike, name_alike}
 use Rattle.pie_syntax.proofs.Operators.{keyword_plain}
 use Rattle.pie_syntax.proofs.Loops.{TurnsAlike, cond_turn, all_alike}
@@ -41,7 +43,8 @@ module _ (z : Texts) (room : ℕ) (fits : room ≤ z.limit) (inner : Parser Type
     where
       by_keyword : (k : Kind) → next s ≡ k → (o : Option PlainType) → plain_at k ≡ o → Alike TypeTree z 1 room room s.rest (keyword_by s o) (keyword_by t o)
       by_keyword k e None h = wrong_alike w
-      by_keyword k e (Some p) h = passing room (λ m. Got (PlainT (start s) m.past p) m) (λ m. Got (PlainT (start t) m.past p) m) w (ap is_plain e ∙ keyword_plain k p h) (λ m k i. got_alike i (let e1 = start_is w in let e2 = past_is i in cc))
+      by_keyword k e (Some p) h = passing room (λ m. Got (PlainT (start s) m.past p) m) (λ m. Got (PlainT (start t) m.past p) m) w
+          (ap is_plain e ∙ keyword_plain k p h) (λ m k i. got_alike i (let e1 = start_is w in let e2 = past_is i in cc))
 
   named_alike : TypeAlike z room named_type
   named_alike s t w = then_alike (name_alike w) (λ n m k i l. got_alike i refl)
@@ -58,12 +61,14 @@ module _ (z : Texts) (room : ℕ) (fits : room ≤ z.limit) (inner : Parser Type
   written_alike : TypeAlike z room (written_type room inner)
   written_alike s t w = then_alike (plain_type_alike s t w) (λ x a b u _.
       cond_alike (ap (λ k. is k kinds.Question) (next_is u))
-      (λ e. any_alike (passing room (λ m. Got (NullableT (start s) m.past x) m) (λ m. Got (NullableT (start t) m.past x) m) u (ap is_plain (is_same (next a) kinds.Question e)) (λ m k i. got_alike i (let e1 = start_is w in let e2 = past_is i in cc))))
+      (λ e. any_alike (passing room (λ m. Got (NullableT (start s) m.past x) m) (λ m. Got (NullableT (start t) m.past x) m) u
+      (ap is_plain (is_same (next a) kinds.Question e)) (λ m k i. got_alike i (let e1 = start_is w in let e2 = past_is i in cc))))
       (λ e. got_alike u refl))
 
 type_at_alike : (z : Texts) (d : ℕ) → d ≤ z.limit → TypeAlike z d (type_at d)
 type_at_alike z zero f = written_alike z zero f (λ s. Miss OutOfMemory s) (λ d n s t w. memory_alike w)
-type_at_alike z (suc d) f = written_alike z (suc d) f (type_at d) (λ e n. subst (λ i. TypeAlike z i (type_at d)) (omega arith) (type_at_alike z d (omega arith)))
+type_at_alike z (suc d) f = written_alike z (suc d) f (type_at d)
+    (λ e n. subst (λ i. TypeAlike z i (type_at d)) (omega arith) (type_at_alike z d (omega arith)))
 
 inner_type_alike : (z : Texts) (d : ℕ) → d ≤ z.limit → (e : ℕ) → d ≡ suc e → TypeAlike z e (inner_type d)
 inner_type_alike z zero f e n s t w = memory_alike w

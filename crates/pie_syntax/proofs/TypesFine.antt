@@ -17,8 +17,10 @@ use Rattle.pie_parser.specs.TypeGrammar.{Eats, IsType, IsPlain, MoreTypes}
 use Rattle.pie_parser.proofs.Readings.{is_same}
 use Rattle.pie_syntax.proofs.Tokens.{is_token}
 use Rattle.pie_syntax.proofs.Operators.{keyword_token}
-use Rattle.pie_syntax.proofs.Words.{Then, Word, Fine, fine_then, fine_as, fine_last, fine_cond, fine_wrong, fine_nothing, no_memory, Nothing, word_nothing, word_then, word_as}
-use Rattle.pie_syntax.proofs.Samples.{token_of, word_eats, fine_pass, fine_eat, want_fine, open_fine, name_fine, a_open_square, a_close_square, a_open_round, a_close_round, a_comma}
+use Rattle.pie_syntax.proofs.Words.{Then, Word, Fine, fine_then, fine_as, fine_last, fine_cond, fine_wrong, fine_nothing, no_memory, Nothing, word_nothing}
+use Rattle.pie_syntax.proofs.Words.{word_then, word_as}
+use Rattle.pie_syntax.proofs.Samples.{token_of, word_eats, fine_pass, fine_eat, want_fine, open_fine, name_fine, a_open_square, a_close_square, a_open_round}
+use Rattle.pie_syntax.proofs.Samples.{a_close_round, a_comma}
 use Rattle.pie_syntax.proofs.Parts.{TurnFine, turn_cond, all_fine}
 
 abbrev pub TypeR : At → At → Type 0
@@ -44,7 +46,8 @@ module _ (room : ℕ) (inner : Parser TypeTree) (good : (s : At) → s.marked �
   list_fine s u =
       let w1 = word_eats a_close_square in
       let w0 = word_then word_type w1 in
-      fine_as (fine_then (open_fine room a_open_square refl u) w0 (λ _ a i. fine_then (good a (i refl)) w1 (λ t b i. fine_last _ (want_fine a_close_square (i refl)))))
+      fine_as (fine_then (open_fine room a_open_square refl u) w0
+      (λ _ a i. fine_then (good a (i refl)) w1 (λ t b i. fine_last _ (want_fine a_close_square (i refl)))))
       (λ s m h. (_, grammar.listed h.1 h.2.1.1 h.2.2))
 
   more_fine : (xs : List TypeTree) (s : At) → s.marked ≡ false → Fine (List TypeTree) false MoreR s (all_behind xs (reads.another_type room inner) s)
@@ -52,7 +55,8 @@ module _ (room : ℕ) (inner : Parser TypeTree) (good : (s : At) → s.marked �
       (λ s m h. (_, grammar.one_more h.1.1 h.1.2.1 h.2.1)) word_more (reads.another_type room inner) another xs s (λ _. u)
     where
       another : (s : At) → (false ≡ false → s.marked ≡ false) → TurnFine TypeTree false (Then (Eats kinds.Comma) TypeR) s (reads.another_type room inner s)
-      another s u = turn_cond (is (next s) kinds.Comma) (λ h. let n = is_same (next s) kinds.Comma h in fine_pass (λ j. j ≡ kinds.Comma) inner (ap is_token n) n word_type good)
+      another s u = turn_cond (is (next s) kinds.Comma) (λ h. let n = is_same (next s) kinds.Comma h in
+          fine_pass (λ j. j ≡ kinds.Comma) inner (ap is_token n) n word_type good)
 
   tuple_fine : (s : At) → s.marked ≡ false → Fine TypeTree false PlainR s (reads.tuple_type room inner s)
   tuple_fine s u =
@@ -61,7 +65,8 @@ module _ (room : ℕ) (inner : Parser TypeTree) (good : (s : At) → s.marked �
       let w2 = word_then word_type w3 in
       let w1 = word_then (word_eats a_comma) w2 in
       let w0 = word_then word_type w1 in
-      fine_as (fine_then (open_fine room a_open_round refl u) w0 (λ _ a i. fine_then (good a (i refl)) w1 (λ t b i. fine_then (want_fine a_comma (i refl)) w2 (λ _ c i.
+      fine_as (fine_then (open_fine room a_open_round refl u) w0
+      (λ _ a i. fine_then (good a (i refl)) w1 (λ t b i. fine_then (want_fine a_comma (i refl)) w2 (λ _ c i.
       fine_then (good c (i refl)) w3 (λ x d i. fine_then (more_fine (t ∷ x ∷ []) d (i refl)) w4 (λ xs f i. fine_last _ (want_fine a_close_round (i refl))))))))
       (λ s m h. (_, grammar.tuple h.1 h.2.1.1 h.2.2.1 h.2.2.2.1.1 h.2.2.2.2.1.1 h.2.2.2.2.2))
 
@@ -70,7 +75,8 @@ module _ (room : ℕ) (inner : Parser TypeTree) (good : (s : At) → s.marked �
     where
       by_keyword : (o : Option PlainType) → plain_at (next s) ≡ o → Fine TypeTree false PlainR s (reads.keyword_by s o)
       by_keyword None h = fine_wrong word_plain u
-      by_keyword (Some p) h = fine_as (fine_pass (λ k. plain_at k ≡ Some p) (λ m. Got (PlainT (start s) m.past p) m) (keyword_token (next s) p h) h word_nothing (λ m v. fine_nothing (PlainT (start s) m.past p) (λ _. v)))
+      by_keyword (Some p) h = fine_as (fine_pass (λ k. plain_at k ≡ Some p) (λ m. Got (PlainT (start s) m.past p) m)
+          (keyword_token (next s) p h) h word_nothing (λ m v. fine_nothing (PlainT (start s) m.past p) (λ _. v)))
           (λ s m h. (_, grammar.keyword h.1.0 (sym h.2 ∙ h.1.1)))
 
   named_fine : (s : At) → s.marked ≡ false → Fine TypeTree false PlainR s (reads.named_type s)
@@ -95,7 +101,8 @@ module _ (room : ℕ) (inner : Parser TypeTree) (good : (s : At) → s.marked �
 
   written_fine : (s : At) → s.marked ≡ false → Fine TypeTree false TypeR s (written_type room inner s)
   written_fine s u = fine_as (fine_then (plain_type_fine s u) (word_as word_nothing (λ s m e. inr e)) (λ t a i.
-      fine_cond (is (next a) kinds.Question) (λ h. fine_as (fine_eat kinds.Question (λ m. NullableT (start s) m.past t) refl (is_same (next a) kinds.Question h)) (λ s m h. inl h))
+      fine_cond (is (next a) kinds.Question) (λ h. fine_as (fine_eat kinds.Question (λ m. NullableT (start s) m.past t) refl
+      (is_same (next a) kinds.Question h)) (λ s m h. inl h))
       (λ h. fine_as (fine_nothing t i) (λ s m e. inr e)))) with_mark
 
 type_at_fine : (d : ℕ) (s : At) → s.marked ≡ false → Fine TypeTree false TypeR s (type_at d s)

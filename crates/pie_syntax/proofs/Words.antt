@@ -63,8 +63,11 @@ been_then {R = R} {Q = Q} {s = s} {m = m} {n = n} x y = record {
   marks = y.marks;
   reads = λ p r f.
       let i = x.reads p (y.word ++ r) (follows_on y.word m.rest n.rest r y.splits f) in
-      let j = y.reads i.0 r f in
-      (j.0, subst (λ us. Then R Q (place p us s.marked) (place j.0 r n.marked)) (sym (append_assoc x.word y.word r)) (place i.0 (y.word ++ r) m.marked, i.1, j.1));
+      let j = y.reads i.0 r f in (
+        j.0,
+        subst (λ us. Then R Q (place p us s.marked) (place j.0 r n.marked)) (sym (append_assoc x.word y.word r))
+            (place i.0 (y.word ++ r) m.marked, i.1, j.1),
+      );
 }
 
 -- a part behind what was read
@@ -107,12 +110,27 @@ fine_then (no_memory m) q j = no_memory m
 
 -- the same as another relation
 pub fine_as : {A : Type 0} {k : Bool} {R Q : At → At → Type 0} {s : At} {p : Parsed A} → Fine A k R s p → ((s m : At) → R s m → Q s m) → Fine A k Q s p
-fine_as (fine_got a m x) h = fine_got a m (record { word = x.word; splits = x.splits; marks = x.marks; reads = λ p r f. let i = x.reads p r f in (i.0, h _ _ i.1) })
-fine_as (fine_miss f m x) h = fine_miss f m (record { word = x.word; splits = x.splits; more = x.more; stands = x.stands; off = x.off; reads = λ p r b. let i = x.reads p r b in (i.0, h _ _ i.1) })
+fine_as (fine_got a m x) h = fine_got a m (record {
+  word = x.word;
+  splits = x.splits;
+  marks = x.marks;
+  reads = λ p r f. let i = x.reads p r f in
+      (i.0, h _ _ i.1);
+})
+fine_as (fine_miss f m x) h = fine_miss f m (record {
+  word = x.word;
+  splits = x.splits;
+  more = x.more;
+  stands = x.stands;
+  off = x.off;
+  reads = λ p r b.
+      let i = x.reads p r b in (i.0, h _ _ i.1);
+})
 fine_as (no_memory m) h = no_memory m
 
 -- the same with another value
-pub fine_last : {A B : Type 0} {k : Bool} {R : At → At → Type 0} {s : At} {p : Parsed A} (g : A → At → B) → Fine A k R s p → Fine B k R s (then_on p (λ a m. Got (g a m) m))
+pub fine_last : {A B : Type 0} {k : Bool} {R : At → At → Type 0} {s : At} {p : Parsed A} (g : A → At → B) → Fine A k R s p
+    → Fine B k R s (then_on p (λ a m. Got (g a m) m))
 fine_last g (fine_got a m x) = fine_got (g a m) m x
 fine_last g (fine_miss f m x) = fine_miss f m x
 fine_last g (no_memory m) = no_memory m
@@ -123,7 +141,8 @@ fine_weaker (fine_got a m x) = fine_got a m (record { word = x.word; splits = x.
 fine_weaker (fine_miss f m x) = fine_miss f m x
 fine_weaker (no_memory m) = no_memory m
 
-pub fine_cond : {A : Type 0} {k : Bool} {R : At → At → Type 0} {s : At} {p q : Parsed A} (x : Bool) → (x ≡ true → Fine A k R s p) → (x ≡ false → Fine A k R s q) → Fine A k R s (cond x p q)
+pub fine_cond : {A : Type 0} {k : Bool} {R : At → At → Type 0} {s : At} {p q : Parsed A} (x : Bool) → (x ≡ true → Fine A k R s p)
+    → (x ≡ false → Fine A k R s q) → Fine A k R s (cond x p q)
 fine_cond true h i = h refl
 fine_cond false h i = i refl
 

@@ -16,6 +16,7 @@ use std::alloc::Global;
 
 /// What a task sees at a path under `out/`: its own write if there is one, else the write of the one
 /// task that wrote the path among those that it has required so far, directly or through others.
+/// Rule: docs/BUILDING.md, "What a task sees".
 pub fn view<R: TaskRows>(
     alloc: Global,
     rows: &R,

@@ -1,5 +1,6 @@
 -- More answers behind those that are left change no step that goes on.
-use Rattle.std.proofs.Common.{◌≡◌, ℕ, ◌+◌, ◌≤◌, Bool, true, false, cond, nat_le, nat_lt, List, [], ◌∷◌, ◌++◌, length, take, drop, reverse, slice_get, slice_set, Option, Some, None, Result, Ok, Err, refl, sym, subst, ap, ◌∙◌}
+use Rattle.std.proofs.Common.{◌≡◌, ℕ, ◌+◌, ◌≤◌, Bool, true, false, cond, nat_le, nat_lt, List, [], ◌∷◌, ◌++◌, length, take, drop, reverse, slice_get, slice_set}
+use Rattle.std.proofs.Common.{Option, Some, None, Result, Ok, Err, refl, sym, subst, ap, ◌∙◌}
 use Rattle.pie_base.specs.Path.{is_out}
 use Rattle.pie_base.specs.declared.fault.FaultKind.TheVariants.{Budget, BadList, BadWrite, WroteTwice, ReadThenWrite, Big, Unknown}
 use Rattle.pie_value.specs.declared.event.Answer.{Answer}
@@ -21,7 +22,8 @@ use Rattle.pie_code.specs.declared.instr.Instr.TheVariants.{TuplePush, Proj, Cal
 use Rattle.pie_code.specs.declared.instr.Each.{Each as EachLoop}
 use Rattle.pie_code.specs.declared.instr.Required.{Required}
 use Rattle.pie_code.specs.declared.code.Code.{Code}
-use Rattle.pie_code.specs.Running.{Config, Turn, goes, ends, misfit, onward, push, push_found, pop_from, pop, pop_two, pop_many, settle, act_on, tick, push_text, store, branch}
+use Rattle.pie_code.specs.Running.{Config, Turn, goes, ends, misfit, onward, push, push_found, pop_from, pop, pop_two, pop_many, settle, act_on, tick}
+use Rattle.pie_code.specs.Running.{push_text, store, branch}
 use Rattle.pie_code.specs.Running.{number_in, item_found, next_item, each_turn, each_from, require_named, finish, act, act_found, step}
 use Rattle.pie_vm.specs.Machines.{more, more_for, Asks}
 
@@ -38,7 +40,8 @@ module _ (rest : List Answer) where
   by_cond true t u x y h k = h
   by_cond false t u x y h k = k
 
-  c_pop_from : (ts : List Tree) (c : Config) (go : Tree → Config → Turn) → ((t : Tree) → Goes (go t)) → Carried (pop_from ts c go) (pop_from ts (more_for rest c) go)
+  c_pop_from : (ts : List Tree) (c : Config) (go : Tree → Config → Turn) → ((t : Tree) → Goes (go t))
+      → Carried (pop_from ts c go) (pop_from ts (more_for rest c) go)
   c_pop_from [] c go h = tt
   c_pop_from (t ∷ ts) c go h = h t (record c { stack = ts })
 

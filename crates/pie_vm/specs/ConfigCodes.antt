@@ -29,4 +29,5 @@ coded_config =
 
 -- a machine
 abbrev pub coded_standing : Coded Standing
-coded_standing = code_by (MachineState × Config) (coded× state_row.coded coded_config) (λ m. (m.phase, m.config)) (λ p. record { phase = p.0; config = p.1 }) (λ _. refl)
+coded_standing = code_by (MachineState × Config) (coded× state_row.coded coded_config) (λ m. (m.phase, m.config)) (λ p. record { phase = p.0; config = p.1 })
+    (λ _. refl)

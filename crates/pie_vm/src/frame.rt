@@ -35,7 +35,13 @@ impl Model for Frame {
 
     ghost coded = { coded_config };
 
-    ghost view = { λ c. record { at = c.at; stack = c.stack; slots = c.slots; state = record { answers = answers_of c.answer; seen = c.seen; wrote = c.wrote; ticks = c.ticks } } };
+    ghost view = { λ c. record {
+      at = c.at;
+      stack = c.stack;
+      slots = c.slots;
+      state = record
+          { answers = answers_of c.answer; seen = c.seen; wrote = c.wrote; ticks = c.ticks };
+    } };
 }
 
 impl Frame {

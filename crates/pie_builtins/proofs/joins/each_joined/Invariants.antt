@@ -6,4 +6,5 @@ use Rattle.pie_builtins.specs.Gathered.{each_after}
 use Rattle.pie_builtins.proofs.joins.each_joined.Given as goal
 
 abbrev pub invariant-loop-other : goal.invariant-loop-other
-invariant-loop-other l = string_bytes l.out ++ each_after l.between (trees_of (drop l.other-index l.others)) ≡ l.first ++ each_after l.between (trees_of l.others)
+invariant-loop-other l = string_bytes l.out ++ each_after l.between (trees_of (drop l.other-index l.others)) ≡ l.first ++ each_after l.between
+    (trees_of l.others)

@@ -10,4 +10,5 @@ abbrev pub decreases-loop-front : goal.decreases-loop-front
 decreases-loop-front l = length l.rest
 
 abbrev pub invariant-loop-front : goal.invariant-loop-front
-invariant-loop-front l = shadow (Utf8 l.rest) × (l.items ++ map TText (without_last_empty (pieces l.rest l.part)) ≡ map TText (without_last_empty (pieces l.text l.part)))
+invariant-loop-front l = shadow (Utf8 l.rest) × (l.items ++ map TText (without_last_empty (pieces l.rest l.part)) ≡ map TText
+    (without_last_empty (pieces l.text l.part)))

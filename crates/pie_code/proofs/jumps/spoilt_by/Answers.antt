@@ -6,4 +6,5 @@ returns-then-jumps_out c = spoils_none c.args.code.now c.args.from (λ at late. 
 
 pub returns-else-jumps_out : goal.returns-else-jumps_out
 returns-else-jumps_out c =
-    spoils_itself c.args.code.now c.args.from (λ at late. c.in_default.ensures at late) (λ out. let e = c.jumps_out.ensures.1 out in let f = c.if-jumps_out.false in cc)
+    spoils_itself c.args.code.now c.args.from (λ at late. c.in_default.ensures at late)
+    (λ out. let e = c.jumps_out.ensures.1 out in let f = c.if-jumps_out.false in cc)

@@ -5,7 +5,8 @@ use Rattle.pie_code.proofs.verifying.other_refusal.Goals as goal
 
 pub returns-in-None-Some : goal.returns-in-None-Some
 returns-in-None-Some c =
-    only_slot_at c.args.code.now c.args.jump c.args.slot c.in-None-Some.slot c.in-None-Some.is-0 c.in-None-Some.is-1 c.requires.jump c.requires.slot c.requires.heights
+    only_slot_at c.args.code.now c.args.jump c.args.slot c.in-None-Some.slot c.in-None-Some.is-0 c.in-None-Some.is-1 c.requires.jump c.requires.slot
+    c.requires.heights
 
 pub returns-then-has_end : goal.returns-then-has_end
 returns-then-has_end c = record {

@@ -13,5 +13,6 @@ returns-clause-ordered c =
 
 pub returns-clause-names : goal.returns-clause-names
 returns-clause-names c =
-    λ fs h. subst (λ names. IsPermutation names (row_names c.sort_by.new.self.items)) (ap row_names c.in_ok-rows.ensures ∙ pipeline_names c.args.text.now c.args.tokens.now fs h)
+    λ fs h. subst (λ names. IsPermutation names (row_names c.sort_by.new.self.items))
+    (ap row_names c.in_ok-rows.ensures ∙ pipeline_names c.args.text.now c.args.tokens.now fs h)
     (IsPermutation-map (λ (row : List ℕ × List ℕ). row.0) c.in_ok-rows.rows.items c.sort_by.new.self.items c.sort_by.ensures.permutation)

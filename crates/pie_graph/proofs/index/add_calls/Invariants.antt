@@ -6,4 +6,5 @@ use Rattle.pie_graph.specs.Alone.{calls_alone}
 use Rattle.pie_graph.proofs.index.add_calls.Given as goal
 
 abbrev pub invariant-loop-callee : goal.invariant-loop-callee
-invariant-loop-callee l = (edge : Use × ℕ) → (holds l.index edge || is_of (calls_alone (numbers (drop l.callee-index l.callees))) l.no edge) ≡ (holds l.fn.index edge || is_of (calls_alone (numbers l.callees)) l.no edge)
+invariant-loop-callee l = (edge : Use × ℕ) → (holds l.index edge || is_of (calls_alone (numbers (drop l.callee-index l.callees))) l.no edge) ≡
+    (holds l.fn.index edge || is_of (calls_alone (numbers l.callees)) l.no edge)

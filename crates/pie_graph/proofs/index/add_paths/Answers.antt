@@ -9,7 +9,8 @@ use Rattle.pie_graph.proofs.index.add_paths.Goals as goal
 pub loop-path-preserved : goal.loop-path-preserved
 loop-path-preserved c = λ edge.
     paths_step c.args.kind c.args.paths.now c.loop-path.path-index c.path-item.result c.args.no edge _ _ _ c.loop-path-test.true c.path-item.is
-    (c.in_ok-insert.ensures.updates.0 edge ∙ ap (λ (w : Use). cond (is_eq (edge_cmp (w, c.args.no) edge)) true (holds c.loop-path.index edge)) (c.use_of.ensures ∙ ap (used c.args.kind) c.in_ok-copy.ensures))
+    (c.in_ok-insert.ensures.updates.0 edge ∙ ap (λ (w : Use). cond (is_eq (edge_cmp (w, c.args.no) edge)) true (holds c.loop-path.index edge))
+    (c.use_of.ensures ∙ ap (used c.args.kind) c.in_ok-copy.ensures))
     (c.loop-path.invariant edge)
 
 pub returns : goal.returns

@@ -8,7 +8,8 @@ range-edge-items-requires c = starts_below c.args.what c.in_ok-copy.field-0 c.in
 
 pub loop-edge-init : goal.loop-edge-init
 loop-edge-init c =
-    users_start c.args.what c.in_ok-copy.field-0 c.args.index.now c.new-found.result.items c.into_iter-edge-iterator.result c.new-found.ensures.items c.in_ok-copy.ensures
+    users_start c.args.what c.in_ok-copy.field-0 c.args.index.now c.new-found.result.items c.into_iter-edge-iterator.result c.new-found.ensures.items
+    c.in_ok-copy.ensures
     (c.into_iter-edge-iterator.ensures.into_iter_gives ∙ c.range-edge-items.ensures.between tt)
 
 pub loop-edge-preserved : goal.loop-edge-preserved

@@ -12,7 +12,9 @@ pub returns-in-Some : goal.returns-in-Some
 returns-in-Some c =
     let n = c.digits_len-len.result in
     let rest = c.args.rest.now in
-    int_taken rest n c.args.at c.in-Some.n _ (int_stored (number_of (take n rest)) c.in-Some.n c.in-Some.ensures) c.requires.nonempty c.requires.digit c.digits_len-len.ensures c.in-Some.ensures
+    int_taken rest n c.args.at c.in-Some.n _ (int_stored (number_of
+    (take n rest)) c.in-Some.n c.in-Some.ensures) c.requires.nonempty c.requires.digit c.digits_len-len.ensures c.in-Some.ensures
 
 pub returns-in-None : goal.returns-in-None
-returns-in-None c = int_refused c.args.rest.now c.digits_len-len.result c.args.at c.requires.nonempty c.requires.digit c.digits_len-len.ensures c.in-None.ensures
+returns-in-None c = int_refused c.args.rest.now c.digits_len-len.result c.args.at c.requires.nonempty c.requires.digit c.digits_len-len.ensures
+    c.in-None.ensures

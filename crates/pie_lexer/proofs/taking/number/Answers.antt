@@ -12,4 +12,5 @@ pub returns : goal.returns
 returns c =
     let digits = c.args.digits.now in
     let h = rw c.as_text.ensures at c.parse.ensures.value in
-    narrowed c.parse.result (number_of digits) (length digits) c.ok.result (parse_signed_digits own_digits w64 digits c.parse.result h.0 c.requires.digits) c.requires.nonempty c.ok.ensures.value
+    narrowed c.parse.result (number_of digits) (length digits) c.ok.result
+    (parse_signed_digits own_digits w64 digits c.parse.result h.0 c.requires.digits) c.requires.nonempty c.ok.ensures.value

@@ -8,14 +8,16 @@ pub as_text-requires : goal.as_text-requires
 as_text-requires c =
     let text = c.args.text.now in
     let at = c.args.at in
-    let e = ends_as c.in_ok-said.field-0 (Closes c.in-Closed.said.items c.in-Closed.len) c.behind-rest.result.now text at c.in_ok-said.ensures (ap end_of c.in-Closed.is) c.behind-rest.ensures in
+    let e = ends_as c.in_ok-said.field-0 (Closes c.in-Closed.said.items c.in-Closed.len) c.behind-rest.result.now text at c.in_ok-said.ensures
+    (ap end_of c.in-Closed.is) c.behind-rest.ensures in
     rw c.as_slice.ensures.value (quoted_is_utf8 text at c.in-Closed.said.items c.in-Closed.len c.utf8.text c.requires.within c.requires.quote e)
 
 pub overflow_add-end : goal.overflow_add-end
 overflow_add-end c =
     let text = c.args.text.now in
     let at = c.args.at in
-    let e = ends_as c.in_ok-said.field-0 (Closes c.in-Closed.said.items c.in-Closed.len) c.behind-rest.result.now text at c.in_ok-said.ensures (ap end_of c.in-Closed.is) c.behind-rest.ensures in
+    let e = ends_as c.in_ok-said.field-0 (Closes c.in-Closed.said.items c.in-Closed.len) c.behind-rest.result.now text at c.in_ok-said.ensures
+    (ap end_of c.in-Closed.is) c.behind-rest.ensures in
     let l = closes_within (drop 1 (drop at text)) c.in-Closed.said.items c.in-Closed.len e in
     omega (arith, length-drop 1 (drop at text), length-drop at text)
 
@@ -23,7 +25,8 @@ pub overflow_add-result : goal.overflow_add-result
 overflow_add-result c =
     let text = c.args.text.now in
     let at = c.args.at in
-    let e = ends_as c.in_ok-said.field-0 (Fails c.in-BadEscape.after) c.behind-rest.result.now text at c.in_ok-said.ensures (ap end_of c.in-BadEscape.is) c.behind-rest.ensures in
+    let e = ends_as c.in_ok-said.field-0 (Fails c.in-BadEscape.after) c.behind-rest.result.now text at c.in_ok-said.ensures
+    (ap end_of c.in-BadEscape.is) c.behind-rest.ensures in
     let l = fails_within (drop 1 (drop at text)) c.in-BadEscape.after e in
     omega (arith, length-drop 1 (drop at text), length-drop at text)
 
@@ -31,7 +34,8 @@ pub returns-in_ok-said-in-Closed : goal.returns-in_ok-said-in-Closed
 returns-in_ok-said-in-Closed c =
     let text = c.args.text.now in
     let at = c.args.at in
-    let e = ends_as c.in_ok-said.field-0 (Closes c.in-Closed.said.items c.in-Closed.len) c.behind-rest.result.now text at c.in_ok-said.ensures (ap end_of c.in-Closed.is) c.behind-rest.ensures in
+    let e = ends_as c.in_ok-said.field-0 (Closes c.in-Closed.said.items c.in-Closed.len) c.behind-rest.result.now text at c.in_ok-said.ensures
+    (ap end_of c.in-Closed.is) c.behind-rest.ensures in
     rw (c.in_ok-said-in-Closed.ensures, c.as_text.ensures, c.as_slice.ensures.value)
     (text_taken (drop at text) (drop 1 (drop at text)) c.in-Closed.said.items c.in-Closed.len at (quote_first text at c.requires.within c.requires.quote) e)
 
@@ -46,5 +50,6 @@ pub returns-in-BadEscape : goal.returns-in-BadEscape
 returns-in-BadEscape c =
     let text = c.args.text.now in
     let at = c.args.at in
-    let e = ends_as c.in_ok-said.field-0 (Fails c.in-BadEscape.after) c.behind-rest.result.now text at c.in_ok-said.ensures (ap end_of c.in-BadEscape.is) c.behind-rest.ensures in
+    let e = ends_as c.in_ok-said.field-0 (Fails c.in-BadEscape.after) c.behind-rest.result.now text at c.in_ok-said.ensures
+    (ap end_of c.in-BadEscape.is) c.behind-rest.ensures in
     escape_refused (drop at text) (drop 1 (drop at text)) c.in-BadEscape.after at (quote_first text at c.requires.within c.requires.quote) e

@@ -11,4 +11,7 @@ trail-requires-clause-marked g c =
 
 pub returns : goal.returns
 returns g c =
-    cycle_made (g.R.TaskRows.rows c.args.rows.now) c.args.places.now c.args.from.0 c.args.to.0 c.in_ok-trail.trail.items c.deref-2.result.now c.deref-3.result.now c.in_ok-cycle.cycle.items c.place_of_least-least.result c.requires.agrees c.in_ok-trail.ensures c.deref-2.ensures.value c.deref-3.ensures.value c.place_of_least-least.ensures.within c.place_of_least-least.ensures.least c.in_ok-cycle.ensures
+    cycle_made
+    (g.R.TaskRows.rows c.args.rows.now) c.args.places.now c.args.from.0 c.args.to.0 c.in_ok-trail.trail.items c.deref-2.result.now c.deref-3.result.now
+    c.in_ok-cycle.cycle.items c.place_of_least-least.result c.requires.agrees c.in_ok-trail.ensures c.deref-2.ensures.value c.deref-3.ensures.value
+    c.place_of_least-least.ensures.within c.place_of_least-least.ensures.least c.in_ok-cycle.ensures

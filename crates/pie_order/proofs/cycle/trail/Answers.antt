@@ -12,8 +12,10 @@ use Rattle.pie_order.proofs.cycle.trail.Goals as goal
 pub returns-then-eq : goal.returns-then-eq
 returns-then-eq g c =
     let same = eqb-true c.loop.at.0 c.args.end.0 (sym c.if-eq.ensures) in
-    subst (λ (ns : List ℕ). IsTrail (g.R.TaskRows.rows c.args.rows.now) c.args.start.0 c.args.end.0 ns) (sym (pushed_number c.loop.trail.items c.push.new.self.items c.loop.at c.in_ok-push.ensures.items))
-    (leading_ends (g.R.TaskRows.rows c.args.rows.now) c.args.places.now c.args.start.0 (numbers c.loop.trail.items) c.loop.at.0 c.args.end.0 c.loop.invariant.3 same)
+    subst (λ (ns : List ℕ). IsTrail (g.R.TaskRows.rows c.args.rows.now) c.args.start.0 c.args.end.0 ns)
+    (sym (pushed_number c.loop.trail.items c.push.new.self.items c.loop.at c.in_ok-push.ensures.items))
+    (leading_ends (g.R.TaskRows.rows c.args.rows.now) c.args.places.now c.args.start.0
+    (numbers c.loop.trail.items) c.loop.at.0 c.args.end.0 c.loop.invariant.3 same)
 
 pub returns-in-None : goal.returns-in-None
 returns-in-None g c =
@@ -33,5 +35,6 @@ loop-preserved g c =
       found.1,
       omega (arith, ap length pushed, length_push (numbers c.loop.trail.items) c.loop.at.0, c.loop.invariant.2),
       subst (λ (ns : List ℕ). IsLeading rows c.args.places.now c.args.start.0 ns c.in-Some.next.0) (sym pushed)
-          (leading_steps rows c.args.places.now c.args.start.0 (numbers c.loop.trail.items) c.loop.at.0 c.in-Some.next.0 c.requires.agrees c.loop.invariant.3 calls),
+          (leading_steps rows c.args.places.now c.args.start.0
+          (numbers c.loop.trail.items) c.loop.at.0 c.in-Some.next.0 c.requires.agrees c.loop.invariant.3 calls),
     )

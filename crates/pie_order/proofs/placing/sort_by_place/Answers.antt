@@ -11,9 +11,12 @@ pub returns-clause-same : goal.returns-clause-same
 returns-clause-same c = λ n.
     let old = numbers c.args.tasks.now.items in
     let new = numbers c.sort_unstable_by_key.new.self.items in
-    let moved = IsPermutation-map (λ (t : TaskNo). t.0) c.args.tasks.now.items c.sort_unstable_by_key.new.self.items c.sort_unstable_by_key.ensures.permutation in
+    let moved = IsPermutation-map
+    (λ (t : TaskNo). t.0) c.args.tasks.now.items c.sort_unstable_by_key.new.self.items c.sort_unstable_by_key.ensures.permutation in
     (Contains-permutation new old n (IsPermutation-sym old new moved), Contains-permutation old new n moved)
 
 pub returns-clause-order : goal.returns-clause-order
 returns-clause-order c = in_order c.args.places.now c.sort_unstable_by_key.new.self.items
-    (IsNonDecreasingBy-from_sort_by_key (λ (t : TaskNo). slice_index c.args.places.now t.0) c.sort_unstable_by_key.new.self.items c.sort_unstable_by_key.ensures.sorted (λ a r f' k. search rules))
+    (IsNonDecreasingBy-from_sort_by_key
+    (λ (t : TaskNo). slice_index c.args.places.now t.0) c.sort_unstable_by_key.new.self.items c.sort_unstable_by_key.ensures.sorted
+    (λ a r f' k. search rules))

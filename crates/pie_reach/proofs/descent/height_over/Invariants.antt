@@ -5,4 +5,5 @@ use Rattle.pie_reach.specs.Descents.{height_at}
 use Rattle.pie_reach.proofs.descent.height_over.Given as goal
 
 abbrev pub invariant-loop-callee : goal.invariant-loop-callee
-invariant-loop-callee l = max l.greatest (height_over (map (height_at l.states) (numbers (drop l.callee-index l.callees)))) ≡ height_over (map (height_at l.states) (numbers l.callees))
+invariant-loop-callee l = max l.greatest (height_over (map (height_at l.states) (numbers (drop l.callee-index l.callees)))) ≡ height_over
+    (map (height_at l.states) (numbers l.callees))

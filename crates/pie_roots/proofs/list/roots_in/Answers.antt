@@ -14,9 +14,12 @@ loop-text-init c = (
 pub returns-in_err-take : goal.returns-in_err-take
 returns-in_err-take c =
     let p = err_from_is_err_and c.from_residual.result c.from_residual.ensures.1 in
-    rw (p.1, p.2) (left_fails (number_from 0 c.args.typed.now) (Unit {0}) (Vec Task Global) (λ (tasks : Vec Task Global). tasks.items) c.in_err-take.field-0.0 c.args.text.now
-    c.in-Some.text.now c.loop-text.lines c.next_line.new.self c.loop-text.roots.items c.take.new.roots.items c.loop-text.line c.loop-text.invariant.0 c.in-Some.ensures c.in_err-take.ensures)
+    rw (p.1, p.2) (left_fails (number_from 0 c.args.typed.now) (Unit {0}) (Vec Task Global)
+    (λ (tasks : Vec Task Global). tasks.items) c.in_err-take.field-0.0 c.args.text.now
+    c.in-Some.text.now c.loop-text.lines c.next_line.new.self c.loop-text.roots.items c.take.new.roots.items c.loop-text.line c.loop-text.invariant.0
+    c.in-Some.ensures c.in_err-take.ensures)
 
 pub returns : goal.returns
 returns c =
-    left_ends (number_from 0 c.args.typed.now) c.args.text.now c.loop-text.lines c.loop-text.roots.items c.loop-text.line c.loop-text.invariant.0 c.in_default.ensures
+    left_ends
+    (number_from 0 c.args.typed.now) c.args.text.now c.loop-text.lines c.loop-text.roots.items c.loop-text.line c.loop-text.invariant.0 c.in_default.ensures

@@ -7,5 +7,6 @@ use Rattle.pie_store.proofs.decoding.image_1.Goals as goal
 pub returns : goal.returns
 returns c =
     subst (AgreesWhole c.tail.result)
-    (sym (contents_1_is c.args.end c.args.reader.now c.in-Ok.digest c.hash.new.self (known_in c.any.result) c.new.result.items c.any.ensures c.in-Ok.ensures c.new.ensures.items))
+    (sym (contents_1_is c.args.end c.args.reader.now c.in-Ok.digest c.hash.new.self
+    (known_in c.any.result) c.new.result.items c.any.ensures c.in-Ok.ensures c.new.ensures.items))
     c.tail.ensures

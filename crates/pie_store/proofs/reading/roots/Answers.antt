@@ -11,7 +11,8 @@ returns-in-Err-clause-roots c =
     let next = next_root c.args.end in
     let same : next c.loop.roots.items c.loop.reader ≡ next c.as_slice.result.now c.loop.reader =
     ap (λ (l : List (Task × ℕ)). next l c.loop.reader) (sym c.as_slice.ensures.value) in
-    fault_goes (λ x. x) (λ (xs : Vec (Task × ℕ) Global). xs.items) c.in-Err.fault _ _ (next c.as_slice.result.now c.loop.reader) (list_at c.args.end next c.args.reader.now)
+    fault_goes (λ x. x) (λ (xs : Vec (Task × ℕ) Global). xs.items) c.in-Err.fault _ _ (next c.as_slice.result.now c.loop.reader)
+    (list_at c.args.end next c.args.reader.now)
     (λ e. list_fails c.args.end next _ _ _ _ _ _ _ c.loop-test.true c.in_ok-count.ensures.read c.loop.invariant.0 (same ∙ e)) c.in-Err.ensures.root
 
 pub loop-preserved : goal.loop-preserved

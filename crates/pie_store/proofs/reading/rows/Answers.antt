@@ -8,7 +8,8 @@ pub returns-in-Err : goal.returns-in-Err
 returns-in-Err c =
     fault_goes (λ x. x) (λ xs. xs) c.in-Err.fault _ _ (grown (next_row (known_in c.args.known.now) c.args.end) c.loop.rows c.loop.reader)
     (list_at c.args.end (next_row (known_in c.args.known.now) c.args.end) c.args.reader.now)
-    (λ e. grown_fails c.args.end (next_row (known_in c.args.known.now) c.args.end) _ _ _ _ _ _ _ c.loop-test.true c.in_ok-count.ensures.read c.loop.invariant.0 e)
+    (λ e. grown_fails c.args.end
+    (next_row (known_in c.args.known.now) c.args.end) _ _ _ _ _ _ _ c.loop-test.true c.in_ok-count.ensures.read c.loop.invariant.0 e)
     c.in-Err.ensures
 
 pub loop-preserved : goal.loop-preserved

@@ -15,18 +15,26 @@ returns-then-pops-height-clause-followed c =
           too_low c.args.code.now c.args.lows.now c.args.self.now (get_or c.args.code.now c.args.place Tick) c.args.place c.args.height
           (subst (λ (n : ℕ). c.args.height < n) c.pops.ensures w.if-pops-height.true)
       | then-pops-height-via-else-pops-height+then-lows-place w ↦
-          followed_past c.args.code.now c.args.lows.now c.args.self.now (get_or c.args.code.now c.args.place Tick) c.args.place c.args.height w.if-lows-place.true
+          followed_past c.args.code.now c.args.lows.now c.args.self.now
+          (get_or c.args.code.now c.args.place Tick) c.args.place c.args.height w.if-lows-place.true
     ])
 
 pub returns-clause-search : goal.returns-clause-search
 returns-clause-search c =
     let le : pops (get_or c.args.code.now c.args.place Tick) ≤ c.args.height = omega (arith, c.pops.ensures) in
-    let meets = subst (λ (n : ℕ). Meets (Leads c.args.place (get_or c.args.code.now c.args.place Tick)) n c.args.self.now c.follow.new.self) c.in_ok-next.ensures c.in_ok-follow.ensures in
+    let meets = subst
+    (λ (n : ℕ).
+    Meets (Leads c.args.place
+    (get_or c.args.code.now c.args.place Tick)) n c.args.self.now c.follow.new.self) c.in_ok-next.ensures c.in_ok-follow.ensures in
     search_on c.args.code.now c.args.self.now c.follow.new.self (get_or c.args.code.now c.args.place Tick) c.args.place c.args.height c.requires.search
     (there_read c.args.code.now c.args.place Tick c.requires.place) c.requires.met le meets
 
 pub returns-clause-followed : goal.returns-clause-followed
 returns-clause-followed c =
-    let meets = subst (λ (n : ℕ). Meets (Leads c.args.place (get_or c.args.code.now c.args.place Tick)) n c.args.self.now c.follow.new.self) c.in_ok-next.ensures c.in_ok-follow.ensures in
+    let meets = subst
+    (λ (n : ℕ).
+    Meets (Leads c.args.place
+    (get_or c.args.code.now c.args.place Tick)) n c.args.self.now c.follow.new.self) c.in_ok-next.ensures c.in_ok-follow.ensures in
     followed_there c.args.code.now c.args.lows.now c.follow.new.self c.args.place c.args.height Tick
-    (followed_on c.args.code.now c.args.lows.now c.args.self.now c.follow.new.self (get_or c.args.code.now c.args.place Tick) c.args.place c.args.height c.requires.search meets)
+    (followed_on c.args.code.now c.args.lows.now c.args.self.now c.follow.new.self
+    (get_or c.args.code.now c.args.place Tick) c.args.place c.args.height c.requires.search meets)

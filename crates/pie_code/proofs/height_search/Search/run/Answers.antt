@@ -21,7 +21,8 @@ loop-next-preserved c =
     let there = slice_get_read c.loop-next.self.met.items c.len.result c.loop-next.next c.index.result.now size c.if-next-len.false c.index.ensures in (
       c.in_ok-treat.ensures.search,
       grows_on c.args.self.now c.loop-next.self c.treat.new.self c.loop-next.invariant.1 c.in_ok-treat.ensures.grows,
-      done_more c.args.code.now c.args.lows.now c.loop-next.self c.treat.new.self c.loop-next.next c.index.result.now.0 c.index.result.now.1 c.in_ok-treat.ensures.grows (omega arith) there
+      done_more c.args.code.now c.args.lows.now c.loop-next.self c.treat.new.self c.loop-next.next c.index.result.now.0 c.index.result.now.1
+          c.in_ok-treat.ensures.grows (omega arith) there
           c.in_ok-treat.ensures.done c.loop-next.invariant.2,
     )
 
@@ -29,4 +30,5 @@ pub loop-next-init : goal.loop-next-init
 loop-next-init c = (c.requires.search, grows_itself c.args.self.now, (λ i place height l is. absurd (omega arith)))
 
 pub returns-then-next-len-clause-done : goal.returns-then-next-len-clause-done
-returns-then-next-len-clause-done c = done_all c.args.code.now c.args.lows.now c.loop-next.self c.loop-next.next (omega (arith, c.len.ensures, c.if-next-len.true)) c.loop-next.invariant.2
+returns-then-next-len-clause-done c = done_all c.args.code.now c.args.lows.now c.loop-next.self c.loop-next.next
+    (omega (arith, c.len.ensures, c.if-next-len.true)) c.loop-next.invariant.2

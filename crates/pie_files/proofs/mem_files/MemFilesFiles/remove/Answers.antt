@@ -13,4 +13,5 @@ returns-in_err-note_asked-clause-crash c =
 
 pub returns-then-next_fails-clause-crash : goal.returns-then-next_fails-clause-crash
 returns-then-next_fails-clause-crash c =
-    removal_noted c.args.self.now.files c.note_asked.new.self c.args.path.now (Remove c.in_ok-copy.field-0) (ap Remove c.in_ok-copy.ensures) c.note_asked.ensures.began c.in_ok-note_asked.ensures.noted
+    removal_noted c.args.self.now.files c.note_asked.new.self c.args.path.now (Remove c.in_ok-copy.field-0)
+    (ap Remove c.in_ok-copy.ensures) c.note_asked.ensures.began c.in_ok-note_asked.ensures.noted

@@ -7,4 +7,5 @@ use Rattle.pie_graph.proofs.edges.Edges.has.Goals as goal
 pub returns-in-Calls : goal.returns-in-Calls
 returns-in-Calls c =
     rw c.in-Calls.is
-    (c.contains.ensures.value ∙ ap (list_any (λ (t : TaskNo). eqb t.0 c.in-Calls.callee.0)) c.deref.ensures.value ∙ list_any_numbers (λ n. eqb n c.in-Calls.callee.0) c.args.self.now.needs.items)
+    (c.contains.ensures.value ∙ ap (list_any (λ (t : TaskNo). eqb t.0 c.in-Calls.callee.0)) c.deref.ensures.value
+    ∙ list_any_numbers (λ n. eqb n c.in-Calls.callee.0) c.args.self.now.needs.items)

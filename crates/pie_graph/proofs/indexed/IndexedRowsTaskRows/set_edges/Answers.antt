@@ -18,10 +18,13 @@ invariant_of-self-2 c =
     let old : row_of c.index-row.result.now ≡ row_at rows n = row_read items rows n c.index-row.result.now refl within c.index-row.ensures in (
       omega (arith, length-set items n c.args.edges, c.self.invariant.0),
       subst NeedsBelow (sym (map-set row_of items n c.args.edges))
-          (needs_below_set rows n new c.self.invariant.1 (subst (λ (rs : List Row). AllBelow (length rs) (numbers c.args.edges.needs.items)) (sym c.self.view_is) c.requires.needs_below)),
+          (needs_below_set rows n new c.self.invariant.1 (subst (λ (rs : List Row). AllBelow (length rs) (numbers c.args.edges.needs.items))
+          (sym c.self.view_is) c.requires.needs_below)),
       subst (λ (rs : List Row). IsIndex c.replace_all.new.index rs) (sym (map-set row_of items n c.args.edges))
-          (λ edge. index_set rows n new edge (holds c.replace_all.new.index edge) (holds c.self.inside.index edge) (holds c.in_ok-new.new edge) (holds c.in_ok-old.old edge) l
-          (c.in_ok-replace_all.ensures.replaced edge) (c.in_ok-new.ensures edge) (c.in_ok-old.ensures edge ∙ ap (λ (row : Row). is_of row n edge) old) (c.self.invariant.2 edge)),
+          (λ edge. index_set rows n new edge (holds c.replace_all.new.index edge) (holds c.self.inside.index edge) (holds c.in_ok-new.new edge)
+          (holds c.in_ok-old.old edge) l
+          (c.in_ok-replace_all.ensures.replaced edge) (c.in_ok-new.ensures edge) (c.in_ok-old.ensures edge ∙ ap (λ (row : Row). is_of row n edge) old)
+          (c.self.invariant.2 edge)),
     )
 
 pub returns-clause-set : goal.returns-clause-set

@@ -9,5 +9,6 @@ use Rattle.pie_graph.proofs.plain.PlainRows.users.Goals as goal
 
 pub returns : goal.returns
 returns c = IfOk-weaker c.marked.result _ _
-    (λ found x. users_of c.self.inside.rows.items c.args.self.now c.args.what.now c.deref.result.now (numbers found.items) c.self.view_is (c.deref.ensures.value ∙ c.in_ok-marks.ensures ∙ ap (map (λ (e : Edges). has (row_of e) c.args.what.now)) c.as_slice.ensures.value) x)
+    (λ found x. users_of c.self.inside.rows.items c.args.self.now c.args.what.now c.deref.result.now (numbers found.items) c.self.view_is
+    (c.deref.ensures.value ∙ c.in_ok-marks.ensures ∙ ap (map (λ (e : Edges). has (row_of e) c.args.what.now)) c.as_slice.ensures.value) x)
     c.marked.ensures

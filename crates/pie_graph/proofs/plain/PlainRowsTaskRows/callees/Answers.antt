@@ -9,7 +9,8 @@ pub returns-clause-needs_below : goal.returns-clause-needs_below
 returns-clause-needs_below c =
     let rows = c.args.self.now in
     let view : length c.self.inside.rows.items ≡ length rows = sym (length-map c.self.inside.rows.items row_of) ∙ ap length c.self.view_is in
-    let read : row_of c.index.result.now ≡ row_at rows c.args.no.0 = row_read c.self.inside.rows.items rows c.args.no.0 c.index.result.now c.self.view_is (omega arith) c.index.ensures in
+    let read : row_of c.index.result.now ≡ row_at rows c.args.no.0 = row_read c.self.inside.rows.items rows c.args.no.0 c.index.result.now c.self.view_is
+    (omega arith) c.index.ensures in
     subst (λ (ns : List ℕ). AllBelow (length rows) ns)
     (sym (ap numbers c.as_slice.ensures.value ∙ ap (λ (r : Row). r.needs) read))
     (needs_below_at rows c.args.no.0 (subst NeedsBelow c.self.view_is c.self.invariant.1))

@@ -20,8 +20,10 @@ returns-clause-standing c =
     let mid = c.make_room.new.self in
     let sorted = c.sort_by_place.new.tasks.items in
     let many : c.len.result ≡ length (numbers sorted) = omega (arith, c.len.ensures, c.sort_by_place.new.tasks.ok, length-map sorted (λ (t : TaskNo). t.0)) in
-    let run = subst (λ (ts : List TaskNo). IsRun (numbers ts) mid.high mid.places.items c.place_run.new.places.items) c.deref.ensures.value c.place_run.ensures in
-    (lift_all mid.settled mid.low mid.high c.len.result old.places.items mid.places.items c.place_run.new.places.items (numbers c.args.tasks.items) (numbers sorted)
+    let run = subst
+    (λ (ts : List TaskNo). IsRun (numbers ts) mid.high mid.places.items c.place_run.new.places.items) c.deref.ensures.value c.place_run.ensures in
+    (lift_all mid.settled mid.low mid.high c.len.result old.places.items mid.places.items c.place_run.new.places.items (numbers c.args.tasks.items)
+    (numbers sorted)
     c.in_ok-make_room.ensures.room.0 many c.in_ok-make_room.ensures.order c.make_room.ensures.standing c.sort_by_place.ensures.same run).0
 
 pub returns-clause-last : goal.returns-clause-last
@@ -30,6 +32,8 @@ returns-clause-last c =
     let mid = c.make_room.new.self in
     let sorted = c.sort_by_place.new.tasks.items in
     let many : c.len.result ≡ length (numbers sorted) = omega (arith, c.len.ensures, c.sort_by_place.new.tasks.ok, length-map sorted (λ (t : TaskNo). t.0)) in
-    let run = subst (λ (ts : List TaskNo). IsRun (numbers ts) mid.high mid.places.items c.place_run.new.places.items) c.deref.ensures.value c.place_run.ensures in
-    (lift_all mid.settled mid.low mid.high c.len.result old.places.items mid.places.items c.place_run.new.places.items (numbers c.args.tasks.items) (numbers sorted)
+    let run = subst
+    (λ (ts : List TaskNo). IsRun (numbers ts) mid.high mid.places.items c.place_run.new.places.items) c.deref.ensures.value c.place_run.ensures in
+    (lift_all mid.settled mid.low mid.high c.len.result old.places.items mid.places.items c.place_run.new.places.items (numbers c.args.tasks.items)
+    (numbers sorted)
     c.in_ok-make_room.ensures.room.0 many c.in_ok-make_room.ensures.order c.make_room.ensures.standing c.sort_by_place.ensures.same run).1

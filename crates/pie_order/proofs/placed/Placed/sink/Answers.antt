@@ -20,9 +20,17 @@ returns-clause-standing c =
     let mid = c.make_room.new.self in
     let sorted = c.sort_by_place.new.tasks.items in
     let many : c.len.result ≡ length (numbers sorted) = omega (arith, c.len.ensures, c.sort_by_place.new.tasks.ok, length-map sorted (λ (t : TaskNo). t.0)) in
-    let run = subst (λ (ts : List TaskNo). IsRun (numbers ts) (mid.low - c.len.result) mid.places.items c.place_run.new.places.items) c.deref.ensures.value c.place_run.ensures in
-    (sink_all mid.settled mid.low mid.high c.len.result old.places.items mid.places.items c.place_run.new.places.items (numbers c.args.tasks.items) (numbers sorted)
-    c.in_ok-make_room.ensures.room.0 many (omega (arith, c.len.ensures, c.sort_by_place.new.tasks.ok, c.sort_by_place.ensures.count, c.requires.few)) c.in_ok-make_room.ensures.room.1 c.in_ok-make_room.ensures.order c.make_room.ensures.standing c.sort_by_place.ensures.same run).0
+    let run = subst (λ (ts : List TaskNo). IsRun (numbers ts)
+    (mid.low - c.len.result) mid.places.items c.place_run.new.places.items) c.deref.ensures.value c.place_run.ensures in
+    (sink_all mid.settled mid.low mid.high c.len.result old.places.items mid.places.items c.place_run.new.places.items (numbers c.args.tasks.items)
+    (numbers sorted)
+    c.in_ok-make_room.ensures.room.0 many (omega (
+      arith,
+      c.len.ensures,
+      c.sort_by_place.new.tasks.ok,
+      c.sort_by_place.ensures.count,
+      c.requires.few,
+    )) c.in_ok-make_room.ensures.room.1 c.in_ok-make_room.ensures.order c.make_room.ensures.standing c.sort_by_place.ensures.same run).0
 
 pub returns-clause-first : goal.returns-clause-first
 returns-clause-first c =
@@ -30,6 +38,14 @@ returns-clause-first c =
     let mid = c.make_room.new.self in
     let sorted = c.sort_by_place.new.tasks.items in
     let many : c.len.result ≡ length (numbers sorted) = omega (arith, c.len.ensures, c.sort_by_place.new.tasks.ok, length-map sorted (λ (t : TaskNo). t.0)) in
-    let run = subst (λ (ts : List TaskNo). IsRun (numbers ts) (mid.low - c.len.result) mid.places.items c.place_run.new.places.items) c.deref.ensures.value c.place_run.ensures in
-    (sink_all mid.settled mid.low mid.high c.len.result old.places.items mid.places.items c.place_run.new.places.items (numbers c.args.tasks.items) (numbers sorted)
-    c.in_ok-make_room.ensures.room.0 many (omega (arith, c.len.ensures, c.sort_by_place.new.tasks.ok, c.sort_by_place.ensures.count, c.requires.few)) c.in_ok-make_room.ensures.room.1 c.in_ok-make_room.ensures.order c.make_room.ensures.standing c.sort_by_place.ensures.same run).1
+    let run = subst (λ (ts : List TaskNo). IsRun (numbers ts)
+    (mid.low - c.len.result) mid.places.items c.place_run.new.places.items) c.deref.ensures.value c.place_run.ensures in
+    (sink_all mid.settled mid.low mid.high c.len.result old.places.items mid.places.items c.place_run.new.places.items (numbers c.args.tasks.items)
+    (numbers sorted)
+    c.in_ok-make_room.ensures.room.0 many (omega (
+      arith,
+      c.len.ensures,
+      c.sort_by_place.new.tasks.ok,
+      c.sort_by_place.ensures.count,
+      c.requires.few,
+    )) c.in_ok-make_room.ensures.room.1 c.in_ok-make_room.ensures.order c.make_room.ensures.standing c.sort_by_place.ensures.same run).1

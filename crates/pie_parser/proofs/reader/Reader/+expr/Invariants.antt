@@ -104,7 +104,8 @@ invariant-steps-loop l = onto l.steps.items (many (another_step (operand (around
     ≡ all_behind [] (another_step (operand (around l.room) l.level) l.level) l.fn.self
 
 abbrev pub invariant-listed-loop : goal.invariant-listed-loop
-invariant-listed-loop l = onto l.items.items (many (another (around l.room)) (l.end - l.counter) l.self) ≡ all_behind (l.fn.first ∷ []) (another (around l.room)) l.fn.self
+invariant-listed-loop l = onto l.items.items (many (another (around l.room)) (l.end - l.counter) l.self) ≡ all_behind (l.fn.first ∷ [])
+    (another (around l.room)) l.fn.self
 
 abbrev pub invariant-pieces-loop : goal.invariant-pieces-loop
 invariant-pieces-loop l = onto_lines l.lines.items (pieces (around l.room) (l.end - l.counter) l.self) ≡ all_pieces (around l.room) l.fn.self

@@ -8,5 +8,8 @@ use Rattle.pie_parser.proofs.reader.Reader.indices.Goals as goal
 pub returns-in_err-index : goal.returns-in_err-index
 returns-in_err-index c =
     let p = err_from_is_err_and c.from_residual.result c.from_residual.ensures.1 in
-    rw (p.1, p.2) (fails_so (λ (v : Vec Index Global). v.items) another_index c.left-end.result c.loop.counter c.loop.self c.another_index.new.self c.loop.indices.items c.in_err-index.field-0.0
+    rw (p.1, p.2)
+    (fails_so
+    (λ (v : Vec Index Global).
+    v.items) another_index c.left-end.result c.loop.counter c.loop.self c.another_index.new.self c.loop.indices.items c.in_err-index.field-0.0
     (indices c.args.self.now) c.loop-test.true c.in_err-index.ensures c.loop.invariant)

@@ -8,5 +8,7 @@ use Rattle.pie_parser.proofs.reader.Reader.more_params.Goals as goal
 pub returns-in_err-param : goal.returns-in_err-param
 returns-in_err-param c =
     let p = err_from_is_err_and c.from_residual-in_err-param.result c.from_residual-in_err-param.ensures.1 in
-    rw (p.1, p.2) (fails_so (λ (v : Vec Param Global). v.items) (another_param c.args.room) c.left-end.result c.loop.counter c.loop.self c.another_param.new.self
-    c.loop.params.items c.in_err-param.field-0.0 (more_params c.args.room c.args.first c.args.self.now) c.loop-test.true c.in_err-param.ensures c.loop.invariant)
+    rw (p.1, p.2) (fails_so (λ (v : Vec Param Global). v.items)
+    (another_param c.args.room) c.left-end.result c.loop.counter c.loop.self c.another_param.new.self
+    c.loop.params.items c.in_err-param.field-0.0
+    (more_params c.args.room c.args.first c.args.self.now) c.loop-test.true c.in_err-param.ensures c.loop.invariant)

@@ -6,8 +6,11 @@ use Rattle.pie_queue.proofs.candidates.Candidates.take_lowest_under.Goals as goa
 
 pub returns-in-Some-clause-first : goal.returns-in-Some-clause-first
 returns-in-Some-clause-first g c =
-    first_reached (g.R.TaskRows.rows c.args.rows.now) c.args.order.now c.args.self.now c.args.root.0 c.in_ok-marks.marks.items c.in-Some.first c.requires.agrees c.in_ok-marks.ensures
-    (best_is (numbers c.deref.result.now) c.args.self.now c.deref-2.result.now c.in_ok-marks.marks.items c.places.result.now c.args.order.now (Some c.in-Some.first)
+    first_reached
+    (g.R.TaskRows.rows c.args.rows.now) c.args.order.now c.args.self.now c.args.root.0 c.in_ok-marks.marks.items c.in-Some.first c.requires.agrees
+    c.in_ok-marks.ensures
+    (best_is (numbers c.deref.result.now) c.args.self.now c.deref-2.result.now c.in_ok-marks.marks.items c.places.result.now c.args.order.now
+    (Some c.in-Some.first)
     (ap numbers c.deref.ensures.value ∙ c.in_ok-members.ensures ∙ c.self.view_is) c.deref-2.ensures.value c.places.ensures c.in-Some.ensures)
 
 pub returns-in-Some-clause-leaves : goal.returns-in-Some-clause-leaves

@@ -9,4 +9,5 @@ returns-in-Some c =
     ∙ first_line c.in_ok-rest.rest.now c.split_once.result (c.in-Some.line, c.in-Some.after) c.split_once.ensures.cases c.in-Some.is
 
 pub returns-in-None : goal.returns-in-None
-returns-in-None c = sym c.self.view_is ∙ ap texts_left c.in_ok-rest.was ∙ last_line c.in_ok-rest.rest.now c.split_once.result c.split_once.ensures.cases c.in-None.is
+returns-in-None c = sym c.self.view_is ∙ ap texts_left c.in_ok-rest.was
+    ∙ last_line c.in_ok-rest.rest.now c.split_once.result c.split_once.ensures.cases c.in-None.is
