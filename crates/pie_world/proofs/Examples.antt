@@ -1,7 +1,9 @@
 -- Worked examples: what the tasks of a small pipeline do next in the model.
-use Rattle.std.proofs.Common.{◌≡◌, ℕ, List, false, [], ◌∷◌, map, codes, None, refl}
-use Rattle.pie_value.specs.Tree.{TBool}
+use Rattle.std.proofs.Common.{◌≡◌, ℕ, zero, suc, List, false, [], ◌∷◌, map, codes, None, refl}
+use Rattle.pie_value.specs.declared.event.Event.TheVariants as events
+use Rattle.pie_value.specs.Tree.{Tree, TUnit, TBool, TList, Nil as NoItem, Cons as Item}
 use Rattle.pie_value.specs.Canonical.{enc}
+use Rattle.pie_operators.specs.Domain.{done, wants}
 use Rattle.pie_parser.specs.declared.tree.Literal.TheVariants as literals
 use Rattle.pie_parser.specs.declared.tree.CallKind.TheVariants as calls
 use Rattle.pie_parser.specs.declared.tree.EffectKind.TheVariants as effects
@@ -71,3 +73,28 @@ tells_absence = refl
 -- a task without a function fails
 no_function : does (codes "h") [] ≡ model.Fail faults.Unknown
 no_function = refl
+
+-- a write is one under `out/`, and a listing one of a source
+writes_out : event_of (wants (events.Write (codes "out/a") [])) ≡ model.Write (codes "out/a") []
+writes_out = refl
+
+writes_elsewhere : event_of (wants (events.Write (codes "a") [])) ≡ model.Fail faults.BadWrite
+writes_elsewhere = refl
+
+lists_source : event_of (wants (events.List (codes "a"))) ≡ model.ListOf (codes "a")
+lists_source = refl
+
+lists_out : event_of (wants (events.List (codes "out/a"))) ≡ model.Fail faults.BadList
+lists_out = refl
+
+-- lists in lists, so many
+abbrev nested : ℕ → Tree
+nested zero = TUnit
+nested (suc n) = TList (Item (nested n) NoItem)
+
+-- an output may nest 64 deep, and no deeper
+deep_enough : event_of (done (nested 63)) ≡ model.Done (enc (nested 63))
+deep_enough = refl
+
+too_deep : event_of (done (nested 64)) ≡ model.Fail faults.Big
+too_deep = refl

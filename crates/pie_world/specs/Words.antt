@@ -1,4 +1,5 @@
 -- The words of the model of building for those of the language: faults, looks, requires and events.
+use Rattle.std.specs.Prelude.{ℕ, List, cond}
 use Rattle.pie_base.specs.declared.fault.FaultKind.{FaultKind}
 use Rattle.pie_base.specs.declared.fault.FaultKind.TheVariants as faults
 use Rattle.pie_value.specs.declared.event.By.{By}
@@ -7,7 +8,10 @@ use Rattle.pie_value.specs.declared.event.How.{How}
 use Rattle.pie_value.specs.declared.event.How.TheVariants as required
 use Rattle.pie_value.specs.declared.event.Event.{Event}
 use Rattle.pie_value.specs.declared.event.Event.TheVariants as events
+use Rattle.pie_base.specs.Path.{is_out, is_source}
+use Rattle.pie_value.specs.declared.task.Task.{Task}
 use Rattle.pie_value.specs.Tree.{Tree}
+use Rattle.pie_value.specs.Limits.{is_small, is_small_task}
 use Rattle.pie_value.specs.Canonical.{enc, enc_task}
 use Rattle.pie_operators.specs.Domain.{Outcome, done, fails, wants}
 use Rattle.pie_model.specs.declared.words.FaultKind.{FaultKind as ModelFault}
@@ -49,19 +53,35 @@ how_of required.Whole = hows.Whole
 how_of required.Hashed = hows.Hashed
 how_of required.Ran = hows.Ran
 
+-- an output; a value past the limits is the fault Big
+abbrev pub output_or_big : Tree → ModelEvent
+output_or_big t = cond (is_small t) (model.Done (enc t)) (model.Fail model_faults.Big)
+
+-- a require; a task past the limits is the fault Big
+abbrev pub require_or_big : Task → ModelHow → ModelEvent
+require_or_big t how = cond (is_small_task t) (model.Require how (enc_task t)) (model.Fail model_faults.Big)
+
+-- a write; one that isn't under `out/` is the fault BadWrite
+abbrev pub write_or_bad : List ℕ → List ℕ → ModelEvent
+write_or_bad p bytes = cond (is_out p) (model.Write p bytes) (model.Fail model_faults.BadWrite)
+
+-- a listing; one of what is no source is the fault BadList
+abbrev pub list_or_bad : List ℕ → ModelEvent
+list_or_bad d = cond (is_source d) (model.ListOf d) (model.Fail model_faults.BadList)
+
 -- the effect that a task waits for; an ending is none
 abbrev pub effect_of : Event → ModelEvent
 effect_of (events.Exists p) = model.LookAt looks.Exists p
 effect_of (events.Read p by) = model.LookAt (look_by by) p
 effect_of (events.Digest p) = model.LookAt looks.Digest p
-effect_of (events.List d) = model.ListOf d
-effect_of (events.Write p bytes) = model.Write p bytes
-effect_of (events.Require t how) = model.Require (how_of how) (enc_task t)
+effect_of (events.List d) = list_or_bad d
+effect_of (events.Write p bytes) = write_or_bad p bytes
+effect_of (events.Require t how) = require_or_big t (how_of how)
 effect_of (events.Done v) = model.Fail model_faults.Unknown
 effect_of (events.Fail k) = model.Fail (fault_of k)
 
 -- what a task does next
 abbrev pub event_of : Outcome Tree → ModelEvent
-event_of (done t) = model.Done (enc t)
+event_of (done t) = output_or_big t
 event_of (fails k) = model.Fail (fault_of k)
 event_of (wants e) = effect_of e

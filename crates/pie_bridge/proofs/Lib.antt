@@ -1,0 +1,13 @@
+pub mod Naming
+pub mod Tabled
+pub mod KindLemmas
+pub mod Shown
+pub mod Lookings
+pub mod Required
+pub mod Provided
+pub mod Coded
+pub mod Leaving
+pub mod Filed
+pub mod Ended
+pub mod Numbered
+pub mod Fitted

@@ -1,0 +1,9 @@
+pub mod Events
+pub mod Looks
+pub mod Visible
+pub mod Names
+pub mod Tables
+pub mod Views
+pub mod Requiring
+pub mod Builds
+pub mod Fits

@@ -1,0 +1,11 @@
+pub mod Table
+pub mod Frames
+pub mod UnderWay
+pub mod StepLaws
+pub mod EndLaws
+pub mod Roots
+pub mod RootLaws
+pub mod Contents
+pub mod Rows
+pub mod Checks
+pub mod Files
