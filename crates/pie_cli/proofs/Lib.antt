@@ -1,6 +1,5 @@
-pub mod Built
-pub mod Others
-pub mod Outside
+pub mod Fresh
 pub mod Printing
+pub mod Rest
 pub mod Statuses
 pub mod Stops

@@ -4,14 +4,15 @@ use Rattle.std.specs.Prelude.{IfSome}
 use Rattle.pie_base.specs.declared.status.Status.{Status}
 use Rattle.pie_base.specs.declared.status.Status.TheVariants as status
 use Rattle.pie_files.specs.Directory.{Directory}
-use Rattle.pie_fresh.proofs.Told.{told}
+use Rattle.pie_project.proofs.Told.{told}
 use Rattle.pie_project.specs.Refusals.{Refusal}
 use Rattle.pie_project.specs.Fronts.{CheckSays}
 use Rattle.pie_project.proofs.Stopping.{check_stops}
 use Rattle.pie_cli.specs.Check.{check_text, check_status, HasChecked, PrintsRefusal}
 use Rattle.pie_cli.specs.Run.{Gains}
 
-by_answer : (d : Directory) (before after : Option (List ℕ)) (r : Result (ℕ × ℕ) Refusal) → check_status r ≡ status.Pipeline → CheckSays d r → Gains before after (check_text r) → PrintsRefusal d before after
+by_answer : (d : Directory) (before after : Option (List ℕ)) (r : Result (ℕ × ℕ) Refusal) → check_status r ≡ status.Pipeline → CheckSays d r
+    → Gains before after (check_text r) → PrintsRefusal d before after
 by_answer d before after (Ok p) h x g = absurd (cc)
 by_answer d before after (Err e) h x g = (e, x, check_stops d (Err e) x, g)
 

@@ -14,9 +14,8 @@ use Rattle.pie_project.specs.declared.fault.RootsReason.TheVariants as reasons
 use Rattle.pie_project.specs.Refusals.{Refusal, OfPipeline, OfRoots, PipelineRefusal, Absent, TooLong, NotText, Lex, Parse, Types}
 use Rattle.pie_project.specs.Fronts.{CheckSays}
 use Rattle.pie_project.specs.Stops.{PipelineStops, OnParse}
-use Rattle.pie_cli.specs.declared.rebuild.Report.{Report}
-use Rattle.pie_cli.specs.Report.{files_fault_text}
-use Rattle.pie_cli.specs.Run.{Gains, GainsFront}
+use Rattle.pie_cli.specs.declared.told.Told.{Told}
+use Rattle.pie_cli.specs.Run.{Gains, GainsFront, files_fault_text}
 
 -- a kind of refusal at a byte
 abbrev pub placed : ℕ → List ℕ → List ℕ
@@ -73,20 +72,24 @@ bad_roots_text r = codes "bad roots: " ++ (roots_reason r ++ codes "\n")
 abbrev pub counts_text : ℕ → ℕ → List ℕ
 counts_text functions roots = codes "ok " ++ (decimal functions ++ (codes " functions, " ++ (decimal roots ++ codes " roots\n")))
 
+-- what is printed of a project that is refused
+abbrev pub refusal_line : Refusal → List ℕ
+refusal_line (OfPipeline f) = bad_pipeline_text f
+refusal_line (OfRoots r) = bad_roots_text r
+
 -- what `check` prints of the counts of a project or its refusal
 abbrev pub check_text : Result (ℕ × ℕ) Refusal → List ℕ
 check_text (Ok p) = counts_text p.0 p.1
-check_text (Err (OfPipeline f)) = bad_pipeline_text f
-check_text (Err (OfRoots r)) = bad_roots_text r
+check_text (Err e) = refusal_line e
 
 -- the status that `check` ends with
 abbrev pub check_status : Result (ℕ × ℕ) Refusal → Status
 check_status (Ok p) = status.Ok
 check_status (Err e) = status.Pipeline
 
--- a report tells the counts of a directory's project, or its refusal
-abbrev pub Tells : Directory → Report → Type 0
-Tells d report = (r : Result (ℕ × ℕ) Refusal) × CheckSays d r × (string_bytes report.text ≡ check_text r) × (report.status ≡ check_status r)
+-- what is told is the counts of a directory's project, or its refusal
+abbrev pub Tells : Directory → Told → Type 0
+Tells d told = (r : Result (ℕ × ℕ) Refusal) × CheckSays d r × (string_bytes told.text ≡ check_text r) × (told.status ≡ check_status r)
 
 -- a directory was checked: the status, and what the output gained
 abbrev pub HasChecked : Directory → Option (List ℕ) → Option (List ℕ) → Status → Type 0
@@ -94,7 +97,8 @@ HasChecked d before after ended = (r : Result (ℕ × ℕ) Refusal) × CheckSays
 
 -- the output gained the front of a text that `check` may print of this directory: its counts or its refusal, or that a call on the files failed
 abbrev pub PrintsCheckFront : Directory → Option (List ℕ) → Option (List ℕ) → Type 0
-PrintsCheckFront d before after = ((r : Result (ℕ × ℕ) Refusal) × CheckSays d r × GainsFront before after (check_text r)) ⊎ GainsFront before after files_fault_text
+PrintsCheckFront d before after = ((r : Result (ℕ × ℕ) Refusal) × CheckSays d r × GainsFront before after (check_text r))
+    ⊎ GainsFront before after files_fault_text
 
 -- a directory was refused: the output gained the line of the refusal, and where it is for the tokens, they stop at the place in that line
 abbrev pub PrintsRefusal : Directory → Option (List ℕ) → Option (List ℕ) → Type 0

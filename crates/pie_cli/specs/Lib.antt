@@ -1,5 +1,3 @@
-pub mod Left
-pub mod Rebuilt
-pub mod Report
-pub mod Run
 pub mod Check
+pub mod Fresh
+pub mod Run

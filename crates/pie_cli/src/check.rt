@@ -8,7 +8,7 @@ ghost use Rattle.pie_cli.specs.Check.{Tells};
 ghost use Rattle.pie_cli.specs.Run.{is_answer};
 
 use crate::reason;
-use crate::rebuild::Report;
+use crate::told::Told;
 use pie_base::{OutOfMemory, Status};
 use pie_files::{Files, FilesError};
 use pie_project::{BuildError, PipelineFault, RootsReason, check_project};
@@ -16,9 +16,9 @@ use std::alloc::Global;
 
 /// Reads the pipeline and the roots of a directory, and reports how many functions and roots there
 /// are, or the first refusal. It changes no file.
-pub(crate) fn check<F: Files>(alloc: Global, files: &mut F) -> Result<Report, FilesError>
+pub(crate) fn check<F: Files>(alloc: Global, files: &mut F) -> Result<Told, FilesError>
     ensures told { IfSome (F.holds files.old) (λ d. IfOk result (Tells d)) }
-    ensures answer { IfOk result (λ report. is_answer report.status ≡ true) }
+    ensures answer { IfOk result (λ told. is_answer told.status ≡ true) }
     ensures same { F.holds files.new ≡ F.holds files.old }
     ensures asks { Asks front_calls (F.asked files.old) (F.asked files.new) }
     ensures counted { Counted F.faults FilesError.Failed files.old files.new result }
@@ -32,37 +32,37 @@ pub(crate) fn check<F: Files>(alloc: Global, files: &mut F) -> Result<Report, Fi
     }
 }
 
-// The report of a project that can be built.
-fn counts(alloc: Global, functions: u32, roots: u32) -> Result<Report, OutOfMemory>
-    ensures text { IfOk result (λ report. string_bytes report.text ≡ spec.counts_text functions roots) }
-    ensures status { IfOk result (λ report. report.status ≡ Status.Ok) }
+// What is told of a project that can be built.
+fn counts(alloc: Global, functions: u32, roots: u32) -> Result<Told, OutOfMemory>
+    ensures text { IfOk result (λ told. string_bytes told.text ≡ spec.counts_text functions roots) }
+    ensures status { IfOk result (λ told. told.status ≡ Status.Ok) }
 {
     let text = format!(in alloc; "ok {functions} functions, {roots} roots\n")?;
-    Ok(Report {
+    Ok(Told {
         text,
         status: Status::Ok,
     })
 }
 
-// The report of a pipeline that is refused.
-fn bad_pipeline(alloc: Global, fault: PipelineFault) -> Result<Report, OutOfMemory>
-    ensures text { IfOk result (λ report. string_bytes report.text ≡ spec.bad_pipeline_text (plain fault)) }
-    ensures status { IfOk result (λ report. report.status ≡ Status.Pipeline) }
+/// What is told of a pipeline that is refused.
+pub(crate) fn bad_pipeline(alloc: Global, fault: PipelineFault) -> Result<Told, OutOfMemory>
+    ensures text { IfOk result (λ told. string_bytes told.text ≡ spec.bad_pipeline_text (plain fault)) }
+    ensures status { IfOk result (λ told. told.status ≡ Status.Pipeline) }
 {
     let text = reason::bad_pipeline(alloc, &fault)?;
-    Ok(Report {
+    Ok(Told {
         text,
         status: Status::Pipeline,
     })
 }
 
-// The report of roots that are refused.
-fn bad_roots(alloc: Global, reason: RootsReason) -> Result<Report, OutOfMemory>
-    ensures text { IfOk result (λ report. string_bytes report.text ≡ spec.bad_roots_text reason) }
-    ensures status { IfOk result (λ report. report.status ≡ Status.Pipeline) }
+/// What is told of roots that are refused.
+pub(crate) fn bad_roots(alloc: Global, reason: RootsReason) -> Result<Told, OutOfMemory>
+    ensures text { IfOk result (λ told. string_bytes told.text ≡ spec.bad_roots_text reason) }
+    ensures status { IfOk result (λ told. told.status ≡ Status.Pipeline) }
 {
     let text = reason::bad_roots(alloc, reason)?;
-    Ok(Report {
+    Ok(Told {
         text,
         status: Status::Pipeline,
     })

@@ -2,15 +2,15 @@
 #![tactic(auto)]
 
 mod check;
-mod commit;
+mod clean;
 mod print;
 mod reason;
-mod rebuild;
-mod report;
+mod told;
 mod top;
-mod words;
 
 pub use top::run;
 
+#[cfg(test)]
+mod build_tests;
 #[cfg(test)]
 mod tests;

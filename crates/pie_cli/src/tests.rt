@@ -12,7 +12,7 @@ const PIPELINE: &str =
 const BUILT: &str = "accepted\nran main()\nwrote out/page\nlive 1\noutput main() = unit\n";
 
 // What a run with these words ends with, and what it prints.
-fn run_words<F: Files>(
+pub(crate) fn run_words<F: Files>(
     alloc: Global,
     words: &[&str],
     files: &mut F,
@@ -33,7 +33,7 @@ fn path(alloc: Global, text: &str) -> Result<Path, Fail> {
 }
 
 // A project of these files.
-fn project(alloc: Global, held: &[(&str, &str)]) -> Result<SureFiles, Fail> {
+pub(crate) fn project(alloc: Global, held: &[(&str, &str)]) -> Result<SureFiles, Fail> {
     let mut files = SureFiles::new(alloc);
     for (name, bytes) in held {
         files.put(&path(alloc, name)?, bytes.as_bytes(), 100)?;
@@ -41,7 +41,12 @@ fn project(alloc: Global, held: &[(&str, &str)]) -> Result<SureFiles, Fail> {
     Ok(files)
 }
 
-fn holds<F: Files>(alloc: Global, files: &mut F, name: &str, bytes: &str) -> Result<bool, Fail> {
+pub(crate) fn holds<F: Files>(
+    alloc: Global,
+    files: &mut F,
+    name: &str,
+    bytes: &str,
+) -> Result<bool, Fail> {
     let found = files.read(&path(alloc, name)?).map_err(|_| "read")?;
     Ok(found.is_some_and(|f| f.bytes.as_slice() == bytes.as_bytes()))
 }
@@ -94,58 +99,93 @@ fn a_stray_file_is_removed_and_told(rt: HostRuntime) -> Result<(), Fail> {
     Ok(())
 }
 
-#[test]
-fn each_refusal_is_told_and_changes_nothing(rt: HostRuntime) -> Result<(), Fail> {
-    let alloc = rt.alloc();
-    let refused = "refused fault main(): Null\nran main()\n";
-    let spaced =
-        "func main ( ) -> unit { // a comment\n write ( path ( \"out/p\" ) , \"a\\\"\" + \"\\n\" ) ; }";
-    let cases = [
-        ("", "main()", Status::Pipeline, "not yet\n"),
-        (PIPELINE, "main()\n\n", Status::Pipeline, "not yet\n"),
-        (PIPELINE, "main()", Status::Refused, refused),
-        (
-            "func main() -> unit { write(path(\"src/p\"), \"\"); }",
-            "main()",
-            Status::Pipeline,
-            "not yet\n",
-        ),
-        (
-            "func main() -> unit { write(path(\"out/p\"), get(read(path(\"out/q\")))); }",
-            "main()",
-            Status::Pipeline,
-            "not yet\n",
-        ),
-        (
-            "func main() -> unit { write(path(\"out/p\"), \"\"); } x",
-            "main()",
-            Status::Pipeline,
-            "not yet\n",
-        ),
-        (
-            "funcmain() -> unit { write(path(\"out/p\"), \"\"); }",
-            "main()",
-            Status::Pipeline,
-            "not yet\n",
-        ),
-        (
-            spaced,
-            "main()",
-            Status::Ok,
-            "accepted\nran main()\nwrote out/p\nlive 1\noutput main() = unit\n",
-        ),
-    ];
-    for (pipeline, roots, wanted, printed) in cases {
-        let mut files = project(alloc, &[("pie.pipeline", pipeline), ("pie.roots", roots)])?;
-        let (status, text) = run_words(alloc, &["fresh"], &mut files)?;
-        assert!(rt; status == wanted, "{pipeline}");
-        assert!(rt; text.as_str() == printed, "{pipeline}: {text}");
-    }
-    let mut files = project(alloc, &[("pie.roots", "main()")])?;
-    let (status, text) = run_words(alloc, &["fresh"], &mut files)?;
-    assert_eq!(rt; status, Status::Pipeline);
-    assert!(rt; text.as_str() == "bad pipeline: absent\n", "{text}");
+// A clean build of a pipeline with this root: the status, and what is printed.
+fn built(
+    rt: &impl Abort,
+    alloc: Global,
+    words: &[&str],
+    pipeline: &str,
+    root: &str,
+    wanted: Status,
+    printed: &str,
+) -> Result<(), Fail> {
+    let mut files = project(alloc, &[("pie.pipeline", pipeline), ("pie.roots", root)])?;
+    let (status, text) = run_words(alloc, words, &mut files)?;
+    assert!(rt; status == wanted, "{pipeline}: {text}");
+    assert!(rt; text.as_str() == printed, "{pipeline}: {text}");
     Ok(())
+}
+
+#[test]
+fn each_build_is_told_with_its_status(rt: HostRuntime) -> Result<(), Fail> {
+    let alloc = rt.alloc();
+    let writer =
+        "func w(n: int) -> unit { write(path(\"out/a\"), to_text(n)); } func main() -> unit { run w(1); run w(2); }";
+    let cases = [
+        (
+            PIPELINE,
+            "main()",
+            Status::Refused,
+            "refused fault main(): Null\nran main()\n",
+        ),
+        (
+            "func main() -> int { 1 / 0 }",
+            "main()",
+            Status::Refused,
+            "refused fault main(): Zero\nran main()\n",
+        ),
+        (
+            writer,
+            "main()",
+            Status::Refused,
+            "refused overlap out/a: w(1), w(2)\nran w(1)\nran w(2)\nran main()\n",
+        ),
+        (
+            "func main() -> int { 7 }",
+            "main()\nmain()",
+            Status::Ok,
+            "accepted\nran main()\nlive 1\noutput main() = 7\noutput main() = 7\n",
+        ),
+        ("", "", Status::Ok, "accepted\nlive 0\n"),
+        (
+            "func main() -> int { \"a\" }",
+            "main()",
+            Status::Pipeline,
+            "bad pipeline: at 21: Mismatch\n",
+        ),
+        (PIPELINE, "nope()", Status::Pipeline, "bad roots: line 1\n"),
+    ];
+    for (pipeline, root, wanted, printed) in cases {
+        built(&rt, alloc, &["fresh"], pipeline, root, wanted, printed)?;
+    }
+    Ok(())
+}
+
+#[test]
+fn a_report_is_one_line_with_json(rt: HostRuntime) -> Result<(), Fail> {
+    let alloc = rt.alloc();
+    let words = ["fresh", "--json"];
+    let printed =
+        "{\"fresh\":null,\"live\":1,\"outputs\":[[\"main()\",\"7\"]],\"ran\":[\"main()\"],\"removed\":[],\"verdict\":\"accepted\",\"wrote\":[]}\n";
+    built(
+        &rt,
+        alloc,
+        &words,
+        "func main() -> int { 7 }",
+        "main()",
+        Status::Ok,
+        printed,
+    )?;
+    let printed = "bad roots: line 1\n";
+    built(
+        &rt,
+        alloc,
+        &words,
+        PIPELINE,
+        "nope()",
+        Status::Pipeline,
+        printed,
+    )
 }
 
 #[test]
@@ -210,26 +250,31 @@ fn other_words_print_the_usage_line(rt: HostRuntime) -> Result<(), Fail> {
     prints_the_usage_line(&rt, alloc, &[])
 }
 
+// A build whose call of this number on the files fails: whether one did, and what stands outside `out/` afterwards.
+fn fails_at(rt: &impl Abort, alloc: Global, call: u64) -> Result<bool, Fail> {
+    let mut files = MemFiles::new(alloc);
+    files.put(&path(alloc, "pie.pipeline")?, PIPELINE.as_bytes(), 100)?;
+    files.put(&path(alloc, "pie.roots")?, b"main()", 101)?;
+    files.put(&path(alloc, "src/page")?, b"hi", 102)?;
+    files.put(&path(alloc, "out/z")?, b"junk", 103)?;
+    files.fail_at(&[call])?;
+    let (status, text) = run_words(alloc, &["fresh"], &mut files)?;
+    files.fail_at(&[])?;
+    assert!(rt; holds(alloc, &mut files, "src/page", "hi")?);
+    assert!(rt;
+        (text.as_str() == "files fault\n") == (status == Status::Files),
+        "call {call}: {text}"
+    );
+    Ok(status == Status::Files)
+}
+
 #[test]
 fn each_call_on_the_files_that_fails_ends_the_run(rt: HostRuntime) -> Result<(), Fail> {
     let alloc = rt.alloc();
     for call in 1..=8u64 {
-        let mut files = MemFiles::new(alloc);
-        files.put(&path(alloc, "pie.pipeline")?, PIPELINE.as_bytes(), 100)?;
-        files.put(&path(alloc, "pie.roots")?, b"main()", 101)?;
-        files.put(&path(alloc, "src/page")?, b"hi", 102)?;
-        files.put(&path(alloc, "out/z")?, b"junk", 103)?;
-        files.fail_at(&[call])?;
-        let (status, text) = run_words(alloc, &["fresh"], &mut files)?;
-        let wanted = if call < 8 { Status::Files } else { Status::Ok };
-        assert!(rt; status == wanted, "call {call}");
-        assert!(rt;
-            (text.as_str() == "files fault\n") == (call < 8),
-            "call {call}: {text}"
-        );
-        files.fail_at(&[])?;
-        assert!(rt; holds(alloc, &mut files, "src/page", "hi")?);
+        assert!(rt; fails_at(&rt, alloc, call)?, "call {call}");
     }
+    assert!(rt; !fails_at(&rt, alloc, 100)?);
     Ok(())
 }
 

@@ -1,30 +1,28 @@
 //! The top call.
-ghost use Rattle.std.specs.Prelude.{◌≡◌, ◌≢◌, true, false, IfSome, string_bytes};
+ghost use Rattle.std.specs.Prelude.{◌≡◌, ◌≢◌, Bool, true, IfSome, string_bytes};
+ghost use Rattle.pie_build.specs.Left.{KeepsRest};
 ghost use Rattle.pie_files.specs.Faults.{Rose};
 ghost use Rattle.pie_files.specs.Streams.{StaysSure};
-ghost use Rattle.pie_fresh.specs.Build.{build_of};
 ghost use Rattle.pie_project.specs.Looking.{Asks, front_calls};
+ghost use Rattle.pie_words.specs.Commands.{words_of, texts_of, usage_text};
+ghost use Rattle.pie_words.specs.declared.command.Command.TheVariants as commands;
 ghost use Rattle.pie_cli.specs.Check.{HasChecked, PrintsCheckFront, PrintsRefusal};
-ghost use Rattle.pie_cli.specs.Left.{KeepsOutside};
-ghost use Rattle.pie_cli.specs.Report.{report_of, usage_text, files_fault_text};
-ghost use Rattle.pie_cli.specs.Run.{is_check, is_command, is_fresh, texts_of, is_answer, is_told, HasBuilt, Gains, GainsFront, PrintsFront, Shows};
+ghost use Rattle.pie_cli.specs.Fresh.{HasBuilt, PrintsFront};
+ghost use Rattle.pie_cli.specs.Run.{is_answer, is_told, files_fault_text, IsUsage, Gains, GainsFront, Shows};
 
 use crate::check::check;
+use crate::clean::fresh;
 use crate::print::print_text;
-use crate::rebuild::{Report, rebuild};
-use crate::words::{words_are_check, words_are_fresh};
+use crate::told::Told;
 use pie_base::Status;
 use pie_files::{Files, FilesError, Sink, SinkError, Source};
+use pie_words::{Command, USAGE, WordsFault, read_words};
 use std::alloc::Global;
-
-// What is printed where the words are no command.
-const USAGE: &str =
-    "usage: pie check, fresh [--json], build [--json], replay [--json], demo SEED SIZE, topdown [--json], scan, auto, cached\n";
 
 /// Does what the words say, with these files, this input and this output, and answers the status
 /// that the program ends with. Nothing is printed before the build has ended.
 /// Rule: docs/BUILDING.md, "Statuses".
-#[tactic(auto, using(crate::proofs::Outside::keeps_same))]
+#[tactic(auto, using(crate::proofs::Rest::keeps_same))]
 pub fn run<F: Files, I: Source, K: Sink>(
     alloc: Global,
     words: &[String],
@@ -33,27 +31,27 @@ pub fn run<F: Files, I: Source, K: Sink>(
     out: &mut K,
 ) -> Status
     // A clean build, where the directory and the output are told.
-    ensures built { is_fresh (texts_of words.now) ≡ true → is_answer result ≡ true → IfSome (F.holds files.old) (λ d. HasBuilt d (F.holds files.new) result) }
-    ensures report { is_fresh (texts_of words.now) ≡ true → is_answer result ≡ true
-        → IfSome (F.holds files.old) (λ d. Gains (K.held out.old) (K.held out.new) (report_of d (build_of d))) }
-    ensures front { is_fresh (texts_of words.now) ≡ true → IfSome (F.holds files.old) (λ d. PrintsFront d (K.held out.old) (K.held out.new)) }
-    ensures outside { KeepsOutside (F.holds files.old) (F.holds files.new) }
+    ensures built { (json : Bool) → texts_of words.now ≡ words_of (commands.Fresh json) → is_answer result ≡ true
+        → IfSome (F.holds files.old) (λ d. HasBuilt d json (F.holds files.new) (K.held out.old) (K.held out.new) result) }
+    ensures front { (json : Bool) → texts_of words.now ≡ words_of (commands.Fresh json)
+        → IfSome (F.holds files.old) (λ d. PrintsFront d json (F.holds files.new) (K.held out.old) (K.held out.new)) }
+    ensures rest { KeepsRest (F.holds files.old) (F.holds files.new) }
 
     // A check, where the directory and the output are told.
-    ensures checked { is_check (texts_of words.now) ≡ true → is_answer result ≡ true
+    ensures checked { texts_of words.now ≡ words_of commands.Check → is_answer result ≡ true
         → IfSome (F.holds files.old) (λ d. HasChecked d (K.held out.old) (K.held out.new) result) }
-    ensures check_front { is_check (texts_of words.now) ≡ true
+    ensures check_front { texts_of words.now ≡ words_of commands.Check
         → IfSome (F.holds files.old) (λ d. PrintsCheckFront d (K.held out.old) (K.held out.new)) }
-    ensures check_stops { is_check (texts_of words.now) ≡ true → result ≡ Status.Pipeline
+    ensures check_stops { texts_of words.now ≡ words_of commands.Check → result ≡ Status.Pipeline
         → IfSome (F.holds files.old) (λ d. PrintsRefusal d (K.held out.old) (K.held out.new)) }
-    ensures check_same { is_check (texts_of words.now) ≡ true → F.holds files.new ≡ F.holds files.old }
-    ensures check_asks { is_check (texts_of words.now) ≡ true → Asks front_calls (F.asked files.old) (F.asked files.new) }
+    ensures check_same { texts_of words.now ≡ words_of commands.Check → F.holds files.new ≡ F.holds files.old }
+    ensures check_asks { texts_of words.now ≡ words_of commands.Check → Asks front_calls (F.asked files.old) (F.asked files.new) }
 
     // Words that are no command.
-    ensures usage { is_command (texts_of words.now) ≡ false → is_answer result ≡ true
+    ensures usage { IsUsage (texts_of words.now) → is_answer result ≡ true
         → (result ≡ Status.Usage) × Gains (K.held out.old) (K.held out.new) usage_text }
-    ensures usage_front { is_command (texts_of words.now) ≡ false → GainsFront (K.held out.old) (K.held out.new) usage_text }
-    ensures nothing_asked { is_command (texts_of words.now) ≡ false → files.new ≡ files.old }
+    ensures usage_front { IsUsage (texts_of words.now) → GainsFront (K.held out.old) (K.held out.new) usage_text }
+    ensures nothing_asked { IsUsage (texts_of words.now) → files.new ≡ files.old }
 
     // The cause of each status that is no answer; want of memory alone has none.
     ensures files { result ≡ Status.Files
@@ -65,23 +63,31 @@ pub fn run<F: Files, I: Source, K: Sink>(
     ensures sure { StaysSure K.sure K.faults out.old out.new }
     ensures input { input.new ≡ input.old }
 {
-    if words_are_fresh(words) {
-        return run_fresh(alloc, files, out);
+    match read_words(words) {
+        Ok(command) => run_command(alloc, command, files, out),
+        Err(WordsFault::Usage) => show(out, USAGE, Status::Usage),
     }
-    if words_are_check(words) {
-        return run_check(alloc, files, out);
-    }
-    show(out, USAGE, Status::Usage)
 }
 
-// A clean build, with its report.
-#[tactic(auto, using(crate::proofs::Outside::keeps_same))]
-fn run_fresh<F: Files, K: Sink>(alloc: Global, files: &mut F, out: &mut K) -> Status
-    ensures built { is_answer result ≡ true → IfSome (F.holds files.old) (λ d. HasBuilt d (F.holds files.new) result) }
-    ensures report { is_answer result ≡ true
-        → IfSome (F.holds files.old) (λ d. Gains (K.held out.old) (K.held out.new) (report_of d (build_of d))) }
-    ensures front { IfSome (F.holds files.old) (λ d. PrintsFront d (K.held out.old) (K.held out.new)) }
-    ensures outside { KeepsOutside (F.holds files.old) (F.holds files.new) }
+// Does what a command asks for.
+#[tactic(auto, using(crate::proofs::Rest::keeps_same))]
+fn run_command<F: Files, K: Sink>(
+    alloc: Global,
+    command: Command,
+    files: &mut F,
+    out: &mut K,
+) -> Status
+    ensures built { (json : Bool) → command ≡ commands.Fresh json → is_answer result ≡ true
+        → IfSome (F.holds files.old) (λ d. HasBuilt d json (F.holds files.new) (K.held out.old) (K.held out.new) result) }
+    ensures front { (json : Bool) → command ≡ commands.Fresh json
+        → IfSome (F.holds files.old) (λ d. PrintsFront d json (F.holds files.new) (K.held out.old) (K.held out.new)) }
+    ensures rest { KeepsRest (F.holds files.old) (F.holds files.new) }
+    ensures checked { command ≡ commands.Check → is_answer result ≡ true
+        → IfSome (F.holds files.old) (λ d. HasChecked d (K.held out.old) (K.held out.new) result) }
+    ensures check_front { command ≡ commands.Check
+        → IfSome (F.holds files.old) (λ d. PrintsCheckFront d (K.held out.old) (K.held out.new)) }
+    ensures check_same { command ≡ commands.Check → F.holds files.new ≡ F.holds files.old }
+    ensures check_asks { command ≡ commands.Check → Asks front_calls (F.asked files.old) (F.asked files.new) }
     ensures files { result ≡ Status.Files
         → Rose (F.faults files.old) (F.faults files.new) × Gains (K.held out.old) (K.held out.new) files_fault_text }
     ensures output { result ≡ Status.Output → Rose (K.faults out.old) (K.faults out.new) }
@@ -90,8 +96,28 @@ fn run_fresh<F: Files, K: Sink>(alloc: Global, files: &mut F, out: &mut K) -> St
     ensures output_steady { result ≡ Status.Files → K.faults out.new ≡ K.faults out.old }
     ensures sure { StaysSure K.sure K.faults out.old out.new }
 {
-    match rebuild(alloc, files) {
-        Ok(report) => show_report(out, report),
+    match command {
+        Command::Check => run_check(alloc, files, out),
+        Command::Fresh(json) => run_fresh(alloc, files, out, json),
+    }
+}
+
+// A clean build, with its report.
+fn run_fresh<F: Files, K: Sink>(alloc: Global, files: &mut F, out: &mut K, json: bool) -> Status
+    ensures built { is_answer result ≡ true
+        → IfSome (F.holds files.old) (λ d. HasBuilt d json (F.holds files.new) (K.held out.old) (K.held out.new) result) }
+    ensures front { IfSome (F.holds files.old) (λ d. PrintsFront d json (F.holds files.new) (K.held out.old) (K.held out.new)) }
+    ensures rest { KeepsRest (F.holds files.old) (F.holds files.new) }
+    ensures files { result ≡ Status.Files
+        → Rose (F.faults files.old) (F.faults files.new) × Gains (K.held out.old) (K.held out.new) files_fault_text }
+    ensures output { result ≡ Status.Output → Rose (K.faults out.old) (K.faults out.new) }
+    ensures no_input { result ≢ Status.Input }
+    ensures steady { is_answer result ≡ true → (F.faults files.new ≡ F.faults files.old) × (K.faults out.new ≡ K.faults out.old) }
+    ensures output_steady { result ≡ Status.Files → K.faults out.new ≡ K.faults out.old }
+    ensures sure { StaysSure K.sure K.faults out.old out.new }
+{
+    match fresh(alloc, files, json) {
+        Ok(told) => show_told(out, told),
         Err(FilesError::Failed) => show(out, "files fault\n", Status::Files),
         Err(FilesError::OutOfMemory) => Status::Memory,
     }
@@ -112,21 +138,21 @@ fn run_check<F: Files, K: Sink>(alloc: Global, files: &mut F, out: &mut K) -> St
     ensures sure { StaysSure K.sure K.faults out.old out.new }
 {
     match check(alloc, files) {
-        Ok(report) => show_report(out, report),
+        Ok(told) => show_told(out, told),
         Err(FilesError::Failed) => show(out, "files fault\n", Status::Files),
         Err(FilesError::OutOfMemory) => Status::Memory,
     }
 }
 
-fn show_report<K: Sink>(out: &mut K, report: Report) -> Status
-    requires { is_answer report.status ≡ true }
-    ensures shown { Shows (K.held out.old) (K.held out.new) (string_bytes report.text) report.status result }
-    ensures front { GainsFront (K.held out.old) (K.held out.new) (string_bytes report.text) }
+fn show_told<K: Sink>(out: &mut K, told: Told) -> Status
+    requires { is_answer told.status ≡ true }
+    ensures shown { Shows (K.held out.old) (K.held out.new) (string_bytes told.text) told.status result }
+    ensures front { GainsFront (K.held out.old) (K.held out.new) (string_bytes told.text) }
     ensures output { result ≡ Status.Output → Rose (K.faults out.old) (K.faults out.new) }
     ensures steady { is_told result ≡ true → K.faults out.new ≡ K.faults out.old }
     ensures sure { StaysSure K.sure K.faults out.old out.new }
 {
-    show(out, report.text.as_str(), report.status)
+    show(out, told.text.as_str(), told.status)
 }
 
 // Prints a text, and answers this status where all of it was printed.

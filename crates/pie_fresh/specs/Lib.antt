@@ -1,7 +1,7 @@
-pub mod Build
-pub mod Fresh
-pub mod Made
-pub mod Parsing
-pub mod Reading
-pub mod Tiny
-pub mod Tokens
+pub mod Noted
+pub mod NotedCodes
+pub mod Ledgers
+pub mod Ordered
+pub mod Frames
+pub mod Turns
+pub mod Builds

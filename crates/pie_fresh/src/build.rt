@@ -1,153 +1,119 @@
-//! The clean build of a directory.
-ghost use Rattle.std.specs.Prelude.{◌≡◌, true, codes, IfSome, IfOk};
-ghost use Rattle.std.specs.Option.{option_map};
-ghost use Rattle.pie_base.specs.Path.{is_path, is_out};
+//! The one call: from the roots to what a build makes of them.
+ghost use Rattle.std.specs.Prelude.{◌≡◌, List, [], None, IfOk};
 ghost use Rattle.pie_files.specs.Streams.{Counted};
-ghost use Rattle.pie_fresh.specs.Build.{build_of, plain_build, evaluated, by_made, by_program, by_roots, file_bytes, roots_say};
-ghost use Rattle.pie_fresh.specs.Fresh.{WritesOut};
-ghost use Rattle.pie_fresh.specs.Made.{made_of};
-ghost use Rattle.pie_fresh.specs.Tiny.{plain, tiny_of, is_main as spec_is_main};
+ghost use Rattle.pie_value.specs.declared.task.Task.{Task};
+ghost use Rattle.pie_fresh.specs.Ledgers.{AreOpen, Enters, IsLedger};
+ghost use Rattle.pie_fresh.specs.Frames.{AreEntered, IsIdle};
+ghost use Rattle.pie_fresh.specs.Builds.{Gains, IsEmptyWhereRefused, IsKept, IsStoredOf, StoredWhere};
 
-use crate::made::{Made, join};
-use crate::reader::{Program, Stop, read_program};
-use pie_base::{FaultKind, OutOfMemory, Path};
+use crate::builder::Builder;
+use crate::ledger::Ledger;
+use pie_base::OutOfMemory;
+use pie_checks::{Built, final_checks};
+use pie_code::Checked;
 use pie_files::{Files, FilesError};
+use pie_types::Typed;
+use pie_value::{Refusal, Task, Verdict};
+use pie_vm::Runs;
 use std::alloc::Global;
 
-/// What a clean build comes to.
-#[derive(Drop)]
-pub enum Outcome {
-    /// There is no pipeline.
-    NoPipeline,
-    /// The pipeline or the roots are outside the first language.
-    NotYet,
-    /// The task `main()` fails.
-    Refused(FaultKind),
-    /// The task `main()` writes this text at this path.
-    Accepted(Path, Vec<u8>),
-}
-
-/// Evaluates the pipeline of a directory afresh. It changes no file.
-/// `Failed` comes only where the count of faults rose.
+/// Evaluates the roots in order up to the first that fails, each entered task once, and tests what they wrote.
+/// It changes no file. `Failed` comes only where the count of faults rose.
 /// Rule: docs/BUILDING.md, "A clean build".
-pub fn fresh<F: Files>(alloc: Global, files: &mut F) -> Result<Outcome, FilesError>
-    ensures outcome { IfSome (F.holds files.old) (λ d. IfOk result (λ outcome. plain_build outcome ≡ build_of d)) }
-    ensures out { IfOk result WritesOut }
-    ensures same { F.holds files.new ≡ F.holds files.old }
-    ensures counted { Counted F.faults FilesError.Failed files.old files.new result }
-{
-    match load(alloc, files, "pie.pipeline")? {
-        Some(pipeline) => with_pipeline(alloc, files, pipeline),
-        None => Ok(Outcome::NoPipeline),
-    }
-}
-
-// The build of this pipeline.
-fn with_pipeline<F: Files>(
+#[tactic(auto, using(crate::proofs::Growing::gains))]
+pub fn fresh<F: Files>(
     alloc: Global,
+    typed: &Typed,
+    code: &[Checked],
+    roots: &[Task],
     files: &mut F,
-    pipeline: Vec<u8>,
-) -> Result<Outcome, FilesError>
-    ensures outcome { IfSome (F.holds files.old) (λ d. IfOk result (λ outcome. plain_build outcome ≡ by_program d (tiny_of pipeline.items))) }
-    ensures out { IfOk result WritesOut }
+    runs: &mut Runs,
+) -> Result<Built, FilesError>
+    ensures refused_empty { IfOk result IsEmptyWhereRefused }
+    ensures kept { IfOk result IsKept }
+    ensures stored { IfOk result (λ b. StoredWhere b.verdict typed.now roots.now b) }
+    ensures runs { Gains 50000 runs.old runs.new }
     ensures same { F.holds files.new ≡ F.holds files.old }
     ensures counted { Counted F.faults FilesError.Failed files.old files.new result }
 {
-    match program_of(alloc, pipeline)? {
-        Some(program) => with_program(alloc, files, program),
-        None => Ok(Outcome::NotYet),
+    let mut builder = Builder::new(alloc, typed, code);
+    match evaluate_all(&mut builder, roots, files, runs)? {
+        Some(refusal) => Ok(refused(alloc, refusal)),
+        None => Ok(checked(alloc, &builder.ledger, roots)?),
     }
 }
 
-// The build of this program, where the roots are `main()`.
-fn with_program<F: Files>(
-    alloc: Global,
+// Evaluates roots up to the first that fails; why it does.
+#[tactic(auto, using(crate::proofs::Growing::enters_same, crate::proofs::Roots::entered_none))]
+fn evaluate_all<'a, F: Files>(
+    builder: &mut Builder<'a>,
+    roots: &[Task],
     files: &mut F,
-    program: Program,
-) -> Result<Outcome, FilesError>
-    requires { is_out program.target ≡ true }
-    ensures outcome { IfSome (F.holds files.old) (λ d. IfOk result (λ outcome. plain_build outcome ≡ by_roots (file_bytes d (codes "pie.roots")) (evaluated d (plain program)))) }
-    ensures out { IfOk result WritesOut }
+    runs: &mut Runs,
+) -> Result<Option<Refusal>, FilesError>
+    requires { IsIdle builder.old }
+    ensures idle { IfOk result (λ why. why ≡ None → IsIdle builder.new) }
+    ensures entered { IfOk result (λ why. why ≡ None → AreEntered builder.new.ledger.names roots.now) }
+    ensures typed { builder.new.typed ≡ builder.old.typed }
+    ensures enters { Enters builder.old.ledger.names builder.new.ledger.names runs.old runs.new }
     ensures same { F.holds files.new ≡ F.holds files.old }
     ensures counted { Counted F.faults FilesError.Failed files.old files.new result }
 {
-    if has_main_root(alloc, files)? {
-        evaluate(alloc, files, program)
-    } else {
-        Ok(Outcome::NotYet)
+    for root in roots {
+        match builder.evaluate(root, files, runs)? {
+            Some(refusal) => return Ok(Some(refusal)),
+            None => {}
+        }
+    }
+    Ok(None)
+}
+
+// What a build makes where all roots are done.
+fn checked(alloc: Global, ledger: &Ledger, roots: &[Task]) -> Result<Built, OutOfMemory>
+    requires ledger { IsLedger ledger.now }
+    requires finished { AreOpen ledger.now [] }
+    requires entered { AreEntered ledger.now.names roots.now }
+    ensures refused_empty { IfOk result IsEmptyWhereRefused }
+    ensures kept { IfOk result IsKept }
+    ensures stored { IfOk result (IsStoredOf ledger.now.names roots.now) }
+{
+    let live = ledger.all_numbers()?;
+    match final_checks(alloc, &ledger.names, &ledger.records, live.as_slice())? {
+        Some(refusal) => Ok(refused(alloc, refusal)),
+        None => accepted(ledger, roots),
     }
 }
 
-// The program of a pipeline in the first language.
-fn program_of(alloc: Global, pipeline: Vec<u8>) -> Result<Option<Program>, OutOfMemory>
-    ensures program { IfOk result (λ program. option_map plain program ≡ tiny_of pipeline.items) }
-    ensures out { IfOk result (λ program. IfSome program (λ p. is_out p.target ≡ true)) }
+fn accepted(ledger: &Ledger, roots: &[Task]) -> Result<Built, OutOfMemory>
+    requires ledger { IsLedger ledger.now }
+    requires finished { AreOpen ledger.now [] }
+    requires entered { AreEntered ledger.now.names roots.now }
+    ensures refused_empty { IfOk result IsEmptyWhereRefused }
+    ensures kept { IfOk result IsKept }
+    ensures stored { IfOk result (IsStoredOf ledger.now.names roots.now) }
 {
-    match read_program(alloc, &pipeline) {
-        Ok(program) => Ok(Some(program)),
-        Err(Stop::NotYet) => Ok(None),
-        Err(Stop::OutOfMemory) => Err(OutOfMemory),
-    }
+    let rows = ledger.ordered()?;
+    let files = ledger.files()?;
+    let outputs = ledger.outputs_of(roots)?;
+    Ok(Built {
+        verdict: Verdict::Accepted,
+        rows,
+        files,
+        outputs,
+    })
 }
 
-// The bytes of a project file, if it is there.
-fn load<F: Files>(alloc: Global, files: &mut F, name: &str) -> Result<Option<Vec<u8>>, FilesError>
-    requires { is_path name.now ≡ true }
-    ensures found { IfSome (F.holds files.old) (λ d. IfOk result (λ bytes. option_map (λ b. b.items) bytes ≡ file_bytes d name.now)) }
-    ensures same { F.holds files.new ≡ F.holds files.old }
-    ensures counted { Counted F.faults FilesError.Failed files.old files.new result }
+// A refused build makes nothing.
+#[tactic(auto, using(crate::proofs::BuiltLemmas::empty_kept))]
+fn refused(alloc: Global, refusal: Refusal) -> Built
+    ensures refused_empty { IsEmptyWhereRefused result }
+    ensures kept { IsKept result }
+    ensures stored { (tasks : List Task) (roots : List Task) → IsStoredOf tasks roots result }
 {
-    let path = Path::known(alloc, name)?;
-    match files.read(&path)? {
-        Some(found) => Ok(Some(found.bytes)),
-        None => Ok(None),
-    }
-}
-
-// Whether the roots are there and are `main()`.
-fn has_main_root<F: Files>(alloc: Global, files: &mut F) -> Result<bool, FilesError>
-    ensures found { IfSome (F.holds files.old) (λ d. IfOk result (λ b. b ≡ roots_say (file_bytes d (codes "pie.roots")))) }
-    ensures same { F.holds files.new ≡ F.holds files.old }
-    ensures counted { Counted F.faults FilesError.Failed files.old files.new result }
-{
-    let roots = load(alloc, files, "pie.roots")?;
-    Ok(has_main(roots))
-}
-
-fn has_main(roots: Option<Vec<u8>>) -> bool
-    ensures { result ≡ roots_say (option_map (λ b. b.items) roots) }
-{
-    match roots {
-        Some(bytes) => is_main(bytes.as_slice()),
-        None => false,
-    }
-}
-
-fn is_main(text: &[u8]) -> bool
-    ensures { result ≡ spec_is_main text.now }
-{
-    text == b"main()".as_slice() || text == b"main()\n".as_slice()
-}
-
-fn evaluate<F: Files>(alloc: Global, files: &mut F, program: Program) -> Result<Outcome, FilesError>
-    requires { is_out program.target ≡ true }
-    ensures outcome { IfSome (F.holds files.old) (λ d. IfOk result (λ outcome. plain_build outcome ≡ evaluated d (plain program))) }
-    ensures out { IfOk result WritesOut }
-    ensures same { F.holds files.new ≡ F.holds files.old }
-    ensures counted { Counted F.faults FilesError.Failed files.old files.new result }
-{
-    let Program { target, terms } = program;
-    let made = join(alloc, files, &terms)?;
-    Ok(outcome_of(target, made))
-}
-
-// The outcome of a program that writes what was made at this path.
-fn outcome_of(target: Path, made: Made) -> Outcome
-    ensures outcome { plain_build result ≡ by_made target (made_of made) }
-    ensures out { is_out target ≡ true → WritesOut result }
-{
-    match made {
-        Made::Text(bytes) => Outcome::Accepted(target, bytes),
-        Made::Fault(kind) => Outcome::Refused(kind),
+    Built {
+        verdict: Verdict::Refused(refusal),
+        rows: Vec::new(alloc),
+        files: Vec::new(alloc),
+        outputs: Vec::new(alloc),
     }
 }

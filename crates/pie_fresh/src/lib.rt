@@ -1,10 +1,18 @@
-//! A clean build: from what the files hold to the verdict and the files to write.
+//! A clean build: the roots are evaluated from nothing, by machines that are suspended while a required task runs.
 #![tactic(auto)]
 
 mod build;
-mod made;
-mod reader;
-mod text;
-mod tokens;
+mod builder;
+mod frame;
+mod ledger;
+mod looking;
+mod notes;
+mod observing;
+mod requiring;
+mod results;
+mod turn;
 
-pub use build::{Outcome, fresh};
+pub use build::fresh;
+
+#[cfg(test)]
+mod tests;

@@ -1,6 +1,6 @@
 -- What a stage answers, told by the stage behind it.
-use Rattle.std.proofs.Common.{◌≡◌, ◌≤◌, ℕ, List, length, Option, Some, None, Result, Ok, Err, sym, subst, ap, ◌∙◌, Vec, Global}
-use Rattle.std.specs.Prelude.{IfSome, IfOk}
+use Rattle.std.proofs.Common.{◌≡◌, ◌≤◌, ℕ, List, length, Option, Some, None, Result, Ok, Err, sym, subst, ap, ◌∙◌}
+use Rattle.std.specs.Prelude.{IfSome}
 use Rattle.std.specs.Option.{option_map}
 use Rattle.std.specs.Str.{IsUtf8}
 use Rattle.pie_files.specs.Directory.{Directory}
@@ -22,7 +22,6 @@ use Rattle.pie_roots.specs.declared.roots_fault.RootsFault.{RootsFault}
 use Rattle.pie_roots.specs.declared.roots_fault.RootsFault.TheVariants as roots
 use Rattle.pie_roots.specs.RootLists as lists
 use Rattle.pie_project.specs.declared.fault.BuildError.{BuildError}
-use Rattle.pie_project.specs.declared.project.Project.{Project}
 use Rattle.pie_project.specs.declared.fault.BuildError.TheVariants as errors
 use Rattle.pie_project.specs.Errors.{files_error, lexer_error, parser_error, reader_error}
 use Rattle.pie_project.specs.Refusals.{Refusal, OfPipeline, OfRoots, Absent, Says}
@@ -34,12 +33,21 @@ use Rattle.pie_project.specs.Looking.{file_bytes, pipeline_path, roots_path}
 use Rattle.pie_project.proofs.Told.{told, told_both}
 
 -- what is said of an answer, told by what more is said
-pub says_more : {A B : Type 0} (view : A → B) (P Q : Result B Refusal → Type 0) (result : Result A BuildError) → ((r : Result B Refusal) → P r → Q r) → Says view P result → Says view Q result
+pub says_more : {A B : Type 0} (view : A → B) (P Q : Result B Refusal → Type 0) (result : Result A BuildError) → ((r : Result B Refusal) → P r → Q r)
+    → Says view P result → Says view Q result
 says_more view P Q (Ok a) f h = f (Ok (view a)) h
 says_more view P Q (Err (errors.Pipeline x)) f h = f _ h
 says_more view P Q (Err (errors.Roots x)) f h = f _ h
 says_more view P Q (Err errors.Files) f h = tt
 says_more view P Q (Err errors.OutOfMemory) f h = tt
+
+-- what is said of a refusal, of another kind of answer
+pub other_view : {A B C : Type 0} (view : A → B) (other : C → B) (P Q : Result B Refusal → Type 0) (e : BuildError) → ((r : Result B Refusal) → P r → Q r)
+    → Says {A = A} view P (Err e) → Says {A = C} other Q (Err e)
+other_view view other P Q (errors.Pipeline x) f h = f _ h
+other_view view other P Q (errors.Roots x) f h = f _ h
+other_view view other P Q errors.Files f h = tt
+other_view view other P Q errors.OutOfMemory f h = tt
 
 -- of a fault of the files nothing is said
 pub says_failed : {A B : Type 0} (view : A → B) (P : Result B Refusal → Type 0) (e : FilesError) → Says {A = A} view P (Err (files_error e))
@@ -49,12 +57,14 @@ says_failed view P files.OutOfMemory = tt
 pub tree_so : (ts : List Token) (fs : List FunctionTree) → IsPipeline ts fs → parsing.Reads (Ok fs) ts → (r : Checked) → r ≡ tree_says fs → TokensSay ts r
 tree_so ts fs p q r e = subst (λ (s : Checked). TokensSay ts s) (sym e) (tree p q)
 
-pub parser_refuses : {A : Type 0} (view : A → List FunctionTree) (ts : List Token) (e : ParseError) → parsing.Reads (Err e) ts → Says {A = A} view (TokensSay ts) (Err (parser_error e))
+pub parser_refuses : {A : Type 0} (view : A → List FunctionTree) (ts : List Token) (e : ParseError) → parsing.Reads (Err e) ts
+    → Says {A = A} view (TokensSay ts) (Err (parser_error e))
 parser_refuses view ts (parser.Expected i) h = expected h
 parser_refuses view ts (parser.TooDeep i) h = too_deep h
 parser_refuses view ts parser.OutOfMemory h = tt
 
-pub lexer_refuses : {A V : Type 0} (view : A → List FunctionTree) (seen : V → List Token) (text : List ℕ) (e : LexError) → IsAnswer {A = V} seen (Err e) text → Says {A = A} view (TextSays text) (Err (lexer_error e))
+pub lexer_refuses : {A V : Type 0} (view : A → List FunctionTree) (seen : V → List Token) (text : List ℕ) (e : LexError) → IsAnswer {A = V} seen (Err e) text
+    → Says {A = A} view (TextSays text) (Err (lexer_error e))
 lexer_refuses view seen text (lexer.BadChar i) h = no_token h
 lexer_refuses view seen text (lexer.OpenText i) h = no_token h
 lexer_refuses view seen text (lexer.BadEscape i) h = no_token h
@@ -95,11 +105,14 @@ no_bytes : {V : Type 0} (view : V → List ℕ) (o : Option V) (b : Option (List
 no_bytes view o b e h = sym h ∙ ap (option_map view) e
 
 -- roots that are there
-pub roots_there : {A V : Type 0} (seen : A → List FunctionTree × List Task) (view : V → List ℕ) (holds : Option Directory) (o : Option V) (v : V) (slice : List ℕ) (fs : List FunctionTree) (result : Result A BuildError)
-    → IfSome holds (λ d. option_map view o ≡ file_bytes d roots_path) → o ≡ Some v → slice ≡ view v → Says seen (RootsSay fs slice) result → IfSome holds (λ d. Says seen (TypedSays d fs) result)
+pub roots_there : {A V : Type 0} (seen : A → List FunctionTree × List Task) (view : V → List ℕ) (holds : Option Directory) (o : Option V) (v : V)
+    (slice : List ℕ) (fs : List FunctionTree) (result : Result A BuildError)
+    → IfSome holds (λ d. option_map view o ≡ file_bytes d roots_path) → o ≡ Some v → slice ≡ view v → Says seen (RootsSay fs slice) result
+    → IfSome holds (λ d. Says seen (TypedSays d fs) result)
 roots_there seen view holds o v slice fs result h e s q =
     told holds (λ (d : Directory). option_map view o ≡ file_bytes d roots_path) (λ (d : Directory). Says seen (TypedSays d fs) result)
-    (λ d f. says_more seen (RootsSay fs slice) (TypedSays d fs) result (λ r x. with_roots (bytes_of view o v (file_bytes d roots_path) e f ∙ ap (λ b. Some b) (sym s)) x) q) h
+    (λ d f. says_more seen (RootsSay fs slice) (TypedSays d fs) result
+    (λ r x. with_roots (bytes_of view o v (file_bytes d roots_path) e f ∙ ap (λ b. Some b) (sym s)) x) q) h
 
 -- no roots
 pub roots_away : {V : Type 0} (view : V → List ℕ) (holds : Option Directory) (o : Option V) (fs : List FunctionTree)
@@ -109,20 +122,15 @@ roots_away view holds o fs h e =
     (λ d f. no_roots (no_bytes view o (file_bytes d roots_path) e f)) h
 
 -- a pipeline that is there
-pub pipeline_there : {A V : Type 0} (seen : A → List FunctionTree × List Task) (view : V → List ℕ) (holds after : Option Directory) (o : Option V) (v : V) (result : Result A BuildError)
-    → IfSome holds (λ d. option_map view o ≡ file_bytes d pipeline_path) → o ≡ Some v → after ≡ holds → IfSome after (λ d. Says seen (PipelineSays d (view v)) result) → IfSome holds (λ d. Says seen (ProjectSays d) result)
-pipeline_there seen view holds after o v result h e s q =
-    told_both holds (λ (d : Directory). option_map view o ≡ file_bytes d pipeline_path) (λ (d : Directory). Says seen (PipelineSays d (view v)) result) (λ (d : Directory). Says seen (ProjectSays d) result)
-    (λ d f x. says_more seen (PipelineSays d (view v)) (ProjectSays d) result (λ r y. with_pipeline (bytes_of view o v (file_bytes d pipeline_path) e f) y) x)
-    h (subst (λ (k : Option Directory). IfSome k (λ d. Says seen (PipelineSays d (view v)) result)) s q)
-
--- the project of a pipeline that is there has its bytes
-pub pipeline_kept : (holds : Option Directory) (o : Option (Vec ℕ Global)) (v : Vec ℕ Global) (result : Result Project BuildError)
-    → IfSome holds (λ d. option_map (λ b. b.items) o ≡ file_bytes d pipeline_path) → o ≡ Some v → IfOk result (λ p. p.bytes ≡ v)
-    → IfSome holds (λ d. IfOk result (λ p. file_bytes d pipeline_path ≡ Some p.bytes.items))
-pipeline_kept None o v result h e k = tt
-pipeline_kept (Some d) o v (Ok p) h e k = sym h ∙ ap (option_map (λ b. b.items)) e ∙ ap (λ b. Some b.items) (sym k)
-pipeline_kept (Some d) o v (Err x) h e k = tt
+pub pipeline_there : {A V : Type 0} (seen : A → List FunctionTree × List Task) (view : V → List ℕ) (holds after : Option Directory) (o : Option V) (v : V)
+    (slice : List ℕ) (result : Result A BuildError) → IfSome holds (λ d. option_map view o ≡ file_bytes d pipeline_path) → o ≡ Some v → slice ≡ view v
+    → after ≡ holds → IfSome after (λ d. Says seen (PipelineSays d slice) result) → IfSome holds (λ d. Says seen (ProjectSays d) result)
+pipeline_there seen view holds after o v slice result h e k s q =
+    told_both holds (λ (d : Directory). option_map view o ≡ file_bytes d pipeline_path) (λ (d : Directory). Says seen (PipelineSays d slice) result)
+    (λ (d : Directory). Says seen (ProjectSays d) result)
+    (λ d f x. says_more seen (PipelineSays d slice) (ProjectSays d) result
+    (λ r y. with_pipeline (bytes_of view o v (file_bytes d pipeline_path) e f ∙ ap (λ b. Some b) (sym k)) y) x)
+    h (subst (λ (m : Option Directory). IfSome m (λ d. Says seen (PipelineSays d slice) result)) s q)
 
 -- no pipeline
 pub pipeline_away : {V : Type 0} (view : V → List ℕ) (holds : Option Directory) (o : Option V)
@@ -137,14 +145,16 @@ of_any None P f = tt
 of_any (Some d) P f = f d
 
 -- a pipeline that is checked, and what stands behind it
-pub pipeline_good : {A : Type 0} (seen : A → List FunctionTree × List Task) (holds : Option Directory) (slice bytes : List ℕ) (fs : List FunctionTree) (result : Result A BuildError) → slice ≡ bytes
+pub pipeline_good : {A : Type 0} (seen : A → List FunctionTree × List Task) (holds : Option Directory) (slice bytes : List ℕ) (fs : List FunctionTree)
+    (result : Result A BuildError) → slice ≡ bytes
     → BytesSay slice (Ok fs) → IfSome holds (λ d. Says seen (TypedSays d fs) result) → IfSome holds (λ d. Says seen (PipelineSays d bytes) result)
 pipeline_good seen holds slice bytes fs result s b q =
     told holds (λ (d : Directory). Says seen (TypedSays d fs) result) (λ (d : Directory). Says seen (PipelineSays d bytes) result)
     (λ d x. says_more seen (TypedSays d fs) (PipelineSays d bytes) result (λ r y. good_pipeline (subst (λ (k : List ℕ). BytesSay k (Ok fs)) s b) y) x) q
 
 -- a pipeline that is refused
-pub pipeline_bad : (A B : Type 0) (view : A → List FunctionTree) (seen : B → List FunctionTree × List Task) (holds : Option Directory) (slice bytes : List ℕ) (e : BuildError) → slice ≡ bytes
+pub pipeline_bad : (A B : Type 0) (view : A → List FunctionTree) (seen : B → List FunctionTree × List Task) (holds : Option Directory) (slice bytes : List ℕ)
+    (e : BuildError) → slice ≡ bytes
     → Says {A = A} view (BytesSay slice) (Err e) → IfSome holds (λ d. Says {A = B} seen (PipelineSays d bytes) (Err e))
 pipeline_bad A B view seen holds slice bytes e s h =
     of_any holds (λ (d : Directory). Says {A = B} seen (PipelineSays d bytes) (Err e))
@@ -160,14 +170,17 @@ counts_good seen holds f result h q =
 pub counts_bad : (A B : Type 0) (view : A → List FunctionTree × List Task) (seen : B → ℕ × ℕ) (holds : Option Directory) (e : BuildError)
     → IfSome holds (λ d. Says {A = A} view (ProjectSays d) (Err e)) → IfSome holds (λ d. Says {A = B} seen (CheckSays d) (Err e))
 counts_bad A B view seen holds e h =
-    told holds (λ (d : Directory). Says {A = A} view (ProjectSays d) (Err e)) (λ (d : Directory). Says {A = B} seen (CheckSays d) (Err e)) (λ d x. refuses_check view seen d e x) h
+    told holds (λ (d : Directory). Says {A = A} view (ProjectSays d) (Err e)) (λ (d : Directory). Says {A = B} seen (CheckSays d) (Err e))
+    (λ d x. refuses_check view seen d e x) h
 
 -- bytes that are a text
-pub text_so : {A : Type 0} (view : A → List FunctionTree) (bytes text : List ℕ) (result : Result A BuildError) → length bytes ≤ most → text ≡ bytes → IsUtf8 bytes → Says view (TextSays text) result → Says view (BytesSay bytes) result
+pub text_so : {A : Type 0} (view : A → List FunctionTree) (bytes text : List ℕ) (result : Result A BuildError) → length bytes ≤ most → text ≡ bytes
+    → IsUtf8 bytes → Says view (TextSays text) result → Says view (BytesSay bytes) result
 text_so view bytes text result l e u h =
     says_more view (TextSays text) (BytesSay bytes) result (λ r x. pipeline_text l u (subst (λ (k : List ℕ). TextSays k r) e x)) h
 
 -- a text that has tokens
-pub tokens_so : {A : Type 0} (view : A → List FunctionTree) (text : List ℕ) (ts slice : List Token) (result : Result A BuildError) → Lexes 0 text (Ok ts) → slice ≡ ts → Says view (TokensSay slice) result → Says view (TextSays text) result
+pub tokens_so : {A : Type 0} (view : A → List FunctionTree) (text : List ℕ) (ts slice : List Token) (result : Result A BuildError) → Lexes 0 text (Ok ts)
+    → slice ≡ ts → Says view (TokensSay slice) result → Says view (TextSays text) result
 tokens_so view text ts slice result x e h =
     says_more view (TokensSay slice) (TextSays text) result (λ r y. tokens x (subst (λ (k : List Token). TokensSay k r) e y)) h

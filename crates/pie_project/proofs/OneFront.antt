@@ -22,7 +22,8 @@ use Rattle.pie_project.specs.declared.fault.BuildError.{BuildError}
 use Rattle.pie_project.specs.declared.fault.RootsReason.TheVariants as reasons
 use Rattle.pie_project.specs.Looking.{file_bytes, pipeline_path, roots_path}
 use Rattle.pie_project.specs.Refusals.{Refusal, OfPipeline, OfRoots, Lex, Parse, Says, Only}
-use Rattle.pie_project.specs.Fronts.{most, Checked, Front, tree_says, TokensSay, tree, expected, too_deep, TextSays, tokens, no_token, BytesSay, pipeline_too_long, pipeline_no_text, pipeline_text}
+use Rattle.pie_project.specs.Fronts.{most, Checked, Front, tree_says, TokensSay, tree, expected, too_deep, TextSays, tokens, no_token, BytesSay}
+use Rattle.pie_project.specs.Fronts.{pipeline_too_long, pipeline_no_text, pipeline_text}
 use Rattle.pie_project.specs.Fronts.{RootsSay, roots_found, roots_too_long, roots_no_text, bad_root, TypedSays, no_roots, with_roots}
 use Rattle.pie_project.specs.Fronts.{PipelineSays, bad_pipeline, good_pipeline, ProjectSays, no_pipeline, with_pipeline, CheckSays, counts, counts_of}
 use Rattle.pie_project.proofs.Finding.{says_more}
@@ -57,7 +58,7 @@ one_tokens ts r s (too_deep x) (expected y) = other_faults (r ≡ s) (parsing.re
 one_tokens ts r s (too_deep {i = i} x) (too_deep {i = j} y) =
     ap (λ k. Err (OfPipeline (Parse (parse.TooDeep k)))) (one_place ts i j x.0 y.0 x.2 y.2 (same_places (parsing.read_all ts) faults.TooDeep x.0 y.0 x.1 y.1))
 
-same_tokens : (text : List ℕ) (ts us : List Token) → Lexes 0 text (Ok ts) → Lexes 0 text (Ok us) → ts ≡ us
+pub same_tokens : (text : List ℕ) (ts us : List Token) → Lexes 0 text (Ok ts) → Lexes 0 text (Ok us) → ts ≡ us
 same_tokens text ts us x y = let e = one_answer 0 text (Ok ts) (Ok us) x y in cc
 
 not_lexed : (P : Type 0) (text : List ℕ) (ts : List Token) (e : LexError) → Lexes 0 text (Ok ts) → Lexes 0 text (Err e) → P
@@ -96,10 +97,12 @@ line_same : (m n : ℕ) → ◌≡◌ {A = Named} (Err m) (Err n) → m ≡ n
 line_same m n e = cc
 
 one_roots : (fs : List FunctionTree) (bytes : List ℕ) (r s : Front) → RootsSay fs bytes r → RootsSay fs bytes s → r ≡ s
-one_roots fs bytes r s (roots_found {ts = ts} x) (roots_found {ts = us} y) = named_same fs ts us (one_naming (number_from 0 fs) 1 (texts bytes) (Ok ts) (Ok us) x.2 y.2)
+one_roots fs bytes r s (roots_found {ts = ts} x) (roots_found {ts = us} y) = named_same fs ts us
+    (one_naming (number_from 0 fs) 1 (texts bytes) (Ok ts) (Ok us) x.2 y.2)
 one_roots fs bytes r s (roots_found x) (roots_too_long y) = too_many (r ≡ s) (length bytes) y x.0
 one_roots fs bytes r s (roots_found x) (roots_no_text y) = absurd (y.1 x.1)
-one_roots fs bytes r s (roots_found {ts = ts} x) (bad_root {n = n} y) = named_or_bad (r ≡ s) ts n (one_naming (number_from 0 fs) 1 (texts bytes) (Ok ts) (Err n) x.2 y.2)
+one_roots fs bytes r s (roots_found {ts = ts} x) (bad_root {n = n} y) = named_or_bad (r ≡ s) ts n
+    (one_naming (number_from 0 fs) 1 (texts bytes) (Ok ts) (Err n) x.2 y.2)
 one_roots fs bytes r s (roots_too_long x) (roots_found y) = too_many (r ≡ s) (length bytes) x y.0
 one_roots fs bytes r s (roots_too_long x) (roots_too_long y) = refl
 one_roots fs bytes r s (roots_too_long x) (roots_no_text y) = too_many (r ≡ s) (length bytes) x y.0
@@ -108,7 +111,8 @@ one_roots fs bytes r s (roots_no_text x) (roots_found y) = absurd (x.1 y.1)
 one_roots fs bytes r s (roots_no_text x) (roots_too_long y) = too_many (r ≡ s) (length bytes) y x.0
 one_roots fs bytes r s (roots_no_text x) (roots_no_text y) = refl
 one_roots fs bytes r s (roots_no_text x) (bad_root y) = absurd (x.1 y.1)
-one_roots fs bytes r s (bad_root {n = n} x) (roots_found {ts = us} y) = named_or_bad (r ≡ s) us n (one_naming (number_from 0 fs) 1 (texts bytes) (Ok us) (Err n) y.2 x.2)
+one_roots fs bytes r s (bad_root {n = n} x) (roots_found {ts = us} y) = named_or_bad (r ≡ s) us n
+    (one_naming (number_from 0 fs) 1 (texts bytes) (Ok us) (Err n) y.2 x.2)
 one_roots fs bytes r s (bad_root x) (roots_too_long y) = too_many (r ≡ s) (length bytes) y x.0
 one_roots fs bytes r s (bad_root x) (roots_no_text y) = absurd (y.1 x.1)
 one_roots fs bytes r s (bad_root {n = m} x) (bad_root {n = n} y) =
@@ -154,13 +158,18 @@ one_check : (d : Directory) (r s : Result (ℕ × ℕ) Refusal) → CheckSays d 
 one_check d r s (counts {r = f} x) (counts {r = g} y) = ap counts_of (one_project d f g x y)
 
 -- what is said of an answer is all that can be said of it
-only_so : {A B : Type 0} (view : A → B) (P : Result B Refusal → Type 0) (result : Result A BuildError) → ((r s : Result B Refusal) → P r → P s → r ≡ s) → Says view P result → Only view P result
+only_so : {A B : Type 0} (view : A → B) (P : Result B Refusal → Type 0) (result : Result A BuildError) → ((r s : Result B Refusal) → P r → P s → r ≡ s)
+    → Says view P result → Only view P result
 only_so view P result one h = λ r x. says_more view P (λ (s : Result _ Refusal). r ≡ s) result (λ s y. one r s x y) h
 
-pub only_project : {A : Type 0} (view : A → List FunctionTree × List Task) (holds : Option Directory) (result : Result A BuildError) → IfSome holds (λ d. Says view (ProjectSays d) result) → IfSome holds (λ d. Only view (ProjectSays d) result)
+pub only_project : {A : Type 0} (view : A → List FunctionTree × List Task) (holds : Option Directory) (result : Result A BuildError)
+    → IfSome holds (λ d. Says view (ProjectSays d) result) → IfSome holds (λ d. Only view (ProjectSays d) result)
 only_project view holds result h =
-    told holds (λ (d : Directory). Says view (ProjectSays d) result) (λ (d : Directory). Only view (ProjectSays d) result) (λ d x. only_so view (ProjectSays d) result (one_project d) x) h
+    told holds (λ (d : Directory). Says view (ProjectSays d) result) (λ (d : Directory). Only view (ProjectSays d) result)
+    (λ d x. only_so view (ProjectSays d) result (one_project d) x) h
 
-pub only_check : {A : Type 0} (view : A → ℕ × ℕ) (holds : Option Directory) (result : Result A BuildError) → IfSome holds (λ d. Says view (CheckSays d) result) → IfSome holds (λ d. Only view (CheckSays d) result)
+pub only_check : {A : Type 0} (view : A → ℕ × ℕ) (holds : Option Directory) (result : Result A BuildError) → IfSome holds (λ d. Says view (CheckSays d) result)
+    → IfSome holds (λ d. Only view (CheckSays d) result)
 only_check view holds result h =
-    told holds (λ (d : Directory). Says view (CheckSays d) result) (λ (d : Directory). Only view (CheckSays d) result) (λ d x. only_so view (CheckSays d) result (one_check d) x) h
+    told holds (λ (d : Directory). Says view (CheckSays d) result) (λ (d : Directory). Only view (CheckSays d) result)
+    (λ d x. only_so view (CheckSays d) result (one_check d) x) h

@@ -13,7 +13,8 @@ use Rattle.pie_types.specs.Whole.{checked}
 use Rattle.pie_value.specs.declared.task.Task.{Task}
 use Rattle.pie_project.specs.declared.fault.BuildError.{BuildError}
 use Rattle.pie_project.specs.Refusals.{Refusal, OfPipeline, OfRoots, Absent, TooLong, NotText, Lex, Parse, Types, Says}
-use Rattle.pie_project.specs.Fronts.{Checked, Front, typed_or, TokensSay, tree, expected, too_deep, TextSays, tokens, no_token, BytesSay, pipeline_too_long, pipeline_no_text, pipeline_text}
+use Rattle.pie_project.specs.Fronts.{Checked, Front, typed_or, TokensSay, tree, expected, too_deep, TextSays, tokens, no_token, BytesSay, pipeline_too_long}
+use Rattle.pie_project.specs.Fronts.{pipeline_no_text, pipeline_text}
 use Rattle.pie_project.specs.Fronts.{RootsSay, roots_found, roots_too_long, roots_no_text, bad_root, TypedSays, no_roots, with_roots}
 use Rattle.pie_project.specs.Fronts.{PipelineSays, bad_pipeline, good_pipeline, ProjectSays, no_pipeline, with_pipeline, CheckSays, counts, counts_of}
 use Rattle.pie_project.specs.Stops.{StopsThere, PipelineStops, OnParse}

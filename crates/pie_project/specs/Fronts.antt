@@ -60,7 +60,8 @@ pub data RootsSay (fs : List FunctionTree) (bytes : List ℕ) : Front → Type 0
   roots_found : {ts : List Task} → lists.Reads (number_from 0 fs) (λ us. us) (Ok ts) bytes → RootsSay fs bytes (Ok (fs, ts))
   roots_too_long : lists.Reads {A = List Task} (number_from 0 fs) (λ us. us) (Err roots.TooLong) bytes → RootsSay fs bytes (Err (OfRoots reasons.TooLong))
   roots_no_text : lists.Reads {A = List Task} (number_from 0 fs) (λ us. us) (Err roots.NotText) bytes → RootsSay fs bytes (Err (OfRoots reasons.NotText))
-  bad_root : {n : ℕ} → lists.Reads {A = List Task} (number_from 0 fs) (λ us. us) (Err (roots.BadRoot n)) bytes → RootsSay fs bytes (Err (OfRoots (reasons.Line n)))
+  bad_root : {n : ℕ} → lists.Reads {A = List Task} (number_from 0 fs) (λ us. us) (Err (roots.BadRoot n)) bytes
+      → RootsSay fs bytes (Err (OfRoots (reasons.Line n)))
 
 -- behind a pipeline that is checked stand the roots, if their file is there
 pub data TypedSays (d : Directory) (fs : List FunctionTree) : Front → Type 0 where

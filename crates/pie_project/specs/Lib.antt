@@ -1,3 +1,4 @@
+pub mod Digested
 pub mod Errors
 pub mod Fronts
 pub mod Looking

@@ -33,7 +33,8 @@ abbrev pub AsksAll : List Call → Option (List Call) → Option (List Call) →
 AsksAll calls before after = IfSome before (λ asked. after ≡ Some (asked ++ calls))
 
 -- reading changes no file, asks these calls in order and no other, and fails only where the count of faults rose
-pub record Looks {S T : Type 0} (holds : S → Option Directory) (asked : S → Option (List Call)) (faults : S → ℕ) (calls : List Call) (old new : S) (result : Result T BuildError) : Type 0 where
+pub record Looks {S T : Type 0} (holds : S → Option Directory) (asked : S → Option (List Call)) (faults : S → ℕ) (calls : List Call) (old new : S)
+    (result : Result T BuildError) : Type 0 where
   pub same : holds new ≡ holds old
   pub asks : Asks calls (asked old) (asked new)
   pub all : OnOk result (AsksAll calls (asked old) (asked new))

@@ -5,26 +5,27 @@ ghost use Rattle.pie_project.specs.Fronts.{RootsSay};
 ghost use Rattle.pie_project.specs.Projects.{front_of};
 ghost use Rattle.pie_project.specs.Refusals.{Says};
 
+use crate::pipeline::Digested;
 use crate::{BuildError, Project, RootsReason};
 use pie_roots::{RootsFault, read_roots};
-use pie_types::Typed;
 use std::alloc::Global;
 
-/// The project with this pipeline, which the bytes are, and the roots that the lines are.
+/// The project with this pipeline, and the roots that the lines are.
 pub(crate) fn with_roots(
     alloc: Global,
-    typed: Typed,
-    bytes: Vec<u8>,
+    pipeline: Digested,
     lines: &[u8],
 ) -> Result<Project, BuildError>
-    ensures found { Says front_of (RootsSay typed lines.now) result }
-    ensures bytes { IfOk result (λ project. project.bytes ≡ bytes) }
+    ensures found { Says front_of (RootsSay pipeline.typed lines.now) result }
+    ensures typed { IfOk result (λ p. p.typed ≡ pipeline.typed) }
+    ensures digests { IfOk result (λ p. p.digests ≡ pipeline.digests) }
     ensures no_fault { IsErrOf result BuildError.Files → ⊥ }
 {
+    let Digested { typed, digests } = pipeline;
     match read_roots(alloc, &typed, lines) {
         Ok(roots) => Ok(Project {
             typed,
-            bytes,
+            digests,
             roots,
         }),
         Err(fault) => Err(roots_error(fault)),

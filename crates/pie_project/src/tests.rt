@@ -1,5 +1,5 @@
 //! Projects of directories in memory.
-use crate::{BuildError, PipelineFault, RootsReason, check_project};
+use crate::{BuildError, PipelineFault, RootsReason, check_project, read_project};
 use pie_base::Path;
 use pie_files::{Files, MemFiles, SureFiles};
 use pie_lexer::LexError;
@@ -8,8 +8,16 @@ use pie_types::TypeKind;
 use std::alloc::Global;
 use std::test::Fail;
 
-const SITE: &str =
-    "func page(src: path) -> path {\n  val body = get(read(src));\n  val foot = require footer();\n  val target = join(path(\"out\"), name(src));\n  write(target, body + foot);\n  target\n}\nfunc footer() -> text { trim(get(read(path(\"inc/foot\")))) }\nfunc site() -> int { len([require page(p) for p in list(path(\"src\"))]) }\n";
+const SITE: &str = "func page(src: path) -> path {
+  val body = get(read(src));
+  val foot = require footer();
+  val target = join(path(\"out\"), name(src));
+  write(target, body + foot);
+  target
+}
+func footer() -> text { trim(get(read(path(\"inc/foot\")))) }
+func site() -> int { len([require page(p) for p in list(path(\"src\"))]) }
+";
 
 // A directory with this pipeline and these roots.
 fn project(alloc: Global, pipeline: &[u8], roots: &[u8]) -> Result<SureFiles, Fail> {
@@ -154,5 +162,26 @@ fn a_call_that_fails_is_told(rt: HostRuntime) -> Result<(), Fail> {
         let wanted = if call < 3 { "files" } else { "roots absent" };
         assert!(rt; found.as_str() == wanted, "call {call}: {found}");
     }
+    Ok(())
+}
+
+// The SHA-256 of `func one ( ) -> int { 1 }`.
+const ONE: &[u8] =
+    b"\xa5\x44\xae\xef\xe7\x55\xc5\x55\x25\x84\x83\x97\x79\x02\xc7\x56\x5f\x3c\x9f\x84\xf5\xc0\xf8\xf6\x4b\x0c\x44\xdc\xa0\xed\xb9\xb1";
+
+#[test]
+fn a_project_keeps_the_digests_of_its_functions(rt: HostRuntime) -> Result<(), Fail> {
+    let alloc = rt.alloc();
+    let pipeline = "func three() -> int { 3 }\nfunc one( ) -> int { 1 } // the first by name";
+    let mut files = project(alloc, pipeline.as_bytes(), b"")?;
+    let Ok(found) = read_project(alloc, &mut files) else {
+        return Err(Fail::from("a project"));
+    };
+    assert_eq!(rt; found.digests.len(), 2);
+    let (name, digest) = &found.digests[0];
+    assert!(rt; name.as_str() == "one");
+    assert!(rt; digest.as_slice() == ONE);
+    let (name, _) = &found.digests[1];
+    assert!(rt; name.as_str() == "three");
     Ok(())
 }

@@ -1,16 +1,15 @@
-use Rattle.std.proofs.Common.{◌∙◌}
-use Rattle.pie_files.specs.Directory.{Directory}
-use Rattle.pie_fresh.specs.Build.{build_of}
-use Rattle.pie_fresh.proofs.Told.{told}
-use Rattle.pie_cli.specs.Rebuilt.{Reports}
-use Rattle.pie_cli.specs.Run.{HasBuilt}
+use Rattle.std.specs.Prelude.{string_bytes}
+use Rattle.pie_cli.proofs.Fresh.{built, fronted}
 use Rattle.pie_cli.proofs.Statuses.{answer_is_told}
 use Rattle.pie_cli.proofs.top.run_fresh.Goals as goal
 
 pub returns-in-Ok-clause-built : goal.returns-in-Ok-clause-built
 returns-in-Ok-clause-built g c = λ a.
-    told (g.F.Files.holds c.args.files.now)
-    (λ (d : Directory). Reports d (build_of d) (g.F.Files.holds c.rebuild.new.files) c.in-Ok.report)
-    (λ (d : Directory). HasBuilt d (g.F.Files.holds c.rebuild.new.files) c.show_report.result)
-    (λ d r. ((c.show_report.ensures.shown (answer_is_told c.show_report.result a)).0 ∙ r.status, r.left.0, r.left.1, r.left.2))
-    c.in-Ok.ensures.built
+    let shown = c.show_told.ensures.shown (answer_is_told c.show_told.result a) in
+    built (g.F.Files.holds c.args.files.now) (g.F.Files.holds c.fresh.new.files) c.args.json (string_bytes c.in-Ok.told.text) c.in-Ok.told.status
+    c.show_told.result (g.K.Sink.held c.args.out.now) (g.K.Sink.held c.show_told.new.out) c.in-Ok.ensures.built shown.0 shown.1
+
+pub returns-in-Ok-clause-front : goal.returns-in-Ok-clause-front
+returns-in-Ok-clause-front g c =
+    fronted (g.F.Files.holds c.args.files.now) (g.F.Files.holds c.fresh.new.files) c.args.json (string_bytes c.in-Ok.told.text) c.in-Ok.told.status
+    (g.K.Sink.held c.args.out.now) (g.K.Sink.held c.show_told.new.out) c.in-Ok.ensures.built c.show_told.ensures.front

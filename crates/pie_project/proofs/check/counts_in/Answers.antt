@@ -12,11 +12,13 @@ returns-in-Ok-clause-found g c =
 
 pub returns-in-Ok-clause-looks : goal.returns-in-Ok-clause-looks
 returns-in-Ok-clause-looks g c =
-    looks_as g.F.Files.holds g.F.Files.asked g.F.Files.faults c.in-Ok.project c.counts.result front_calls c.args.files.now c.read_project.new.files c.in-Ok.ensures.looks c.counts.ensures.no_fault
+    looks_as g.F.Files.holds g.F.Files.asked g.F.Files.faults c.in-Ok.project c.counts.result front_calls c.args.files.now c.read_project.new.files
+    c.in-Ok.ensures.looks c.counts.ensures.no_fault
 
 pub returns-in-Err-clause-found : goal.returns-in-Err-clause-found
 returns-in-Err-clause-found g c = counts_bad Project (ℕ × ℕ) front_of (λ p. p) (g.F.Files.holds c.args.files.now) c.in-Err.error c.in-Err.ensures.found
 
 pub returns-in-Err-clause-looks : goal.returns-in-Err-clause-looks
 returns-in-Err-clause-looks g c =
-    looks_err g.F.Files.holds g.F.Files.asked g.F.Files.faults Project (ℕ × ℕ) c.in-Err.error front_calls c.args.files.now c.read_project.new.files c.in-Err.ensures.looks
+    looks_err g.F.Files.holds g.F.Files.asked g.F.Files.faults Project
+    (ℕ × ℕ) c.in-Err.error front_calls c.args.files.now c.read_project.new.files c.in-Err.ensures.looks

@@ -10,4 +10,5 @@ returns-in-Ok-clause-found c = roots_found c.in-Ok.ensures.roots
 
 pub returns-in-Err-clause-found : goal.returns-in-Err-clause-found
 returns-in-Err-clause-found c =
-    rw c.roots_error.ensures (reader_refuses front_of (λ (tasks : Vec Task Global). tasks.items) c.args.typed c.args.lines.now c.in-Err.fault c.in-Err.ensures.roots)
+    rw c.roots_error.ensures (reader_refuses front_of (λ (tasks : Vec Task Global). tasks.items) c.args.pipeline.typed c.args.lines.now c.in-Err.fault
+    c.in-Err.ensures.roots)

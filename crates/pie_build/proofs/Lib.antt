@@ -1,0 +1,5 @@
+pub mod InPlace
+pub mod OwnPaths
+pub mod Ran
+pub mod Removing
+pub mod Storing

@@ -1,0 +1,57 @@
+-- The tasks that a build reports are those that it started.
+use Rattle.std.proofs.Common.{◌≡◌, ℕ, ◌+◌, ◌≤◌, List, ◌++◌, length, drop, Option, Result, Ok, Err, Vec, Global, refl, sym, ap, subst, ◌∙◌, arith}
+use Rattle.std.specs.Prelude.{All, IfOk, IfSome}
+use Rattle.std.proofs.lemmas.List.{length-append}
+use Rattle.std.proofs.Math.Seq.{drop-append_seam}
+use Rattle.pie_value.specs.declared.task.Task.{Task}
+use Rattle.pie_value.specs.Canonical.{IsEncodableTask}
+use Rattle.pie_files.specs.declared.files.FilesError.{FilesError}
+use Rattle.pie_files.specs.declared.files.FilesError.TheVariants.{Failed, OutOfMemory}
+use Rattle.pie_files.specs.Directory.{Directory}
+use Rattle.pie_files.specs.Streams.{Counted}
+use Rattle.pie_fresh.specs.Builds.{Gains}
+use Rattle.pie_report.specs.declared.report.Report.{Report}
+use Rattle.pie_project.specs.declared.fault.BuildError.TheVariants as errors
+use Rattle.pie_build.specs.Left.{KeepsRest, LeavesBy}
+use Rattle.pie_build.specs.Rebuilt.{Tells}
+
+-- as many tasks as were started before are there still
+pub still_there : (n : ℕ) (old new : List Task) → n ≡ length old → Gains 50000 old new → n ≤ length new
+still_there n old new is g =
+    let l : length new ≡ length old + length g.gained = ap length g.is ∙ length-append old g.gained in omega (arith, is, l)
+
+gained_behind : (n : ℕ) (old new : List Task) → n ≡ length old → (g : Gains 50000 old new) → drop n new ≡ g.gained
+gained_behind n old new is g = ap (λ k. drop k new) is ∙ ap (drop (length old)) g.is ∙ drop-append_seam old g.gained
+
+pub ran_is : (n : ℕ) (old new : List Task) (ran : Vec Task Global) (result : Result Report FilesError) → n ≡ length old → Gains 50000 old new
+    → ran.items ≡ drop n new → IfOk result (λ r. r.ran ≡ ran) → IfOk result (λ r. new ≡ old ++ r.ran.items)
+ran_is n old new ran (Ok r) is g behind same = g.is ∙ ap (λ x. old ++ x) (sym (ap (λ v. v.items) same ∙ behind ∙ gained_behind n old new is g))
+ran_is n old new ran (Err e) is g behind same = tt
+
+pub ran_encodable : (n : ℕ) (old new : List Task) (ran : Vec Task Global) (result : Result Report FilesError) → n ≡ length old → Gains 50000 old new
+    → ran.items ≡ drop n new → IfOk result (λ r. r.ran ≡ ran) → IfOk result (λ r. All IsEncodableTask r.ran.items)
+ran_encodable n old new ran (Ok r) is g behind same =
+    subst (λ x. All IsEncodableTask x) (sym (ap (λ v. v.items) same ∙ behind ∙ gained_behind n old new is g)) g.encodable
+ran_encodable n old new ran (Err e) is g behind same = tt
+
+-- what is left of a directory that was the same before
+pub left_before : (funcs : List (List ℕ × List ℕ)) (roots : List Task) (before mid after : Option Directory) (result : Result Report FilesError) → mid ≡ before
+    → IfSome mid (λ d. IfOk result (λ r. LeavesBy funcs roots r.verdict d r after))
+    → IfSome before (λ d. IfOk result (λ r. LeavesBy funcs roots r.verdict d r after))
+left_before funcs roots before mid after result same h = subst (λ m. IfSome m (λ d. IfOk result (λ r. LeavesBy funcs roots r.verdict d r after))) same h
+
+pub rest_before : (before mid after : Option Directory) → mid ≡ before → KeepsRest mid after → KeepsRest before after
+rest_before before mid after same h = subst (λ m. KeepsRest m after) same h
+
+-- the count after a build, as the answer tells it
+pub tells_done : {S : Type 0} (faults : S → ℕ) (old new : S) (r : Report) → Counted {T = Report} faults Failed old new (Ok r)
+    → Tells {T = Report} faults old new (Ok r)
+tells_done faults old new r h = record { later = h.later; steady = λ v. h.steady; cause = λ e. absurd (cc) }
+
+pub tells_failed : {S : Type 0} (faults : S → ℕ) (old new : S) → Counted {T = Report} faults Failed old new (Err Failed)
+    → Tells {T = Report} faults old new (Err errors.Files)
+tells_failed faults old new h = record { later = h.later; steady = λ v. absurd v; cause = λ e. h.cause refl }
+
+pub tells_memory : {S : Type 0} (faults : S → ℕ) (old new : S) → Counted {T = Report} faults Failed old new (Err OutOfMemory)
+    → Tells {T = Report} faults old new (Err errors.OutOfMemory)
+tells_memory faults old new h = record { later = h.later; steady = λ v. absurd v; cause = λ e. absurd (cc) }

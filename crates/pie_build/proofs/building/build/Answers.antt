@@ -1,0 +1,30 @@
+use Rattle.pie_build.proofs.OwnPaths.{same_keeps}
+use Rattle.pie_build.proofs.Ran.{still_there, ran_is, ran_encodable, left_before, rest_before}
+use Rattle.pie_build.proofs.building.build.Goals as goal
+
+pub since-requires : goal.since-requires
+since-requires g c = still_there c.count-before.result c.args.runs.now c.evaluate.new.runs c.count-before.ensures c.in_ok-built.ensures.runs
+
+pub returns-in_err-built-clause-rest : goal.returns-in_err-built-clause-rest
+returns-in_err-built-clause-rest g c = same_keeps (g.F.Files.holds c.args.files.now) (g.F.Files.holds c.evaluate.new.files) c.in_err-built.ensures.same
+
+pub returns-in_err-ran-clause-rest : goal.returns-in_err-ran-clause-rest
+returns-in_err-ran-clause-rest g c = same_keeps (g.F.Files.holds c.args.files.now) (g.F.Files.holds c.evaluate.new.files) c.in_ok-built.ensures.same
+
+pub returns-clause-left : goal.returns-clause-left
+returns-clause-left g c = left_before c.args.project.digests.items c.args.project.roots.items (g.F.Files.holds c.args.files.now)
+    (g.F.Files.holds c.evaluate.new.files) (g.F.Files.holds c.finish.new.files) c.finish.result
+    c.in_ok-built.ensures.same c.finish.ensures.left
+
+pub returns-clause-rest : goal.returns-clause-rest
+returns-clause-rest g c = rest_before (g.F.Files.holds c.args.files.now) (g.F.Files.holds c.evaluate.new.files) (g.F.Files.holds c.finish.new.files)
+    c.in_ok-built.ensures.same c.finish.ensures.rest
+
+pub returns-clause-ran : goal.returns-clause-ran
+returns-clause-ran g c = ran_is c.count-before.result c.args.runs.now c.evaluate.new.runs c.in_ok-ran.ran c.finish.result c.count-before.ensures
+    c.in_ok-built.ensures.runs
+    c.in_ok-ran.ensures c.finish.ensures.ran
+
+pub returns-clause-encodable : goal.returns-clause-encodable
+returns-clause-encodable g c = ran_encodable c.count-before.result c.args.runs.now c.evaluate.new.runs c.in_ok-ran.ran c.finish.result c.count-before.ensures
+    c.in_ok-built.ensures.runs c.in_ok-ran.ensures c.finish.ensures.ran

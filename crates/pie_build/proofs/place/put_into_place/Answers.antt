@@ -1,0 +1,55 @@
+use Rattle.std.proofs.Common.{◌≡◌, ℕ, List, map, Vec, Global, refl, ap, subst, ◌∙◌}
+use Rattle.std.specs.Prelude.{IfSome, codes}
+use Rattle.std.specs.Prelude.{Option}
+use Rattle.pie_files.specs.Directory.{Directory, files_under}
+use Rattle.pie_collect.specs.Plan.{IsPlan}
+use Rattle.pie_build.specs.Left.{KeepsRest}
+use Rattle.pie_build.specs.Plans.{IsPlanOf}
+use Rattle.pie_build.proofs.OwnPaths.{same_keeps, commit_keeps}
+use Rattle.pie_build.proofs.InPlace.{fits_before, puts_after}
+use Rattle.pie_build.proofs.place.put_into_place.Goals as goal
+
+pub returns-in_err-wrote-clause-rest : goal.returns-in_err-wrote-clause-rest
+returns-in_err-wrote-clause-rest g c = same_keeps (g.F.Files.holds c.args.files.now) (g.F.Files.holds c.args.files.now) refl
+
+pub returns-in_err-removed-clause-rest : goal.returns-in_err-removed-clause-rest
+returns-in_err-removed-clause-rest g c = same_keeps (g.F.Files.holds c.args.files.now) (g.F.Files.holds c.removals.new.files) c.in_err-removed.ensures.same
+
+pub returns-in_err-pending-clause-rest : goal.returns-in_err-pending-clause-rest
+returns-in_err-pending-clause-rest g c = same_keeps (g.F.Files.holds c.args.files.now) (g.F.Files.holds c.end_of_pending.new.files)
+    (c.in_err-pending.ensures.same ∙ c.in_ok-removed.ensures.same)
+
+pub returns-in_err-plan-clause-rest : goal.returns-in_err-plan-clause-rest
+returns-in_err-plan-clause-rest g c = same_keeps (g.F.Files.holds c.args.files.now) (g.F.Files.holds c.end_of_pending.new.files)
+    (c.in_ok-pending.ensures.same ∙ c.in_ok-removed.ensures.same)
+
+pub returns-in_err-report-clause-rest : goal.returns-in_err-report-clause-rest
+returns-in_err-report-clause-rest g c = same_keeps (g.F.Files.holds c.args.files.now) (g.F.Files.holds c.end_of_pending.new.files)
+    (c.in_ok-pending.ensures.same ∙ c.in_ok-removed.ensures.same)
+
+pub returns-clause-rest : goal.returns-clause-rest
+returns-clause-rest g c =
+    let after = g.F.Files.holds c.commit_then.new.files in
+    subst (λ (m : Option Directory). KeepsRest m after) (c.in_ok-pending.ensures.same ∙ c.in_ok-removed.ensures.same)
+    (commit_keeps c.as_slice-3.result.now c.args.made.contents.items c.in_ok-pending.pending c.args.made.store c.in_ok-plan.plan
+    c.in_ok-plan.ensures.plan (g.F.Files.holds c.end_of_pending.new.files) after c.commit_then.ensures.outside)
+
+pub returns-clause-left : goal.returns-clause-left
+returns-clause-left g c =
+    let before = g.F.Files.holds c.args.files.now in
+    let gone = c.in_ok-removed.removed.items in
+    let contents = c.args.made.contents.items in
+    let pending = c.in_ok-pending.pending in
+    let store = c.args.made.store in
+    let wrote : c.in_ok-wrote.wrote.items ≡ map (λ (f : List ℕ × Vec ℕ Global). f.0) contents =
+    c.in_ok-wrote.ensures ∙ ap (map (λ (f : List ℕ × Vec ℕ Global). f.0)) c.as_slice.ensures.value in
+    let plan : IsPlanOf gone contents pending store c.in_ok-plan.plan =
+    subst (λ (x : List (List ℕ)). IsPlanOf x contents pending store c.in_ok-plan.plan) c.as_slice-3.ensures.value c.in_ok-plan.ensures.plan in
+    let removals : IfSome before (λ (d : Directory). IsPlan (files_under d (codes "out")) (map (λ (f : List ℕ × Vec ℕ Global). f.0) contents) gone) =
+    subst (λ (x : List (List ℕ)). IfSome before (λ (d : Directory). IsPlan (files_under d (codes "out")) x gone)) (c.as_slice-2.ensures.value ∙ wrote)
+    c.in_ok-removed.ensures.plan in
+    puts_after before (g.F.Files.holds c.end_of_pending.new.files) (g.F.Files.holds c.commit_then.new.files) gone contents pending store c.in_ok-plan.plan
+    c.in_ok-report.report c.commit_then.result (c.in_ok-pending.ensures.same ∙ c.in_ok-removed.ensures.same)
+    (fits_before before (g.F.Files.holds c.removals.new.files) gone contents pending c.in_ok-removed.ensures.same removals c.in_ok-pending.ensures.gone)
+    plan c.commit_then.ensures.done c.commit_then.ensures.outside c.commit_then.ensures.report c.in_ok-report.ensures.verdict
+    (ap (λ v. v.items) c.in_ok-report.ensures.wrote ∙ wrote) (ap (λ v. v.items) c.in_ok-report.ensures.removed)

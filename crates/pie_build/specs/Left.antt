@@ -1,0 +1,68 @@
+-- What a clean build leaves of a directory.
+use Rattle.std.specs.Prelude.{◌≡◌, ℕ, Bool, true, false, ◌||◌, cond, List, [], ◌∷◌, map, codes, Option, None, Some, IfSome, Ok}
+use Rattle.std.specs.Option.{option_map}
+use Rattle.std.specs.declared.alloc.Global.{Global}
+use Rattle.std.proofs.Common.{Vec}
+use Rattle.pie_base.specs.Path.{is_out, same_text}
+use Rattle.pie_files.specs.Directory.{Directory, file_at, files_under}
+use Rattle.pie_parser.specs.FunctionTrees.{FunctionTree}
+use Rattle.pie_value.specs.declared.task.Task.{Task}
+use Rattle.pie_value.specs.declared.verdict.Verdict.{Verdict}
+use Rattle.pie_value.specs.declared.verdict.Verdict.TheVariants.{Accepted, Refused}
+use Rattle.pie_collect.specs.Plan.{IsPlan}
+use Rattle.pie_codegen.specs.Digests.{HasNames}
+use Rattle.pie_project.specs.Digested.{HasDigests}
+use Rattle.pie_project.specs.Fronts.{ProjectSays}
+use Rattle.pie_report.specs.declared.report.Report.{Report}
+use Rattle.pie_build.specs.Stored.{IsStoreOf}
+
+-- a path that a build may change: one under `out/`, or one of the builder's own three
+abbrev pub may_change : List ℕ → Bool
+may_change q = is_out q || same_text q (codes ".pie/open") || same_text q (codes ".pie/store") || same_text q (codes ".pie/pending")
+
+-- where the directory is told, it is told still, and every other path has the file that it had
+pub record KeepsRest (before after : Option Directory) : Type 0 where
+  pub kept : IfSome before (λ d. (e : Directory) × (after ≡ Some e) × ((q : List ℕ) → may_change q ≡ false → file_at e q ≡ file_at d q))
+
+-- the one that was found later, if there is one
+abbrev pub or_earlier : {A : Type 0} → Option A → Option A → Option A
+or_earlier (Some a) earlier = Some a
+or_earlier None earlier = earlier
+
+-- what some files have at a path; of two at one path the later one counts
+abbrev pub content_at : List (List ℕ × Vec ℕ Global) → List ℕ → Option (List ℕ)
+content_at [] q = None
+content_at (f ∷ fs) q = or_earlier (content_at fs q) (cond (same_text q f.0) (Some f.1.items) None)
+
+-- an accepted build: under `out/` stand exactly these files, and the report tells them, and what was removed; of the builder's own files there is the
+-- store alone, which has this text
+pub record IsInPlace (d e : Directory) (files : List (List ℕ × Vec ℕ Global)) (text : List ℕ) (r : Report) : Type 0 where
+  pub provided : (q : List ℕ) → is_out q ≡ true → option_map (λ f. f.0) (file_at e q) ≡ content_at files q
+  pub rest : (q : List ℕ) → may_change q ≡ false → file_at e q ≡ file_at d q
+  pub wrote : r.wrote.items ≡ map (λ f. f.0) files
+  pub removed : IsPlan (files_under d (codes "out")) r.wrote.items r.removed.items
+  pub store : option_map (λ f. f.0) (file_at e (codes ".pie/store")) ≡ Some text
+  pub no_marker : file_at e (codes ".pie/open") ≡ None
+  pub no_pending : file_at e (codes ".pie/pending") ≡ None
+
+-- an accepted build put these files and this store into place, and its report says so
+abbrev pub Puts : List (List ℕ × Vec ℕ Global) → List ℕ → Directory → Report → Option Directory → Type 0
+Puts files text d r after = (r.verdict ≡ Accepted) × (e : Directory) × (after ≡ Some e) × IsInPlace d e files text r
+
+-- the functions with their digests, and the roots, of the project of a directory
+pub record IsProjectOf (d : Directory) (funcs : List (List ℕ × List ℕ)) (roots : List Task) : Type 0 where
+  pub functions : List FunctionTree
+  pub says : ProjectSays d (Ok (functions, roots))
+  pub names : HasNames functions funcs
+  pub digests : HasDigests d funcs
+
+-- what a build of these functions and roots with this verdict and report leaves
+abbrev pub LeavesBy : List (List ℕ × List ℕ) → List Task → Verdict → Directory → Report → Option Directory → Type 0
+LeavesBy funcs roots Accepted d r after =
+    (e : Directory) × (after ≡ Some e) × (files : List (List ℕ × Vec ℕ Global)) ×
+    (text : List ℕ) × IsInPlace d e files text r × IsStoreOf funcs roots r.live text
+LeavesBy funcs roots (Refused x) d r after = (after ≡ Some d) × (r.wrote.items ≡ []) × (r.removed.items ≡ [])
+
+-- a build of the project of a directory leaves what its report says
+abbrev pub Leaves : Directory → Report → Option Directory → Type 0
+Leaves d r after = (funcs : List (List ℕ × List ℕ)) × (roots : List Task) × IsProjectOf d funcs roots × LeavesBy funcs roots r.verdict d r after

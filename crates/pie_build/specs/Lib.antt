@@ -1,0 +1,4 @@
+pub mod Left
+pub mod Plans
+pub mod Rebuilt
+pub mod Stored

@@ -1,0 +1,183 @@
+//! A clean build of a directory.
+ghost use Rattle.std.specs.Prelude.{◌≡◌, ◌≤◌, ◌++◌, All, IfSome, IfOk, drop, length};
+ghost use Rattle.pie_files.specs.Streams.{Counted};
+ghost use Rattle.pie_value.specs.Canonical.{IsEncodableTask};
+ghost use Rattle.pie_codegen.specs.Digests.{HasNames};
+ghost use Rattle.pie_fresh.specs.Builds.{Gains, IsKept, StoredWhere};
+ghost use Rattle.pie_project.specs.Refusals.{Says};
+ghost use Rattle.pie_build.specs.Left.{KeepsRest, Leaves, LeavesBy};
+ghost use Rattle.pie_build.specs.Rebuilt.{RebuildSays, IsReport, IsRefusal, Tells};
+ghost use Rattle.pie_build.specs.Stored.{MayStand, IsStoreOf};
+ghost use Rattle.pie_store.specs.Canonical.{AreFuncs};
+
+use crate::outcome::refused;
+use crate::place::{Made, put_into_place};
+use crate::store::store_text;
+use crate::tasks::copies;
+use pie_base::{OutOfMemory, Path};
+use pie_checks::Built;
+use pie_codegen::compile;
+use pie_files::{Files, FilesError};
+use pie_fresh::fresh;
+use pie_project::{BuildError, Project, read_project};
+use pie_record::TaskRecord;
+use pie_report::Report;
+use pie_value::{Task, Value, Verdict};
+use pie_vm::Runs;
+use std::alloc::Global;
+
+/// Builds the project of a directory as from an empty store, and puts an accepted build into place: its files, its
+/// store, and no pending names. A refused build changes no file. The whole plan and the report are made before the
+/// first write. The tasks that are started are added to the runs, and reported.
+/// Rule: docs/BUILDING.md, "A clean build".
+pub fn rebuild<F: Files>(
+    alloc: Global,
+    files: &mut F,
+    runs: &mut Runs,
+) -> Result<Report, BuildError>
+    ensures says { IfSome (F.holds files.old) (λ d. Says (λ r. r) (RebuildSays d) result) }
+    ensures left { IfSome (F.holds files.old) (λ d. IfOk result (λ r. Leaves d r (F.holds files.new))) }
+    ensures refused { IsRefusal result → F.holds files.new ≡ F.holds files.old }
+    ensures rest { KeepsRest (F.holds files.old) (F.holds files.new) }
+    ensures ran { IfOk result (λ r. runs.new ≡ runs.old ++ r.ran.items) }
+    ensures encodable { IfOk result (λ r. All IsEncodableTask r.ran.items) }
+    ensures told { Tells F.faults files.old files.new result }
+{
+    match read_project(alloc, files) {
+        Ok(project) => with_project(alloc, files, project, runs),
+        Err(error) => Err(error),
+    }
+}
+
+// Builds this project.
+fn with_project<F: Files>(
+    alloc: Global,
+    files: &mut F,
+    project: Project,
+    runs: &mut Runs,
+) -> Result<Report, BuildError>
+    requires names { HasNames project.typed project.digests.items }
+    requires funcs { AreFuncs project.digests.items }
+    ensures says { Says (λ r. r) IsReport result }
+    ensures left { IfSome (F.holds files.old) (λ d. IfOk result (λ r. LeavesBy project.digests.items project.roots.items r.verdict d r (F.holds files.new))) }
+    ensures rest { KeepsRest (F.holds files.old) (F.holds files.new) }
+    ensures ran { IfOk result (λ r. runs.new ≡ runs.old ++ r.ran.items) }
+    ensures encodable { IfOk result (λ r. All IsEncodableTask r.ran.items) }
+    ensures told { Tells F.faults files.old files.new result }
+{
+    match build(alloc, files, project, runs) {
+        Ok(report) => Ok(report),
+        Err(FilesError::Failed) => Err(BuildError::Files),
+        Err(FilesError::OutOfMemory) => Err(BuildError::OutOfMemory),
+    }
+}
+
+fn build<F: Files>(
+    alloc: Global,
+    files: &mut F,
+    project: Project,
+    runs: &mut Runs,
+) -> Result<Report, FilesError>
+    requires names { HasNames project.typed project.digests.items }
+    requires funcs { AreFuncs project.digests.items }
+    ensures left { IfSome (F.holds files.old) (λ d. IfOk result (λ r. LeavesBy project.digests.items project.roots.items r.verdict d r (F.holds files.new))) }
+    ensures rest { KeepsRest (F.holds files.old) (F.holds files.new) }
+    ensures ran { IfOk result (λ r. runs.new ≡ runs.old ++ r.ran.items) }
+    ensures encodable { IfOk result (λ r. All IsEncodableTask r.ran.items) }
+    ensures counted { Counted F.faults FilesError.Failed files.old files.new result }
+{
+    let before = runs.count();
+    let built = evaluate(alloc, files, &project, runs)?;
+    let ran = since(alloc, runs, before)?;
+    finish(alloc, files, project, built, ran)
+}
+
+// What the project comes to.
+fn evaluate<F: Files>(
+    alloc: Global,
+    files: &mut F,
+    project: &Project,
+    runs: &mut Runs,
+) -> Result<Built, FilesError>
+    ensures kept { IfOk result IsKept }
+    ensures stored { IfOk result (λ b. StoredWhere b.verdict project.now.typed project.now.roots.items b) }
+    ensures runs { Gains 50000 runs.old runs.new }
+    ensures same { F.holds files.new ≡ F.holds files.old }
+    ensures counted { Counted F.faults FilesError.Failed files.old files.new result }
+{
+    let code = compile(alloc, &project.typed)?;
+    let built = fresh(
+        alloc,
+        &project.typed,
+        code.as_slice(),
+        project.roots.as_slice(),
+        files,
+        runs,
+    )?;
+    Ok(built)
+}
+
+// The tasks that were started after so many others.
+fn since(alloc: Global, runs: &Runs, before: usize) -> Result<Vec<Task>, OutOfMemory>
+    requires { before ≤ length runs.now }
+    ensures { IfOk result (λ ran. ran.items ≡ drop before runs.now) }
+{
+    let ran = copies(alloc, &runs.tasks()[before..])?;
+    Ok(ran)
+}
+
+// Puts an accepted build of a project into place.
+#[tactic(auto, using(crate::proofs::OwnPaths::same_keeps))]
+fn finish<F: Files>(
+    alloc: Global,
+    files: &mut F,
+    project: Project,
+    built: Built,
+    ran: Vec<Task>,
+) -> Result<Report, FilesError>
+    requires names { HasNames project.typed project.digests.items }
+    requires funcs { AreFuncs project.digests.items }
+    requires kept { IsKept built }
+    requires stored { StoredWhere built.verdict project.typed project.roots.items built }
+    ensures left { IfSome (F.holds files.old) (λ d. IfOk result (λ r. LeavesBy project.digests.items project.roots.items r.verdict d r (F.holds files.new))) }
+    ensures rest { KeepsRest (F.holds files.old) (F.holds files.new) }
+    ensures ran { IfOk result (λ r. r.ran ≡ ran) }
+    ensures counted { Counted F.faults FilesError.Failed files.old files.new result }
+{
+    let Built {
+        verdict,
+        rows,
+        files: contents,
+        outputs,
+    } = built;
+    match verdict {
+        Verdict::Accepted => {
+            let made = made_of(alloc, project, rows, contents, outputs)?;
+            put_into_place(alloc, files, made, ran)
+        }
+        Verdict::Refused(refusal) => Ok(refused(alloc, refusal, ran)),
+    }
+}
+
+// What an accepted build of a project has made, from its records, files and outputs.
+fn made_of(
+    alloc: Global,
+    project: Project,
+    rows: Vec<TaskRecord>,
+    contents: Vec<(Path, Vec<u8>)>,
+    outputs: Vec<(Task, Value)>,
+) -> Result<Made, OutOfMemory>
+    requires { MayStand project.digests.items project.roots.items rows.items }
+    ensures contents { IfOk result (λ m. m.contents ≡ contents) }
+    ensures store { IfOk result (λ m. IsStoreOf project.digests.items project.roots.items m.live m.store.items) }
+{
+    let live = rows.len();
+    let Project { digests, roots, .. } = project;
+    let store = store_text(alloc, digests, roots, rows)?;
+    Ok(Made {
+        live,
+        contents,
+        outputs,
+        store,
+    })
+}

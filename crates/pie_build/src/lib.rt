@@ -1,0 +1,16 @@
+//! A clean build of a directory, put into place.
+#![tactic(auto)]
+
+mod building;
+mod outcome;
+mod paths;
+mod place;
+mod store;
+mod tasks;
+
+pub use building::rebuild;
+
+#[cfg(test)]
+mod store_tests;
+#[cfg(test)]
+mod tests;

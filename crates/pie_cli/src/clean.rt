@@ -1,0 +1,70 @@
+//! A clean build, and what is told of it.
+ghost use Rattle.std.specs.Prelude.{◌≡◌, true, All, IfSome, IfOk, string_bytes};
+ghost use Rattle.pie_build.specs.Left.{KeepsRest};
+ghost use Rattle.pie_files.specs.Streams.{Counted};
+ghost use Rattle.pie_value.specs.Canonical.{IsEncodableTask};
+ghost use Rattle.pie_cli.specs.Fresh.{FreshSays, IsPrinted, verdict_status};
+ghost use Rattle.pie_cli.specs.Run.{is_answer};
+
+use crate::check::{bad_pipeline, bad_roots};
+use crate::told::Told;
+use pie_base::{OutOfMemory, Status};
+use pie_build::rebuild;
+use pie_files::{Files, FilesError};
+use pie_project::BuildError;
+use pie_report::{Report, print, print_json};
+use pie_value::Verdict;
+use pie_vm::Runs;
+use std::alloc::Global;
+
+/// Builds a directory as from an empty store, and tells the report, as JSON where that is wanted, or the first refusal
+/// of the project.
+pub(crate) fn fresh<F: Files>(alloc: Global, files: &mut F, json: bool) -> Result<Told, FilesError>
+    ensures built { IfSome (F.holds files.old) (λ d. IfOk result (λ told. FreshSays d json (F.holds files.new) (string_bytes told.text) told.status)) }
+    ensures answer { IfOk result (λ told. is_answer told.status ≡ true) }
+    ensures rest { KeepsRest (F.holds files.old) (F.holds files.new) }
+    ensures counted { Counted F.faults FilesError.Failed files.old files.new result }
+{
+    let mut runs = Runs::new(alloc);
+    match rebuild(alloc, files, &mut runs) {
+        Ok(report) => Ok(of_report(alloc, report, json)?),
+        Err(BuildError::Pipeline(fault)) => Ok(bad_pipeline(alloc, fault)?),
+        Err(BuildError::Roots(reason)) => Ok(bad_roots(alloc, reason)?),
+        Err(BuildError::Files) => Err(FilesError::Failed),
+        Err(BuildError::OutOfMemory) => Err(FilesError::OutOfMemory),
+    }
+}
+
+// What is told of a report.
+fn of_report(alloc: Global, report: Report, json: bool) -> Result<Told, OutOfMemory>
+    requires { All IsEncodableTask report.ran.items }
+    ensures text { IfOk result (λ told. IsPrinted json report (string_bytes told.text)) }
+    ensures status { IfOk result (λ told. told.status ≡ verdict_status report.verdict) }
+    ensures answer { IfOk result (λ told. is_answer told.status ≡ true) }
+{
+    let text = printed(alloc, &report, json)?;
+    let status = status_of(&report.verdict);
+    Ok(Told { text, status })
+}
+
+fn printed(alloc: Global, report: &Report, json: bool) -> Result<String, OutOfMemory>
+    requires { All IsEncodableTask report.now.ran.items }
+    ensures { IfOk result (λ text. IsPrinted json report.now (string_bytes text)) }
+{
+    if json {
+        print_json(alloc, report)
+    } else {
+        print(alloc, report)
+    }
+}
+
+// The status that a build with this verdict ends with.
+fn status_of(verdict: &Verdict) -> Status
+    ensures status { result ≡ verdict_status verdict.now }
+    ensures answer { is_answer result ≡ true }
+{
+    match verdict {
+        Verdict::Accepted => Status::Ok,
+        Verdict::Refused(_) => Status::Refused,
+    }
+}

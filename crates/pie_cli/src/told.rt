@@ -1,0 +1,10 @@
+//! What a command comes to.
+
+use pie_base::Status;
+
+/// What a command prints, and the status that it ends with.
+#[derive(Drop)]
+pub(crate) struct Told {
+    pub(crate) text: String,
+    pub(crate) status: Status,
+}

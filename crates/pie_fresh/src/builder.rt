@@ -1,0 +1,282 @@
+//! The evaluation of a root: one event of the running task after another.
+ghost use Rattle.std.specs.Prelude.{◌≡◌, ◌+◌, ◌<◌, [], length, None, IfOk, IfSome};
+ghost use Rattle.std.specs.List.{Contains};
+ghost use Rattle.pie_value.specs.Canonical.{IsEncodable, IsEncodableTask};
+ghost use Rattle.pie_value.specs.Values.{tree_of};
+ghost use Rattle.pie_files.specs.Streams.{Counted};
+ghost use Rattle.pie_codegen.specs.Digests.{function_names};
+ghost use Rattle.pie_fresh.specs.Noted.{IsSound};
+ghost use Rattle.pie_fresh.specs.Ledgers.{Enters, IsHigh, IsLedger, IsPlaced};
+ghost use Rattle.pie_fresh.specs.Frames.{IsIdle, IsWaiting, Running, Stands, StandsAt};
+ghost use Rattle.pie_fresh.specs.Turns.{Begins, GoesOn, Nearer, below_left};
+
+use crate::frame::{Caller, Came, Frame, Waiting, next};
+use crate::ledger::{Done, Ledger};
+use crate::notes::Notes;
+use crate::requiring::give;
+use crate::turn::{Turn, failed, fault};
+use pie_base::{FaultKind, MAX_TASKS, OutOfMemory};
+use pie_code::Checked;
+use pie_files::{Files, FilesError};
+use pie_types::Typed;
+use pie_value::{Event, Refusal, Task, Value};
+use pie_vm::{Machine, Runs};
+use std::alloc::Global;
+
+/// A build under way. The task that runs stands beside it.
+#[derive(Drop)]
+pub(crate) struct Builder<'a> {
+    pub(crate) alloc: Global,
+    pub(crate) typed: &'a Typed,
+    pub(crate) code: &'a [Checked],
+    pub(crate) ledger: Ledger,
+    /// The tasks that wait, each for the one above it, the last one for the task that runs.
+    pub(crate) stack: Vec<Caller<'a>>,
+}
+
+/// What becomes of a task that is entered.
+#[derive(Drop)]
+pub(crate) enum Entered<'a> {
+    Runs(Frame<'a>),
+    /// It isn't started.
+    Refused(Refusal),
+}
+
+impl<'a> Builder<'a> {
+    /// Nothing was entered yet.
+    #[tactic(auto, using(crate::proofs::Entering::idle_none))]
+    pub(crate) fn new(alloc: Global, typed: &'a Typed, code: &'a [Checked]) -> Builder<'a>
+        ensures idle { IsIdle result }
+        ensures none { result.ledger.names ≡ [] }
+        ensures typed { result.typed.now ≡ typed.now }
+    {
+        Builder {
+            alloc,
+            typed,
+            code,
+            ledger: Ledger::new(alloc),
+            stack: Vec::new(alloc),
+        }
+    }
+
+    /// Evaluates a root; why it fails, if it does.
+    #[tactic(auto, using(crate::proofs::Growing::enters_same))]
+    pub(crate) fn evaluate<F: Files>(
+        &mut self,
+        root: &Task,
+        files: &mut F,
+        runs: &mut Runs,
+    ) -> Result<Option<Refusal>, FilesError>
+        requires { IsIdle self.old }
+        ensures idle { IfOk result (λ why. why ≡ None → IsIdle self.new) }
+        ensures small { IfOk result (λ why. why ≡ None → IsEncodableTask root.now) }
+        ensures named { IfOk result (λ why. why ≡ None → Contains self.new.ledger.names root.now) }
+        ensures typed { self.new.typed ≡ self.old.typed }
+        ensures enters { Enters self.old.ledger.names self.new.ledger.names runs.old runs.new }
+        ensures same { F.holds files.new ≡ F.holds files.old }
+        ensures counted { Counted F.faults FilesError.Failed files.old files.new result }
+    {
+        if !root.is_small() {
+            return Ok(Some(fault(root.copy()?, FaultKind::Big)));
+        }
+        match self.ledger.names.number(root)? {
+            Some(_) => Ok(None),
+            None => self.begin(root, files, runs),
+        }
+    }
+
+    // Evaluates a root that wasn't entered.
+    #[tactic(auto, using(crate::proofs::Growing::enters_then))]
+    fn begin<F: Files>(
+        &mut self,
+        root: &Task,
+        files: &mut F,
+        runs: &mut Runs,
+    ) -> Result<Option<Refusal>, FilesError>
+        requires idle { IsIdle self.old }
+        requires encodable { IsEncodableTask root.now }
+        requires absent { ¬ (Contains self.old.ledger.names root.now) }
+        ensures idle { IfOk result (λ why. why ≡ None → IsIdle self.new) }
+        ensures named { IfOk result (λ why. why ≡ None → Contains self.new.ledger.names root.now) }
+        ensures typed { self.new.typed ≡ self.old.typed }
+        ensures enters { Enters self.old.ledger.names self.new.ledger.names runs.old runs.new }
+        ensures same { F.holds files.new ≡ F.holds files.old }
+        ensures counted { Counted F.faults FilesError.Failed files.old files.new result }
+    {
+        match self.enter(root, runs)? {
+            Entered::Runs(frame) => self.run(frame, files, runs),
+            Entered::Refused(refusal) => Ok(Some(refusal)),
+        }
+    }
+
+    // Goes on until the root is done or fails.
+    #[tactic(auto, using(crate::proofs::Growing::enters_same, crate::proofs::Growing::enters_then))]
+    fn run<F: Files>(
+        &mut self,
+        frame: Frame<'a>,
+        files: &mut F,
+        runs: &mut Runs,
+    ) -> Result<Option<Refusal>, FilesError>
+        requires { Running self.old frame }
+        ensures idle { IfOk result (λ why. why ≡ None → IsIdle self.new) }
+        ensures typed { self.new.typed ≡ self.old.typed }
+        ensures enters { Enters self.old.ledger.names self.new.ledger.names runs.old runs.new }
+        ensures same { F.holds files.new ≡ F.holds files.old }
+        ensures counted { Counted F.faults FilesError.Failed files.old files.new result }
+    {
+        let mut frame = frame;
+        'turns: loop {
+            match self.turn(frame, files, runs)? {
+                Turn::Goes(next) => frame = next,
+                Turn::Rests => return Ok(None),
+                Turn::Stops(refusal) => return Ok(Some(refusal)),
+            }
+        }
+    }
+
+    // One event of the running task.
+    #[tactic(auto, using(crate::proofs::Growing::enters_same))]
+    fn turn<F: Files>(
+        &mut self,
+        frame: Frame<'a>,
+        files: &mut F,
+        runs: &mut Runs,
+    ) -> Result<Turn<'a>, FilesError>
+        requires { Running self.old frame }
+        ensures goes { IfOk result (λ t. GoesOn self.new t) }
+        ensures typed { self.new.typed ≡ self.old.typed }
+        ensures nearer { IfOk result (λ t. Nearer (below_left self.old + frame.entry.notes.left + 1) self.new t) }
+        ensures enters { Enters self.old.ledger.names self.new.ledger.names runs.old runs.new }
+        ensures same { F.holds files.new ≡ F.holds files.old }
+        ensures counted { Counted F.faults FilesError.Failed files.old files.new result }
+    {
+        match next(frame)? {
+            Came::Asks(waiting, event) => self.treat(waiting, event, files, runs),
+            Came::Ends(notes, output) => Ok(self.finish(notes, output)?),
+            Came::Fails(task, kind) => Ok(failed(task, kind)),
+        }
+    }
+
+    // An event that asks.
+    #[tactic(auto, using(crate::proofs::Stepping::answered_goes, crate::proofs::Stepping::answered_nearer, crate::proofs::Stepping::written_goes, crate::proofs::Stepping::written_nearer, crate::proofs::Growing::enters_same))]
+    fn treat<F: Files>(
+        &mut self,
+        waiting: Waiting<'a>,
+        event: Event,
+        files: &mut F,
+        runs: &mut Runs,
+    ) -> Result<Turn<'a>, FilesError>
+        requires stands { StandsAt waiting.notes.number self.old }
+        requires waits { IsWaiting waiting }
+        requires placed { IsPlaced self.old.ledger waiting.notes }
+        ensures goes { IfOk result (λ t. GoesOn self.new t) }
+        ensures typed { self.new.typed ≡ self.old.typed }
+        ensures nearer { IfOk result (λ t. Nearer (below_left self.old + waiting.entry.notes.left + 1) self.new t) }
+        ensures enters { Enters self.old.ledger.names self.new.ledger.names runs.old runs.new }
+        ensures same { F.holds files.new ≡ F.holds files.old }
+        ensures counted { Counted F.faults FilesError.Failed files.old files.new result }
+    {
+        match event {
+            Event::Exists(path) => self.exists(waiting, path, files),
+            Event::Read(path, by) => self.read(waiting, path, by, files),
+            Event::Digest(path) => self.digest(waiting, path, files),
+            Event::List(dir) => self.list(waiting, dir, files),
+            Event::Write(path, bytes) => Ok(self.write(waiting, path, bytes)?),
+            Event::Require(task, how) => Ok(self.require(waiting, task, how, runs)?),
+            Event::Done(_) | Event::Fail(_) => Ok(failed(waiting.into_task(), FaultKind::Unknown)),
+        }
+    }
+
+    /// Enters a task that wasn't entered before.
+    #[tactic(auto, using(crate::proofs::Growing::enters_same, crate::proofs::Growing::enters_named, crate::proofs::Growing::enters_started, crate::proofs::Entering::begun_is))]
+    pub(crate) fn enter(&mut self, task: &Task, runs: &mut Runs) -> Result<Entered<'a>, OutOfMemory>
+        requires ledger { IsLedger self.old.ledger }
+        requires encodable { IsEncodableTask task.now }
+        requires absent { ¬ (Contains self.old.ledger.names task.now) }
+        ensures begins { IfOk result (λ e. Begins self.old self.new task.now e) }
+        ensures typed { self.new.typed ≡ self.old.typed }
+        ensures enters { Enters self.old.ledger.names self.new.ledger.names runs.old runs.new }
+    {
+        if self.ledger.heights.len() >= MAX_TASKS as usize {
+            return Ok(Entered::Refused(Refusal::Many));
+        }
+        let no = self.ledger.add(task.copy()?)?;
+        match code_of(self.typed, self.code, task) {
+            Some(code) => {
+                let machine = Machine::start(self.alloc, code, task, runs)?;
+                let notes = Notes::new(self.alloc, task.copy()?, no);
+                Ok(Entered::Runs(Frame {
+                    code,
+                    machine,
+                    notes,
+                }))
+            }
+            None => Ok(Entered::Refused(fault(task.copy()?, FaultKind::Unknown))),
+        }
+    }
+
+    // The running task is done: the one that waits for it goes on.
+    fn finish(&mut self, notes: Notes, output: Value) -> Result<Turn<'a>, OutOfMemory>
+        requires stands { StandsAt notes.number self.old }
+        requires sound { IsSound notes }
+        requires placed { IsPlaced self.old.ledger notes }
+        ensures goes { IfOk result (λ t. GoesOn self.new t) }
+        ensures typed { self.new.typed ≡ self.old.typed }
+        ensures nearer { IfOk result (λ t. Nearer (below_left self.old + notes.left + 1) self.new t) }
+        ensures names { self.new.ledger.names ≡ self.old.ledger.names }
+    {
+        if !output.is_small() {
+            return Ok(failed(notes.into_task(), FaultKind::Big));
+        }
+        let done = Done {
+            no: notes.no,
+            height: notes.height,
+            output: output.copy()?,
+        };
+        self.ledger.end(notes, output)?;
+        self.resume(done)
+    }
+
+    // The task that waits for the one that is done goes on.
+    #[tactic(auto, using(crate::proofs::Finishing::rested))]
+    fn resume(&mut self, done: Done) -> Result<Turn<'a>, OutOfMemory>
+        requires stands { Stands [] done.no.0 self.old }
+        requires high { IsHigh self.old.ledger done.no.0 done.height }
+        requires height { done.height < self.old.ledger.ended }
+        requires output { IsEncodable (tree_of done.output) }
+        ensures goes { IfOk result (λ t. GoesOn self.new t) }
+        ensures typed { self.new.typed ≡ self.old.typed }
+        ensures nearer { IfOk result (λ t. Nearer (below_left self.old + 1) self.new t) }
+        ensures names { self.new.ledger.names ≡ self.old.ledger.names }
+    {
+        match self.stack.pop() {
+            Some(caller) => {
+                let Caller {
+                    waiting,
+                    required,
+                    how,
+                } = caller;
+                let frame = give(self.alloc, waiting, required, how, done)?;
+                Ok(Turn::Goes(frame))
+            }
+            None => Ok(Turn::Rests),
+        }
+    }
+}
+
+// The code of a task's function, where it takes as many arguments.
+#[tactic(auto, using(crate::proofs::Known::found_known))]
+fn code_of<'a>(typed: &Typed, codes: &'a [Checked], task: &Task) -> Option<&'a Checked>
+    ensures params { IfSome result (λ code. length task.now.args ≡ code.now.params) }
+    ensures known { IfSome result (λ _. Contains (function_names typed.now) task.now.func) }
+{
+    let number = typed.find(task)? as usize;
+    if number >= codes.len() {
+        return None;
+    }
+    let code = &codes[number];
+    if task.args.as_slice().len() != code.code().params as usize {
+        return None;
+    }
+    Some(code)
+}

@@ -1,0 +1,174 @@
+//! The tasks of a build by their numbers: names, rows, records, heights and contents.
+ghost use Rattle.std.specs.Prelude.{◌≡◌, ◌+◌, ◌<◌, ◌++◌, ◌∷◌, [], length, None, IfOk, IfSome, OnOk, OnErr, map};
+ghost use Rattle.std.specs.List.{Contains};
+ghost use Rattle.pie_value.specs.Canonical.{IsEncodable, IsEncodableTask};
+ghost use Rattle.pie_value.specs.Values.{tree_of};
+ghost use Rattle.pie_graph.specs.Numbers.{AllBelow, numbers};
+ghost use Rattle.pie_fresh.specs.Noted.{IsSound};
+ghost use Rattle.pie_record.specs.Records.{record_of, Puts};
+ghost use Rattle.pie_record.specs.declared.task_record.TaskRecord.{TaskRecord};
+ghost use Rattle.pie_fresh.specs.Ledgers.{Grows, IsHigh, IsLedger, IsPlaced};
+
+use crate::notes::Notes;
+use pie_base::{OutOfMemory, Path};
+use pie_graph::{Edges, IndexedRows, TaskNo, TaskRows};
+use pie_record::{Deps, Outcome, Records, TaskNames, TaskRecord, Writes};
+use pie_stage::Stage;
+use pie_value::{Task, Value};
+use std::alloc::Global;
+
+/// The tasks that were entered, in order. Those that are done have a record.
+#[derive(Drop)]
+pub(crate) struct Ledger {
+    pub(crate) alloc: Global,
+    pub(crate) names: TaskNames,
+    pub(crate) rows: IndexedRows,
+    pub(crate) records: Records,
+    pub(crate) heights: Vec<u32>,
+    pub(crate) stage: Stage,
+    /// How many tasks have ended.
+    pub(crate) ended: u32,
+}
+
+/// What a task came to that is done.
+#[derive(Drop)]
+pub(crate) struct Done {
+    pub(crate) no: TaskNo,
+    pub(crate) height: u32,
+    pub(crate) output: Value,
+}
+
+impl Ledger {
+    /// No task was entered.
+    pub(crate) fn new(alloc: Global) -> Ledger
+        ensures ledger { IsLedger result }
+        ensures none { result.names ≡ [] }
+        ensures ended { result.ended ≡ 0 }
+    {
+        Ledger {
+            alloc,
+            names: TaskNames::new(alloc),
+            rows: IndexedRows::new(alloc),
+            records: Records::new(alloc),
+            heights: Vec::new(alloc),
+            stage: Stage::new(alloc),
+            ended: 0,
+        }
+    }
+
+    /// A task is entered, and gets the next number.
+    #[tactic(auto, using(crate::proofs::Rising::entered_grows))]
+    pub(crate) fn add(&mut self, task: Task) -> Result<TaskNo, OutOfMemory>
+        requires ledger { IsLedger self.old }
+        requires encodable { IsEncodableTask task }
+        requires absent { ¬ (Contains self.old.names task) }
+        requires few { length self.old.names < 50000 }
+        ensures ledger { OnOk result (IsLedger self.new) }
+        ensures added { OnOk result (self.new.names ≡ self.old.names ++ task ∷ []) }
+        ensures grows { OnOk result (Grows self.old self.new) }
+        ensures records { self.new.records ≡ self.old.records }
+        ensures unchanged { OnErr result (self.new.names ≡ self.old.names) }
+        ensures ended { self.new.ended ≡ self.old.ended }
+        ensures number { IfOk result (λ no. no.0 ≡ length self.old.names) }
+    {
+        let _no = self.rows.add()?;
+        self.heights.push(0)?;
+        let no = self.names.add(task)?;
+        Ok(no)
+    }
+
+    /// A task that is done.
+    pub(crate) fn done(&self, no: TaskNo) -> Result<Option<Done>, OutOfMemory>
+        requires ledger { IsLedger self.now }
+        requires number { no.0 < length self.now.names }
+        ensures number { IfOk result (λ done. IfSome done (λ d. d.no ≡ no)) }
+        ensures low { IfOk result (λ done. IfSome done (λ d. d.height < self.now.ended)) }
+        ensures high { IfOk result (λ done. IfSome done (λ d. IsHigh self.now no.0 d.height)) }
+        ensures small { IfOk result (λ done. IfSome done (λ d. IsEncodable (tree_of d.output))) }
+    {
+        match self.records.get(no) {
+            Some(rec) => match &rec.outcome {
+                Outcome::Done(output) => {
+                    let height = self.heights[no.0 as usize];
+                    let output = output.copy()?;
+                    Ok(Some(Done { no, height, output }))
+                }
+                _ => Ok(None),
+            },
+            None => Ok(None),
+        }
+    }
+
+    /// A task ends with this output.
+    pub(crate) fn end(&mut self, notes: Notes, output: Value) -> Result<(), OutOfMemory>
+        requires ledger { IsLedger self.old }
+        requires placed { IsPlaced self.old notes }
+        requires sound { IsSound notes }
+        requires small { IsEncodable (tree_of output) }
+        requires few { self.old.ended < length self.old.names }
+        requires unfinished { record_of self.old.records notes.number ≡ None }
+        ensures ledger { OnOk result (IsLedger self.new) }
+        ensures names { self.new.names ≡ self.old.names }
+        ensures grows { OnOk result (Grows self.old self.new) }
+        ensures puts { OnOk result ((r : TaskRecord) × Puts self.old.records self.new.records notes.number r) }
+        ensures high { OnOk result (IsHigh self.new notes.number notes.height) }
+        ensures ended { OnOk result (self.new.ended ≡ self.old.ended + 1) }
+    {
+        let Notes {
+            task,
+            no,
+            deps,
+            writes,
+            needs,
+            height,
+            left: _,
+        } = notes;
+        self.set_row(no, needs, writes.as_slice())?;
+        self.heights[no.0 as usize] = height;
+        self.ended += 1;
+        let rec = TaskRecord {
+            task,
+            deps: Deps::new(deps),
+            writes: Writes::new(writes),
+            outcome: Outcome::Done(output),
+        };
+        self.records.put(no, rec)?;
+        Ok(())
+    }
+
+    // The row of a task that requires these and wrote there.
+    fn set_row(
+        &mut self,
+        no: TaskNo,
+        needs: Vec<TaskNo>,
+        writes: &[(Path, [u8; 32])],
+    ) -> Result<(), OutOfMemory>
+        requires number { no.0 < length self.old.rows }
+        requires needs { AllBelow (length self.old.rows) (numbers needs.items) }
+        ensures rows { OnOk result (length self.new.rows ≡ length self.old.rows) }
+        ensures names { self.new.names ≡ self.old.names }
+        ensures heights { self.new.heights ≡ self.old.heights }
+        ensures records { self.new.records ≡ self.old.records }
+        ensures ended { self.new.ended ≡ self.old.ended }
+    {
+        let edges = Edges {
+            needs,
+            reads: Vec::new(self.alloc),
+            lists: Vec::new(self.alloc),
+            writes: paths_of(self.alloc, writes)?,
+        };
+        self.rows.set_edges(no, edges)?;
+        Ok(())
+    }
+}
+
+// The paths that were written.
+fn paths_of(alloc: Global, writes: &[(Path, [u8; 32])]) -> Result<Vec<Path>, OutOfMemory>
+    ensures { IfOk result (λ paths. paths.items ≡ map (λ w. w.0) writes.now) }
+{
+    let mut paths = Vec::with_capacity(alloc, writes.len())?;
+    for (path, _) in writes {
+        paths.push(path.copy()?)?;
+    }
+    Ok(paths)
+}

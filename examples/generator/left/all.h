@@ -1,0 +1,2 @@
+#include "point.h"
+#include "person.h"
