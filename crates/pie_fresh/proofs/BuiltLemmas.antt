@@ -1,30 +1,21 @@
 -- What is collected where all roots are done.
-use Rattle.std.proofs.Common.{◌≡◌, ℕ, ◌<◌, List, [], ◌∷◌, ◌++◌, length, get_or, sym, subst, ap, refl, ◌∙◌, arith}
-use Rattle.std.specs.Prelude.{All, Contains, IsTrue, IfSome, Option, None, Some}
-use Rattle.std.proofs.lemmas.Option.{get_or_from_slice_get}
-use Rattle.pie_value.specs.declared.task.Task.{Task}
-use Rattle.pie_value.specs.declared.verdict.Verdict.TheVariants.{Accepted}
-use Rattle.pie_parser.specs.FunctionTrees.{FunctionTree}
-use Rattle.pie_store.specs.Canonical.{AreInOrder, tasks_in}
-use Rattle.pie_codegen.specs.Digests.{function_names}
+use Rattle.std.proofs.Common.{◌≡◌, ℕ, ◌<◌, List, [], ◌∷◌, ◌++◌, map, sym, subst, ap, refl, ◌∙◌}
+use Rattle.std.specs.Prelude.{All, IsTrue, IfSome, Some}
 use Rattle.pie_record.specs.declared.task_record.TaskRecord.{TaskRecord}
 use Rattle.pie_record.specs.Records.{record_of}
 use Rattle.pie_fresh.specs.declared.ledger.Ledger.{Ledger}
-use Rattle.pie_fresh.specs.Ledgers.{IsLedger, IsRecorded, AreOpen}
-use Rattle.pie_fresh.specs.Ordered.{AreOrdered}
-use Rattle.pie_fresh.specs.Frames.{AreEntered}
-use Rattle.pie_fresh.proofs.Ordering.{recorded_at}
+use Rattle.pie_fresh.specs.Ledgers.{IsLedger}
 use Rattle.std.proofs.Common.{Vec, Global}
 use Rattle.pie_base.specs.Path.{is_out}
 use Rattle.std.specs.List.Sorted.{IsStrictlySortedBy}
 use Rattle.std.specs.Ordering.{nat_cmp}
 use Rattle.std.specs.Cmp.Lexicographic.{slice_cmp}
-use Rattle.std.proofs.lemmas.List.Elements.{All-nil, All-push, All-contains}
+use Rattle.std.proofs.lemmas.List.Elements.{All-nil, All-push}
 use Rattle.pie_graph.specs.declared.edges.TaskNo.{TaskNo}
 use Rattle.pie_graph.specs.Numbers.{numbers, AllBelow}
 use Rattle.pie_record.specs.Canonical.{IsStorable}
 use Rattle.pie_checks.specs.declared.built.Built.{Built}
-use Rattle.pie_fresh.specs.Builds.{IsKept, IsStored, IsStoredOf, StoredWhere, InPathOrder}
+use Rattle.pie_fresh.specs.Builds.{IsKept, InPathOrder}
 
 sorted_nil : IsStrictlySortedBy (slice_cmp nat_cmp) []
 unfolding IsStrictlySortedBy
@@ -47,37 +38,3 @@ pushed_below m nos t below all = subst (AllBelow m) (sym (numbers_more nos t)) (
 pub storable_more : (l : Ledger) (n : ℕ) (r : TaskRecord) (rows : List TaskRecord) → IsLedger l → Some r ≡ record_of l.records n → All IsStorable rows
     → All IsStorable (rows ++ r ∷ [])
 storable_more l n r rows is found all = All-push IsStorable rows r all (subst (λ o. IfSome o IsStorable) (sym found) (is.storable n))
-
--- ---- what can stand in a store
-
--- each task has a record
-finished_at : (l : Ledger) (n : ℕ) → AreOpen l [] → n < length l.names → (r : TaskRecord) × (record_of l.records n ≡ Some r)
-finished_at l n finished inside = by (record_of l.records n) refl
-  where
-    by : (o : Option TaskRecord) → record_of l.records n ≡ o → (r : TaskRecord) × (record_of l.records n ≡ Some r)
-    by None e = let c = finished.others n inside e in absurd (omega (arith, c.1))
-    by (Some r) e = (r, e)
-
-root_row : (l : Ledger) (rows : List TaskRecord) (t : Task) → IsLedger l → AreOpen l [] → AreOrdered l rows → Contains l.names t → Contains (tasks_in rows) t
-root_row l rows t is finished o c =
-    let rec = finished_at l c.0 finished c.1 in
-    let known : IsRecorded l c.0 rec.0 = recorded_at l c.0 rec.0 is rec.1 in
-    let same : rec.0.task ≡ t = sym (get_or_from_slice_get l.names c.0 rec.0.task t known.named) ∙ c.2 in
-    subst (λ (u : Task). Contains (tasks_in rows) u) same
-    (subst (λ (p : Option TaskRecord). IfSome p (λ r. Contains (tasks_in rows) r.task)) rec.1 (o.each c.0))
-
-pub stored_of : (l : Ledger) (rows : List TaskRecord) (roots : List Task) (b : Built) → b.verdict ≡ Accepted → b.rows.items ≡ rows → IsLedger l → AreOpen l []
-    → AreOrdered l rows → AreEntered l.names roots → IsStoredOf l.names roots b
-stored_of l rows roots b verdict same is finished o entered fs known =
-    subst (λ v. StoredWhere v fs roots b) (sym verdict) (stored fs known)
-  where
-    stored : (fs : List FunctionTree) → All (λ (t : Task). Contains (function_names fs) t.func) l.names → IsStored fs roots b
-    stored fs known = record {
-      order = subst AreInOrder (sym same) o.order;
-      few = let size : length b.rows.items ≡ length rows = ap length same in omega (arith, size, o.few, is.few);
-      known = subst (All (λ (r : TaskRecord). Contains (function_names fs) r.task.func)) (sym same)
-          (λ k d lt. All-contains (λ (t : Task). Contains (function_names fs) t.func) l.names (get_or rows k d).task known (o.named k d lt));
-      roots = entered.small;
-      closed = subst (λ (rs : List TaskRecord). All (λ (t : Task). Contains (tasks_in rs) t) roots) (sym same)
-          (λ k d lt. root_row l rows (get_or roots k d) is finished o (entered.named k d lt));
-    }

@@ -1,5 +1,5 @@
 -- The files of a build, in order.
-use Rattle.std.proofs.Common.{◌≡◌, ℕ, List, get_or, sym, subst}
+use Rattle.std.proofs.Common.{◌≡◌, ℕ, List, get_or, Some, sym, subst, refl}
 use Rattle.std.specs.Prelude.{IfSome, IsTrue, Vec}
 use Rattle.std.specs.Ordering.{nat_cmp}
 use Rattle.std.specs.Cmp.Lexicographic.{slice_cmp}

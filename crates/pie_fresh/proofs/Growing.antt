@@ -1,21 +1,25 @@
 -- What stays true of tasks on the stack when others are entered or end.
-use Rattle.std.proofs.Common.{◌≡◌, ℕ, zero, suc, ◌+◌, ◌<◌, ◌≤◌, max, List, [], ◌∷◌, ◌++◌, length, Some, sym, ap, subst, ◌∙◌, append_assoc, arith}
-use Rattle.std.specs.Prelude.{All, Contains, slice_get}
-use Rattle.std.proofs.lemmas.List.{length-append}
-use Rattle.std.proofs.lemmas.List.Elements.{All-push, All-append, Contains-append_left}
-use Rattle.std.proofs.lemmas.Option.{slice_get_within}
+use Rattle.std.proofs.Common.{◌≡◌, ℕ, zero, suc, ◌+◌, ◌<◌, ◌≤◌, max, List, [], ◌∷◌, ◌++◌, length, Some, sym, ap, subst, refl, ◌∙◌, append_assoc, arith}
+use Rattle.std.specs.Prelude.{All, slice_get}
+use Rattle.std.proofs.lemmas.List.{get_or_append_left, length-append}
+use Rattle.std.proofs.lemmas.List.Elements.{All-push, All-append}
+use Rattle.std.proofs.lemmas.Option.{slice_get-get_or, slice_get_within, get_or_from_slice_get}
 use Rattle.pie_value.specs.declared.task.Task.{Task}
 use Rattle.pie_value.specs.Canonical.{IsEncodableTask}
 use Rattle.pie_graph.specs.Numbers.{AllBelow}
 use Rattle.pie_fresh.specs.declared.ledger.Ledger.{Ledger}
 use Rattle.pie_fresh.specs.declared.frame.Caller.{Caller}
-use Rattle.pie_fresh.specs.Noted.{Noted, tasks_on}
-use Rattle.pie_fresh.specs.Ledgers.{IsHigh, Rises, IsPlaced, Grows, Enters}
+use Rattle.pie_fresh.specs.Noted.{Noted}
+use Rattle.pie_fresh.specs.Ledgers.{IsLedger, IsPlaced, Grows, Enters}
 use Rattle.pie_fresh.specs.Frames.{IsCaller}
 use Rattle.pie_fresh.specs.Turns.{Advanced, Given}
 use Rattle.pie_fresh.specs.Builds.{Gains}
-use Rattle.pie_record.specs.declared.dep.DepOn.TheVariants.{Called}
-use Rattle.pie_fresh.proofs.Rising.{get_kept, append_none, rises_kept, rises_more, alike_keeps}
+
+get_kept : {X : Type 0} (xs ys : List X) (i : ℕ) (x : X) → slice_get xs i ≡ Some x → slice_get (xs ++ ys) i ≡ Some x
+get_kept xs ys i x e =
+    let inside : i < length xs = slice_get_within xs i x e in
+    let size : length (xs ++ ys) ≡ length xs + length ys = length-append xs ys in
+    slice_get-get_or (xs ++ ys) i x (omega (arith, inside, size)) ∙ ap Some (get_or_append_left xs ys x i inside ∙ get_or_from_slice_get xs i x x e)
 
 -- how many there are
 pub grown_length : (l m : Ledger) → Grows l m → length l.names ≤ length m.names
@@ -29,7 +33,6 @@ placed_grows l m n g p = record {
   named = subst (λ ts. slice_get ts n.number ≡ Some n.task) (sym g.names) (get_kept l.names g.rest n.number n.task p.named);
   needs = λ k d lt. let more : length l.names ≤ length m.names = grown_length l m g in let at = p.needs k d lt in omega (arith, at, more);
   low = omega (arith, p.low, g.ended);
-  risen = rises_kept l m g.kept (tasks_on n.deps) 0 n.height p.risen;
 }
 
 pub caller_grows : (l m : Ledger) (c : Caller) → Grows l m → IsCaller l c → IsCaller m c
@@ -38,10 +41,13 @@ caller_grows l m c g p = record { waits = p.waits; required = p.required; placed
 pub callers_grow : (l m : Ledger) (cs : List Caller) → Grows l m → All (IsCaller l) cs → All (IsCaller m) cs
 callers_grow l m cs g all k d lt = caller_grows l m _ g (all k d lt)
 
--- nothing but the contents changed
-pub grows_alike : (l m : Ledger) → m.names ≡ l.names → m.records ≡ l.records → m.heights ≡ l.heights → m.ended ≡ l.ended → Grows l m
-grows_alike l m names records heights ended =
-    record { rest = []; names = names ∙ append_none l.names; ended = omega (arith, ended); kept = alike_keeps l m names records heights }
+-- nothing but the contents changed, or a task ended
+pub grows_alike : (l m : Ledger) → m.names ≡ l.names → l.ended ≤ m.ended → Grows l m
+grows_alike l m e h = record { rest = []; names = e ∙ nothing l.names; ended = h }
+  where
+    nothing : (ts : List Task) → ts ≡ ts ++ []
+    nothing [] = refl
+    nothing (t ∷ ts) = ap (λ us. t ∷ us) (nothing ts)
 
 -- a task that was answered is where it was
 pub advanced_placed : (l : Ledger) (old new : Noted) → Advanced old new → IsPlaced l old → IsPlaced l new
@@ -49,20 +55,20 @@ advanced_placed l old new a p = record {
   named = subst (λ n. slice_get l.names n ≡ Some new.task) (sym a.number) (p.named ∙ ap Some (sym a.task));
   needs = subst (λ ns. AllBelow (length l.names) ns) (sym a.needs) p.needs;
   low = omega (arith, p.low, a.height);
-  risen = subst (λ ts. Rises l ts 0 new.height) (sym a.tasks) (subst (λ h. Rises l (tasks_on old.deps) 0 h) (sym a.height) p.risen);
 }
 
 -- so is one that was given what a task came to
-pub given_placed : (l : Ledger) (t : Task) (number height : ℕ) (old new : Noted) → slice_get l.names number ≡ Some t → IsHigh l number height → height < l.ended
-    → Given (Called t) number height old new → IsPlaced l old → IsPlaced l new
-given_placed l t number height old new named is low a p = record {
+pub given_placed : (l : Ledger) (number height : ℕ) (old new : Noted) → number < length l.names → height < l.ended → Given number height old new
+    → IsPlaced l old → IsPlaced l new
+given_placed l number height old new inside low a p = record {
   named = subst (λ n. slice_get l.names n ≡ Some new.task) (sym a.same) (p.named ∙ ap Some (sym a.task));
-  needs = subst (λ ns. AllBelow (length l.names) ns) (sym a.needs)
-      (All-push (λ n. n < length l.names) old.needs number p.needs (slice_get_within l.names number t named));
+  needs = subst (λ ns. AllBelow (length l.names) ns) (sym a.needs) (All-push (λ n. n < length l.names) old.needs number p.needs inside);
   low = let high : new.height ≡ max old.height (height + 1) = a.high in let before = p.low in omega (arith, high, before, low);
-  risen = subst (λ ts. Rises l ts 0 new.height) (sym a.tasks) (subst (λ h. Rises l (tasks_on old.deps ++ t ∷ []) 0 h) (sym a.high)
-      (rises_more l (tasks_on old.deps) t 0 old.height height p.risen (record { number = number; named = named; high = is })));
 }
+
+append_none : (ts : List Task) → ts ≡ ts ++ []
+append_none [] = refl
+append_none (t ∷ ts) = ap (λ us. t ∷ us) (append_none ts)
 
 none_encodable : All IsEncodableTask []
 none_encodable k d l = absurd (omega (arith, l))
@@ -73,7 +79,7 @@ one_encodable t e (suc k) d l = absurd (omega (arith, l))
 
 -- nothing was entered
 pub enters_self : (ts rs : List Task) → Enters ts ts rs rs
-enters_self ts rs = record { gained = []; is = append_none rs; counted = omega arith; few = λ h. h; encodable = none_encodable; kept = λ t c. c }
+enters_self ts rs = record { gained = []; is = append_none rs; counted = omega arith; few = λ h. h; encodable = none_encodable }
 
 pub enters_same : (ts us rs ss : List Task) → us ≡ ts → ss ≡ rs → Enters ts us rs ss
 enters_same ts us rs ss names runs = subst (λ vs. Enters ts vs rs ss) (sym names) (subst (λ qs. Enters ts ts rs qs) (sym runs) (enters_self ts rs))
@@ -82,27 +88,13 @@ enters_same ts us rs ss names runs = subst (λ vs. Enters ts vs rs ss) (sym name
 pub enters_named : (ts us rs ss : List Task) (t : Task) → length ts < 50000 → us ≡ ts ++ t ∷ [] → ss ≡ rs → Enters ts us rs ss
 enters_named ts us rs ss t room names runs =
     let size : length us ≡ length ts + 1 = ap length names ∙ length-append ts (t ∷ []) in
-    record {
-      gained = [];
-      is = runs ∙ append_none rs;
-      counted = omega (arith, size);
-      few = λ h. omega (arith, size, room);
-      encodable = none_encodable;
-      kept = λ u c. subst (λ vs. Contains vs u) (sym names) (Contains-append_left ts (t ∷ []) u c);
-    }
+    record { gained = []; is = runs ∙ append_none rs; counted = omega (arith, size); few = λ h. omega (arith, size, room); encodable = none_encodable }
 
 -- a task was entered and started
 pub enters_started : (ts us rs ss : List Task) (t : Task) → length ts < 50000 → us ≡ ts ++ t ∷ [] → ss ≡ rs ++ t ∷ [] → IsEncodableTask t → Enters ts us rs ss
 enters_started ts us rs ss t room names runs encodable =
     let size : length us ≡ length ts + 1 = ap length names ∙ length-append ts (t ∷ []) in
-    record {
-      gained = t ∷ [];
-      is = runs;
-      counted = omega (arith, size);
-      few = λ h. omega (arith, size, room);
-      encodable = one_encodable t encodable;
-      kept = λ u c. subst (λ vs. Contains vs u) (sym names) (Contains-append_left ts (t ∷ []) u c);
-    }
+    record { gained = t ∷ []; is = runs; counted = omega (arith, size); few = λ h. omega (arith, size, room); encodable = one_encodable t encodable }
 
 -- what was entered first, and then
 pub enters_then : (ts us vs rs ss qs : List Task) → Enters ts us rs ss → Enters us vs ss qs → Enters ts vs rs qs
@@ -114,7 +106,6 @@ enters_then ts us vs rs ss qs a b =
       counted = omega (arith, size, a.counted, b.counted);
       few = λ h. b.few (a.few h);
       encodable = All-append IsEncodableTask a.gained b.gained a.encodable b.encodable;
-      kept = λ t c. b.kept t (a.kept t c);
     }
 
 -- a build enters so many tasks at the most

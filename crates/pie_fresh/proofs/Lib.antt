@@ -1,17 +1,6 @@
-pub mod Rising
 pub mod LedgerLemmas
-pub mod Ending
 pub mod Noting
 pub mod Growing
-pub mod Opening
-pub mod Waiting
 pub mod Stepping
-pub mod Entering
-pub mod Finishing
-pub mod Heights
-pub mod Placing
-pub mod Ordering
-pub mod Known
-pub mod Roots
 pub mod FileLemmas
 pub mod BuiltLemmas

@@ -1,16 +1,12 @@
 -- What was noted can be stored, also with one note more.
-use Rattle.std.proofs.Common.{◌≡◌, ℕ, ◌+◌, ◌-◌, ◌<◌, ◌^◌, List, [], ◌∷◌, ◌++◌, length, subst, sym, ap, refl, ◌∙◌, arith}
+use Rattle.std.proofs.Common.{◌≡◌, ℕ, ◌+◌, ◌-◌, ◌<◌, ◌^◌, List, [], ◌∷◌, ◌++◌, length, subst, sym, ap, refl, arith}
+use Rattle.std.specs.Prelude.{All}
 use Rattle.std.proofs.lemmas.List.{length-append}
 use Rattle.std.proofs.lemmas.List.Elements.{All-push}
-use Rattle.std.proofs.lemmas.Grind.{flat_map-append}
-use Rattle.pie_value.specs.declared.stamp.Stamp.{Stamp}
 use Rattle.pie_record.specs.declared.dep.Dep.{Dep}
-use Rattle.pie_record.specs.declared.dep.DepKind.{DepKind}
-use Rattle.pie_store.specs.Canonical.{required_on}
 use Rattle.pie_record.specs.Canonical.{IsStorableDep, IsStorableWrite}
-use Rattle.pie_fresh.specs.Noted.{Noted, file_dep, tasks_on, observed, required, wrote, IsSound}
+use Rattle.pie_fresh.specs.Noted.{Noted, observed, required, wrote, IsSound}
 use Rattle.pie_fresh.specs.Turns.{Advanced, Given}
-use Rattle.pie_fresh.proofs.Rising.{append_none}
 
 one_more : {X : Type 0} (xs : List X) (x : X) → length (xs ++ x ∷ []) ≡ length xs + 1
 one_more xs x = length-append xs (x ∷ [])
@@ -45,33 +41,18 @@ wrote_sound path hash n storable some s = record {
   task = s.task;
   deps = s.deps;
   writes = All-push IsStorableWrite n.writes (path, hash) s.writes storable;
-  few = subst (λ k. length n.deps + k + (n.left - 1) < 2 ^ 32) (sym (one_more n.writes (path, hash)))
-      (room_written (length n.deps) (length n.writes) n.left some s.few);
+  few = subst (λ k. length n.deps + k + (n.left - 1) < 2 ^ 32) (sym (one_more n.writes (path, hash))) (room_written (length n.deps) (length n.writes) n.left some s.few);
 }
 
 one_off : (l : ℕ) → 0 < l → (l - 1) + 1 ≡ l
 one_off l some = omega (arith, some)
 
-one_task_more : (deps : List Dep) (d : Dep) → tasks_on (deps ++ d ∷ []) ≡ tasks_on deps ++ required_on d.what
-one_task_more deps d =
-    flat_map-append (λ (e : Dep). required_on e.what) deps (d ∷ []) ∙ ap (λ ts. tasks_on deps ++ ts) (sym (append_none (required_on d.what)))
-
-pub observed_advanced : (kind : DepKind) (path : List ℕ) (stamp : Stamp) (n m : Noted) → 0 < n.left → m ≡ observed (file_dep kind path stamp) n → Advanced n m
-observed_advanced kind path stamp n m some e =
-    subst (λ k. Advanced n k) (sym e) (record {
-      task = refl;
-      number = refl;
-      needs = refl;
-      tasks = one_task_more n.deps (file_dep kind path stamp) ∙ sym (append_none (tasks_on n.deps));
-      height = refl;
-      left = one_off n.left some;
-    })
+pub observed_advanced : (d : Dep) (n m : Noted) → 0 < n.left → m ≡ observed d n → Advanced n m
+observed_advanced d n m some e = subst (λ k. Advanced n k) (sym e) (record { task = refl; number = refl; needs = refl; height = refl; left = one_off n.left some })
 
 pub wrote_advanced : (path hash : List ℕ) (n m : Noted) → 0 < n.left → m ≡ wrote path hash n → Advanced n m
-wrote_advanced path hash n m some e =
-    subst (λ k. Advanced n k) (sym e) (record { task = refl; number = refl; needs = refl; tasks = refl; height = refl; left = one_off n.left some })
+wrote_advanced path hash n m some e = subst (λ k. Advanced n k) (sym e) (record { task = refl; number = refl; needs = refl; height = refl; left = one_off n.left some })
 
-pub required_given : (d : Dep) (number height : ℕ) (n m : Noted) → 0 < n.left → m ≡ required d number height n → Given d.what number height n m
+pub required_given : (d : Dep) (number height : ℕ) (n m : Noted) → 0 < n.left → m ≡ required d number height n → Given number height n m
 required_given d number height n m some e =
-    subst (λ k. Given d.what number height n k) (sym e)
-    (record { task = refl; same = refl; needs = refl; tasks = one_task_more n.deps d; high = refl; left = one_off n.left some })
+    subst (λ k. Given number height n k) (sym e) (record { task = refl; same = refl; needs = refl; high = refl; left = one_off n.left some })

@@ -1,34 +1,35 @@
--- An answer and a write keep a build standing and bring its end nearer.
-use Rattle.std.proofs.Common.{◌≡◌, ℕ, ◌+◌, ◌<◌, ◌≤◌, List, [], ◌∷◌, ◌++◌, length, get_or, Some, None, sym, ap, subst, ◌∙◌, arith}
-use Rattle.std.specs.Prelude.{All, Contains, IfSome, Option, slice_get}
-use Rattle.pie_record.specs.Canonical.{IsStorable}
+-- Each kind of step keeps a build standing and brings its end nearer.
+use Rattle.std.proofs.Common.{◌≡◌, ℕ, ◌+◌, ◌-◌, ◌*◌, ◌<◌, ◌≤◌, ◌^◌, List, [], ◌∷◌, ◌++◌, length, get_or, Some, sym, ap, subst, refl, ◌∙◌, arith}
+use Rattle.std.specs.Prelude.{All, IfSome, slice_get}
+use Rattle.pie_record.specs.Canonical.{IsStorable, IsStorableDep, IsStorableWrite}
 use Rattle.pie_record.specs.Records.{record_of}
-use Rattle.pie_record.specs.declared.task_record.TaskRecord.{TaskRecord}
-use Rattle.pie_codegen.specs.Digests.{function_names}
+use Rattle.std.proofs.lemmas.List.{length-append}
+use Rattle.std.proofs.lemmas.List.Elements.{All-nil, All-push, All-pop}
+use Rattle.std.proofs.lemmas.Option.{slice_get-get_or}
+use Rattle.std.proofs.Math.Seq.{get_or-append_seam}
 use Rattle.pie_value.specs.declared.task.Task.{Task}
+use Rattle.pie_value.specs.Canonical.{IsEncodableTask}
+use Rattle.pie_vm.specs.Machines.{Belongs}
+use Rattle.pie_vm.specs.declared.machine.MachineState.TheVariants.{Ready}
 use Rattle.pie_fresh.specs.declared.ledger.Ledger.{Ledger}
+use Rattle.pie_fresh.specs.declared.frame.Frame.{Frame}
 use Rattle.pie_fresh.specs.declared.frame.Caller.{Caller}
 use Rattle.pie_fresh.specs.declared.builder.Builder.{Builder}
 use Rattle.pie_fresh.specs.declared.turn.Turn.{Turn}
 use Rattle.pie_fresh.specs.declared.turn.Turn.TheVariants.{Goes, Rests, Stops}
-use Rattle.pie_fresh.specs.Noted.{Noted}
-use Rattle.pie_fresh.specs.Ledgers.{IsLedger, IsRecorded, IsPlaced, AreOpen, Grows}
-use Rattle.pie_fresh.specs.Frames.{IsCaller, StandsAt, WaitInTurn, numbers_of}
-use Rattle.pie_fresh.specs.Turns.{Answered, GoesOn, Nearer, waiting_left, below_left, still}
-use Rattle.pie_fresh.proofs.Rising.{alike_keeps, recorded_with}
-use Rattle.pie_fresh.proofs.Opening.{open_alike}
-use Rattle.pie_fresh.proofs.Growing.{advanced_placed, callers_grow, grows_alike, placed_grows}
+use Rattle.pie_fresh.specs.Noted.{Noted, begun, IsSound}
+use Rattle.pie_fresh.specs.Ledgers.{IsLedger, IsPlaced, Grows}
+use Rattle.pie_fresh.specs.Frames.{IsReady, IsWaiting, IsCaller, IsTop, Stands, Running}
+use Rattle.pie_fresh.specs.Turns.{Advanced, Given, Answered, Begun, GoesOn, Nearer, waiting_left, below_left, still}
+use Rattle.pie_fresh.proofs.Growing.{advanced_placed, given_placed, callers_grow, caller_grows, grows_alike, placed_grows}
 
 pub left_more : (cs : List Caller) (c : Caller) → waiting_left (cs ++ c ∷ []) ≡ waiting_left cs + (c.waiting.notes.left + 1)
 left_more [] c = omega arith
 left_more (d ∷ cs) c = let rest : waiting_left (cs ++ c ∷ []) ≡ waiting_left cs + (c.waiting.notes.left + 1) = left_more cs c in omega (arith, rest)
 
 -- a task that was answered goes on
-pub answered_goes : (b : Builder) (old : Noted) (t : Turn) → StandsAt old.number b → IsPlaced b.ledger old → Answered old t → GoesOn b t
-answered_goes b old (Goes f) s p a = record {
-  stands = subst (λ n. StandsAt n b) (sym a.1.number) s;
-  top = record { ready = a.0; placed = advanced_placed b.ledger old f.notes a.1 p };
-}
+pub answered_goes : (b : Builder) (old : Noted) (t : Turn) → Stands 1 b → IsPlaced b.ledger old → Answered old t → GoesOn b t
+answered_goes b old (Goes f) s p a = record { stands = s; top = record { ready = a.0; placed = advanced_placed b.ledger old f.notes a.1 p } }
 answered_goes b old Rests s p a = elim a [ ]
 answered_goes b old (Stops r) s p a = tt
 
@@ -48,39 +49,154 @@ staged_ledger l m names rows heights records ended is = record {
       (subst (λ hs. IfSome (record_of l.records k) (λ _. get_or hs.items k 0 < m.ended)) (sym heights)
       (subst (λ e. IfSome (record_of l.records k) (λ _. get_or l.heights.items k 0 < e)) (sym ended) (is.low k)));
   storable = λ k. subst (λ rs. IfSome (record_of rs k) IsStorable) (sym records) (is.storable k);
-  recorded = λ k. subst (λ rs. IfSome (record_of rs k) (IsRecorded m k)) (sym records) (staged_record (record_of l.records k) k (is.recorded k));
 }
-  where
-    staged_record : (o : Option TaskRecord) (k : ℕ) → IfSome o (IsRecorded l k) → IfSome o (IsRecorded m k)
-    staged_record None k h = tt
-    staged_record (Some r) k h =
-        recorded_with l m k r (alike_keeps l m names records heights) (ap (λ ts. slice_get ts k) names ∙ h.named) (ap (λ hs. get_or hs.items k 0) heights) h
 
--- a write changes contents alone
-pub written_stands : (number : ℕ) (b c : Builder) → c.ledger.names ≡ b.ledger.names → c.ledger.rows ≡ b.ledger.rows → c.ledger.heights ≡ b.ledger.heights
-    → c.ledger.records ≡ b.ledger.records → c.ledger.ended ≡ b.ledger.ended → c.stack ≡ b.stack → c.typed ≡ b.typed → StandsAt number b → StandsAt number c
-written_stands number b c names rows heights records ended stack typed s =
-    let grows : Grows b.ledger c.ledger = grows_alike b.ledger c.ledger names records heights ended in
+pub staged_stands : (n : ℕ) (b c : Builder) → IsLedger c.ledger → Grows b.ledger c.ledger → c.ledger.names ≡ b.ledger.names → c.ledger.ended ≡ b.ledger.ended
+    → c.stack ≡ b.stack → Stands n b → Stands n c
+staged_stands n b c ledger grows names ended stack s = record {
+  ledger = ledger;
+  stack = subst (λ cs. All (IsCaller c.ledger) cs.items) (sym stack) (callers_grow b.ledger c.ledger b.stack.items grows s.stack);
+  counted =
+      let size : length c.stack.items ≡ length b.stack.items = ap (λ cs. length cs.items) stack in
+      let all : length c.ledger.names ≡ length b.ledger.names = ap length names in
+      omega (arith, size, all, ended, s.counted);
+}
+
+-- a task that was entered and has done nothing yet
+pub begun_is : (b c : Builder) (f : Frame) (t : Task) (number : ℕ) → IsLedger c.ledger → c.ledger.names ≡ b.ledger.names ++ t ∷ []
+    → c.ledger.ended ≡ b.ledger.ended → c.stack ≡ b.stack → number ≡ length b.ledger.names → f.machine.phase ≡ Ready → Belongs f.code.now f.machine
+    → f.notes ≡ begun t number 1000001 → IsEncodableTask t → Begun b c f
+begun_is b c f t number ledger names ended stack place phase belongs notes encodable =
+    let size : length (b.ledger.names ++ t ∷ []) ≡ length b.ledger.names + 1 = length-append b.ledger.names (t ∷ []) in
+    let last : get_or (b.ledger.names ++ t ∷ []) (length b.ledger.names) t ≡ t = get_or-append_seam b.ledger.names t [] t in
+    let named : slice_get (b.ledger.names ++ t ∷ []) (length b.ledger.names) ≡ Some t
+    = slice_get-get_or (b.ledger.names ++ t ∷ []) (length b.ledger.names) t (omega (arith, size)) ∙ ap Some last in
     record {
-      ledger = staged_ledger b.ledger c.ledger names rows heights records ended s.ledger;
-      stack = subst (λ cs. All (IsCaller c.ledger) cs.items) (sym stack) (callers_grow b.ledger c.ledger b.stack.items grows s.stack);
-      turns = subst (λ cs. WaitInTurn c.ledger.names cs.items number) (sym stack) (subst (λ ts. WaitInTurn ts b.stack.items number) (sym names) s.turns);
-      unfinished = subst (λ cs. AreOpen c.ledger (numbers_of cs.items ++ number ∷ [])) (sym stack)
-          (open_alike b.ledger c.ledger (numbers_of b.stack.items ++ number ∷ []) names records s.unfinished);
-      counted =
-          let size : length c.stack.items ≡ length b.stack.items = ap (λ cs. length cs.items) stack in
-          let all : length c.ledger.names ≡ length b.ledger.names = ap length names in
-          omega (arith, size, all, ended, s.counted);
-      known = subst (λ k. All (λ (u : Task). Contains (function_names k.now) u.func) c.ledger.names) (sym typed)
-          (subst (λ ts. All (λ (u : Task). Contains (function_names b.typed.now) u.func) ts) (sym names) s.known);
+      top = record {
+        ready = record {
+          phase = phase;
+          belongs = belongs;
+          sound = subst IsSound (sym notes) (record { task = encodable; deps = All-nil IsStorableDep; writes = All-nil IsStorableWrite; few = omega arith });
+        };
+        placed = subst (IsPlaced c.ledger) (sym notes) (record {
+          named = subst (λ ts. slice_get ts number ≡ Some t) (sym names) (subst (λ n. slice_get (b.ledger.names ++ t ∷ []) n ≡ Some t) (sym place) named);
+          needs = All-nil (λ n. n < length c.ledger.names);
+          low = omega arith;
+        });
+      };
+      ledger = ledger;
+      grows = record { rest = t ∷ []; names = names; ended = omega (arith, ended) };
+      ended = ended;
+      one = ap length names ∙ size;
+      stack = stack;
+      left = ap (λ (n : Noted). n.left) notes;
     }
 
+-- a root that was entered runs
+pub begun_runs : (b c : Builder) (f : Frame) → Stands 0 b → Begun b c f → Running c f
+begun_runs b c f s e = record {
+  stands = record {
+    ledger = e.ledger;
+    stack = subst (λ cs. All (IsCaller c.ledger) cs.items) (sym e.stack) (callers_grow b.ledger c.ledger b.stack.items e.grows s.stack);
+    counted =
+        let size : length c.stack.items ≡ length b.stack.items = ap (λ cs. length cs.items) e.stack in
+        omega (arith, size, e.one, e.ended, s.counted);
+  };
+  top = e.top;
+}
+
+-- a required task that was entered runs, and the one that requires it waits
+pub descended : (b c d : Builder) (f : Frame) (w : Caller) → Stands 1 b → Begun b c f → d.ledger ≡ c.ledger → d.stack.items ≡ c.stack.items ++ w ∷ []
+    → IsCaller b.ledger w → Running d f
+descended b c d f w s e same pushed is = record {
+  stands = record {
+    ledger = subst IsLedger (sym same) e.ledger;
+    stack = subst (λ l. All (IsCaller l) d.stack.items) (sym same) (subst (All (IsCaller c.ledger)) (sym pushed)
+        (All-push (IsCaller c.ledger) c.stack.items w
+        (subst (λ cs. All (IsCaller c.ledger) cs.items) (sym e.stack) (callers_grow b.ledger c.ledger b.stack.items e.grows s.stack))
+        (caller_grows b.ledger c.ledger w e.grows is)));
+    counted =
+        let before : length c.stack.items ≡ length b.stack.items = ap (λ cs. length cs.items) e.stack in
+        let after : length d.stack.items ≡ length c.stack.items + 1 = ap length pushed ∙ length-append c.stack.items (w ∷ []) in
+        let ended : d.ledger.ended ≡ c.ledger.ended = ap (λ l. l.ended) same in
+        let names : length d.ledger.names ≡ length c.ledger.names = ap (λ l. length l.names) same in
+        omega (arith, before, after, ended, names, e.one, e.ended, s.counted);
+  };
+  top = subst (λ l. IsTop l f) (sym same) e.top;
+}
+
+one_less : (n : ℕ) → n < 50000 → still n ≡ still (n + 1) + 1000003
+unfolding still
+one_less n lt = let q : 50000 - n ≡ (50000 - (n + 1)) + 1 = omega (arith, lt) in ap (λ k. k * 1000003) q ∙ omega arith
+
+pub descended_nearer : (b c d : Builder) (f : Frame) (w : Caller) → Begun b c f → d.ledger ≡ c.ledger → d.stack.items ≡ c.stack.items ++ w ∷ []
+    → below_left d + f.notes.left + 1 < below_left b + w.waiting.notes.left + 1
+descended_nearer b c d f w e same pushed =
+    let names : length d.ledger.names ≡ length b.ledger.names + 1 = ap (λ l. length l.names) same ∙ e.one in
+    let few : length c.ledger.names ≤ 50000 = e.ledger.few in
+    let one : length c.ledger.names ≡ length b.ledger.names + 1 = e.one in
+    let weight : waiting_left d.stack.items ≡ waiting_left b.stack.items + (w.waiting.notes.left + 1)
+    = ap waiting_left pushed ∙ left_more c.stack.items w ∙ ap (λ cs. waiting_left cs.items + (w.waiting.notes.left + 1)) e.stack in
+    let less : still (length b.ledger.names) ≡ still (length b.ledger.names + 1) + 1000003 = one_less (length b.ledger.names) (omega (arith, few, one)) in
+    let room : still (length d.ledger.names) ≡ still (length b.ledger.names + 1) = ap still names in
+    let left : f.notes.left ≡ 1000001 = e.left in
+    omega (arith, weight, less, room, left)
+
+-- the running task has ended
+pub ended_stands : (b c : Builder) → IsLedger c.ledger → c.ledger.names ≡ b.ledger.names → c.ledger.ended ≡ b.ledger.ended + 1 → c.stack ≡ b.stack
+    → Stands 1 b → Stands 0 c
+ended_stands b c ledger names ended stack s = record {
+  ledger = ledger;
+  stack = subst (λ cs. All (IsCaller c.ledger) cs.items) (sym stack)
+      (callers_grow b.ledger c.ledger b.stack.items (grows_alike b.ledger c.ledger names (omega (arith, ended))) s.stack);
+  counted =
+      let size : length c.stack.items ≡ length b.stack.items = ap (λ cs. length cs.items) stack in
+      let all : length c.ledger.names ≡ length b.ledger.names = ap length names in
+      omega (arith, size, all, ended, s.counted);
+}
+
+-- the one that waits for the task that has ended goes on
+pub resumed : (b c : Builder) (w : Caller) (number height : ℕ) (f : Frame) → Stands 0 b → b.stack.items ≡ c.stack.items ++ w ∷ [] → c.ledger ≡ b.ledger
+    → number < length b.ledger.names → height < b.ledger.ended → IsReady f → Given number height w.waiting.notes f.notes → Running c f
+resumed b c w number height f s popped same inside low ready given =
+    let both : All (IsCaller b.ledger) c.stack.items × IsCaller b.ledger w
+    = All-pop (IsCaller b.ledger) b.stack.items c.stack.items (Some w) popped s.stack in
+    record {
+      stands = record {
+        ledger = subst IsLedger (sym same) s.ledger;
+        stack = subst (λ l. All (IsCaller l) c.stack.items) (sym same) both.0;
+        counted =
+            let size : length b.stack.items ≡ length c.stack.items + 1 = ap length popped ∙ length-append c.stack.items (w ∷ []) in
+            let ended : c.ledger.ended ≡ b.ledger.ended = ap (λ l. l.ended) same in
+            let names : length c.ledger.names ≡ length b.ledger.names = ap (λ l. length l.names) same in
+            omega (arith, size, ended, names, s.counted);
+      };
+      top = record {
+        ready = ready;
+        placed = subst (λ l. IsPlaced l f.notes) (sym same) (given_placed b.ledger number height w.waiting.notes f.notes inside low given both.1.placed);
+      };
+    }
+
+pub resumed_nearer : (b c : Builder) (w : Caller) (number height : ℕ) (f : Frame) → b.stack.items ≡ c.stack.items ++ w ∷ [] → c.ledger ≡ b.ledger
+    → Given number height w.waiting.notes f.notes → below_left c + f.notes.left + 1 < below_left b + 1
+resumed_nearer b c w number height f popped same given =
+    let weight : waiting_left b.stack.items ≡ waiting_left c.stack.items + (w.waiting.notes.left + 1) = ap waiting_left popped ∙ left_more c.stack.items w in
+    let room : still (length c.ledger.names) ≡ still (length b.ledger.names) = ap (λ l. still (length l.names)) same in
+    omega (arith, weight, room, given.left)
+
+-- a write changes contents alone
+pub written_stands : (n : ℕ) (b c : Builder) → c.ledger.names ≡ b.ledger.names → c.ledger.rows ≡ b.ledger.rows → c.ledger.heights ≡ b.ledger.heights
+    → c.ledger.records ≡ b.ledger.records → c.ledger.ended ≡ b.ledger.ended → c.stack ≡ b.stack → Stands n b → Stands n c
+written_stands n b c names rows heights records ended stack s =
+    staged_stands n b c (staged_ledger b.ledger c.ledger names rows heights records ended s.ledger)
+    (grows_alike b.ledger c.ledger names (omega (arith, ended))) names ended stack s
+
 pub written_goes : (b c : Builder) (old : Noted) (t : Turn) → c.ledger.names ≡ b.ledger.names → c.ledger.rows ≡ b.ledger.rows
-    → c.ledger.heights ≡ b.ledger.heights → c.ledger.records ≡ b.ledger.records → c.ledger.ended ≡ b.ledger.ended → c.stack ≡ b.stack → c.typed ≡ b.typed
-    → StandsAt old.number b → IsPlaced b.ledger old → Answered old t → GoesOn c t
-written_goes b c old t names rows heights records ended stack typed s p a =
-    answered_goes c old t (written_stands old.number b c names rows heights records ended stack typed s)
-    (placed_grows b.ledger c.ledger old (grows_alike b.ledger c.ledger names records heights ended) p) a
+    → c.ledger.heights ≡ b.ledger.heights → c.ledger.records ≡ b.ledger.records → c.ledger.ended ≡ b.ledger.ended → c.stack ≡ b.stack
+    → Stands 1 b → IsPlaced b.ledger old → Answered old t → GoesOn c t
+written_goes b c old t names rows heights records ended stack s p a =
+    answered_goes c old t (written_stands 1 b c names rows heights records ended stack s)
+    (placed_grows b.ledger c.ledger old (grows_alike b.ledger c.ledger names (omega (arith, ended))) p) a
 
 pub written_nearer : (b c : Builder) (old : Noted) (t : Turn) → c.ledger.names ≡ b.ledger.names → c.stack ≡ b.stack → Answered old t
     → Nearer (below_left b + old.left + 1) c t

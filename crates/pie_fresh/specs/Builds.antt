@@ -1,5 +1,5 @@
 -- What a build comes to.
-use Rattle.std.specs.Prelude.{◌≡◌, ℕ, ◌≤◌, List, [], ◌++◌, length, map, All, Contains, IsTrue, IfSome, Vec}
+use Rattle.std.specs.Prelude.{◌≡◌, ℕ, ◌≤◌, List, [], ◌++◌, length, map, All, IsTrue, IfSome, Vec}
 use Rattle.std.specs.List.Sorted.{IsStrictlySortedBy}
 use Rattle.std.specs.Ordering.{nat_cmp}
 use Rattle.std.specs.Cmp.Lexicographic.{slice_cmp}
@@ -9,11 +9,7 @@ use Rattle.pie_value.specs.declared.task.Task.{Task}
 use Rattle.pie_value.specs.Canonical.{IsEncodableTask}
 use Rattle.pie_value.specs.declared.verdict.Verdict.{Verdict}
 use Rattle.pie_value.specs.declared.verdict.Verdict.TheVariants.{Accepted, Refused}
-use Rattle.pie_record.specs.declared.task_record.TaskRecord.{TaskRecord}
 use Rattle.pie_record.specs.Canonical.{IsStorable}
-use Rattle.pie_parser.specs.FunctionTrees.{FunctionTree}
-use Rattle.pie_store.specs.Canonical.{AreInOrder, tasks_in}
-use Rattle.pie_codegen.specs.Digests.{function_names}
 use Rattle.pie_checks.specs.declared.built.Built.{Built}
 
 -- so many tasks at most were started after those that were
@@ -55,21 +51,3 @@ IsEmptyWhereRefused b = NothingWhere b.verdict b
 pub record IsKept (b : Built) : Type 0 where
   pub rows : All IsStorable b.rows.items
   pub files : InPathOrder b.files.items
-
--- the records of a build stand in the order of a store, few enough; each is of a function of the pipeline, and each root has one
-pub record IsStored (fs : List FunctionTree) (asked : List Task) (b : Built) : Type 0 where
-  pub order : AreInOrder b.rows.items
-  pub few : length b.rows.items ≤ 50000
-  pub known : All (λ (r : TaskRecord). Contains (function_names fs) r.task.func) b.rows.items
-  pub roots : All IsEncodableTask asked
-  pub closed : All (λ (t : Task). Contains (tasks_in b.rows.items) t) asked
-
--- the records of an accepted build can stand in a store with these roots
-abbrev pub StoredWhere : Verdict → List FunctionTree → List Task → Built → Type 0
-StoredWhere Accepted fs roots b = IsStored fs roots b
-StoredWhere (Refused r) fs roots b = Unit {0}
-
--- the records of an accepted build of these tasks can stand in a store, where each of the tasks is of a function
-abbrev pub IsStoredOf : List Task → List Task → Built → Type 0
-IsStoredOf tasks roots b =
-    (fs : List FunctionTree) → All (λ (t : Task). Contains (function_names fs) t.func) tasks → StoredWhere b.verdict fs roots b

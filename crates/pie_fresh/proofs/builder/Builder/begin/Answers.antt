@@ -1,27 +1,5 @@
-use Rattle.std.proofs.Common.{◌≡◌, None, sym, subst}
-use Rattle.std.specs.Prelude.{Contains}
-use Rattle.std.proofs.lemmas.Result.{IfOk-weaker}
-use Rattle.std.proofs.lemmas.List.Elements.{Contains-push}
-use Rattle.pie_fresh.specs.Frames.{IsIdle}
-use Rattle.pie_fresh.specs.Turns.{Begins, Begun}
 use Rattle.pie_fresh.proofs.Growing.{enters_then}
-use Rattle.pie_fresh.proofs.Entering.{begun_runs}
 use Rattle.pie_fresh.proofs.builder.Builder.begin.Goals as goal
-
-pub run-requires : goal.run-requires
-run-requires g c =
-    begun_runs c.args.self.now c.enter.new.self c.args.root.now c.in-Runs.frame c.requires.idle
-    (subst (λ e. Begins c.args.self.now c.enter.new.self c.args.root.now e) c.in-Runs.is c.in_ok-frame.ensures.begins)
-
-pub returns-in-Runs-clause-named : goal.returns-in-Runs-clause-named
-returns-in-Runs-clause-named g c =
-    let begun : Begun c.args.self.now c.enter.new.self c.args.root.now c.in-Runs.frame
-    = subst (λ e. Begins c.args.self.now c.enter.new.self c.args.root.now e) c.in-Runs.is c.in_ok-frame.ensures.begins in
-    let named : Contains c.run.new.self.ledger.names c.args.root.now
-    = c.run.ensures.enters.kept c.args.root.now (subst (λ ts. Contains ts c.args.root.now) (sym begun.names)
-    (Contains-push c.args.self.now.ledger.names c.args.root.now)) in
-    IfOk-weaker c.run.result (λ why. why ≡ None → IsIdle c.run.new.self) (λ why. why ≡ None → Contains c.run.new.self.ledger.names c.args.root.now)
-    (λ why h none. named) c.run.ensures.idle
 
 pub returns-in-Runs-clause-enters : goal.returns-in-Runs-clause-enters
 returns-in-Runs-clause-enters g c =

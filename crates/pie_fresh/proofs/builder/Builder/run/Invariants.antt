@@ -4,10 +4,10 @@ use Rattle.pie_fresh.specs.Frames.{Running}
 use Rattle.pie_fresh.specs.Turns.{below_left}
 use Rattle.pie_fresh.proofs.builder.Builder.run.Given as goal
 
--- the build stands with the task that runs, and the pipeline and the files are as they were
+-- the build stands with the task that runs, and the files are as they were
 abbrev pub invariant-turns : goal.invariant-turns
 invariant-turns g l =
-    Running l.self l.frame × Enters l.fn.self.ledger.names l.self.ledger.names l.fn.runs l.runs × (l.self.typed ≡ l.fn.self.typed)
+    Running l.self l.frame × Enters l.fn.self.ledger.names l.self.ledger.names l.fn.runs l.runs
     × (g.F.Files.holds l.files ≡ g.F.Files.holds l.fn.files) × (g.F.Files.faults l.files ≡ g.F.Files.faults l.fn.files)
 
 abbrev pub decreases-turns : goal.decreases-turns

@@ -1,8 +1,0 @@
-use Rattle.std.proofs.Common.{refl}
-use Rattle.pie_fresh.proofs.BuiltLemmas.{stored_of}
-use Rattle.pie_fresh.proofs.build.accepted.Goals as goal
-
-pub returns-clause-stored : goal.returns-clause-stored
-returns-clause-stored c =
-    stored_of c.args.ledger.now c.in_ok-rows.rows.items c.args.roots.now _ refl refl c.requires.ledger c.requires.finished c.in_ok-rows.ensures.ordered
-    c.requires.entered
