@@ -4,3 +4,14 @@ pub mod Growing
 pub mod Stepping
 pub mod FileLemmas
 pub mod BuiltLemmas
+pub mod Staging
+pub mod Seeing
+pub mod Telling
+pub mod Moving
+pub mod Writing
+pub mod Giving
+pub mod Entering
+pub mod Ending
+pub mod Resuming
+pub mod Turning
+pub mod Rooting

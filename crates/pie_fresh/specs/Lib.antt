@@ -3,4 +3,8 @@ pub mod NotedCodes
 pub mod Ledgers
 pub mod Frames
 pub mod Turns
+pub mod Sights
+pub mod Told
+pub mod Kept
+pub mod Means
 pub mod Builds

@@ -1,13 +1,17 @@
 //! The evaluation of a root: one event of the running task after another.
-ghost use Rattle.std.specs.Prelude.{◌≡◌, ◌+◌, ◌<◌, [], length, None, IfOk, IfSome};
+ghost use Rattle.std.specs.Prelude.{◌≡◌, ◌+◌, ◌<◌, [], length, true, None, IfOk, IfSome};
+ghost use Rattle.std.specs.Option.{option_map};
 ghost use Rattle.std.specs.List.{Contains};
 ghost use Rattle.pie_value.specs.Canonical.{IsEncodable, IsEncodableTask};
 ghost use Rattle.pie_value.specs.Values.{tree_of};
+ghost use Rattle.pie_value.specs.Limits.{is_small_task};
 ghost use Rattle.pie_files.specs.Streams.{Counted};
 ghost use Rattle.pie_fresh.specs.Noted.{IsSound};
 ghost use Rattle.pie_fresh.specs.Ledgers.{Enters, IsLedger, IsPlaced};
 ghost use Rattle.pie_fresh.specs.Frames.{IsWaiting, Running, Stands};
-ghost use Rattle.pie_fresh.specs.Turns.{Begins, GoesOn, Nearer, below_left};
+ghost use Rattle.pie_fresh.specs.Turns.{Begins, GoesOn, IsEffect, Nearer, below_left};
+ghost use Rattle.pie_fresh.specs.Kept.{IsCodeAt, IsCodeFor};
+ghost use Rattle.pie_fresh.specs.Means.{NewAs, FinishesAs, ResumesAs, TreatsAs, TurnsAs, RunsAs, BeginsAs};
 
 use crate::frame::{Caller, Came, Frame, Waiting, next};
 use crate::ledger::{Done, Ledger};
@@ -18,7 +22,7 @@ use pie_base::{FaultKind, MAX_TASKS, OutOfMemory};
 use pie_code::Checked;
 use pie_files::{Files, FilesError};
 use pie_types::Typed;
-use pie_value::{Event, Refusal, Task, Value};
+use pie_value::{Event, Refusal, Task, Value, encode, encode_task};
 use pie_vm::{Machine, Runs};
 use std::alloc::Global;
 
@@ -69,6 +73,7 @@ impl<'a> Builder<'a> {
         ensures enters { Enters self.old.ledger.names self.new.ledger.names runs.old runs.new }
         ensures same { F.holds files.new ≡ F.holds files.old }
         ensures counted { Counted F.faults FilesError.Failed files.old files.new result }
+        ensures means { IfOk result (λ why. is_small_task root.now ≡ true → BeginsAs (F.holds files.old) self.old self.new root.now why) }
     {
         if !root.is_small() {
             return Ok(Some(fault(root.copy()?, FaultKind::Big)));
@@ -94,6 +99,7 @@ impl<'a> Builder<'a> {
         ensures enters { Enters self.old.ledger.names self.new.ledger.names runs.old runs.new }
         ensures same { F.holds files.new ≡ F.holds files.old }
         ensures counted { Counted F.faults FilesError.Failed files.old files.new result }
+        ensures means { IfOk result (λ why. BeginsAs (F.holds files.old) self.old self.new root.now why) }
     {
         match self.enter(root, runs)? {
             Entered::Runs(frame) => self.run(frame, files, runs),
@@ -114,6 +120,7 @@ impl<'a> Builder<'a> {
         ensures enters { Enters self.old.ledger.names self.new.ledger.names runs.old runs.new }
         ensures same { F.holds files.new ≡ F.holds files.old }
         ensures counted { Counted F.faults FilesError.Failed files.old files.new result }
+        ensures means { IfOk result (λ why. RunsAs (F.holds files.old) self.old self.new frame.entry why) }
     {
         let mut frame = frame;
         'turns: loop {
@@ -139,6 +146,7 @@ impl<'a> Builder<'a> {
         ensures enters { Enters self.old.ledger.names self.new.ledger.names runs.old runs.new }
         ensures same { F.holds files.new ≡ F.holds files.old }
         ensures counted { Counted F.faults FilesError.Failed files.old files.new result }
+        ensures means { IfOk result (λ t. TurnsAs (F.holds files.old) self.old self.new frame.entry t) }
     {
         match next(frame)? {
             Came::Asks(waiting, event) => self.treat(waiting, event, files, runs),
@@ -159,11 +167,13 @@ impl<'a> Builder<'a> {
         requires stands { Stands 1 self.old }
         requires waits { IsWaiting waiting }
         requires placed { IsPlaced self.old.ledger waiting.notes }
+        requires effect { IsEffect event }
         ensures goes { IfOk result (λ t. GoesOn self.new t) }
         ensures nearer { IfOk result (λ t. Nearer (below_left self.old + waiting.entry.notes.left + 1) self.new t) }
         ensures enters { Enters self.old.ledger.names self.new.ledger.names runs.old runs.new }
         ensures same { F.holds files.new ≡ F.holds files.old }
         ensures counted { Counted F.faults FilesError.Failed files.old files.new result }
+        ensures means { IfOk result (λ t. TreatsAs (F.holds files.old) self.old self.new waiting.entry event t) }
     {
         match event {
             Event::Exists(path) => self.exists(waiting, path, files),
@@ -183,9 +193,11 @@ impl<'a> Builder<'a> {
         requires encodable { IsEncodableTask task.now }
         requires absent { ¬ (Contains self.old.ledger.names task.now) }
         ensures begins { IfOk result (λ e. Begins self.old self.new e) }
+        ensures means { IfOk result (λ e. NewAs self.old self.new task.now e) }
         ensures enters { Enters self.old.ledger.names self.new.ledger.names runs.old runs.new }
     {
         if self.ledger.heights.len() >= MAX_TASKS as usize {
+            let _bytes = encode_task(self.alloc, task)?;
             return Ok(Entered::Refused(Refusal::Many));
         }
         let no = self.ledger.add(task.copy()?)?;
@@ -212,10 +224,12 @@ impl<'a> Builder<'a> {
         ensures goes { IfOk result (λ t. GoesOn self.new t) }
         ensures nearer { IfOk result (λ t. Nearer (below_left self.old + notes.left + 1) self.new t) }
         ensures names { self.new.ledger.names ≡ self.old.ledger.names }
+        ensures means { IfOk result (λ t. FinishesAs self.old self.new notes output t) }
     {
         if !output.is_small() {
             return Ok(failed(notes.into_task(), FaultKind::Big));
         }
+        let _bytes = encode(self.alloc, &output)?;
         let done = Done {
             no: notes.no,
             height: notes.height,
@@ -235,6 +249,7 @@ impl<'a> Builder<'a> {
         ensures goes { IfOk result (λ t. GoesOn self.new t) }
         ensures nearer { IfOk result (λ t. Nearer (below_left self.old + 1) self.new t) }
         ensures names { self.new.ledger.names ≡ self.old.ledger.names }
+        ensures means { IfOk result (λ t. ResumesAs self.old self.new done.no.0 done.output t) }
     {
         match self.stack.pop() {
             Some(caller) => {
@@ -253,9 +268,20 @@ impl<'a> Builder<'a> {
 
 // The code of a task's function, where it takes as many arguments.
 fn code_of<'a>(typed: &Typed, codes: &'a [Checked], task: &Task) -> Option<&'a Checked>
-    ensures { IfSome result (λ code. length task.now.args ≡ code.now.params) }
+    ensures takes { IfSome result (λ code. length task.now.args ≡ code.now.params) }
+    ensures found { IsCodeFor typed.now codes.now task.now (option_map (λ code. code.now) result) }
 {
-    let number = typed.find(task)? as usize;
+    match typed.find(task) {
+        Some(number) => code_at(codes, number as usize, task),
+        None => None,
+    }
+}
+
+// The code with a number, where it takes as many arguments as the task has.
+fn code_at<'a>(codes: &'a [Checked], number: usize, task: &Task) -> Option<&'a Checked>
+    ensures takes { IfSome result (λ code. length task.now.args ≡ code.now.params) }
+    ensures found { IsCodeAt codes.now number task.now (option_map (λ code. code.now) result) }
+{
     if number >= codes.len() {
         return None;
     }

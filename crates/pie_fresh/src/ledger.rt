@@ -3,7 +3,12 @@ ghost use Rattle.std.specs.Prelude.{◌≡◌, ◌+◌, ◌<◌, ◌++◌, ◌�
 ghost use Rattle.std.specs.List.{Contains};
 ghost use Rattle.pie_value.specs.Canonical.{IsEncodable, IsEncodableTask};
 ghost use Rattle.pie_value.specs.Values.{tree_of};
+ghost use Rattle.std.specs.Prelude.{slice_set};
 ghost use Rattle.pie_graph.specs.Numbers.{AllBelow, numbers};
+ghost use Rattle.pie_graph.specs.Rows.{no_edges};
+ghost use Rattle.pie_record.specs.Records.{Puts};
+ghost use Rattle.pie_bridge.specs.Names.{AreTasks};
+ghost use Rattle.pie_fresh.specs.Kept.{IsKeptAs, ended_with, row_ended, row_with};
 ghost use Rattle.pie_fresh.specs.Noted.{IsSound};
 ghost use Rattle.pie_fresh.specs.Ledgers.{IsLedger, IsPlaced};
 
@@ -65,10 +70,15 @@ impl Ledger {
         ensures unchanged { OnErr result (self.new.names ≡ self.old.names) }
         ensures ended { self.new.ended ≡ self.old.ended }
         ensures number { IfOk result (λ no. no.0 ≡ length self.old.names) }
+        ensures rows { OnOk result (self.new.rows ≡ self.old.rows ++ no_edges ∷ []) }
+        ensures records { self.new.records ≡ self.old.records }
+        ensures stage { self.new.stage ≡ self.old.stage }
+        ensures tasks { OnOk result (AreTasks self.new.names) }
     {
         let _no = self.rows.add()?;
         self.heights.push(0)?;
         let no = self.names.add(task)?;
+        let _names = self.names.as_slice();
         Ok(no)
     }
 
@@ -79,6 +89,7 @@ impl Ledger {
         ensures number { IfOk result (λ done. IfSome done (λ d. d.no ≡ no)) }
         ensures low { IfOk result (λ done. IfSome done (λ d. d.height < self.now.ended)) }
         ensures small { IfOk result (λ done. IfSome done (λ d. IsEncodable (tree_of d.output))) }
+        ensures kept { IfOk result (λ done. IsKeptAs self.now.records no.0 done) }
     {
         match self.records.get(no) {
             Some(rec) => match &rec.outcome {
@@ -103,6 +114,9 @@ impl Ledger {
         ensures ledger { OnOk result (IsLedger self.new) }
         ensures names { self.new.names ≡ self.old.names }
         ensures ended { OnOk result (self.new.ended ≡ self.old.ended + 1) }
+        ensures puts { OnOk result (Puts self.old.records self.new.records notes.number (ended_with notes output)) }
+        ensures rows { OnOk result (self.new.rows ≡ slice_set self.old.rows notes.number (row_ended notes)) }
+        ensures stage { self.new.stage ≡ self.old.stage }
     {
         let Notes {
             task,
@@ -140,6 +154,8 @@ impl Ledger {
         ensures heights { self.new.heights ≡ self.old.heights }
         ensures records { self.new.records ≡ self.old.records }
         ensures ended { self.new.ended ≡ self.old.ended }
+        ensures set { OnOk result (self.new.rows ≡ slice_set self.old.rows no.0 (row_with (numbers needs.items) writes.now)) }
+        ensures stage { self.new.stage ≡ self.old.stage }
     {
         let edges = Edges {
             needs,

@@ -1,12 +1,21 @@
 //! Observations and writes of a running task.
-ghost use Rattle.std.specs.Prelude.{◌≡◌, length, IsTrue, IfOk};
+ghost use Rattle.std.specs.Prelude.{◌≡◌, length, map, IsTrue, IfOk, OnOk, Some, is_some};
+ghost use Rattle.std.specs.Option.{option_map};
 ghost use Rattle.pie_base.specs.Path.{is_out};
+ghost use Rattle.pie_value.specs.declared.event.Event.TheVariants as events;
+ghost use Rattle.pie_value.specs.Tree.{TPath};
+ghost use Rattle.pie_stage.specs.Content.{content};
+ghost use Rattle.pie_files.specs.Directory.{Directory};
+ghost use Rattle.pie_bridge.specs.Looks.{reading_stamp, reading_answer, digest_stamp, digest_answer};
 ghost use Rattle.pie_graph.specs.Numbers.{AllBelow};
 ghost use Rattle.pie_files.specs.Streams.{Counted};
 ghost use Rattle.pie_record.specs.Canonical.{IsStorableDep};
-ghost use Rattle.pie_fresh.specs.Noted.{file_dep, read_kind};
+ghost use Rattle.pie_fresh.specs.Noted.{file_dep, read_kind, observed as with_dep, wrote as with_write};
 ghost use Rattle.pie_fresh.specs.Frames.{IsReady, IsWaiting};
 ghost use Rattle.pie_fresh.specs.Turns.{Advanced, Answered};
+ghost use Rattle.pie_fresh.specs.Sights.{found_in, sight_of, listing_in};
+ghost use Rattle.pie_fresh.specs.Told.{IsTold, IsToldOrFails, IsToldList, IsToldEntries, KeepsFirst, flag_stamp, told_flag, told_reading, told_hash};
+ghost use Rattle.pie_fresh.specs.Means.{LooksAs, GoesAs};
 
 use crate::builder::Builder;
 use crate::frame::{Frame, Waiting};
@@ -14,7 +23,9 @@ use crate::looking::Sight;
 use crate::turn::{Turn, failed};
 use pie_base::{FaultKind, OutOfMemory, Path};
 use pie_files::{Files, FilesError, Found};
+use pie_graph::TaskNo;
 use pie_record::DepKind;
+use pie_stage::Stage;
 use pie_stamp::{ByHash, Observed, Stamper, hash_of};
 use pie_value::{Answer, Blob, By, Items, Stamp, Value};
 use std::alloc::Global;
@@ -32,11 +43,11 @@ impl<'a> Builder<'a> {
         ensures answered { IfOk result (λ t. Answered waiting.entry.notes t) }
         ensures same { F.holds files.new ≡ F.holds files.old }
         ensures counted { Counted F.faults FilesError.Failed files.old files.new result }
+        ensures means { IfOk result (λ t. LooksAs (F.holds files.old) self.now waiting.entry (events.Exists path) t) }
     {
         let presence = self.ledger.presence(&waiting.notes, &path, files)?;
-        let noted = by_presence(&path, presence);
-        let frame = told(waiting, DepKind::Exists, path, noted)?;
-        Ok(Turn::Goes(frame))
+        let turn = told_presence(waiting, path, presence)?;
+        Ok(turn)
     }
 
     /// The bytes of a file.
@@ -52,11 +63,11 @@ impl<'a> Builder<'a> {
         ensures answered { IfOk result (λ t. Answered waiting.entry.notes t) }
         ensures same { F.holds files.new ≡ F.holds files.old }
         ensures counted { Counted F.faults FilesError.Failed files.old files.new result }
+        ensures means { IfOk result (λ t. LooksAs (F.holds files.old) self.now waiting.entry (events.Read path by) t) }
     {
         let sight = self.ledger.sight(&waiting.notes, &path, files)?;
-        let noted = contents(self.alloc, by, &path, sight)?;
-        let frame = told(waiting, kind_of(by), path, noted)?;
-        Ok(Turn::Goes(frame))
+        let turn = told_contents(self.alloc, waiting, path, by, sight)?;
+        Ok(turn)
     }
 
     /// The SHA-256 of a file.
@@ -71,11 +82,11 @@ impl<'a> Builder<'a> {
         ensures answered { IfOk result (λ t. Answered waiting.entry.notes t) }
         ensures same { F.holds files.new ≡ F.holds files.old }
         ensures counted { Counted F.faults FilesError.Failed files.old files.new result }
+        ensures means { IfOk result (λ t. LooksAs (F.holds files.old) self.now waiting.entry (events.Digest path) t) }
     {
         let sight = self.ledger.sight(&waiting.notes, &path, files)?;
-        let noted = digest(&path, sight);
-        let frame = told(waiting, DepKind::Digest, path, noted)?;
-        Ok(Turn::Goes(frame))
+        let turn = told_digest(waiting, path, sight)?;
+        Ok(turn)
     }
 
     /// What lies in a directory.
@@ -89,6 +100,7 @@ impl<'a> Builder<'a> {
         ensures answered { IfOk result (λ t. Answered waiting.entry.notes t) }
         ensures same { F.holds files.new ≡ F.holds files.old }
         ensures counted { Counted F.faults FilesError.Failed files.old files.new result }
+        ensures means { IfOk result (λ t. LooksAs (F.holds files.old) self.now waiting.entry (events.List dir) t) }
     {
         let paths = names(&dir, files)?;
         let turn = listed(self.alloc, waiting, dir, paths)?;
@@ -110,24 +122,54 @@ impl<'a> Builder<'a> {
         ensures records { self.new.ledger.records ≡ self.old.ledger.records }
         ensures ended { self.new.ledger.ended ≡ self.old.ledger.ended }
         ensures stack { self.new.stack ≡ self.old.stack }
+        ensures means { IfOk result (λ t. GoesAs self.old self.new waiting.entry (events.Write path bytes) t) }
     {
         if !path.under_out() {
             return Ok(failed(waiting.into_task(), FaultKind::BadWrite));
         }
         let hash = hash_of(bytes.as_slice());
-        let content = bytes.as_slice().to_vec(self.alloc)?;
-        self.ledger
-            .stage
-            .put(waiting.notes.no, path.copy()?, content)?;
+        keep_first(
+            self.alloc,
+            &mut self.ledger.stage,
+            waiting.notes.no,
+            &path,
+            &bytes,
+        )?;
         let frame = told_write(waiting, path, hash)?;
         Ok(Turn::Goes(frame))
     }
+}
+
+// Keeps a content, unless the task wrote at the path before.
+#[tactic(auto, using(crate::proofs::Staging::first_stays, crate::proofs::Staging::first_comes))]
+fn keep_first(
+    alloc: Global,
+    stage: &mut Stage,
+    no: TaskNo,
+    path: &Path,
+    bytes: &Blob,
+) -> Result<(), OutOfMemory>
+    ensures { OnOk result (KeepsFirst stage.old stage.new no.0 path.now bytes.now) }
+{
+    if is_kept(stage, no, path) {
+        return Ok(());
+    }
+    let content = bytes.as_slice().to_vec(alloc)?;
+    stage.put(no, path.copy()?, content)
+}
+
+// Whether the task wrote at the path before.
+fn is_kept(stage: &Stage, no: TaskNo, path: &Path) -> bool
+    ensures { result ≡ is_some (content stage.now no.0 path.now) }
+{
+    stage.get(no, path).is_some()
 }
 
 // The entries of a directory, or `None` where it is no source.
 fn names<F: Files>(dir: &Path, files: &mut F) -> Result<Option<Vec<Path>>, FilesError>
     ensures same { F.holds files.new ≡ F.holds files.old }
     ensures counted { Counted F.faults FilesError.Failed files.old files.new result }
+    ensures means { IfOk result (λ names. (d : Directory) → F.holds files.old ≡ Some d → option_map (λ v. v.items) names ≡ listing_in d dir.now) }
 {
     if !dir.is_source() {
         return Ok(None);
@@ -145,7 +187,8 @@ fn told_write<'a>(
 ) -> Result<Frame<'a>, OutOfMemory>
     requires waits { IsWaiting waiting }
     requires out { IsTrue (is_out path) }
-    ensures { IfOk result (λ f. IsReady f × Advanced waiting.entry.notes f.notes) }
+    ensures ready { IfOk result (λ f. IsReady f × Advanced waiting.entry.notes f.notes) }
+    ensures told { IfOk result (λ f. IsTold waiting.entry f (with_write path hash waiting.entry.notes) Answer.Wrote) }
 {
     let mut waiting = waiting;
     waiting.notes.wrote(path, hash)?;
@@ -159,29 +202,40 @@ struct Noted {
     answer: Answer,
 }
 
-// Two tasks wrote the path.
-fn clash() -> Noted
-    ensures { result.stamp ≡ Stamp.Absent }
+// A task that is told whether a file is there. Where two tasks wrote it, it fails.
+fn told_presence<'a>(
+    waiting: Waiting<'a>,
+    path: Path,
+    presence: Option<bool>,
+) -> Result<Turn<'a>, OutOfMemory>
+    requires { IsWaiting waiting }
+    ensures answered { IfOk result (λ t. Answered waiting.entry.notes t) }
+    ensures told { IfOk result (λ t. IsToldOrFails waiting.entry (option_map (told_flag path) presence) t) }
 {
-    Noted {
-        stamp: Stamp::Absent,
-        answer: Answer::Clash,
+    match presence {
+        Some(there) => {
+            let noted = by_presence(&path, there);
+            let frame = told(waiting, DepKind::Exists, path, noted)?;
+            Ok(Turn::Goes(frame))
+        }
+        None => Ok(failed(waiting.into_task(), FaultKind::Clash)),
     }
 }
 
-fn by_presence(_path: &Path, presence: Option<bool>) -> Noted
-    ensures { IsStorableDep (file_dep DepKind.Exists _path.now result.stamp) }
+fn by_presence(_path: &Path, there: bool) -> Noted
+    ensures storable { IsStorableDep (file_dep DepKind.Exists _path.now result.stamp) }
+    ensures stamp { result.stamp ≡ flag_stamp there }
+    ensures answer { result.answer ≡ Answer.Flag there }
 {
-    match presence {
-        Some(true) => Noted {
+    if there {
+        return Noted {
             stamp: Stamp::Present,
             answer: Answer::Flag(true),
-        },
-        Some(false) => Noted {
-            stamp: Stamp::Absent,
-            answer: Answer::Flag(false),
-        },
-        None => clash(),
+        };
+    }
+    Noted {
+        stamp: Stamp::Absent,
+        answer: Answer::Flag(false),
     }
 }
 
@@ -197,7 +251,8 @@ fn kind_of(by: By) -> DepKind
 
 // The stamp of the bytes that are seen.
 fn stamp_of(by: By, path: &Path, seen: &Option<Found>) -> Stamp
-    ensures { IsStorableDep (file_dep (read_kind by) path.now result) }
+    ensures storable { IsStorableDep (file_dep (read_kind by) path.now result) }
+    ensures stamp { result ≡ reading_stamp by path.now (found_in seen.now) }
 {
     match seen {
         None => Stamp::Absent,
@@ -212,39 +267,77 @@ fn stamp_of(by: By, path: &Path, seen: &Option<Found>) -> Stamp
 }
 
 // The bytes that are seen, in a blob that answers can share.
-fn blob_of(alloc: Global, seen: Option<Found>) -> Result<Option<Blob>, OutOfMemory> {
+fn blob_of(alloc: Global, seen: Option<Found>) -> Result<Option<Blob>, OutOfMemory>
+    ensures { IfOk result (λ blob. Answer.Bytes blob ≡ reading_answer (found_in seen)) }
+{
     match seen {
         None => Ok(None),
         Some(found) => Ok(Some(Blob::shared(alloc, found.bytes)?)),
     }
 }
 
-fn contents(alloc: Global, by: By, path: &Path, sight: Sight) -> Result<Noted, OutOfMemory>
-    ensures { IfOk result (λ n. IsStorableDep (file_dep (read_kind by) path.now n.stamp)) }
+// A task that is told the bytes that are seen. Where two tasks wrote them, it fails.
+fn told_contents<'a>(
+    alloc: Global,
+    waiting: Waiting<'a>,
+    path: Path,
+    by: By,
+    sight: Sight,
+) -> Result<Turn<'a>, OutOfMemory>
+    requires { IsWaiting waiting }
+    ensures answered { IfOk result (λ t. Answered waiting.entry.notes t) }
+    ensures told { IfOk result (λ t. IsToldOrFails waiting.entry (option_map (told_reading by path) (sight_of sight)) t) }
 {
     match sight {
-        Sight::Clash => Ok(clash()),
         Sight::File(seen) => {
-            let stamp = stamp_of(by, path, &seen);
-            let blob = blob_of(alloc, seen)?;
-            Ok(Noted {
-                stamp,
-                answer: Answer::Bytes(blob),
-            })
+            let noted = contents(alloc, by, &path, seen)?;
+            let frame = told(waiting, kind_of(by), path, noted)?;
+            Ok(Turn::Goes(frame))
         }
+        Sight::Clash => Ok(failed(waiting.into_task(), FaultKind::Clash)),
     }
 }
 
-fn digest(_path: &Path, sight: Sight) -> Noted
-    ensures { IsStorableDep (file_dep DepKind.Digest _path.now result.stamp) }
+fn contents(alloc: Global, by: By, path: &Path, seen: Option<Found>) -> Result<Noted, OutOfMemory>
+    ensures storable { IfOk result (λ n. IsStorableDep (file_dep (read_kind by) path.now n.stamp)) }
+    ensures stamp { IfOk result (λ n. n.stamp ≡ reading_stamp by path.now (found_in seen)) }
+    ensures answer { IfOk result (λ n. n.answer ≡ reading_answer (found_in seen)) }
+{
+    let stamp = stamp_of(by, path, &seen);
+    let blob = blob_of(alloc, seen)?;
+    Ok(Noted {
+        stamp,
+        answer: Answer::Bytes(blob),
+    })
+}
+
+// A task that is told the SHA-256 of the bytes that are seen. Where two tasks wrote them, it fails.
+fn told_digest<'a>(waiting: Waiting<'a>, path: Path, sight: Sight) -> Result<Turn<'a>, OutOfMemory>
+    requires { IsWaiting waiting }
+    ensures answered { IfOk result (λ t. Answered waiting.entry.notes t) }
+    ensures told { IfOk result (λ t. IsToldOrFails waiting.entry (option_map (told_hash path) (sight_of sight)) t) }
 {
     match sight {
-        Sight::Clash => clash(),
-        Sight::File(None) => Noted {
+        Sight::File(seen) => {
+            let noted = digest(&path, seen);
+            let frame = told(waiting, DepKind::Digest, path, noted)?;
+            Ok(Turn::Goes(frame))
+        }
+        Sight::Clash => Ok(failed(waiting.into_task(), FaultKind::Clash)),
+    }
+}
+
+fn digest(_path: &Path, seen: Option<Found>) -> Noted
+    ensures storable { IsStorableDep (file_dep DepKind.Digest _path.now result.stamp) }
+    ensures stamp { result.stamp ≡ digest_stamp (found_in seen) }
+    ensures answer { result.answer ≡ digest_answer (found_in seen) }
+{
+    match seen {
+        None => Noted {
             stamp: Stamp::Absent,
             answer: Answer::Digest(None),
         },
-        Sight::File(Some(found)) => {
+        Some(found) => {
             let hash = hash_of(found.bytes.as_slice());
             Noted {
                 stamp: Stamp::Hash(hash),
@@ -264,7 +357,8 @@ fn told<'a>(
 ) -> Result<Frame<'a>, OutOfMemory>
     requires waits { IsWaiting waiting }
     requires dep { IsStorableDep (file_dep kind path noted.stamp) }
-    ensures { IfOk result (λ f. IsReady f × Advanced waiting.entry.notes f.notes) }
+    ensures ready { IfOk result (λ f. IsReady f × Advanced waiting.entry.notes f.notes) }
+    ensures told { IfOk result (λ f. IsTold waiting.entry f (with_dep (file_dep kind path noted.stamp) waiting.entry.notes) noted.answer) }
 {
     let mut waiting = waiting;
     let Noted { stamp, answer } = noted;
@@ -273,7 +367,9 @@ fn told<'a>(
 }
 
 // Paths as values.
-fn entries_of(alloc: Global, paths: Vec<Path>) -> Result<Items, OutOfMemory> {
+fn entries_of(alloc: Global, paths: Vec<Path>) -> Result<Items, OutOfMemory>
+    ensures { IfOk result (λ entries. entries ≡ map TPath paths.items) }
+{
     let mut entries = Items::new();
     for path in paths {
         entries.push(alloc, Value::Path(path))?;
@@ -289,7 +385,8 @@ fn listed<'a>(
     paths: Option<Vec<Path>>,
 ) -> Result<Turn<'a>, OutOfMemory>
     requires { IsWaiting waiting }
-    ensures { IfOk result (λ t. Answered waiting.entry.notes t) }
+    ensures answered { IfOk result (λ t. Answered waiting.entry.notes t) }
+    ensures told { IfOk result (λ t. IsToldList waiting.entry dir (option_map (λ v. v.items) paths) t) }
 {
     match paths {
         Some(paths) => told_entries(alloc, waiting, dir, paths),
@@ -305,7 +402,8 @@ fn told_entries<'a>(
     paths: Vec<Path>,
 ) -> Result<Turn<'a>, OutOfMemory>
     requires { IsWaiting waiting }
-    ensures { IfOk result (λ t. Answered waiting.entry.notes t) }
+    ensures answered { IfOk result (λ t. Answered waiting.entry.notes t) }
+    ensures told { IfOk result (λ t. IsToldEntries waiting.entry dir paths.items t) }
 {
     let entries = entries_of(alloc, paths)?;
     let list = Value::List(entries.copy()?);
