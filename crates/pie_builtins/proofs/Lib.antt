@@ -12,3 +12,4 @@ pub mod Sorting
 pub mod Spelling
 pub mod Splitting
 pub mod SortLaw
+pub mod Walks

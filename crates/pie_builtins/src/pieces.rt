@@ -104,7 +104,7 @@ fn all_pieces(alloc: Global, text: &str, part: &str) -> Result<Value, BuiltinFau
 }
 
 // The same without a last piece that is empty.
-#[tactic(auto, using(crate::proofs::Parting::lines_grow, crate::proofs::Parting::lines_end, crate::proofs::Parting::lines_ended, crate::proofs::Parting::shorter, crate::proofs::Joining::too_many_items))]
+#[tactic(auto, using(crate::proofs::Walks::lines_walk))]
 fn all_lines(alloc: Global, text: &str, part: &str) -> Result<Value, BuiltinFault>
     requires { 0 < length part.now }
     ensures { Agrees result (spec_made (text_list (without_last_empty (pieces text.now part.now)))) }

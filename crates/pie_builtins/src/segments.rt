@@ -24,7 +24,7 @@ pub fn name(alloc: Global, args: &[Value]) -> Result<Value, BuiltinFault>
 }
 
 // What stands after the last slash, or all where there is none.
-#[tactic(auto, using(crate::proofs::LastSegments::none_at_end, crate::proofs::LastSegments::one_earlier, crate::proofs::LastSegments::after_it, crate::proofs::LastSegments::all_of_it, crate::proofs::LastSegments::cut_after_it))]
+#[tactic(auto, using(crate::proofs::Walks::segments_walk))]
 fn last_segment(path: &str) -> &str
     ensures { result.now ≡ after_last is_slash path.now }
 {

@@ -23,7 +23,7 @@ pub fn trim(alloc: Global, args: &[Value]) -> Result<Value, BuiltinFault>
 }
 
 // The text from its first byte on that is no space.
-#[tactic(auto, using(crate::proofs::Spaces::past_space, crate::proofs::Spaces::cut_past_space, crate::proofs::Spaces::at_no_space, crate::proofs::Spaces::at_no_byte))]
+#[tactic(auto, using(crate::proofs::Walks::front_walk))]
 fn after_spaces(text: &str) -> &str
     ensures { result.now ≡ spec_after_spaces text.now }
 {
@@ -38,7 +38,7 @@ fn after_spaces(text: &str) -> &str
 }
 
 // The text up to its last byte that is no space.
-#[tactic(auto, using(crate::proofs::Spaces::before_space, crate::proofs::Spaces::cut_before_space, crate::proofs::Spaces::to_no_space, crate::proofs::Spaces::to_no_byte))]
+#[tactic(auto, using(crate::proofs::Walks::back_walk))]
 fn before_spaces(text: &str) -> &str
     ensures { result.now ≡ reverse (spec_after_spaces (reverse text.now)) }
 {

@@ -18,3 +18,4 @@ pub mod Typed
 pub mod Pipelined
 pub mod Digesting
 pub mod FuncTokens
+pub mod Walks

@@ -73,7 +73,7 @@ impl Emitter {
 
     // A block. Its names leave the scope at its end.
     #[cycle(emit)]
-    #[tactic(auto, using(crate::proofs::Turns::lines_code_turn, crate::proofs::Turns::lines_texts_turn, crate::proofs::Turns::lines_spot_turn, crate::proofs::Turns::line_keeps, crate::proofs::Turns::line_deepens, crate::proofs::Scoped::oldest_all, crate::proofs::Rests::line_mass_at))]
+    #[tactic(auto, using(crate::proofs::Walks::lines_walk))]
     pub fn block(&mut self, block: &Block, spot: Spot, mark: u16) -> Result<Spot, OutOfMemory>
         ensures spot { IfOk result (λ n. n ≡ spots.after_block (block_of block.now) spot) }
         ensures added { OnOk result (EmitsBlock self.old self.new (block_of block.now) spot mark) }

@@ -59,7 +59,7 @@ impl Emitter {
 
     // Arguments, one after another.
     #[cycle(emit)]
-    #[tactic(auto, using(crate::proofs::Rests::args_turn, crate::proofs::Turns::args_code_turn, crate::proofs::Turns::trees_texts_turn, crate::proofs::Rests::tree_mass_at))]
+    #[tactic(auto, using(crate::proofs::Walks::args_walk))]
     fn arguments(&mut self, items: &[Expr], spot: Spot, mark: u16) -> Result<Spot, OutOfMemory>
         ensures spot { IfOk result (λ n. n ≡ spots.after_args (trees_of items.now) spot) }
         ensures added { OnOk result (EmitsArgs self.old self.new (trees_of items.now) spot mark) }

@@ -79,7 +79,7 @@ impl Emitter {
 
     // Operands of `||`, with a jump over the last of them before each.
     #[cycle(emit)]
-    #[tactic(auto, using(crate::proofs::Rests::either_turn, crate::proofs::Turns::either_code_turn, crate::proofs::Turns::steps_texts_turn, crate::proofs::Rests::step_mass_at))]
+    #[tactic(auto, using(crate::proofs::Walks::either_walk))]
     fn either_operands(
         &mut self,
         steps: &[Step],
@@ -117,7 +117,7 @@ impl Emitter {
 
     // Operands of `&&`, with a jump over the last of them before each.
     #[cycle(emit)]
-    #[tactic(auto, using(crate::proofs::Rests::both_turn, crate::proofs::Turns::both_code_turn, crate::proofs::Turns::steps_texts_turn, crate::proofs::Rests::step_mass_at))]
+    #[tactic(auto, using(crate::proofs::Walks::both_walk))]
     fn both_operands(
         &mut self,
         steps: &[Step],
@@ -154,7 +154,7 @@ impl Emitter {
 
     // Operands, each with its operator behind it.
     #[cycle(emit)]
-    #[tactic(auto, using(crate::proofs::Rests::steps_turn, crate::proofs::Turns::steps_code_turn, crate::proofs::Turns::steps_texts_turn, crate::proofs::Rests::step_mass_at))]
+    #[tactic(auto, using(crate::proofs::Walks::steps_walk))]
     fn steps(&mut self, steps: &[Step], spot: Spot, mark: u16) -> Result<Spot, OutOfMemory>
         ensures spot { IfOk result (λ n. n ≡ spots.after_steps (steps_of steps.now) spot) }
         ensures added { OnOk result (EmitsSteps self.old self.new (steps_of steps.now) spot mark) }

@@ -231,7 +231,7 @@ impl Emitter {
 
     // Items, each pushed by this instruction.
     #[cycle(emit)]
-    #[tactic(auto, using(crate::proofs::Rests::items_turn, crate::proofs::Turns::items_code_turn, crate::proofs::Turns::trees_texts_turn, crate::proofs::Rests::tree_mass_at))]
+    #[tactic(auto, using(crate::proofs::Walks::items_walk))]
     fn items(
         &mut self,
         grow: Instr,

@@ -14,3 +14,4 @@ pub mod Strength
 pub mod Turning
 pub mod TypesComplete
 pub mod TypesSound
+pub mod Walks

@@ -49,7 +49,7 @@ impl<'a> Reader<'a> {
 
     // { "val" name "=" expr ";" | expr ";" } [ expr ]
     #[cycle(expr)]
-    #[tactic(auto, using(crate::proofs::PieceLoop::line_goes_on, crate::proofs::PieceLoop::last_ends, crate::proofs::PieceLoop::stops, crate::proofs::PieceLoop::fails, crate::proofs::PieceLoop::runs_out))]
+    #[tactic(auto, using(crate::proofs::Walks::lines_walk))]
     fn pieces(&mut self, alloc: Global, room: Room) -> Result<Pieces, Fault>
         requires { 0 < room.brackets }
         ensures { Agrees pieces_of result self.new (reads.all_pieces (around room) self.old) }

@@ -5,3 +5,4 @@ pub mod Turning
 pub mod Carried
 pub mod Leading
 pub mod Asked
+pub mod Walks

@@ -72,7 +72,7 @@ impl Machine {
         })
     }
 
-    #[tactic(auto, using(crate::proofs::Leading::next_is, crate::proofs::Leading::next_follows, crate::proofs::Leading::waits_empty, crate::proofs::Leading::next_stands))]
+    #[tactic(auto, using(crate::proofs::Walks::next_turn))]
     /// Runs up to the next effect or to the end. After want of memory the machine is over.
     pub fn next(&mut self, code: &Checked) -> Result<Event, OutOfMemory>
         requires ready { self.old.phase ≡ MachineState.Ready }

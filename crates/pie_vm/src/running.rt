@@ -19,7 +19,7 @@ impl Frame {
     }
 
     /// Runs up to the next event. Accepted code comes to one.
-    #[tactic(auto, using(crate::proofs::Leading::led_here, crate::proofs::Leading::led_on, crate::proofs::Leading::reached, pie_code::proofs::Ending::step_falls))]
+    #[tactic(auto, using(crate::proofs::Walks::steps_lead))]
     pub(crate) fn run(&mut self, code: &Code) -> Result<Event, OutOfMemory>
         requires accepted { IsAccepted code.now }
         requires stands { Stands code.now self.old }
