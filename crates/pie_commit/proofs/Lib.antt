@@ -2,4 +2,5 @@ pub mod Bringing
 pub mod Ending
 pub mod Members
 pub mod Others
+pub mod Reading
 pub mod Standing

@@ -73,3 +73,7 @@ abbrev pub LeavesFromRest : {S : Type 0} → (S → Option Directory) → (S →
     → (Directory → Directory → Type 0) → S → S → Type 0
 LeavesFromRest holds moment left_since images P old new = IfSome (holds old) (λ d. Only d (images old)
     → Leaves moment left_since images (P d) old new)
+
+-- a crash leaves only what it might have left before
+abbrev pub LeavesAsBefore : {S : Type 0} → (S → Option Directory) → (S → ℕ) → (S → ℕ → Directory → Type 0) → (S → Directory → Type 0) → S → S → Type 0
+LeavesAsBefore holds moment left_since images old new = IfSome (holds old) (λ d. Leaves moment left_since images (images old) old new)
