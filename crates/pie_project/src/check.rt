@@ -1,5 +1,6 @@
 //! Checking a project.
 ghost use Rattle.std.specs.Prelude.{◌≡◌, Ok, IfSome, IsErrOf};
+ghost use Rattle.pie_commit.specs.Outcomes.{LeavesAsBefore};
 ghost use Rattle.pie_project.specs.Fronts.{CheckSays, counts_of};
 ghost use Rattle.pie_project.specs.Looking.{Looks, front_calls};
 ghost use Rattle.pie_project.specs.Projects.{front_of};
@@ -17,6 +18,7 @@ pub fn check_project<F: Files>(alloc: Global, files: &mut F) -> Result<(u32, u32
     ensures only { IfSome (F.holds files.old) (λ d. Only (λ p. p) (CheckSays d) result) }
     ensures stops { IfSome (F.holds files.old) (λ d. Says (λ p. p) (OnParse (PipelineStops d)) result) }
     ensures looks { Looks F.holds F.asked F.faults front_calls files.old files.new result }
+    ensures crash { LeavesAsBefore F.holds F.moment F.left_since F.images files.old files.new }
 {
     counts_in(alloc, files)
 }
@@ -25,6 +27,7 @@ pub fn check_project<F: Files>(alloc: Global, files: &mut F) -> Result<(u32, u32
 fn counts_in<F: Files>(alloc: Global, files: &mut F) -> Result<(u32, u32), BuildError>
     ensures found { IfSome (F.holds files.old) (λ d. Says (λ p. p) (CheckSays d) result) }
     ensures looks { Looks F.holds F.asked F.faults front_calls files.old files.new result }
+    ensures crash { LeavesAsBefore F.holds F.moment F.left_since F.images files.old files.new }
 {
     match read_project(alloc, files) {
         Ok(project) => counts(project),

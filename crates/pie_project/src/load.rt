@@ -2,6 +2,7 @@
 ghost use Rattle.std.specs.Prelude.{◌≡◌, true, IfSome, IfOk};
 ghost use Rattle.std.specs.Option.{option_map};
 ghost use Rattle.pie_base.specs.Path.{is_path};
+ghost use Rattle.pie_commit.specs.Outcomes.{LeavesAsBefore};
 ghost use Rattle.pie_files.specs.declared.files.Call.TheVariants as calls;
 ghost use Rattle.pie_files.specs.Calls.{Called};
 ghost use Rattle.pie_project.specs.Errors.{files_error as spec_files_error};
@@ -13,6 +14,7 @@ use pie_files::{Files, FilesError};
 use std::alloc::Global;
 
 /// The bytes of a file, if it is there.
+#[tactic(auto, using(pie_commit::proofs::Reading::reads))]
 pub(crate) fn load<F: Files>(
     alloc: Global,
     files: &mut F,
@@ -21,6 +23,7 @@ pub(crate) fn load<F: Files>(
     requires { is_path name.now ≡ true }
     ensures found { IfSome (F.holds files.old) (λ d. IfOk result (λ bytes. option_map (λ b. b.items) bytes ≡ file_bytes d name.now)) }
     ensures same { F.holds files.new ≡ F.holds files.old }
+    ensures crash { LeavesAsBefore F.holds F.moment F.left_since F.images files.old files.new }
     ensures called { Called F.asked F.faults (λ c. c ≡ calls.Read name.now) files.old files.new result }
 {
     let path = Path::known(alloc, name)?;

@@ -1,6 +1,7 @@
 //! A project of a directory.
 ghost use Rattle.std.specs.Prelude.{◌≡◌, ◌∷◌, [], IfSome, IfOk};
 ghost use Rattle.pie_codegen.specs.Digests.{HasNames};
+ghost use Rattle.pie_commit.specs.Outcomes.{LeavesAsBefore};
 ghost use Rattle.pie_files.specs.declared.files.Call.TheVariants as calls;
 ghost use Rattle.pie_project.specs.Digested.{HasDigests, IsDigested};
 ghost use Rattle.pie_project.specs.Fronts.{ProjectSays, TypedSays, PipelineSays};
@@ -40,17 +41,20 @@ pub fn read_project<F: Files>(alloc: Global, files: &mut F) -> Result<Project, B
     ensures names { IfOk result (λ p. HasNames p.typed p.digests.items) }
     ensures funcs { IfOk result (λ p. AreFuncs p.digests.items) }
     ensures looks { Looks F.holds F.asked F.faults front_calls files.old files.new result }
+    ensures crash { LeavesAsBefore F.holds F.moment F.left_since F.images files.old files.new }
 {
     project_in(alloc, files)
 }
 
 // The project of a directory.
+#[tactic(auto, using(pie_commit::proofs::Reading::reads))]
 fn project_in<F: Files>(alloc: Global, files: &mut F) -> Result<Project, BuildError>
     ensures found { IfSome (F.holds files.old) (λ d. Says front_of (ProjectSays d) result) }
     ensures digests { IfSome (F.holds files.old) (λ d. IfOk result (λ p. HasDigests d p.digests.items)) }
     ensures names { IfOk result (λ p. HasNames p.typed p.digests.items) }
     ensures funcs { IfOk result (λ p. AreFuncs p.digests.items) }
     ensures looks { Looks F.holds F.asked F.faults front_calls files.old files.new result }
+    ensures crash { LeavesAsBefore F.holds F.moment F.left_since F.images files.old files.new }
 {
     match load(alloc, files, "pie.pipeline") {
         Ok(Some(bytes)) => with_pipeline(alloc, files, bytes.as_slice()),
@@ -60,6 +64,7 @@ fn project_in<F: Files>(alloc: Global, files: &mut F) -> Result<Project, BuildEr
 }
 
 // The project with the pipeline that these bytes are.
+#[tactic(auto, using(pie_commit::proofs::Reading::reads))]
 fn with_pipeline<F: Files>(
     alloc: Global,
     files: &mut F,
@@ -68,6 +73,7 @@ fn with_pipeline<F: Files>(
     ensures found { IfSome (F.holds files.old) (λ d. Says front_of (PipelineSays d bytes.now) result) }
     ensures digested { IfOk result (λ p. IsDigested bytes.now p.typed p.digests.items) }
     ensures looks { Looks F.holds F.asked F.faults (calls.Read roots_path ∷ []) files.old files.new result }
+    ensures crash { LeavesAsBefore F.holds F.moment F.left_since F.images files.old files.new }
 {
     match digested_of(alloc, bytes) {
         Ok(pipeline) => with_digested(alloc, files, pipeline),
@@ -85,6 +91,7 @@ fn with_digested<F: Files>(
     ensures typed { IfOk result (λ p. p.typed ≡ pipeline.typed) }
     ensures digests { IfOk result (λ p. p.digests ≡ pipeline.digests) }
     ensures looks { Looks F.holds F.asked F.faults (calls.Read roots_path ∷ []) files.old files.new result }
+    ensures crash { LeavesAsBefore F.holds F.moment F.left_since F.images files.old files.new }
 {
     match load(alloc, files, "pie.roots") {
         Ok(Some(lines)) => with_roots(alloc, pipeline, lines.as_slice()),
