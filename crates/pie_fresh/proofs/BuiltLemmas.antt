@@ -1,5 +1,5 @@
 -- What is collected where all roots are done.
-use Rattle.std.proofs.Common.{◌≡◌, ℕ, ◌<◌, List, [], ◌∷◌, ◌++◌, length, get_or, sym, subst, ap, refl, ◌∙◌, arith}
+use Rattle.std.proofs.Common.{◌≡◌, ℕ, ◌<◌, List, [], ◌∷◌, ◌++◌, length, get_or, ◌+◌, sym, subst, ap, refl, ◌∙◌, arith, inl, inr}
 use Rattle.std.specs.Prelude.{All, Contains, IsTrue, IfSome, Option, None, Some}
 use Rattle.std.proofs.lemmas.Option.{get_or_from_slice_get}
 use Rattle.pie_value.specs.declared.task.Task.{Task}
@@ -19,7 +19,8 @@ use Rattle.pie_base.specs.Path.{is_out}
 use Rattle.std.specs.List.Sorted.{IsStrictlySortedBy}
 use Rattle.std.specs.Ordering.{nat_cmp}
 use Rattle.std.specs.Cmp.Lexicographic.{slice_cmp}
-use Rattle.std.proofs.lemmas.List.Elements.{All-nil, All-push, All-contains}
+use Rattle.std.proofs.lemmas.Bool.{cases_lt}
+use Rattle.std.proofs.lemmas.List.Elements.{All-nil, All-push, All-contains, Contains-append_left, Contains-push}
 use Rattle.pie_graph.specs.declared.edges.TaskNo.{TaskNo}
 use Rattle.pie_graph.specs.Numbers.{numbers, AllBelow}
 use Rattle.pie_record.specs.Canonical.{IsStorable}
@@ -42,6 +43,14 @@ numbers_more (u ∷ nos) t = ap (λ ns. u.0 ∷ ns) (numbers_more nos t)
 
 pub pushed_below : (m : ℕ) (nos : List TaskNo) (t : TaskNo) → t.0 < m → AllBelow m (numbers nos) → AllBelow m (numbers (nos ++ t ∷ []))
 pushed_below m nos t below all = subst (AllBelow m) (sym (numbers_more nos t)) (All-push (λ n. n < m) (numbers nos) t.0 all below)
+
+-- one number more: each one so far is among them
+pub pushed_live : (n : ℕ) (nos : List TaskNo) (t : TaskNo) → t.0 ≡ n → ((k : ℕ) → k < n → Contains (numbers nos) k) → (k : ℕ) → k < n + 1
+    → Contains (numbers (nos ++ t ∷ [])) k
+pushed_live n nos t is before k lt = subst (λ ns. Contains ns k) (sym (numbers_more nos t)) (elim (cases_lt k n) [
+  | inl below ↦ Contains-append_left (numbers nos) (t.0 ∷ []) k (before k below)
+  | inr at ↦ let same : t.0 ≡ k = omega (arith, lt, at, is) in subst (Contains (numbers nos ++ t.0 ∷ [])) same (Contains-push (numbers nos) t.0)
+])
 
 -- one record more, which a ledger keeps
 pub storable_more : (l : Ledger) (n : ℕ) (r : TaskRecord) (rows : List TaskRecord) → IsLedger l → Some r ≡ record_of l.records n → All IsStorable rows

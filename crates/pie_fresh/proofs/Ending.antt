@@ -57,9 +57,6 @@ ends_grows l m v n r same e free =
     ended_grows l m v.number v.height r e.names (subst (λ (k : Noted). record_of l.records k.number ≡ None) (sym same) free) e.puts e.heights
     (omega (arith, ended))
 
-pub ends_puts : (l m : Ledger) (v n : Noted) (r : TaskRecord) → v ≡ n → EndsAs l m v r → (s : TaskRecord) × Puts l.records m.records n.number s
-ends_puts l m v n r same e = (r, subst (λ (k : Noted). Puts l.records m.records k.number r) same e.puts)
-
 pub ends_high : (l m : Ledger) (v n : Noted) (r : TaskRecord) → v ≡ n → EndsAs l m v r → IsLedger l → IsPlaced l n → IsHigh m n.number n.height
 ends_high l m v n r same e is placed =
     let p : IsPlaced l v = subst (λ k. IsPlaced l k) (sym same) placed in

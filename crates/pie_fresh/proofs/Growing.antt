@@ -1,6 +1,6 @@
 -- What stays true of tasks on the stack when others are entered or end.
 use Rattle.std.proofs.Common.{◌≡◌, ℕ, zero, suc, ◌+◌, ◌<◌, ◌≤◌, max, List, [], ◌∷◌, ◌++◌, length, Some, sym, ap, subst, ◌∙◌, append_assoc, arith}
-use Rattle.std.specs.Prelude.{All, Contains, slice_get}
+use Rattle.std.specs.Prelude.{All, Contains, slice_get, Result, Ok, Err, IfOk}
 use Rattle.std.proofs.lemmas.List.{length-append}
 use Rattle.std.proofs.lemmas.List.Elements.{All-push, All-append, Contains-append_left}
 use Rattle.std.proofs.lemmas.Option.{slice_get_within}
@@ -10,7 +10,7 @@ use Rattle.pie_graph.specs.Numbers.{AllBelow}
 use Rattle.pie_fresh.specs.declared.ledger.Ledger.{Ledger}
 use Rattle.pie_fresh.specs.declared.frame.Caller.{Caller}
 use Rattle.pie_fresh.specs.Noted.{Noted, tasks_on}
-use Rattle.pie_fresh.specs.Ledgers.{IsHigh, Rises, IsPlaced, Grows, Enters}
+use Rattle.pie_fresh.specs.Ledgers.{IsHigh, Rises, IsPlaced, Grows, Enters, Starts}
 use Rattle.pie_fresh.specs.Frames.{IsCaller}
 use Rattle.pie_fresh.specs.Turns.{Advanced, Given}
 use Rattle.pie_fresh.specs.Builds.{Gains}
@@ -123,3 +123,27 @@ gains ts us rs ss none e =
     let empty : length ts ≡ 0 = ap length none in
     let few : length us ≤ 50000 = e.few (omega (arith, empty)) in
     record { gained = e.gained; is = e.is; few = omega (arith, few, e.counted); encodable = e.encodable }
+
+-- nothing was entered or started
+pub starts_same : (ts us rs ss : List Task) → us ≡ ts → ss ≡ rs → Starts ts us rs ss
+starts_same ts us rs ss names runs = record { gained = []; entered = names ∙ append_none ts; started = runs ∙ append_none rs }
+
+-- a task was entered and started
+pub starts_one : (ts us rs ss : List Task) (t : Task) → us ≡ ts ++ t ∷ [] → ss ≡ rs ++ t ∷ [] → Starts ts us rs ss
+starts_one ts us rs ss t names runs = record { gained = t ∷ []; entered = names; started = runs }
+
+-- some tasks first, and then others
+pub starts_then : (ts us vs rs ss qs : List Task) → Starts ts us rs ss → Starts us vs ss qs → Starts ts vs rs qs
+starts_then ts us vs rs ss qs a b = record {
+  gained = a.gained ++ b.gained;
+  entered = b.entered ∙ ap (λ xs. xs ++ b.gained) a.entered ∙ append_assoc ts a.gained b.gained;
+  started = b.started ∙ ap (λ xs. xs ++ b.gained) a.started ∙ append_assoc rs a.gained b.gained;
+}
+
+-- a fact on an answer that doesn't look at it
+pub on_answers : {A : Type 0} {E : Type 0} {P : Type 0} (r : Result A E) → P → IfOk r (λ _. P)
+on_answers (Ok a) h = h
+on_answers (Err e) h = tt
+
+pub starts_kept : {A : Type 0} {E : Type 0} (r : Result A E) (ts us rs ss : List Task) → us ≡ ts → ss ≡ rs → IfOk r (λ _. Starts ts us rs ss)
+starts_kept r ts us rs ss names runs = on_answers r (starts_same ts us rs ss names runs)

@@ -59,13 +59,13 @@ open_entered l m ns t is names records a =
 front : (ns : List ℕ) (n k d : ℕ) → k < length ns → get_or (ns ++ n ∷ []) k d ≡ get_or ns k d
 front ns n k d lt = get_or_append_left ns (n ∷ []) d k lt
 
-pairs_front : (ns : List ℕ) (n : ℕ) → AllPairs (λ i j. i < j) (ns ++ n ∷ []) → AllPairs (λ i j. i < j) ns
+pub pairs_front : (ns : List ℕ) (n : ℕ) → AllPairs (λ i j. i < j) (ns ++ n ∷ []) → AllPairs (λ i j. i < j) ns
 pairs_front ns n h i j d lt within =
     let size : length (ns ++ n ∷ []) ≡ length ns + 1 = length-append ns (n ∷ []) in
     let both = h i j d lt (omega (arith, within, size)) in
     omega (arith, both, front ns n i d (omega (arith, lt, within)), front ns n j d within)
 
-below_last : (ns : List ℕ) (n : ℕ) → AllPairs (λ i j. i < j) (ns ++ n ∷ []) → All (λ k. k < n) ns
+pub below_last : (ns : List ℕ) (n : ℕ) → AllPairs (λ i j. i < j) (ns ++ n ∷ []) → All (λ k. k < n) ns
 below_last ns n h i d lt =
     let size : length (ns ++ n ∷ []) ≡ length ns + 1 = length-append ns (n ∷ []) in
     let both = h i (length ns) d lt (omega (arith, size)) in

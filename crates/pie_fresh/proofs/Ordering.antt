@@ -30,13 +30,13 @@ IsTold t = IsCanonicalTask t (enc_task t)
 
 -- ---- places and their records
 
-placed_zip : {Z : Type 0} (l : Ledger) (es : List (Place Z)) → AllByRecursion (λ (p : Place Z). (r : TaskRecord) × IsPlace l p r) es
+pub placed_zip : {Z : Type 0} (l : Ledger) (es : List (Place Z)) → AllByRecursion (λ (p : Place Z). (r : TaskRecord) × IsPlace l p r) es
     → AllZip (IsPlace l) es (recorded l.records es)
 placed_zip l [] all = tt
 placed_zip {Z} l (p ∷ es) all =
     subst (λ o. AllZip (IsPlace l) (p ∷ es) (option_to_list o ++ recorded l.records es)) (sym all.0.1.done) (all.0.1, placed_zip l es all.1)
 
-rows_all : {Z : Type 0} (l : Ledger) (P : TaskRecord → Type 0) → ((p : Place Z) (r : TaskRecord) → IsPlace l p r → P r) → (es : List (Place Z))
+pub rows_all : {Z : Type 0} (l : Ledger) (P : TaskRecord → Type 0) → ((p : Place Z) (r : TaskRecord) → IsPlace l p r → P r) → (es : List (Place Z))
     (rows : List TaskRecord) → AllZip (IsPlace l) es rows → All P rows
 rows_all l P h [] [] z = All-nil P
 rows_all l P h [] (r ∷ rows) z = elim z [ ]

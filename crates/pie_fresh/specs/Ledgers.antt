@@ -72,3 +72,9 @@ pub record Enters (old new runs after : List Task) : Type 0 where
   pub few : length old ≤ 50000 → length new ≤ 50000
   pub encodable : All IsEncodableTask gained
   pub kept : (t : Task) → Contains old t → Contains new t
+
+-- as many tasks were started as entered, the same ones
+pub record Starts (old new runs after : List Task) : Type 0 where
+  pub gained : List Task
+  pub entered : new ≡ old ++ gained
+  pub started : after ≡ runs ++ gained

@@ -4,4 +4,11 @@ pub mod Ledgers
 pub mod Ordered
 pub mod Frames
 pub mod Turns
+pub mod Circles
+pub mod Sights
+pub mod Told
+pub mod Kept
+pub mod Means
 pub mod Builds
+pub mod Cleans
+pub mod Collected

@@ -4,6 +4,8 @@ use Rattle.pie_value.specs.declared.task.Task.{Task}
 use Rattle.pie_record.specs.declared.dep.DepOn.{DepOn}
 use Rattle.pie_store.specs.Canonical.{required_on}
 use Rattle.pie_codegen.specs.Digests.{function_names}
+use Rattle.pie_value.specs.declared.event.Event.{Event}
+use Rattle.pie_value.specs.declared.event.Event.TheVariants.{Exists, Read, Digest, List as Listing, Write, Require, Done, Fail}
 use Rattle.pie_fresh.specs.declared.frame.Frame.{Frame}
 use Rattle.pie_fresh.specs.declared.frame.Caller.{Caller}
 use Rattle.pie_fresh.specs.declared.frame.Came.{Came}
@@ -17,9 +19,20 @@ use Rattle.pie_fresh.specs.Noted.{Noted, tasks_on}
 use Rattle.pie_fresh.specs.Ledgers.{IsLedger, Grows}
 use Rattle.pie_fresh.specs.Frames.{IsReady, IsWaiting, IsTop, Running, IsIdle}
 
+-- an event that asks
+abbrev pub IsEffect : Event → Type 0
+IsEffect (Exists p) = Unit {0}
+IsEffect (Read p by) = Unit {0}
+IsEffect (Digest p) = Unit {0}
+IsEffect (Listing d) = Unit {0}
+IsEffect (Write p bytes) = Unit {0}
+IsEffect (Require t how) = Unit {0}
+IsEffect (Done v) = ⊥
+IsEffect (Fail k) = ⊥
+
 -- a task waits for an answer, has ended, or fails
 abbrev pub Comes : Noted → Came → Type 0
-Comes old (Asks w e) = IsWaiting w × (w.notes ≡ old)
+Comes old (Asks w e) = IsWaiting w × (w.notes ≡ old) × IsEffect e
 Comes old (Ends n v) = n ≡ old
 Comes old (Fails t k) = Unit {0}
 

@@ -1,10 +1,14 @@
 //! The one call: from the roots to what a build makes of them.
 ghost use Rattle.std.specs.Prelude.{◌≡◌, List, [], None, IfOk};
+ghost use Rattle.pie_commit.specs.Outcomes.{LeavesAsBefore};
 ghost use Rattle.pie_files.specs.Streams.{Counted};
 ghost use Rattle.pie_value.specs.declared.task.Task.{Task};
-ghost use Rattle.pie_fresh.specs.Ledgers.{AreOpen, Enters, IsLedger};
+ghost use Rattle.pie_value.specs.declared.verdict.Verdict.TheVariants.{Refused};
+ghost use Rattle.pie_fresh.specs.Ledgers.{AreOpen, Enters, IsLedger, Starts};
 ghost use Rattle.pie_fresh.specs.Frames.{AreEntered, IsIdle};
 ghost use Rattle.pie_fresh.specs.Builds.{Gains, IsEmptyWhereRefused, IsKept, IsStoredOf, StoredWhere};
+ghost use Rattle.pie_fresh.specs.Cleans.{CleansAs, EvaluatesAs};
+ghost use Rattle.pie_fresh.specs.Collected.{CleansDone, PassesChecks};
 
 use crate::builder::Builder;
 use crate::ledger::Ledger;
@@ -20,7 +24,7 @@ use std::alloc::Global;
 /// Evaluates the roots in order up to the first that fails, each entered task once, and tests what they wrote.
 /// It changes no file. `Failed` comes only where the count of faults rose.
 /// Rule: docs/BUILDING.md, "A clean build".
-#[tactic(auto, using(crate::proofs::Growing::gains))]
+#[tactic(auto, using(crate::proofs::Growing::gains, pie_commit::proofs::Reading::reads))]
 pub fn fresh<F: Files>(
     alloc: Global,
     typed: &Typed,
@@ -34,7 +38,9 @@ pub fn fresh<F: Files>(
     ensures stored { IfOk result (λ b. StoredWhere b.verdict typed.now roots.now b) }
     ensures runs { Gains 50000 runs.old runs.new }
     ensures same { F.holds files.new ≡ F.holds files.old }
+    ensures crash { LeavesAsBefore F.holds F.moment F.left_since F.images files.old files.new }
     ensures counted { Counted F.faults FilesError.Failed files.old files.new result }
+    ensures clean { IfOk result (CleansAs (F.holds files.old) typed.now code.now roots.now runs.old runs.new) }
 {
     let mut builder = Builder::new(alloc, typed, code);
     match evaluate_all(&mut builder, roots, files, runs)? {
@@ -44,7 +50,7 @@ pub fn fresh<F: Files>(
 }
 
 // Evaluates roots up to the first that fails; why it does.
-#[tactic(auto, using(crate::proofs::Growing::enters_same, crate::proofs::Roots::entered_none))]
+#[tactic(auto, using(crate::proofs::Walks::evaluates_all, pie_commit::proofs::Reading::reads))]
 fn evaluate_all<'a, F: Files>(
     builder: &mut Builder<'a>,
     roots: &[Task],
@@ -56,8 +62,11 @@ fn evaluate_all<'a, F: Files>(
     ensures entered { IfOk result (λ why. why ≡ None → AreEntered builder.new.ledger.names roots.now) }
     ensures typed { builder.new.typed ≡ builder.old.typed }
     ensures enters { Enters builder.old.ledger.names builder.new.ledger.names runs.old runs.new }
+    ensures starts { IfOk result (λ _. Starts builder.old.ledger.names builder.new.ledger.names runs.old runs.new) }
     ensures same { F.holds files.new ≡ F.holds files.old }
+    ensures crash { LeavesAsBefore F.holds F.moment F.left_since F.images files.old files.new }
     ensures counted { Counted F.faults FilesError.Failed files.old files.new result }
+    ensures means { IfOk result (λ why. EvaluatesAs (F.holds files.old) builder.old builder.new roots.now why) }
 {
     for root in roots {
         match builder.evaluate(root, files, runs)? {
@@ -76,6 +85,7 @@ fn checked(alloc: Global, ledger: &Ledger, roots: &[Task]) -> Result<Built, OutO
     ensures refused_empty { IfOk result IsEmptyWhereRefused }
     ensures kept { IfOk result IsKept }
     ensures stored { IfOk result (IsStoredOf ledger.now.names roots.now) }
+    ensures clean { IfOk result (CleansDone roots.now ledger.now) }
 {
     let live = ledger.all_numbers()?;
     match final_checks(alloc, &ledger.names, &ledger.records, live.as_slice())? {
@@ -91,6 +101,7 @@ fn accepted(ledger: &Ledger, roots: &[Task]) -> Result<Built, OutOfMemory>
     ensures refused_empty { IfOk result IsEmptyWhereRefused }
     ensures kept { IfOk result IsKept }
     ensures stored { IfOk result (IsStoredOf ledger.now.names roots.now) }
+    ensures clean { IfOk result (λ b. PassesChecks ledger.now → CleansDone roots.now ledger.now b) }
 {
     let rows = ledger.ordered()?;
     let files = ledger.files()?;
@@ -106,6 +117,7 @@ fn accepted(ledger: &Ledger, roots: &[Task]) -> Result<Built, OutOfMemory>
 // A refused build makes nothing.
 #[tactic(auto, using(crate::proofs::BuiltLemmas::empty_kept))]
 fn refused(alloc: Global, refusal: Refusal) -> Built
+    ensures verdict { result.verdict ≡ Refused refusal }
     ensures refused_empty { IsEmptyWhereRefused result }
     ensures kept { IsKept result }
     ensures stored { (tasks : List Task) (roots : List Task) → IsStoredOf tasks roots result }

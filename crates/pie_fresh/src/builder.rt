@@ -1,26 +1,24 @@
 //! The evaluation of a root: one event of the running task after another.
-ghost use Rattle.std.specs.Prelude.{◌≡◌, ◌+◌, ◌<◌, [], length, None, IfOk, IfSome};
+ghost use Rattle.std.specs.Prelude.{◌≡◌, ◌+◌, ◌<◌, [], None, IfOk};
 ghost use Rattle.std.specs.List.{Contains};
-ghost use Rattle.pie_value.specs.Canonical.{IsEncodable, IsEncodableTask};
-ghost use Rattle.pie_value.specs.Values.{tree_of};
+ghost use Rattle.pie_value.specs.Canonical.{IsEncodableTask};
+ghost use Rattle.pie_commit.specs.Outcomes.{LeavesAsBefore};
 ghost use Rattle.pie_files.specs.Streams.{Counted};
-ghost use Rattle.pie_codegen.specs.Digests.{function_names};
-ghost use Rattle.pie_fresh.specs.Noted.{IsSound};
-ghost use Rattle.pie_fresh.specs.Ledgers.{Enters, IsHigh, IsLedger, IsPlaced};
-ghost use Rattle.pie_fresh.specs.Frames.{IsIdle, IsWaiting, Running, Stands, StandsAt};
-ghost use Rattle.pie_fresh.specs.Turns.{Begins, GoesOn, Nearer, below_left};
+ghost use Rattle.pie_fresh.specs.Ledgers.{Enters, IsPlaced, Starts};
+ghost use Rattle.pie_fresh.specs.Frames.{IsIdle, IsWaiting, Running, StandsAt};
+ghost use Rattle.pie_fresh.specs.Turns.{GoesOn, IsEffect, Nearer, below_left};
+ghost use Rattle.pie_fresh.specs.Means.{TreatsAs, TurnsAs, RunsAs, BeginsAs};
+ghost use Rattle.pie_fresh.specs.Cleans.{NoRootsDone, EvaluatesRoot};
 
 use crate::frame::{Caller, Came, Frame, Waiting, next};
 use crate::ledger::{Done, Ledger};
-use crate::notes::Notes;
-use crate::requiring::give;
 use crate::turn::{Turn, failed, fault};
-use pie_base::{FaultKind, MAX_TASKS, OutOfMemory};
+use pie_base::FaultKind;
 use pie_code::Checked;
 use pie_files::{Files, FilesError};
 use pie_types::Typed;
-use pie_value::{Event, Refusal, Task, Value};
-use pie_vm::{Machine, Runs};
+use pie_value::{Event, Refusal, Task};
+use pie_vm::Runs;
 use std::alloc::Global;
 
 /// A build under way. The task that runs stands beside it.
@@ -44,11 +42,12 @@ pub(crate) enum Entered<'a> {
 
 impl<'a> Builder<'a> {
     /// Nothing was entered yet.
-    #[tactic(auto, using(crate::proofs::Entering::idle_none))]
+    #[tactic(auto, using(crate::proofs::Entering::idle_none, crate::proofs::Cleaning::begins_empty))]
     pub(crate) fn new(alloc: Global, typed: &'a Typed, code: &'a [Checked]) -> Builder<'a>
         ensures idle { IsIdle result }
         ensures none { result.ledger.names ≡ [] }
         ensures typed { result.typed.now ≡ typed.now }
+        ensures begins { NoRootsDone typed.now code.now result }
     {
         Builder {
             alloc,
@@ -60,7 +59,7 @@ impl<'a> Builder<'a> {
     }
 
     /// Evaluates a root; why it fails, if it does.
-    #[tactic(auto, using(crate::proofs::Growing::enters_same))]
+    #[tactic(auto, using(crate::proofs::Growing::enters_same, crate::proofs::Growing::starts_same, pie_commit::proofs::Reading::reads))]
     pub(crate) fn evaluate<F: Files>(
         &mut self,
         root: &Task,
@@ -73,8 +72,11 @@ impl<'a> Builder<'a> {
         ensures named { IfOk result (λ why. why ≡ None → Contains self.new.ledger.names root.now) }
         ensures typed { self.new.typed ≡ self.old.typed }
         ensures enters { Enters self.old.ledger.names self.new.ledger.names runs.old runs.new }
+        ensures starts { IfOk result (λ _. Starts self.old.ledger.names self.new.ledger.names runs.old runs.new) }
         ensures same { F.holds files.new ≡ F.holds files.old }
+        ensures crash { LeavesAsBefore F.holds F.moment F.left_since F.images files.old files.new }
         ensures counted { Counted F.faults FilesError.Failed files.old files.new result }
+        ensures means { IfOk result (λ why. EvaluatesRoot (F.holds files.old) self.old self.new root.now why) }
     {
         if !root.is_small() {
             return Ok(Some(fault(root.copy()?, FaultKind::Big)));
@@ -86,7 +88,7 @@ impl<'a> Builder<'a> {
     }
 
     // Evaluates a root that wasn't entered.
-    #[tactic(auto, using(crate::proofs::Growing::enters_then))]
+    #[tactic(auto, using(crate::proofs::Growing::enters_then, pie_commit::proofs::Reading::reads))]
     fn begin<F: Files>(
         &mut self,
         root: &Task,
@@ -100,8 +102,11 @@ impl<'a> Builder<'a> {
         ensures named { IfOk result (λ why. why ≡ None → Contains self.new.ledger.names root.now) }
         ensures typed { self.new.typed ≡ self.old.typed }
         ensures enters { Enters self.old.ledger.names self.new.ledger.names runs.old runs.new }
+        ensures starts { IfOk result (λ _. Starts self.old.ledger.names self.new.ledger.names runs.old runs.new) }
         ensures same { F.holds files.new ≡ F.holds files.old }
+        ensures crash { LeavesAsBefore F.holds F.moment F.left_since F.images files.old files.new }
         ensures counted { Counted F.faults FilesError.Failed files.old files.new result }
+        ensures means { IfOk result (λ why. BeginsAs (F.holds files.old) self.old self.new root.now why) }
     {
         match self.enter(root, runs)? {
             Entered::Runs(frame) => self.run(frame, files, runs),
@@ -110,7 +115,7 @@ impl<'a> Builder<'a> {
     }
 
     // Goes on until the root is done or fails.
-    #[tactic(auto, using(crate::proofs::Growing::enters_same, crate::proofs::Growing::enters_then))]
+    #[tactic(auto, using(crate::proofs::Walks::runs, pie_commit::proofs::Reading::reads))]
     fn run<F: Files>(
         &mut self,
         frame: Frame<'a>,
@@ -121,8 +126,11 @@ impl<'a> Builder<'a> {
         ensures idle { IfOk result (λ why. why ≡ None → IsIdle self.new) }
         ensures typed { self.new.typed ≡ self.old.typed }
         ensures enters { Enters self.old.ledger.names self.new.ledger.names runs.old runs.new }
+        ensures starts { IfOk result (λ _. Starts self.old.ledger.names self.new.ledger.names runs.old runs.new) }
         ensures same { F.holds files.new ≡ F.holds files.old }
+        ensures crash { LeavesAsBefore F.holds F.moment F.left_since F.images files.old files.new }
         ensures counted { Counted F.faults FilesError.Failed files.old files.new result }
+        ensures means { IfOk result (λ why. RunsAs (F.holds files.old) self.old self.new frame.entry why) }
     {
         let mut frame = frame;
         'turns: loop {
@@ -135,7 +143,7 @@ impl<'a> Builder<'a> {
     }
 
     // One event of the running task.
-    #[tactic(auto, using(crate::proofs::Growing::enters_same))]
+    #[tactic(auto, using(crate::proofs::Growing::enters_same, pie_commit::proofs::Reading::reads))]
     fn turn<F: Files>(
         &mut self,
         frame: Frame<'a>,
@@ -147,8 +155,11 @@ impl<'a> Builder<'a> {
         ensures typed { self.new.typed ≡ self.old.typed }
         ensures nearer { IfOk result (λ t. Nearer (below_left self.old + frame.entry.notes.left + 1) self.new t) }
         ensures enters { Enters self.old.ledger.names self.new.ledger.names runs.old runs.new }
+        ensures starts { IfOk result (λ _. Starts self.old.ledger.names self.new.ledger.names runs.old runs.new) }
         ensures same { F.holds files.new ≡ F.holds files.old }
+        ensures crash { LeavesAsBefore F.holds F.moment F.left_since F.images files.old files.new }
         ensures counted { Counted F.faults FilesError.Failed files.old files.new result }
+        ensures means { IfOk result (λ t. TurnsAs (F.holds files.old) self.old self.new frame.entry t) }
     {
         match next(frame)? {
             Came::Asks(waiting, event) => self.treat(waiting, event, files, runs),
@@ -158,7 +169,7 @@ impl<'a> Builder<'a> {
     }
 
     // An event that asks.
-    #[tactic(auto, using(crate::proofs::Stepping::answered_goes, crate::proofs::Stepping::answered_nearer, crate::proofs::Stepping::written_goes, crate::proofs::Stepping::written_nearer, crate::proofs::Growing::enters_same))]
+    #[tactic(auto, using(crate::proofs::Walks::treats, pie_commit::proofs::Reading::reads))]
     fn treat<F: Files>(
         &mut self,
         waiting: Waiting<'a>,
@@ -169,12 +180,16 @@ impl<'a> Builder<'a> {
         requires stands { StandsAt waiting.notes.number self.old }
         requires waits { IsWaiting waiting }
         requires placed { IsPlaced self.old.ledger waiting.notes }
+        requires effect { IsEffect event }
         ensures goes { IfOk result (λ t. GoesOn self.new t) }
         ensures typed { self.new.typed ≡ self.old.typed }
         ensures nearer { IfOk result (λ t. Nearer (below_left self.old + waiting.entry.notes.left + 1) self.new t) }
         ensures enters { Enters self.old.ledger.names self.new.ledger.names runs.old runs.new }
+        ensures starts { IfOk result (λ _. Starts self.old.ledger.names self.new.ledger.names runs.old runs.new) }
         ensures same { F.holds files.new ≡ F.holds files.old }
+        ensures crash { LeavesAsBefore F.holds F.moment F.left_since F.images files.old files.new }
         ensures counted { Counted F.faults FilesError.Failed files.old files.new result }
+        ensures means { IfOk result (λ t. TreatsAs (F.holds files.old) self.old self.new waiting.entry event t) }
     {
         match event {
             Event::Exists(path) => self.exists(waiting, path, files),
@@ -186,97 +201,4 @@ impl<'a> Builder<'a> {
             Event::Done(_) | Event::Fail(_) => Ok(failed(waiting.into_task(), FaultKind::Unknown)),
         }
     }
-
-    /// Enters a task that wasn't entered before.
-    #[tactic(auto, using(crate::proofs::Growing::enters_same, crate::proofs::Growing::enters_named, crate::proofs::Growing::enters_started, crate::proofs::Entering::begun_is))]
-    pub(crate) fn enter(&mut self, task: &Task, runs: &mut Runs) -> Result<Entered<'a>, OutOfMemory>
-        requires ledger { IsLedger self.old.ledger }
-        requires encodable { IsEncodableTask task.now }
-        requires absent { ¬ (Contains self.old.ledger.names task.now) }
-        ensures begins { IfOk result (λ e. Begins self.old self.new task.now e) }
-        ensures typed { self.new.typed ≡ self.old.typed }
-        ensures enters { Enters self.old.ledger.names self.new.ledger.names runs.old runs.new }
-    {
-        if self.ledger.heights.len() >= MAX_TASKS as usize {
-            return Ok(Entered::Refused(Refusal::Many));
-        }
-        let no = self.ledger.add(task.copy()?)?;
-        match code_of(self.typed, self.code, task) {
-            Some(code) => {
-                let machine = Machine::start(self.alloc, code, task, runs)?;
-                let notes = Notes::new(self.alloc, task.copy()?, no);
-                Ok(Entered::Runs(Frame {
-                    code,
-                    machine,
-                    notes,
-                }))
-            }
-            None => Ok(Entered::Refused(fault(task.copy()?, FaultKind::Unknown))),
-        }
-    }
-
-    // The running task is done: the one that waits for it goes on.
-    fn finish(&mut self, notes: Notes, output: Value) -> Result<Turn<'a>, OutOfMemory>
-        requires stands { StandsAt notes.number self.old }
-        requires sound { IsSound notes }
-        requires placed { IsPlaced self.old.ledger notes }
-        ensures goes { IfOk result (λ t. GoesOn self.new t) }
-        ensures typed { self.new.typed ≡ self.old.typed }
-        ensures nearer { IfOk result (λ t. Nearer (below_left self.old + notes.left + 1) self.new t) }
-        ensures names { self.new.ledger.names ≡ self.old.ledger.names }
-    {
-        if !output.is_small() {
-            return Ok(failed(notes.into_task(), FaultKind::Big));
-        }
-        let done = Done {
-            no: notes.no,
-            height: notes.height,
-            output: output.copy()?,
-        };
-        self.ledger.end(notes, output)?;
-        self.resume(done)
-    }
-
-    // The task that waits for the one that is done goes on.
-    #[tactic(auto, using(crate::proofs::Finishing::rested))]
-    fn resume(&mut self, done: Done) -> Result<Turn<'a>, OutOfMemory>
-        requires stands { Stands [] done.no.0 self.old }
-        requires high { IsHigh self.old.ledger done.no.0 done.height }
-        requires height { done.height < self.old.ledger.ended }
-        requires output { IsEncodable (tree_of done.output) }
-        ensures goes { IfOk result (λ t. GoesOn self.new t) }
-        ensures typed { self.new.typed ≡ self.old.typed }
-        ensures nearer { IfOk result (λ t. Nearer (below_left self.old + 1) self.new t) }
-        ensures names { self.new.ledger.names ≡ self.old.ledger.names }
-    {
-        match self.stack.pop() {
-            Some(caller) => {
-                let Caller {
-                    waiting,
-                    required,
-                    how,
-                } = caller;
-                let frame = give(self.alloc, waiting, required, how, done)?;
-                Ok(Turn::Goes(frame))
-            }
-            None => Ok(Turn::Rests),
-        }
-    }
-}
-
-// The code of a task's function, where it takes as many arguments.
-#[tactic(auto, using(crate::proofs::Known::found_known))]
-fn code_of<'a>(typed: &Typed, codes: &'a [Checked], task: &Task) -> Option<&'a Checked>
-    ensures params { IfSome result (λ code. length task.now.args ≡ code.now.params) }
-    ensures known { IfSome result (λ _. Contains (function_names typed.now) task.now.func) }
-{
-    let number = typed.find(task)? as usize;
-    if number >= codes.len() {
-        return None;
-    }
-    let code = &codes[number];
-    if task.args.as_slice().len() != code.code().params as usize {
-        return None;
-    }
-    Some(code)
 }

@@ -1,10 +1,12 @@
 //! A task that runs, and one that waits for an answer.
-ghost use Rattle.std.specs.Prelude.{◌≡◌, ◌<◌, IfOk};
+ghost use Rattle.std.specs.Prelude.{◌≡◌, ◌<◌, List, IfOk};
+ghost use Rattle.pie_value.specs.declared.event.Answer.{Answer as Given};
 ghost use Rattle.pie_fresh.specs.Frames.{IsReady};
 ghost use Rattle.pie_fresh.specs.Noted.{IsSound};
-ghost use Rattle.pie_vm.specs.Machines.{Asks, Belongs, phase_after};
+ghost use Rattle.pie_vm.specs.Machines.{Asks, Belongs, Follows, phase_after};
 ghost use Rattle.pie_vm.specs.Steps.{outcome_of};
 ghost use Rattle.pie_fresh.specs.Turns.{Comes};
+ghost use Rattle.pie_fresh.specs.Told.{CameTo, ComesAs, IsTold};
 ghost use Rattle.pie_vm.specs.declared.machine.MachineState.TheVariants.{Waiting as Waits};
 
 use crate::notes::Notes;
@@ -50,7 +52,9 @@ pub(crate) enum Came<'a> {
 /// Runs a task up to its next event. One that may have no more answers fails.
 pub(crate) fn next<'a>(frame: Frame<'a>) -> Result<Came<'a>, OutOfMemory>
     requires { IsReady frame }
-    ensures { IfOk result (λ c. Comes frame.entry.notes c) }
+    ensures comes { IfOk result (λ c. Comes frame.entry.notes c) }
+    ensures means { IfOk result (λ c. (answers : List Given) → Follows frame.entry.code.now frame.entry.notes.task.args answers frame.entry.machine
+        → ComesAs frame.entry.code.now frame.entry.notes answers c) }
 {
     let Frame {
         code,
@@ -76,7 +80,10 @@ impl<'a> Waiting<'a> {
         requires belongs { Asks (outcome_of event) (Belongs self.code.now self.machine) }
         requires sound { IsSound self.notes }
         requires left { 0 < self.notes.left }
-        ensures { Comes self.entry.notes result }
+        ensures comes { Comes self.entry.notes result }
+        ensures means { (answers : List Given) → CameTo self.entry.code.now self.entry.notes.task.args answers (outcome_of event)
+            → Asks (outcome_of event) (Follows self.entry.code.now self.entry.notes.task.args answers self.entry.machine)
+            → ComesAs self.entry.code.now self.entry.notes answers result }
     {
         match event {
             Event::Exists(path) => Came::Asks(self, Event::Exists(path)),
@@ -108,6 +115,7 @@ impl<'a> Waiting<'a> {
         requires sound { IsSound self.notes }
         ensures ready { IsReady result }
         ensures notes { result.notes ≡ self.entry.notes }
+        ensures told { IsTold self.entry result self.entry.notes answer }
     {
         let Waiting {
             code,

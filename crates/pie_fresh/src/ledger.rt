@@ -1,12 +1,16 @@
 //! The tasks of a build by their numbers: names, rows, records, heights and contents.
-ghost use Rattle.std.specs.Prelude.{◌≡◌, ◌+◌, ◌<◌, ◌++◌, ◌∷◌, [], length, None, IfOk, IfSome, OnOk, OnErr, map};
+ghost use Rattle.std.specs.Prelude.{◌≡◌, ℕ, ◌+◌, ◌<◌, ◌++◌, ◌∷◌, [], length, None, IfOk, IfSome, OnOk, OnErr, map, slice_set};
 ghost use Rattle.std.specs.List.{Contains};
+ghost use Rattle.std.specs.Option.{option_map};
 ghost use Rattle.pie_value.specs.Canonical.{IsEncodable, IsEncodableTask};
 ghost use Rattle.pie_value.specs.Values.{tree_of};
 ghost use Rattle.pie_graph.specs.Numbers.{AllBelow, numbers};
+ghost use Rattle.pie_graph.specs.Rows.{no_edges};
+ghost use Rattle.pie_bridge.specs.Names.{AreTasks};
+ghost use Rattle.pie_fresh.specs.Kept.{IsKeptAs, ended_with, row_ended, row_with};
 ghost use Rattle.pie_fresh.specs.Noted.{IsSound};
 ghost use Rattle.pie_record.specs.Records.{record_of, Puts};
-ghost use Rattle.pie_record.specs.declared.task_record.TaskRecord.{TaskRecord};
+ghost use Rattle.pie_fresh.specs.Collected.{output_at};
 ghost use Rattle.pie_fresh.specs.Ledgers.{Grows, IsHigh, IsLedger, IsPlaced};
 
 use crate::notes::Notes;
@@ -44,6 +48,9 @@ impl Ledger {
         ensures ledger { IsLedger result }
         ensures none { result.names ≡ [] }
         ensures ended { result.ended ≡ 0 }
+        ensures rows { result.rows ≡ [] }
+        ensures records { (n : ℕ) → record_of result.records n ≡ None }
+        ensures stage { result.stage ≡ [] }
     {
         Ledger {
             alloc,
@@ -70,10 +77,14 @@ impl Ledger {
         ensures unchanged { OnErr result (self.new.names ≡ self.old.names) }
         ensures ended { self.new.ended ≡ self.old.ended }
         ensures number { IfOk result (λ no. no.0 ≡ length self.old.names) }
+        ensures rows { OnOk result (self.new.rows ≡ self.old.rows ++ no_edges ∷ []) }
+        ensures stage { self.new.stage ≡ self.old.stage }
+        ensures tasks { OnOk result (AreTasks self.new.names) }
     {
         let _no = self.rows.add()?;
         self.heights.push(0)?;
         let no = self.names.add(task)?;
+        let _names = self.names.as_slice();
         Ok(no)
     }
 
@@ -85,6 +96,8 @@ impl Ledger {
         ensures low { IfOk result (λ done. IfSome done (λ d. d.height < self.now.ended)) }
         ensures high { IfOk result (λ done. IfSome done (λ d. IsHigh self.now no.0 d.height)) }
         ensures small { IfOk result (λ done. IfSome done (λ d. IsEncodable (tree_of d.output))) }
+        ensures kept { IfOk result (λ done. IsKeptAs self.now.records no.0 done) }
+        ensures output { IfOk result (λ done. option_map (λ d. d.output) done ≡ output_at self.now.records no.0) }
     {
         match self.records.get(no) {
             Some(rec) => match &rec.outcome {
@@ -110,9 +123,11 @@ impl Ledger {
         ensures ledger { OnOk result (IsLedger self.new) }
         ensures names { self.new.names ≡ self.old.names }
         ensures grows { OnOk result (Grows self.old self.new) }
-        ensures puts { OnOk result ((r : TaskRecord) × Puts self.old.records self.new.records notes.number r) }
         ensures high { OnOk result (IsHigh self.new notes.number notes.height) }
         ensures ended { OnOk result (self.new.ended ≡ self.old.ended + 1) }
+        ensures puts { OnOk result (Puts self.old.records self.new.records notes.number (ended_with notes output)) }
+        ensures rows { OnOk result (self.new.rows ≡ slice_set self.old.rows notes.number (row_ended notes)) }
+        ensures stage { self.new.stage ≡ self.old.stage }
     {
         let Notes {
             task,
@@ -150,6 +165,8 @@ impl Ledger {
         ensures heights { self.new.heights ≡ self.old.heights }
         ensures records { self.new.records ≡ self.old.records }
         ensures ended { self.new.ended ≡ self.old.ended }
+        ensures set { OnOk result (self.new.rows ≡ slice_set self.old.rows no.0 (row_with (numbers needs.items) writes.now)) }
+        ensures stage { self.new.stage ≡ self.old.stage }
     {
         let edges = Edges {
             needs,

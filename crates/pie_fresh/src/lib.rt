@@ -3,16 +3,17 @@
 
 mod build;
 mod builder;
+mod enter;
+mod finish;
 mod frame;
 mod ledger;
+mod listing;
 mod looking;
 mod notes;
 mod observing;
 mod requiring;
 mod results;
 mod turn;
+mod writes;
 
 pub use build::fresh;
-
-#[cfg(test)]
-mod tests;

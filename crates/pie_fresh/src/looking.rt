@@ -1,8 +1,13 @@
 //! What a task sees at a path.
-ghost use Rattle.std.specs.Prelude.{◌≡◌, false, length};
+ghost use Rattle.std.specs.Prelude.{◌≡◌, false, length, IfOk, Some, is_some};
+ghost use Rattle.std.specs.Option.{option_map};
 ghost use Rattle.pie_base.specs.Path.{is_source};
 ghost use Rattle.pie_graph.specs.Numbers.{AllBelow};
+ghost use Rattle.pie_stage.specs.Content.{content};
+ghost use Rattle.pie_commit.specs.Outcomes.{LeavesAsBefore};
 ghost use Rattle.pie_files.specs.Streams.{Counted};
+ghost use Rattle.pie_bridge.specs.Views.{unmarked};
+ghost use Rattle.pie_fresh.specs.Sights.{SeesHeld, SeesHeldPresence, SeesOut, SeesOthers, provided_sight, sight_by, sight_of};
 
 use crate::ledger::Ledger;
 use crate::notes::Notes;
@@ -36,19 +41,41 @@ impl Ledger {
         path: &Path,
     ) -> Result<Provided<'b>, OutOfMemory>
         requires { AllBelow (length self.now.rows) notes.now.needs }
+        ensures sees { IfOk result (λ p. SeesOut self.now.stage self.now.rows notes.now path.now (provided_sight p)) }
     {
-        if let Some(content) = self.stage.get(notes.no, path) {
-            return Ok(Provided::Content(content));
+        match self.stage.get(notes.no, path) {
+            Some(content) => Ok(Provided::Content(content)),
+            None => self.provided_by_others(notes, path),
         }
+    }
+
+    // What a task sees that wrote nothing there.
+    fn provided_by_others<'b>(
+        &'b self,
+        notes: &Notes,
+        path: &Path,
+    ) -> Result<Provided<'b>, OutOfMemory>
+        requires { AllBelow (length self.now.rows) notes.now.needs }
+        ensures sees { IfOk result (λ p. SeesOthers self.now.stage self.now.rows notes.now.needs path.now (provided_sight p)) }
+    {
         let needs = notes.needs.as_slice();
-        match view(self.alloc, &self.rows, notes.no, &[], needs, path)? {
-            Seen::Absent => Ok(Provided::Nothing),
-            Seen::By(no) => Ok(content_of(self.stage.get(no, path))),
-            Seen::Clash => Ok(Provided::Clash),
+        let seen = view(self.alloc, &self.rows, notes.no, &[], needs, path)?;
+        Ok(self.content_seen(seen, path))
+    }
+
+    // The content that is seen.
+    fn content_seen<'b>(&'b self, seen: Seen, path: &Path) -> Provided<'b>
+        ensures { provided_sight result ≡ sight_by (λ n. content self.now.stage n path.now) seen }
+    {
+        match seen {
+            Seen::Absent => Provided::Nothing,
+            Seen::By(no) => content_of(self.stage.get(no, path)),
+            Seen::Clash => Provided::Clash,
         }
     }
 
     /// What a task sees at a path. Only a source path is asked of the files.
+    #[tactic(auto, using(pie_commit::proofs::Reading::reads))]
     pub(crate) fn sight<F: Files>(
         &self,
         notes: &Notes,
@@ -58,7 +85,9 @@ impl Ledger {
         requires { AllBelow (length self.now.rows) notes.now.needs }
         ensures unasked { is_source path.now ≡ false → F.asked files.new ≡ F.asked files.old }
         ensures same { F.holds files.new ≡ F.holds files.old }
+        ensures crash { LeavesAsBefore F.holds F.moment F.left_since F.images files.old files.new }
         ensures counted { Counted F.faults FilesError.Failed files.old files.new result }
+        ensures sees { IfOk result (λ s. SeesHeld (F.holds files.old) self.now.stage self.now.rows notes.now path.now (sight_of s)) }
     {
         if path.under_out() {
             return Ok(self.copied(notes, path)?);
@@ -73,6 +102,7 @@ impl Ledger {
     // What a task sees at a path under `out/`, in memory of its own.
     fn copied(&self, notes: &Notes, path: &Path) -> Result<Sight, OutOfMemory>
         requires { AllBelow (length self.now.rows) notes.now.needs }
+        ensures sees { IfOk result (λ s. SeesOut self.now.stage self.now.rows notes.now path.now (sight_of s)) }
     {
         match self.provided(notes, path)? {
             Provided::Nothing => Ok(Sight::File(None)),
@@ -85,6 +115,7 @@ impl Ledger {
     }
 
     /// Whether a task sees a file at a path, or `None` where two tasks wrote it.
+    #[tactic(auto, using(pie_commit::proofs::Reading::reads))]
     pub(crate) fn presence<F: Files>(
         &self,
         notes: &Notes,
@@ -94,7 +125,9 @@ impl Ledger {
         requires { AllBelow (length self.now.rows) notes.now.needs }
         ensures unasked { is_source path.now ≡ false → F.asked files.new ≡ F.asked files.old }
         ensures same { F.holds files.new ≡ F.holds files.old }
+        ensures crash { LeavesAsBefore F.holds F.moment F.left_since F.images files.old files.new }
         ensures counted { Counted F.faults FilesError.Failed files.old files.new result }
+        ensures sees { IfOk result (λ p. SeesHeldPresence (F.holds files.old) self.now.stage self.now.rows notes.now path.now p) }
     {
         if path.under_out() {
             return Ok(is_provided(self.provided(notes, path)?));
@@ -107,14 +140,18 @@ impl Ledger {
     }
 }
 
-fn content_of<'b>(content: Option<&'b [u8]>) -> Provided<'b> {
+fn content_of<'b>(content: Option<&'b [u8]>) -> Provided<'b>
+    ensures { provided_sight result ≡ Some (unmarked (option_map (λ c. c.now) content.entry)) }
+{
     match content {
         Some(content) => Provided::Content(content),
         None => Provided::Nothing,
     }
 }
 
-fn is_provided(provided: Provided) -> Option<bool> {
+fn is_provided(provided: Provided) -> Option<bool>
+    ensures { result ≡ option_map is_some (provided_sight provided.entry) }
+{
     match provided {
         Provided::Nothing => Some(false),
         Provided::Content(_) => Some(true),

@@ -34,7 +34,15 @@ impl Model for Notes {
 
     ghost coded = { coded_noted };
 
-    ghost view = { λ n. record { task = n.task; number = n.no.0; deps = n.deps.items; writes = n.writes.items; needs = numbers n.needs.items; height = n.height; left = n.left } };
+    ghost view = { λ n. record {
+      task = n.task;
+      number = n.no.0;
+      deps = n.deps.items;
+      writes = n.writes.items;
+      needs = numbers n.needs.items;
+      height = n.height;
+      left = n.left;
+    } };
 }
 
 impl Notes {

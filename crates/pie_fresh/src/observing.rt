@@ -1,12 +1,18 @@
-//! Observations and writes of a running task.
-ghost use Rattle.std.specs.Prelude.{◌≡◌, length, IsTrue, IfOk};
-ghost use Rattle.pie_base.specs.Path.{is_out};
+//! Observations of a running task.
+ghost use Rattle.std.specs.Prelude.{◌≡◌, length, IfOk, Some};
+ghost use Rattle.std.specs.Option.{option_map};
+ghost use Rattle.pie_value.specs.declared.event.Event.TheVariants as events;
+ghost use Rattle.pie_bridge.specs.Looks.{reading_stamp, reading_answer, digest_stamp, digest_answer};
 ghost use Rattle.pie_graph.specs.Numbers.{AllBelow};
+ghost use Rattle.pie_commit.specs.Outcomes.{LeavesAsBefore};
 ghost use Rattle.pie_files.specs.Streams.{Counted};
 ghost use Rattle.pie_record.specs.Canonical.{IsStorableDep};
-ghost use Rattle.pie_fresh.specs.Noted.{file_dep, read_kind};
+ghost use Rattle.pie_fresh.specs.Noted.{file_dep, read_kind, observed as with_dep};
 ghost use Rattle.pie_fresh.specs.Frames.{IsReady, IsWaiting};
 ghost use Rattle.pie_fresh.specs.Turns.{Advanced, Answered};
+ghost use Rattle.pie_fresh.specs.Sights.{found_in, sight_of};
+ghost use Rattle.pie_fresh.specs.Told.{IsTold, IsToldOrFails, flag_stamp, told_flag, told_reading, told_hash};
+ghost use Rattle.pie_fresh.specs.Means.{LooksAs};
 
 use crate::builder::Builder;
 use crate::frame::{Frame, Waiting};
@@ -15,12 +21,13 @@ use crate::turn::{Turn, failed};
 use pie_base::{FaultKind, OutOfMemory, Path};
 use pie_files::{Files, FilesError, Found};
 use pie_record::DepKind;
-use pie_stamp::{ByHash, Observed, Stamper, hash_of};
-use pie_value::{Answer, Blob, By, Items, Stamp, Value};
+use pie_stamp::hash_of;
+use pie_value::{Answer, Blob, By, Stamp};
 use std::alloc::Global;
 
 impl<'a> Builder<'a> {
     /// Whether a file is there.
+    #[tactic(auto, using(pie_commit::proofs::Reading::reads))]
     pub(crate) fn exists<F: Files>(
         &self,
         waiting: Waiting<'a>,
@@ -31,15 +38,17 @@ impl<'a> Builder<'a> {
         requires needs { AllBelow (length self.now.ledger.rows) waiting.notes.needs }
         ensures answered { IfOk result (λ t. Answered waiting.entry.notes t) }
         ensures same { F.holds files.new ≡ F.holds files.old }
+        ensures crash { LeavesAsBefore F.holds F.moment F.left_since F.images files.old files.new }
         ensures counted { Counted F.faults FilesError.Failed files.old files.new result }
+        ensures means { IfOk result (λ t. LooksAs (F.holds files.old) self.now waiting.entry (events.Exists path) t) }
     {
         let presence = self.ledger.presence(&waiting.notes, &path, files)?;
-        let noted = by_presence(&path, presence);
-        let frame = told(waiting, DepKind::Exists, path, noted)?;
-        Ok(Turn::Goes(frame))
+        let turn = told_presence(waiting, path, presence)?;
+        Ok(turn)
     }
 
     /// The bytes of a file.
+    #[tactic(auto, using(pie_commit::proofs::Reading::reads))]
     pub(crate) fn read<F: Files>(
         &self,
         waiting: Waiting<'a>,
@@ -51,15 +60,17 @@ impl<'a> Builder<'a> {
         requires needs { AllBelow (length self.now.ledger.rows) waiting.notes.needs }
         ensures answered { IfOk result (λ t. Answered waiting.entry.notes t) }
         ensures same { F.holds files.new ≡ F.holds files.old }
+        ensures crash { LeavesAsBefore F.holds F.moment F.left_since F.images files.old files.new }
         ensures counted { Counted F.faults FilesError.Failed files.old files.new result }
+        ensures means { IfOk result (λ t. LooksAs (F.holds files.old) self.now waiting.entry (events.Read path by) t) }
     {
         let sight = self.ledger.sight(&waiting.notes, &path, files)?;
-        let noted = contents(self.alloc, by, &path, sight)?;
-        let frame = told(waiting, kind_of(by), path, noted)?;
-        Ok(Turn::Goes(frame))
+        let turn = told_contents(self.alloc, waiting, path, by, sight)?;
+        Ok(turn)
     }
 
     /// The SHA-256 of a file.
+    #[tactic(auto, using(pie_commit::proofs::Reading::reads))]
     pub(crate) fn digest<F: Files>(
         &self,
         waiting: Waiting<'a>,
@@ -70,119 +81,57 @@ impl<'a> Builder<'a> {
         requires needs { AllBelow (length self.now.ledger.rows) waiting.notes.needs }
         ensures answered { IfOk result (λ t. Answered waiting.entry.notes t) }
         ensures same { F.holds files.new ≡ F.holds files.old }
+        ensures crash { LeavesAsBefore F.holds F.moment F.left_since F.images files.old files.new }
         ensures counted { Counted F.faults FilesError.Failed files.old files.new result }
+        ensures means { IfOk result (λ t. LooksAs (F.holds files.old) self.now waiting.entry (events.Digest path) t) }
     {
         let sight = self.ledger.sight(&waiting.notes, &path, files)?;
-        let noted = digest(&path, sight);
-        let frame = told(waiting, DepKind::Digest, path, noted)?;
-        Ok(Turn::Goes(frame))
-    }
-
-    /// What lies in a directory.
-    pub(crate) fn list<F: Files>(
-        &self,
-        waiting: Waiting<'a>,
-        dir: Path,
-        files: &mut F,
-    ) -> Result<Turn<'a>, FilesError>
-        requires { IsWaiting waiting }
-        ensures answered { IfOk result (λ t. Answered waiting.entry.notes t) }
-        ensures same { F.holds files.new ≡ F.holds files.old }
-        ensures counted { Counted F.faults FilesError.Failed files.old files.new result }
-    {
-        let paths = names(&dir, files)?;
-        let turn = listed(self.alloc, waiting, dir, paths)?;
+        let turn = told_digest(waiting, path, sight)?;
         Ok(turn)
     }
-
-    /// These bytes are written.
-    pub(crate) fn write(
-        &mut self,
-        waiting: Waiting<'a>,
-        path: Path,
-        bytes: Blob,
-    ) -> Result<Turn<'a>, OutOfMemory>
-        requires { IsWaiting waiting }
-        ensures answered { IfOk result (λ t. Answered waiting.entry.notes t) }
-        ensures names { self.new.ledger.names ≡ self.old.ledger.names }
-        ensures rows { self.new.ledger.rows ≡ self.old.ledger.rows }
-        ensures heights { self.new.ledger.heights ≡ self.old.ledger.heights }
-        ensures records { self.new.ledger.records ≡ self.old.ledger.records }
-        ensures ended { self.new.ledger.ended ≡ self.old.ledger.ended }
-        ensures stack { self.new.stack ≡ self.old.stack }
-        ensures typed { self.new.typed ≡ self.old.typed }
-    {
-        if !path.under_out() {
-            return Ok(failed(waiting.into_task(), FaultKind::BadWrite));
-        }
-        let hash = hash_of(bytes.as_slice());
-        let content = bytes.as_slice().to_vec(self.alloc)?;
-        self.ledger
-            .stage
-            .put(waiting.notes.no, path.copy()?, content)?;
-        let frame = told_write(waiting, path, hash)?;
-        Ok(Turn::Goes(frame))
-    }
 }
 
-// The entries of a directory, or `None` where it is no source.
-fn names<F: Files>(dir: &Path, files: &mut F) -> Result<Option<Vec<Path>>, FilesError>
-    ensures same { F.holds files.new ≡ F.holds files.old }
-    ensures counted { Counted F.faults FilesError.Failed files.old files.new result }
-{
-    if !dir.is_source() {
-        return Ok(None);
-    }
-    let paths = files.names(dir)?;
-    Ok(Some(paths))
+/// An observation as it is kept, and as the task is told.
+#[derive(Drop)]
+pub(crate) struct Noted {
+    pub(crate) stamp: Stamp,
+    pub(crate) answer: Answer,
 }
 
-// A task whose write was noted.
-#[tactic(auto, using(crate::proofs::Noting::wrote_sound, crate::proofs::Noting::wrote_advanced))]
-fn told_write<'a>(
+// A task that is told whether a file is there. Where two tasks wrote it, it fails.
+fn told_presence<'a>(
     waiting: Waiting<'a>,
     path: Path,
-    hash: [u8; 32],
-) -> Result<Frame<'a>, OutOfMemory>
-    requires waits { IsWaiting waiting }
-    requires out { IsTrue (is_out path) }
-    ensures { IfOk result (λ f. IsReady f × Advanced waiting.entry.notes f.notes) }
+    presence: Option<bool>,
+) -> Result<Turn<'a>, OutOfMemory>
+    requires { IsWaiting waiting }
+    ensures answered { IfOk result (λ t. Answered waiting.entry.notes t) }
+    ensures told { IfOk result (λ t. IsToldOrFails waiting.entry (option_map (told_flag path) presence) t) }
 {
-    let mut waiting = waiting;
-    waiting.notes.wrote(path, hash)?;
-    Ok(waiting.answered(Answer::Wrote))
-}
-
-// An observation as it is kept, and as the task is told.
-#[derive(Drop)]
-struct Noted {
-    stamp: Stamp,
-    answer: Answer,
-}
-
-// Two tasks wrote the path.
-fn clash() -> Noted
-    ensures { result.stamp ≡ Stamp.Absent }
-{
-    Noted {
-        stamp: Stamp::Absent,
-        answer: Answer::Clash,
+    match presence {
+        Some(there) => {
+            let noted = by_presence(&path, there);
+            let frame = told(waiting, DepKind::Exists, path, noted)?;
+            Ok(Turn::Goes(frame))
+        }
+        None => Ok(failed(waiting.into_task(), FaultKind::Clash)),
     }
 }
 
-fn by_presence(_path: &Path, presence: Option<bool>) -> Noted
-    ensures { IsStorableDep (file_dep DepKind.Exists _path.now result.stamp) }
+fn by_presence(_path: &Path, there: bool) -> Noted
+    ensures storable { IsStorableDep (file_dep DepKind.Exists _path.now result.stamp) }
+    ensures stamp { result.stamp ≡ flag_stamp there }
+    ensures answer { result.answer ≡ Answer.Flag there }
 {
-    match presence {
-        Some(true) => Noted {
+    if there {
+        return Noted {
             stamp: Stamp::Present,
             answer: Answer::Flag(true),
-        },
-        Some(false) => Noted {
-            stamp: Stamp::Absent,
-            answer: Answer::Flag(false),
-        },
-        None => clash(),
+        };
+    }
+    Noted {
+        stamp: Stamp::Absent,
+        answer: Answer::Flag(false),
     }
 }
 
@@ -198,7 +147,8 @@ fn kind_of(by: By) -> DepKind
 
 // The stamp of the bytes that are seen.
 fn stamp_of(by: By, path: &Path, seen: &Option<Found>) -> Stamp
-    ensures { IsStorableDep (file_dep (read_kind by) path.now result) }
+    ensures storable { IsStorableDep (file_dep (read_kind by) path.now result) }
+    ensures stamp { result ≡ reading_stamp by path.now (found_in seen.now) }
 {
     match seen {
         None => Stamp::Absent,
@@ -213,39 +163,77 @@ fn stamp_of(by: By, path: &Path, seen: &Option<Found>) -> Stamp
 }
 
 // The bytes that are seen, in a blob that answers can share.
-fn blob_of(alloc: Global, seen: Option<Found>) -> Result<Option<Blob>, OutOfMemory> {
+fn blob_of(alloc: Global, seen: Option<Found>) -> Result<Option<Blob>, OutOfMemory>
+    ensures { IfOk result (λ blob. Answer.Bytes blob ≡ reading_answer (found_in seen)) }
+{
     match seen {
         None => Ok(None),
         Some(found) => Ok(Some(Blob::shared(alloc, found.bytes)?)),
     }
 }
 
-fn contents(alloc: Global, by: By, path: &Path, sight: Sight) -> Result<Noted, OutOfMemory>
-    ensures { IfOk result (λ n. IsStorableDep (file_dep (read_kind by) path.now n.stamp)) }
+// A task that is told the bytes that are seen. Where two tasks wrote them, it fails.
+fn told_contents<'a>(
+    alloc: Global,
+    waiting: Waiting<'a>,
+    path: Path,
+    by: By,
+    sight: Sight,
+) -> Result<Turn<'a>, OutOfMemory>
+    requires { IsWaiting waiting }
+    ensures answered { IfOk result (λ t. Answered waiting.entry.notes t) }
+    ensures told { IfOk result (λ t. IsToldOrFails waiting.entry (option_map (told_reading by path) (sight_of sight)) t) }
 {
     match sight {
-        Sight::Clash => Ok(clash()),
         Sight::File(seen) => {
-            let stamp = stamp_of(by, path, &seen);
-            let blob = blob_of(alloc, seen)?;
-            Ok(Noted {
-                stamp,
-                answer: Answer::Bytes(blob),
-            })
+            let noted = contents(alloc, by, &path, seen)?;
+            let frame = told(waiting, kind_of(by), path, noted)?;
+            Ok(Turn::Goes(frame))
         }
+        Sight::Clash => Ok(failed(waiting.into_task(), FaultKind::Clash)),
     }
 }
 
-fn digest(_path: &Path, sight: Sight) -> Noted
-    ensures { IsStorableDep (file_dep DepKind.Digest _path.now result.stamp) }
+fn contents(alloc: Global, by: By, path: &Path, seen: Option<Found>) -> Result<Noted, OutOfMemory>
+    ensures storable { IfOk result (λ n. IsStorableDep (file_dep (read_kind by) path.now n.stamp)) }
+    ensures stamp { IfOk result (λ n. n.stamp ≡ reading_stamp by path.now (found_in seen)) }
+    ensures answer { IfOk result (λ n. n.answer ≡ reading_answer (found_in seen)) }
+{
+    let stamp = stamp_of(by, path, &seen);
+    let blob = blob_of(alloc, seen)?;
+    Ok(Noted {
+        stamp,
+        answer: Answer::Bytes(blob),
+    })
+}
+
+// A task that is told the SHA-256 of the bytes that are seen. Where two tasks wrote them, it fails.
+fn told_digest<'a>(waiting: Waiting<'a>, path: Path, sight: Sight) -> Result<Turn<'a>, OutOfMemory>
+    requires { IsWaiting waiting }
+    ensures answered { IfOk result (λ t. Answered waiting.entry.notes t) }
+    ensures told { IfOk result (λ t. IsToldOrFails waiting.entry (option_map (told_hash path) (sight_of sight)) t) }
 {
     match sight {
-        Sight::Clash => clash(),
-        Sight::File(None) => Noted {
+        Sight::File(seen) => {
+            let noted = digest(&path, seen);
+            let frame = told(waiting, DepKind::Digest, path, noted)?;
+            Ok(Turn::Goes(frame))
+        }
+        Sight::Clash => Ok(failed(waiting.into_task(), FaultKind::Clash)),
+    }
+}
+
+fn digest(_path: &Path, seen: Option<Found>) -> Noted
+    ensures storable { IsStorableDep (file_dep DepKind.Digest _path.now result.stamp) }
+    ensures stamp { result.stamp ≡ digest_stamp (found_in seen) }
+    ensures answer { result.answer ≡ digest_answer (found_in seen) }
+{
+    match seen {
+        None => Noted {
             stamp: Stamp::Absent,
             answer: Answer::Digest(None),
         },
-        Sight::File(Some(found)) => {
+        Some(found) => {
             let hash = hash_of(found.bytes.as_slice());
             Noted {
                 stamp: Stamp::Hash(hash),
@@ -255,9 +243,9 @@ fn digest(_path: &Path, sight: Sight) -> Noted
     }
 }
 
-// A task that is told what it observed.
+/// A task that is told what it observed.
 #[tactic(auto, using(crate::proofs::Noting::observed_sound, crate::proofs::Noting::observed_advanced))]
-fn told<'a>(
+pub(crate) fn told<'a>(
     waiting: Waiting<'a>,
     kind: DepKind,
     path: Path,
@@ -265,59 +253,11 @@ fn told<'a>(
 ) -> Result<Frame<'a>, OutOfMemory>
     requires waits { IsWaiting waiting }
     requires dep { IsStorableDep (file_dep kind path noted.stamp) }
-    ensures { IfOk result (λ f. IsReady f × Advanced waiting.entry.notes f.notes) }
+    ensures ready { IfOk result (λ f. IsReady f × Advanced waiting.entry.notes f.notes) }
+    ensures told { IfOk result (λ f. IsTold waiting.entry f (with_dep (file_dep kind path noted.stamp) waiting.entry.notes) noted.answer) }
 {
     let mut waiting = waiting;
     let Noted { stamp, answer } = noted;
     waiting.notes.saw(kind, path, stamp)?;
     Ok(waiting.answered(answer))
-}
-
-// Paths as values.
-fn entries_of(alloc: Global, paths: Vec<Path>) -> Result<Items, OutOfMemory> {
-    let mut entries = Items::new();
-    for path in paths {
-        entries.push(alloc, Value::Path(path))?;
-    }
-    Ok(entries)
-}
-
-// A task that is told the entries of a directory, if it is a source.
-fn listed<'a>(
-    alloc: Global,
-    waiting: Waiting<'a>,
-    dir: Path,
-    paths: Option<Vec<Path>>,
-) -> Result<Turn<'a>, OutOfMemory>
-    requires { IsWaiting waiting }
-    ensures { IfOk result (λ t. Answered waiting.entry.notes t) }
-{
-    match paths {
-        Some(paths) => told_entries(alloc, waiting, dir, paths),
-        None => Ok(failed(waiting.into_task(), FaultKind::BadList)),
-    }
-}
-
-// A task that is told entries. Where these are too many, it fails.
-fn told_entries<'a>(
-    alloc: Global,
-    waiting: Waiting<'a>,
-    dir: Path,
-    paths: Vec<Path>,
-) -> Result<Turn<'a>, OutOfMemory>
-    requires { IsWaiting waiting }
-    ensures { IfOk result (λ t. Answered waiting.entry.notes t) }
-{
-    let entries = entries_of(alloc, paths)?;
-    let list = Value::List(entries.copy()?);
-    if !list.is_small() {
-        return Ok(failed(waiting.into_task(), FaultKind::Big));
-    }
-    let stamp = ByHash.stamp(alloc, &Observed::Output(list))?;
-    let noted = Noted {
-        stamp,
-        answer: Answer::Entries(entries),
-    };
-    let frame = told(waiting, DepKind::List, dir, noted)?;
-    Ok(Turn::Goes(frame))
 }

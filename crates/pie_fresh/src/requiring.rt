@@ -1,13 +1,20 @@
 //! Tasks that a running task requires.
-ghost use Rattle.std.specs.Prelude.{◌≡◌, ◌+◌, ◌<◌, ◌-◌, ◌^◌, length, Some, slice_get, IfOk};
+ghost use Rattle.std.specs.Prelude.{◌≡◌, ◌+◌, ◌<◌, ◌-◌, ◌^◌, [], ◌∷◌, ◌++◌, length, true, Some, slice_get, IfOk, OnOk};
+ghost use Rattle.pie_value.specs.declared.event.Event.TheVariants as events;
+ghost use Rattle.pie_value.specs.Limits.{is_small_task};
 ghost use Rattle.std.specs.List.{Contains};
 ghost use Rattle.pie_value.specs.Canonical.{IsEncodable, IsEncodableTask};
 ghost use Rattle.pie_value.specs.Values.{tree_of};
 ghost use Rattle.pie_record.specs.Canonical.{IsStorableDep};
 ghost use Rattle.pie_record.specs.declared.dep.DepOn.TheVariants.{Called};
-ghost use Rattle.pie_fresh.specs.Ledgers.{Enters, IsPlaced};
+ghost use Rattle.pie_bridge.specs.Requiring.{of_task, requiring_answer};
+ghost use Rattle.pie_fresh.specs.Noted.{required as with_task};
+ghost use Rattle.pie_fresh.specs.Told.{IsTold};
+ghost use Rattle.pie_fresh.specs.Means.{GoesAs};
+ghost use Rattle.pie_fresh.specs.Ledgers.{Enters, IsPlaced, Starts};
 ghost use Rattle.pie_fresh.specs.Frames.{IsReady, IsWaiting, StandsAt};
 ghost use Rattle.pie_fresh.specs.Turns.{Given, GoesOn, Nearer, below_left};
+ghost use Rattle.pie_fresh.specs.Circles.{tasks_from};
 
 use crate::builder::{Builder, Entered};
 use crate::frame::{Caller, Frame, Waiting};
@@ -36,7 +43,9 @@ impl<'a> Builder<'a> {
         ensures goes { IfOk result (λ t. GoesOn self.new t) }
         ensures nearer { IfOk result (λ t. Nearer (below_left self.old + waiting.entry.notes.left + 1) self.new t) }
         ensures enters { Enters self.old.ledger.names self.new.ledger.names runs.old runs.new }
+        ensures starts { IfOk result (λ _. Starts self.old.ledger.names self.new.ledger.names runs.old runs.new) }
         ensures typed { self.new.typed ≡ self.old.typed }
+        ensures means { IfOk result (λ t. GoesAs self.old self.new waiting.entry (events.Require required how) t) }
     {
         if !required.is_small() {
             return Ok(failed(waiting.into_task(), FaultKind::Big));
@@ -62,8 +71,10 @@ impl<'a> Builder<'a> {
         requires required { IsEncodableTask required }
         requires number { no.0 < length self.now.ledger.names }
         requires named { slice_get self.now.ledger.names no.0 ≡ Some required }
+        requires small { is_small_task required ≡ true }
         ensures goes { IfOk result (λ t. GoesOn self.now t) }
         ensures nearer { IfOk result (λ t. Nearer (below_left self.now + waiting.entry.notes.left + 1) self.now t) }
+        ensures means { IfOk result (λ t. GoesAs self.now self.now waiting.entry (events.Require required how) t) }
     {
         match self.ledger.done(no)? {
             Some(done) => {
@@ -91,10 +102,13 @@ impl<'a> Builder<'a> {
         requires placed { IsPlaced self.old.ledger waiting.notes }
         requires required { IsEncodableTask required }
         requires absent { ¬ (Contains self.old.ledger.names required) }
+        requires small { is_small_task required ≡ true }
         ensures goes { IfOk result (λ t. GoesOn self.new t) }
         ensures nearer { IfOk result (λ t. Nearer (below_left self.old + waiting.entry.notes.left + 1) self.new t) }
         ensures enters { Enters self.old.ledger.names self.new.ledger.names runs.old runs.new }
+        ensures starts { IfOk result (λ _. Starts self.old.ledger.names self.new.ledger.names runs.old runs.new) }
         ensures typed { self.new.typed ≡ self.old.typed }
+        ensures means { IfOk result (λ t. GoesAs self.old self.new waiting.entry (events.Require required how) t) }
     {
         match self.enter(&required, runs)? {
             Entered::Runs(frame) => {
@@ -110,17 +124,27 @@ impl<'a> Builder<'a> {
     }
 
     // The tasks on the stack from the one with this number on, and the one above them.
-    fn circle(&self, no: TaskNo, top: Task) -> Result<Tasks, OutOfMemory> {
+    fn circle(&self, no: TaskNo, top: Task) -> Result<Tasks, OutOfMemory>
+        ensures { IfOk result (λ tasks. tasks ≡ tasks_from no.0 self.now.stack.items ++ top ∷ []) }
+    {
         let mut tasks = Vec::new(self.alloc);
         for caller in &self.stack {
-            let notes = &caller.waiting.notes;
-            if notes.no >= no {
-                tasks.push(notes.task.copy()?)?;
-            }
+            note(&mut tasks, caller, no)?;
         }
         tasks.push(top)?;
         Ok(Tasks::new(tasks))
     }
+}
+
+// A task that waits is in the circle where it has this number or a greater one.
+fn note(tasks: &mut Vec<Task>, caller: &Caller, no: TaskNo) -> Result<(), OutOfMemory>
+    ensures { OnOk result (tasks.new.items ≡ tasks.old.items ++ tasks_from no.0 (caller.now ∷ [])) }
+{
+    let notes = &caller.waiting.notes;
+    if notes.no.0 >= no.0 {
+        tasks.push(notes.task.copy()?)?;
+    }
+    Ok(())
 }
 
 /// A task is told what the task that it requires came to.
@@ -135,7 +159,9 @@ pub(crate) fn give<'a>(
     requires required { IsEncodableTask required }
     requires output { IsEncodable (tree_of done.output) }
     requires height { done.height < 2 ^ 32 - 1 }
-    ensures { IfOk result (λ f. IsReady f × Given (Called required) done.no.0 done.height waiting.entry.notes f.notes) }
+    ensures ready { IfOk result (λ f. IsReady f × Given (Called required) done.no.0 done.height waiting.entry.notes f.notes) }
+    ensures told { IfOk result (λ f. IsTold waiting.entry f (with_task (of_task how required done.output) done.no.0 done.height waiting.entry.notes)
+        (requiring_answer how done.output)) }
 {
     let Done { no, height, output } = done;
     let dep = dep_of(alloc, how, required, &output)?;
@@ -154,7 +180,8 @@ fn told_output<'a>(
     requires waits { IsWaiting waiting }
     requires dep { IsStorableDep dep }
     requires height { height < 2 ^ 32 - 1 }
-    ensures { IfOk result (λ f. IsReady f × Given dep.what no.0 height waiting.entry.notes f.notes) }
+    ensures ready { IfOk result (λ f. IsReady f × Given dep.what no.0 height waiting.entry.notes f.notes) }
+    ensures told { IfOk result (λ f. IsTold waiting.entry f (with_task dep no.0 height waiting.entry.notes) answer) }
 {
     let mut waiting = waiting;
     waiting.notes.required(dep, no, height)?;
@@ -167,6 +194,7 @@ fn dep_of(alloc: Global, how: How, required: Task, output: &Value) -> Result<Dep
     requires output { IsEncodable (tree_of output.now) }
     ensures storable { IfOk result IsStorableDep }
     ensures on { IfOk result (λ d. d.what ≡ Called required) }
+    ensures is { IfOk result (λ d. d ≡ of_task how required output.now) }
 {
     match how {
         How::Whole => Ok(Dep {
@@ -187,7 +215,9 @@ fn dep_of(alloc: Global, how: How, required: Task, output: &Value) -> Result<Dep
     }
 }
 
-fn output_answer(how: How, output: Value) -> Answer {
+fn output_answer(how: How, output: Value) -> Answer
+    ensures { result ≡ requiring_answer how output }
+{
     match how {
         How::Whole | How::Hashed => Answer::Output(output),
         How::Ran => Answer::Ran,

@@ -1,12 +1,19 @@
 //! What a build leaves where all its roots are done.
-ghost use Rattle.std.specs.Prelude.{◌≡◌, ◌+◌, ◌<◌, ◌++◌, All, IsTrue, length, IfOk, OnOk};
+ghost use Rattle.std.specs.Prelude.{◌≡◌, ◌+◌, ◌<◌, ◌++◌, [], All, Contains, IsTrue, length, IfOk, OnOk};
+ghost use Rattle.std.specs.BTreeMap.{IsOrdered};
+ghost use Rattle.std.specs.Cmp.Lexicographic.{slice_cmp};
 ghost use Rattle.std.specs.Option.{option_to_list};
+ghost use Rattle.std.specs.Ordering.{nat_cmp};
 ghost use Rattle.pie_base.specs.Path.{is_out};
+ghost use Rattle.pie_bridge.specs.Builds.{AreLive, AreOutputs, AreRows, WroteAt};
 ghost use Rattle.pie_graph.specs.Numbers.{AllBelow, numbers};
 ghost use Rattle.pie_record.specs.Canonical.{IsStorable, IsStorableWrite};
 ghost use Rattle.pie_record.specs.Records.{record_of};
+ghost use Rattle.pie_value.specs.Canonical.{IsEncodableTask};
 ghost use Rattle.pie_fresh.specs.Builds.{InPathOrder, OnlyOut};
-ghost use Rattle.pie_fresh.specs.Ledgers.{IsLedger};
+ghost use Rattle.pie_fresh.specs.Collected.{AreFilesOf, AreOfTasks, Gives, GainsOutput, HasStaged, HasWritten, KeepsPaths, WritesAreStaged, output_at};
+ghost use Rattle.pie_fresh.specs.Frames.{AreEntered};
+ghost use Rattle.pie_fresh.specs.Ledgers.{AreOpen, IsLedger};
 ghost use Rattle.pie_fresh.specs.Ordered.{ArePlaces, AreOrdered, recorded};
 
 use crate::ledger::{Done, Ledger};
@@ -22,7 +29,8 @@ impl Ledger {
     #[tactic(auto, using(crate::proofs::BuiltLemmas::pushed_below))]
     pub(crate) fn all_numbers(&self) -> Result<Vec<TaskNo>, OutOfMemory>
         requires { IsLedger self.now }
-        ensures { IfOk result (λ nos. AllBelow (length self.now.names) (numbers nos.items)) }
+        ensures below { IfOk result (λ nos. AllBelow (length self.now.names) (numbers nos.items)) }
+        ensures live { IfOk result (λ nos. AreLive self.now.names (numbers nos.items)) }
     {
         let mut nos = Vec::new(self.alloc);
         for n in 0..self.heights.len() as u32 {
@@ -36,6 +44,7 @@ impl Ledger {
         requires { IsLedger self.now }
         ensures storable { IfOk result (λ rows. All IsStorable rows.items) }
         ensures ordered { IfOk result (λ rows. AreOrdered self.now rows.items) }
+        ensures rows { IfOk result (λ rows. AreRows self.now.names self.now.records rows.items) }
     {
         let _names = self.names.as_slice();
         let places = self.places()?;
@@ -113,27 +122,37 @@ impl Ledger {
     /// The files that tasks wrote, in path order.
     pub(crate) fn files(&self) -> Result<Vec<(Path, Vec<u8>)>, OutOfMemory>
         requires { IsLedger self.now }
-        ensures { IfOk result (λ files. InPathOrder files.items) }
+        ensures order { IfOk result (λ files. InPathOrder files.items) }
+        ensures files { IfOk result (λ files. WritesAreStaged self.now → AreFilesOf self.now files.items) }
     {
         let mut files = BTreeMap::new(self.alloc);
         for n in 0..self.heights.len() as u32 {
             self.put_files(TaskNo(n), &mut files)?;
         }
-        listed(self.alloc, files)
+        let list = listed(self.alloc, files)?;
+        Ok(list)
     }
 
     // Adds the files that a task wrote.
     fn put_files(&self, no: TaskNo, files: &mut BTreeMap<Path, Vec<u8>>) -> Result<(), OutOfMemory>
         requires ledger { IsLedger self.now }
         requires out { OnlyOut files.old }
-        ensures { OnOk result (OnlyOut files.new) }
+        requires of_tasks { AreOfTasks self.now files.old }
+        ensures out { OnOk result (OnlyOut files.new) }
+        ensures of_tasks { OnOk result (AreOfTasks self.now files.new) }
+        ensures keeps { OnOk result (KeepsPaths files.old files.new) }
+        ensures written { OnOk result (HasWritten self.now no.0 files.new) }
     {
         match self.records.get(no) {
-            Some(rec) => self.put_all(no, rec.writes.as_slice(), files),
+            Some(rec) => {
+                self.put_all(no, rec.writes.as_slice(), files)?;
+                Ok(())
+            }
             None => Ok(()),
         }
     }
 
+    // Adds the files at paths that a task wrote.
     fn put_all(
         &self,
         no: TaskNo,
@@ -141,8 +160,13 @@ impl Ledger {
         files: &mut BTreeMap<Path, Vec<u8>>,
     ) -> Result<(), OutOfMemory>
         requires writes { All IsStorableWrite writes.now }
+        requires wrote { All (λ w. WroteAt self.now.records no.0 w.0) writes.now }
         requires out { OnlyOut files.old }
-        ensures { OnOk result (OnlyOut files.new) }
+        requires of_tasks { AreOfTasks self.now files.old }
+        ensures out { OnOk result (OnlyOut files.new) }
+        ensures of_tasks { OnOk result (AreOfTasks self.now files.new) }
+        ensures keeps { OnOk result (KeepsPaths files.old files.new) }
+        ensures each { OnOk result (All (λ w. HasStaged self.now no.0 files.new w.0) writes.now) }
     {
         for (path, _) in writes {
             self.put_file(no, path, files)?;
@@ -150,6 +174,7 @@ impl Ledger {
         Ok(())
     }
 
+    // Adds the file at a path that a task wrote.
     fn put_file(
         &self,
         no: TaskNo,
@@ -157,8 +182,13 @@ impl Ledger {
         files: &mut BTreeMap<Path, Vec<u8>>,
     ) -> Result<(), OutOfMemory>
         requires path { IsTrue (is_out path.now) }
+        requires wrote { WroteAt self.now.records no.0 path.now }
         requires out { OnlyOut files.old }
-        ensures { OnOk result (OnlyOut files.new) }
+        requires of_tasks { AreOfTasks self.now files.old }
+        ensures out { OnOk result (OnlyOut files.new) }
+        ensures of_tasks { OnOk result (AreOfTasks self.now files.new) }
+        ensures keeps { OnOk result (KeepsPaths files.old files.new) }
+        ensures staged { OnOk result (HasStaged self.now no.0 files.new path.now) }
     {
         match self.stage.get(no, path) {
             Some(content) => {
@@ -170,22 +200,25 @@ impl Ledger {
         }
     }
 
-    // The output of a task that is done.
+    // The output of a task, where all tasks are done.
     fn output(&self, task: &Task) -> Result<Option<Value>, OutOfMemory>
-        requires { IsLedger self.now }
+        requires ledger { IsLedger self.now }
+        requires finished { AreOpen self.now [] }
+        requires small { IsEncodableTask task.now }
+        requires named { Contains self.now.names task.now }
+        ensures { IfOk result (λ output. Gives self.now task.now output) }
     {
-        if !task.is_small() {
-            return Ok(None);
-        }
         match self.names.number(task)? {
             Some(no) => self.output_of(no),
             None => Ok(None),
         }
     }
 
+    // The output of the task with a number, if it is done.
     fn output_of(&self, no: TaskNo) -> Result<Option<Value>, OutOfMemory>
         requires ledger { IsLedger self.now }
         requires number { no.0 < length self.now.names }
+        ensures { IfOk result (λ output. output ≡ output_at self.now.records no.0) }
     {
         match self.done(no)? {
             Some(done) => {
@@ -200,9 +233,12 @@ impl Ledger {
         }
     }
 
-    /// The outputs of tasks, in their order.
+    /// The outputs of entered tasks, in their order, where all tasks are done.
     pub(crate) fn outputs_of(&self, roots: &[Task]) -> Result<Vec<(Task, Value)>, OutOfMemory>
-        requires { IsLedger self.now }
+        requires ledger { IsLedger self.now }
+        requires finished { AreOpen self.now [] }
+        requires entered { AreEntered self.now.names roots.now }
+        ensures { IfOk result (λ outputs. AreOutputs self.now.names self.now.records roots.now outputs.items) }
     {
         let mut outputs = Vec::new(self.alloc);
         for root in roots {
@@ -213,7 +249,11 @@ impl Ledger {
 
     // Adds the output of a task.
     fn put_output(&self, root: &Task, outputs: &mut Vec<(Task, Value)>) -> Result<(), OutOfMemory>
-        requires { IsLedger self.now }
+        requires ledger { IsLedger self.now }
+        requires finished { AreOpen self.now [] }
+        requires small { IsEncodableTask root.now }
+        requires named { Contains self.now.names root.now }
+        ensures { OnOk result (GainsOutput self.now root.now outputs.old.items outputs.new.items) }
     {
         match self.output(root)? {
             Some(output) => {
@@ -232,7 +272,9 @@ fn listed(
     files: BTreeMap<Path, Vec<u8>>,
 ) -> Result<Vec<(Path, Vec<u8>)>, OutOfMemory>
     requires { OnlyOut files }
-    ensures { IfOk result (λ list. InPathOrder list.items) }
+    ensures order { IfOk result (λ list. InPathOrder list.items) }
+    ensures entries { IfOk result (λ list. list.items ≡ files.entries) }
+    ensures ordered { IsOrdered (slice_cmp nat_cmp) files }
 {
     let _count = files.len();
     let list = emptied(alloc, files)?;

@@ -1,5 +1,8 @@
-use Rattle.std.proofs.Common.{◌∙◌}
-use Rattle.pie_fresh.proofs.Growing.{enters_then}
+use Rattle.std.proofs.Common.{subst, ◌∙◌}
+use Rattle.pie_commit.proofs.Reading.{both_before}
+use Rattle.pie_fresh.proofs.Growing.{enters_then, starts_then}
+use Rattle.pie_fresh.specs.Cleans.{EvaluatesRoot}
+use Rattle.pie_fresh.proofs.Cleaning.{does_more, ends_build, does_all}
 use Rattle.pie_fresh.proofs.Roots.{entered_more, entered_all}
 use Rattle.pie_fresh.proofs.build.evaluate_all.Goals as goal
 
@@ -15,6 +18,14 @@ loop-root-preserved g c =
       c.evaluate.ensures.typed ∙ before.3,
       c.evaluate.ensures.same ∙ before.4,
       c.in_ok-refusal.ensures.counted.steady ∙ before.5,
+      starts_then c.args.builder.now.ledger.names c.loop-root.builder.ledger.names c.evaluate.new.self.ledger.names c.args.runs.now c.loop-root.runs
+          c.evaluate.new.runs before.6 c.in_ok-refusal.ensures.starts,
+      does_more (g.F.Files.holds c.args.files.now) (g.F.Files.holds c.loop-root.files) c.args.builder.now c.loop-root.builder c.evaluate.new.self
+          c.args.roots.now c.loop-root.root-index c.root-item.result before.4 c.loop-root-test.true c.root-item.is before.7
+          (subst (EvaluatesRoot (g.F.Files.holds c.loop-root.files) c.loop-root.builder c.evaluate.new.self c.root-item.result) c.in-None.is
+          c.in_ok-refusal.ensures.means),
+      both_before g.F.Files.holds g.F.Files.moment g.F.Files.left_since g.F.Files.images c.args.files.now c.loop-root.files c.evaluate.new.files before.4
+          before.8 c.evaluate.ensures.crash,
     )
 
 pub returns-clause-entered : goal.returns-clause-entered
@@ -30,3 +41,20 @@ pub returns-in-Some-clause-enters : goal.returns-in-Some-clause-enters
 returns-in-Some-clause-enters g c =
     enters_then c.args.builder.now.ledger.names c.loop-root.builder.ledger.names c.evaluate.new.self.ledger.names c.args.runs.now c.loop-root.runs
     c.evaluate.new.runs c.loop-root.invariant.1 c.evaluate.ensures.enters
+
+pub returns-clause-means : goal.returns-clause-means
+returns-clause-means g c =
+    does_all (g.F.Files.holds c.args.files.now) c.args.builder.now c.loop-root.builder c.args.roots.now c.loop-root.root-index c.loop-root-test.false
+    c.loop-root.invariant.7
+
+pub returns-in-Some-clause-starts : goal.returns-in-Some-clause-starts
+returns-in-Some-clause-starts g c =
+    starts_then c.args.builder.now.ledger.names c.loop-root.builder.ledger.names c.evaluate.new.self.ledger.names c.args.runs.now c.loop-root.runs
+    c.evaluate.new.runs c.loop-root.invariant.6 c.in_ok-refusal.ensures.starts
+
+pub returns-in-Some-clause-means : goal.returns-in-Some-clause-means
+returns-in-Some-clause-means g c =
+    ends_build (g.F.Files.holds c.args.files.now) (g.F.Files.holds c.loop-root.files) c.args.builder.now c.loop-root.builder c.evaluate.new.self
+    c.args.roots.now c.loop-root.root-index c.root-item.result c.loop-root.invariant.4 c.loop-root-test.true c.root-item.is c.loop-root.invariant.7
+    c.in-Some.refusal (subst (EvaluatesRoot (g.F.Files.holds c.loop-root.files) c.loop-root.builder c.evaluate.new.self c.root-item.result) c.in-Some.is
+    c.in_ok-refusal.ensures.means)

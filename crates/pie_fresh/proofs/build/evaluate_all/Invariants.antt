@@ -1,11 +1,16 @@
 use Rattle.std.proofs.Common.{◌≡◌, take}
-use Rattle.pie_fresh.specs.Ledgers.{Enters}
+use Rattle.pie_commit.specs.Outcomes.{LeavesAsBefore}
+use Rattle.pie_fresh.specs.Ledgers.{Enters, Starts}
 use Rattle.pie_fresh.specs.Frames.{AreEntered, IsIdle}
+use Rattle.pie_fresh.specs.Cleans.{DoesRoots}
 use Rattle.pie_fresh.proofs.build.evaluate_all.Given as goal
 
--- the build stands, the roots so far were entered, and the pipeline and the files are as they were
+-- the build stands, the roots so far were entered and are done as in the model, and the pipeline and the files are as they were
 abbrev pub invariant-loop-root : goal.invariant-loop-root
 invariant-loop-root g l =
     IsIdle l.builder × Enters l.fn.builder.ledger.names l.builder.ledger.names l.fn.runs l.runs
     × AreEntered l.builder.ledger.names (take l.root-index l.roots) × (l.builder.typed ≡ l.fn.builder.typed)
     × (g.F.Files.holds l.files ≡ g.F.Files.holds l.fn.files) × (g.F.Files.faults l.files ≡ g.F.Files.faults l.fn.files)
+    × Starts l.fn.builder.ledger.names l.builder.ledger.names l.fn.runs l.runs
+    × DoesRoots (g.F.Files.holds l.fn.files) l.fn.builder l.builder l.roots (take l.root-index l.roots)
+    × LeavesAsBefore g.F.Files.holds g.F.Files.moment g.F.Files.left_since g.F.Files.images l.fn.files l.files

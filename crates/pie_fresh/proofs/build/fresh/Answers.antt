@@ -1,8 +1,10 @@
-use Rattle.std.proofs.Common.{[], ap, ◌∙◌}
+use Rattle.std.proofs.Common.{[], ap, subst, ◌∙◌}
 use Rattle.std.specs.Prelude.{Contains}
 use Rattle.std.proofs.lemmas.List.Elements.{All-nil}
 use Rattle.pie_value.specs.declared.task.Task.{Task}
 use Rattle.pie_codegen.specs.Digests.{function_names}
+use Rattle.pie_fresh.specs.Cleans.{EvaluatesAs}
+use Rattle.pie_fresh.proofs.Cleaning.{cleans_refused, cleans_checked}
 use Rattle.pie_fresh.proofs.Roots.{idle_known}
 use Rattle.pie_fresh.proofs.build.fresh.Goals as goal
 
@@ -15,3 +17,18 @@ returns-clause-stored g c =
     c.in_ok-checked-in-None.ensures.stored c.args.typed.now
     (idle_known c.evaluate_all.new.builder c.args.typed.now (c.in_ok-refusal.ensures.idle c.in-None.is)
     (ap (λ t. t.now) c.evaluate_all.ensures.typed ∙ c.new-builder.ensures.typed))
+
+pub returns-in-Some-clause-clean : goal.returns-in-Some-clause-clean
+returns-in-Some-clause-clean g c =
+    cleans_refused (g.F.Files.holds c.args.files.now) c.args.typed.now c.args.code.now c.args.roots.now c.args.runs.now c.evaluate_all.new.runs
+    c.new-builder.result c.evaluate_all.new.builder c.new-builder.ensures.begins c.in_ok-refusal.ensures.starts c.new-builder.ensures.none c.refused.result
+    c.in-Some.refusal (subst (EvaluatesAs (g.F.Files.holds c.args.files.now) c.new-builder.result c.evaluate_all.new.builder c.args.roots.now) c.in-Some.is
+    c.in_ok-refusal.ensures.means) c.refused.ensures.verdict c.refused.ensures.refused_empty
+
+pub returns-clause-clean : goal.returns-clause-clean
+returns-clause-clean g c =
+    cleans_checked (g.F.Files.holds c.args.files.now) c.args.typed.now c.args.code.now c.args.roots.now c.args.runs.now c.evaluate_all.new.runs
+    c.new-builder.result c.evaluate_all.new.builder c.new-builder.ensures.begins c.in_ok-refusal.ensures.starts c.new-builder.ensures.none
+    c.in_ok-checked-in-None.field-0
+    (subst (EvaluatesAs (g.F.Files.holds c.args.files.now) c.new-builder.result c.evaluate_all.new.builder c.args.roots.now) c.in-None.is
+    c.in_ok-refusal.ensures.means) c.in_ok-checked-in-None.ensures.clean

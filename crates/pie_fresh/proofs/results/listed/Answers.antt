@@ -1,5 +1,5 @@
 use Rattle.pie_fresh.proofs.FileLemmas.{in_path_order}
 use Rattle.pie_fresh.proofs.results.listed.Goals as goal
 
-pub returns : goal.returns
-returns c = in_path_order c.args.files c.in_ok-list.list.items c.len-count.ensures.ordered c.requires c.in_ok-list.ensures
+pub returns-clause-order : goal.returns-clause-order
+returns-clause-order c = in_path_order c.args.files c.in_ok-list.list.items c.len-count.ensures.ordered c.requires c.in_ok-list.ensures

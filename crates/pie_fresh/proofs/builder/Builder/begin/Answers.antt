@@ -4,8 +4,11 @@ use Rattle.std.proofs.lemmas.Result.{IfOk-weaker}
 use Rattle.std.proofs.lemmas.List.Elements.{Contains-push}
 use Rattle.pie_fresh.specs.Frames.{IsIdle}
 use Rattle.pie_fresh.specs.Turns.{Begins, Begun}
-use Rattle.pie_fresh.proofs.Growing.{enters_then}
+use Rattle.pie_fresh.specs.Means.{NewAs}
+use Rattle.pie_fresh.proofs.Growing.{enters_then, starts_then}
 use Rattle.pie_fresh.proofs.Entering.{begun_runs}
+use Rattle.pie_fresh.proofs.Leaving.{if_ok}
+use Rattle.pie_fresh.proofs.Rooting.{begins_runs, begins_refused}
 use Rattle.pie_fresh.proofs.builder.Builder.begin.Goals as goal
 
 pub run-requires : goal.run-requires
@@ -27,3 +30,18 @@ pub returns-in-Runs-clause-enters : goal.returns-in-Runs-clause-enters
 returns-in-Runs-clause-enters g c =
     enters_then c.args.self.now.ledger.names c.enter.new.self.ledger.names c.run.new.self.ledger.names c.args.runs.now c.enter.new.runs c.run.new.runs
     c.in_ok-frame.ensures.enters c.run.ensures.enters
+
+pub returns-in-Runs-clause-starts : goal.returns-in-Runs-clause-starts
+returns-in-Runs-clause-starts g c =
+    if_ok _ _ c.run.result (λ _ then. starts_then c.args.self.now.ledger.names c.enter.new.self.ledger.names c.run.new.self.ledger.names c.args.runs.now
+    c.enter.new.runs c.run.new.runs c.in_ok-frame.ensures.starts then) c.run.ensures.starts
+
+pub returns-in-Runs-clause-means : goal.returns-in-Runs-clause-means
+returns-in-Runs-clause-means g c =
+    if_ok _ _ c.run.result (begins_runs (g.F.Files.holds c.args.files.now) c.args.self.now c.enter.new.self c.run.new.self c.args.root.now c.in-Runs.frame
+    (subst (λ e. NewAs c.args.self.now c.enter.new.self c.args.root.now e) c.in-Runs.is c.in_ok-frame.ensures.means)) c.run.ensures.means
+
+pub returns-in-Refused-clause-means : goal.returns-in-Refused-clause-means
+returns-in-Refused-clause-means g c =
+    begins_refused (g.F.Files.holds c.args.files.now) c.args.self.now c.enter.new.self c.args.root.now c.in-Refused.refusal
+    (subst (λ e. NewAs c.args.self.now c.enter.new.self c.args.root.now e) c.in-Refused.is c.in_ok-frame.ensures.means)

@@ -1,6 +1,8 @@
 use Rattle.std.proofs.Common.{refl, subst}
 use Rattle.pie_fresh.specs.Turns.{Begins}
+use Rattle.pie_fresh.specs.Means.{EntersAs}
 use Rattle.pie_fresh.proofs.Entering.{descended, descended_nearer}
+use Rattle.pie_fresh.proofs.Starting.{descended_means, refused_means}
 use Rattle.pie_fresh.proofs.builder.Builder.descend.Goals as goal
 
 pub returns-in-Runs-clause-goes : goal.returns-in-Runs-clause-goes
@@ -22,3 +24,24 @@ returns-in-Runs-clause-nearer c =
     })
     c.args.required c.in-Runs.frame (record { waiting = c.args.waiting; required = c.args.required; how = c.args.how })
     (subst (λ e. Begins c.args.self.now c.enter.new.self c.args.required e) c.in-Runs.is c.in_ok-frame.ensures.begins) refl c.in_ok-push-in-Runs.ensures.items
+
+pub returns-in-Runs-clause-means : goal.returns-in-Runs-clause-means
+returns-in-Runs-clause-means c = λ s A.
+    let E = subst (λ e. EntersAs s c.args.self.now c.enter.new.self c.args.required e) c.in-Runs.is
+    (c.in_ok-frame.ensures.means s A.means.there A.means.table) in
+    descended_means s c.args.self.now c.enter.new.self c.args.waiting c.args.required c.args.how A c.requires.waits.left c.requires.small
+    (record {
+      alloc = c.enter.new.self.alloc;
+      typed = c.enter.new.self.typed;
+      code = c.enter.new.self.code;
+      ledger = c.enter.new.self.ledger;
+      stack = c.push.new.self;
+    })
+    c.in-Runs.frame E.0 E.1 refl c.in_ok-push-in-Runs.ensures.items
+    (record { functions = E.0.there.functions; codes = E.0.there.codes; compiled = E.0.there.compiled; headings = E.0.there.headings })
+
+pub returns-clause-means : goal.returns-clause-means
+returns-clause-means c = λ s A.
+    refused_means s c.args.self.now c.enter.new.self c.args.waiting c.args.required c.args.how A c.requires.waits.left c.requires.small c.in-Refused.refusal
+    (subst (λ e. EntersAs s c.args.self.now c.enter.new.self c.args.required e) c.in-Refused.is
+    (c.in_ok-frame.ensures.means s A.means.there A.means.table))

@@ -1,7 +1,8 @@
-use Rattle.std.proofs.Common.{Some, refl}
+use Rattle.std.proofs.Common.{Some, refl, sym, ◌∙◌}
 use Rattle.std.proofs.lemmas.List.Elements.{All-pop}
 use Rattle.pie_fresh.specs.Frames.{IsCaller}
 use Rattle.pie_fresh.proofs.Finishing.{resumed, resumed_nearer}
+use Rattle.pie_fresh.proofs.Resuming.{resumed_means, rested, nothing_left}
 use Rattle.pie_fresh.proofs.builder.Builder.resume.Goals as goal
 
 pub give-requires-clause-waits : goal.give-requires-clause-waits
@@ -17,7 +18,7 @@ give-requires-clause-required c =
 pub returns-in_ok-frame-in-Some-clause-goes : goal.returns-in_ok-frame-in-Some-clause-goes
 returns-in_ok-frame-in-Some-clause-goes c =
     resumed c.args.self.now _ c.in-Some.caller c.args.done.no.0 c.args.done.height c.in_ok-frame-in-Some.frame c.requires.stands c.in-Some.ensures.items
-    refl refl c.requires.high c.requires.height c.in_ok-frame-in-Some.ensures.0 c.in_ok-frame-in-Some.ensures.1
+    refl refl c.requires.high c.requires.height c.in_ok-frame-in-Some.ensures.ready.0 c.in_ok-frame-in-Some.ensures.ready.1
 
 pub returns-in_ok-frame-in-Some-clause-nearer : goal.returns-in_ok-frame-in-Some-clause-nearer
 returns-in_ok-frame-in-Some-clause-nearer c =
@@ -30,4 +31,32 @@ returns-in_ok-frame-in-Some-clause-nearer c =
       stack = c.pop.new.self;
     })
     c.in-Some.caller c.args.done.no.0 c.args.done.height c.in_ok-frame-in-Some.frame c.in-Some.ensures.items refl
-    c.in_ok-frame-in-Some.ensures.1
+    c.in_ok-frame-in-Some.ensures.ready.1
+
+pub returns-in_ok-frame-in-Some-clause-means : goal.returns-in_ok-frame-in-Some-clause-means
+returns-in_ok-frame-in-Some-clause-means c = λ s H.
+    resumed_means s c.args.self.now
+    (record {
+      alloc = c.args.self.now.alloc;
+      typed = c.args.self.now.typed;
+      code = c.args.self.now.code;
+      ledger = c.args.self.now.ledger;
+      stack = c.pop.new.self;
+    })
+    c.in-Some.caller c.args.done.no.0 c.args.done.height c.args.done.output c.in_ok-frame-in-Some.frame H c.in-Some.ensures.items refl
+    (record { functions = H.there.functions; codes = H.there.codes; compiled = H.there.compiled; headings = H.there.headings })
+    c.in_ok-frame-in-Some.ensures.told
+
+pub returns-in-None-clause-means : goal.returns-in-None-clause-means
+returns-in-None-clause-means c = λ s H.
+    rested s c.args.self.now
+    (record {
+      alloc = c.args.self.now.alloc;
+      typed = c.args.self.now.typed;
+      code = c.args.self.now.code;
+      ledger = c.args.self.now.ledger;
+      stack = c.pop.new.self;
+    })
+    c.args.done.no.0 c.args.done.output H (nothing_left c.args.self.now.stack.items (sym c.args.self.now.stack.ok.0 ∙ c.in-None.ensures.cases.0))
+    (nothing_left c.pop.new.self.items (sym c.pop.new.self.ok.0 ∙ c.in-None.ensures.cases.1)) refl
+    (record { functions = H.there.functions; codes = H.there.codes; compiled = H.there.compiled; headings = H.there.headings })

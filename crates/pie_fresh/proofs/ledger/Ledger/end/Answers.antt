@@ -5,7 +5,7 @@ use Rattle.pie_record.specs.declared.task_record.Outcome.TheVariants.{Done}
 use Rattle.std.specs.Vec.{with_item}
 use Rattle.pie_fresh.specs.contracts.notes.Notes.{the_view}
 use Rattle.pie_fresh.specs.declared.ledger.Ledger.{Ledger}
-use Rattle.pie_fresh.proofs.Ending.{EndsAs, ends_ledger, ends_grows, ends_puts, ends_high}
+use Rattle.pie_fresh.proofs.Ending.{EndsAs, ends_ledger, ends_grows, ends_high}
 use Rattle.pie_fresh.proofs.ledger.Ledger.end.Goals as goal
 
 -- the record of the task that ends
@@ -44,9 +44,6 @@ returns-clause-ledger c =
 
 pub returns-clause-grows : goal.returns-clause-grows
 returns-clause-grows c = ends_grows c.args.self.now _ (the_view c.notes.inside) c.args.notes (rec c) c.notes.view_is (ends c) c.requires.unfinished
-
-pub returns-clause-puts : goal.returns-clause-puts
-returns-clause-puts c = ends_puts c.args.self.now (after c) (the_view c.notes.inside) c.args.notes (rec c) c.notes.view_is (ends c)
 
 pub returns-clause-high : goal.returns-clause-high
 returns-clause-high c = ends_high c.args.self.now _ (the_view c.notes.inside) c.args.notes (rec c) c.notes.view_is (ends c) c.requires.ledger c.requires.placed

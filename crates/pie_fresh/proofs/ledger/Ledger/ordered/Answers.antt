@@ -1,7 +1,13 @@
 use Rattle.pie_fresh.proofs.Ordering.{ordered_rows}
+use Rattle.pie_fresh.proofs.RowLemmas.{whole_rows}
 use Rattle.pie_fresh.proofs.ledger.Ledger.ordered.Goals as goal
 
 pub returns-clause-ordered : goal.returns-clause-ordered
 returns-clause-ordered c =
     ordered_rows c.args.self.now c.in_ok-places.places.entries c.in_ok-rows.rows.items c.requires c.as_slice-names.ensures.distinct
+    c.as_slice-names.ensures.canonical c.in_ok-places.ensures c.in_ok-rows.ensures.rows
+
+pub returns-clause-rows : goal.returns-clause-rows
+returns-clause-rows c =
+    whole_rows c.args.self.now c.in_ok-places.places.entries c.in_ok-rows.rows.items c.requires c.as_slice-names.ensures.distinct
     c.as_slice-names.ensures.canonical c.in_ok-places.ensures c.in_ok-rows.ensures.rows

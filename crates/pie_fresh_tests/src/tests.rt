@@ -1,9 +1,9 @@
 //! Whole builds of projects in memory.
-use crate::fresh;
 use pie_base::{FaultKind, Path};
 use pie_checks::Built;
 use pie_codegen::compile;
 use pie_files::{Files, FilesError, MemFiles, SureFiles};
+use pie_fresh::fresh;
 use pie_lexer::lex;
 use pie_roots::read_roots;
 use pie_syntax::parse;
@@ -191,7 +191,9 @@ fn name_of(kind: &FaultKind) -> &'static str {
 }
 
 const SITE: &str =
-    "func page(src: path) -> path {\n  val body = get(read(src));\n  val foot = require footer();\n  val target = join(path(\"out\"), name(src));\n  write(target, body + foot);\n  target\n}\nfunc footer() -> text { trim(get(read(path(\"inc/foot\")))) }\nfunc site() -> int { len([require page(p) for p in list(path(\"src\"))]) }\n";
+    "func page(src: path) -> path {\n  val body = get(read(src));\n  val foot = require footer();\n  val target = join(path(\"out\"), \
+        name(src));\n  write(target, body + foot);\n  target\n}\nfunc footer() -> text { trim(get(read(path(\"inc/foot\")))) }\nfunc site() \
+        -> int { len([require page(p) for p in list(path(\"src\"))]) }\n";
 
 const ACCEPTED: [Case; 7] = [
     Case {
@@ -203,13 +205,15 @@ const ACCEPTED: [Case; 7] = [
             ("src/c", "C\n"),
             ("inc/foot", "end\n"),
         ],
-        wanted: "accepted footer() page(path(\"src/a\")) page(path(\"src/b\")) page(path(\"src/c\")) site() / out/a A\nend / out/b B\nend / out/c C\nend / site() = 3 / ran site() page(path(\"src/a\")) footer() page(path(\"src/b\")) page(path(\"src/c\"))",
+        wanted: "accepted footer() page(path(\"src/a\")) page(path(\"src/b\")) page(path(\"src/c\")) site() / out/a A\nend / out/b B\nend / \
+            out/c C\nend / site() = 3 / ran site() page(path(\"src/a\")) footer() page(path(\"src/b\")) page(path(\"src/c\"))",
     },
     Case {
         pipeline: "func main() -> text { sha256(\"abc\") }",
         roots: "main()\nmain()",
         files: &[],
-        wanted: "accepted main() / main() = \"ba7816bf8f01cfea414140de5dae2223b00361a396177a9cb410ff61f20015ad\" / main() = \"ba7816bf8f01cfea414140de5dae2223b00361a396177a9cb410ff61f20015ad\" / ran main()",
+        wanted: "accepted main() / main() = \"ba7816bf8f01cfea414140de5dae2223b00361a396177a9cb410ff61f20015ad\" / main() = \
+            \"ba7816bf8f01cfea414140de5dae2223b00361a396177a9cb410ff61f20015ad\" / ran main()",
     },
     Case {
         pipeline: "func main() -> text { get(read(path(\"s\"))) }",
@@ -224,16 +228,19 @@ const ACCEPTED: [Case; 7] = [
         wanted: "accepted m(bytes(\"00ff\")) / m(bytes(\"00ff\")) = 2 / ran m(bytes(\"00ff\"))",
     },
     Case {
-        pipeline: "func x() -> unit { write(path(\"out/p\"), \"P\"); } func y() -> int { if exists(path(\"flag\")) { run x(); }; 1 } func t() -> text { run y(); if exists(path(\"out/p\")) { \"seen\" } else { \"none\" } }",
+        pipeline: "func x() -> unit { write(path(\"out/p\"), \"P\"); } func y() -> int { if exists(path(\"flag\")) { run x(); }; 1 } func \
+            t() -> text { run y(); if exists(path(\"out/p\")) { \"seen\" } else { \"none\" } }",
         roots: "t()",
         files: &[("flag", "")],
         wanted: "accepted x() y() t() / out/p P / t() = \"seen\" / ran t() y() x()",
     },
     Case {
-        pipeline: "func x() -> unit { write(path(\"out/p\"), \"P\"); } func t() -> [text] { run x(); [get(read(path(\"out/p\"))), get(digest(path(\"out/p\"))), require y() by hash] } func y() -> text { write(path(\"out/q\"), \"Q\"); get(read(path(\"out/q\"))) }",
+        pipeline: "func x() -> unit { write(path(\"out/p\"), \"P\"); } func t() -> [text] { run x(); [get(read(path(\"out/p\"))), \
+            get(digest(path(\"out/p\"))), require y() by hash] } func y() -> text { write(path(\"out/q\"), \"Q\"); get(read(path(\"out/q\"))) }",
         roots: "y()\n\nt()\n",
         files: &[],
-        wanted: "accepted x() y() t() / out/p P / out/q Q / y() = \"Q\" / t() = [\"P\", \"5c62e091b8c0565f1bafad0dad5934276143ae2ccef7a5381e8ada5b1a8d26d2\", \"Q\"] / ran y() t() x()",
+        wanted: "accepted x() y() t() / out/p P / out/q Q / y() = \"Q\" / t() = [\"P\", \
+            \"5c62e091b8c0565f1bafad0dad5934276143ae2ccef7a5381e8ada5b1a8d26d2\", \"Q\"] / ran y() t() x()",
     },
     Case {
         pipeline: "func main() -> [bool] { [exists(path(\"out\")), exists(path(\"pie.roots\")), exists(path(\"s\")), exists(path(\"d\"))] }",
@@ -274,7 +281,8 @@ const REFUSED: [Case; 14] = [
         wanted: "overlap out/a w(1) w(2) / ran main() w(1) w(2)",
     },
     Case {
-        pipeline: "func w(n: int) -> unit { write(path(\"out/a\"), to_text(n)); } func v() -> unit { write(path(\"out/a/b\"), \"\"); } func main() -> unit { run w(1); run v(); }",
+        pipeline: "func w(n: int) -> unit { write(path(\"out/a\"), to_text(n)); } func v() -> unit { write(path(\"out/a/b\"), \"\"); } func \
+            main() -> unit { run w(1); run v(); }",
         roots: "main()",
         files: &[],
         wanted: "nested out/a out/a/b / ran main() w(1) v()",
@@ -334,10 +342,12 @@ const REFUSED: [Case; 14] = [
         wanted: "accepted main() / out/a 1 / out/b 1 / main() = unit / main() = unit / ran main()",
     },
     Case {
-        pipeline: "func leaf(p: path) -> text { get(read(p)) } func mid() -> text { require leaf(path(\"x\")) + require leaf(path(\"y\")) } func top() -> text { if exists(path(\"flag\")) { require mid() } else { \"-\" } }",
+        pipeline: "func leaf(p: path) -> text { get(read(p)) } func mid() -> text { require leaf(path(\"x\")) + require leaf(path(\"y\")) } \
+            func top() -> text { if exists(path(\"flag\")) { require mid() } else { \"-\" } }",
         roots: "top()\nmid()",
         files: &[("x", "3"), ("y", "4"), ("flag", "")],
-        wanted: "accepted leaf(path(\"x\")) leaf(path(\"y\")) mid() top() / top() = \"34\" / mid() = \"34\" / ran top() mid() leaf(path(\"x\")) leaf(path(\"y\"))",
+        wanted: "accepted leaf(path(\"x\")) leaf(path(\"y\")) mid() top() / top() = \"34\" / mid() = \"34\" / ran top() mid() \
+            leaf(path(\"x\")) leaf(path(\"y\"))",
     },
 ];
 

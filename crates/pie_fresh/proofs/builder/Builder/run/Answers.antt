@@ -1,0 +1,33 @@
+use Rattle.std.proofs.Common.{◌∙◌, subst}
+use Rattle.pie_commit.proofs.Reading.{both_before}
+use Rattle.pie_fresh.specs.Turns.{GoesOn}
+use Rattle.pie_fresh.proofs.Growing.{enters_then, starts_then}
+use Rattle.pie_fresh.proofs.Rooting.{runs_on, runs_out, runs_stop}
+use Rattle.pie_fresh.proofs.builder.Builder.run.Goals as goal
+
+pub turns-preserved : goal.turns-preserved
+turns-preserved g c =
+    let before = c.turns.invariant in (
+      subst (GoesOn c.turn.new.self) c.in-Goes.is c.in_ok-next.ensures.goes,
+      enters_then c.args.self.now.ledger.names c.turns.self.ledger.names c.turn.new.self.ledger.names c.args.runs.now c.turns.runs c.turn.new.runs
+          before.1 c.turn.ensures.enters,
+      c.turn.ensures.typed ∙ before.2,
+      c.turn.ensures.same ∙ before.3,
+      c.in_ok-next.ensures.counted.steady ∙ before.4,
+      starts_then c.args.self.now.ledger.names c.turns.self.ledger.names c.turn.new.self.ledger.names c.args.runs.now c.turns.runs c.turn.new.runs
+          before.5 c.in_ok-next.ensures.starts,
+      runs_on (g.F.Files.holds c.args.files.now) (g.F.Files.holds c.turns.files) c.args.self.now c.turns.self c.turn.new.self c.args.frame c.turns.frame
+          before.3 before.6 c.in_ok-next.field-0 c.in_ok-next.ensures.means c.in-Goes.next c.in-Goes.is,
+      both_before g.F.Files.holds g.F.Files.moment g.F.Files.left_since g.F.Files.images c.args.files.now c.turns.files c.turn.new.files before.3
+          before.7 c.turn.ensures.crash,
+    )
+
+pub returns-in-Rests-clause-means : goal.returns-in-Rests-clause-means
+returns-in-Rests-clause-means g c =
+    runs_out (g.F.Files.holds c.args.files.now) (g.F.Files.holds c.turns.files) c.args.self.now c.turns.self c.turn.new.self c.args.frame c.turns.frame
+    c.turns.invariant.3 c.turns.invariant.6 c.in_ok-next.field-0 c.in_ok-next.ensures.means c.in-Rests.is
+
+pub returns-in-Stops-clause-means : goal.returns-in-Stops-clause-means
+returns-in-Stops-clause-means g c =
+    runs_stop (g.F.Files.holds c.args.files.now) (g.F.Files.holds c.turns.files) c.args.self.now c.turns.self c.turn.new.self c.args.frame c.turns.frame
+    c.turns.invariant.3 c.turns.invariant.6 c.in_ok-next.field-0 c.in_ok-next.ensures.means c.in-Stops.refusal c.in-Stops.is

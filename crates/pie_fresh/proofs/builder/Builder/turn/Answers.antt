@@ -1,0 +1,22 @@
+use Rattle.std.proofs.Common.{subst}
+use Rattle.pie_fresh.specs.Turns.{Comes}
+use Rattle.pie_fresh.proofs.Leaving.{if_ok}
+use Rattle.pie_fresh.proofs.Turning.{ComesWith, turns_asking, turns_ending, turns_failing}
+use Rattle.pie_fresh.proofs.builder.Builder.turn.Goals as goal
+
+pub returns-in-Asks-clause-means : goal.returns-in-Asks-clause-means
+returns-in-Asks-clause-means g c =
+    if_ok _ _ c.treat.result (turns_asking (g.F.Files.holds c.args.files.now) c.args.self.now c.treat.new.self c.args.frame c.in-Asks.waiting c.in-Asks.event
+    (subst (Comes c.args.frame.notes) c.in-Asks.is c.in_ok-waiting.ensures.comes).1 (subst (ComesWith c.args.frame) c.in-Asks.is c.in_ok-waiting.ensures.means))
+    c.treat.ensures.means
+
+pub returns-in_ok-finish-in-Ends-clause-means : goal.returns-in_ok-finish-in-Ends-clause-means
+returns-in_ok-finish-in-Ends-clause-means g c =
+    turns_ending (g.F.Files.holds c.args.files.now) c.args.self.now c.finish.new.self c.args.frame c.in-Ends.notes c.in-Ends.output
+    (subst (Comes c.args.frame.notes) c.in-Ends.is c.in_ok-waiting.ensures.comes) (subst (ComesWith c.args.frame) c.in-Ends.is c.in_ok-waiting.ensures.means) _
+    c.in_ok-finish-in-Ends.ensures.means
+
+pub returns-in-Fails-clause-means : goal.returns-in-Fails-clause-means
+returns-in-Fails-clause-means g c =
+    turns_failing (g.F.Files.holds c.args.files.now) c.args.self.now c.args.frame c.in-Fails.task c.in-Fails.kind
+    (subst (ComesWith c.args.frame) c.in-Fails.is c.in_ok-waiting.ensures.means) c.failed.result c.failed.ensures

@@ -1,0 +1,78 @@
+-- What a task sees at a path, by the contents that are staged, the rows of the graph and the files.
+use Rattle.std.specs.Prelude.{◌≡◌, ℕ, Bool, true, false, cond, List, Option, Some, None, is_some}
+use Rattle.std.specs.Option.{option_map}
+use Rattle.pie_base.specs.Path.{is_out, is_source}
+use Rattle.pie_graph.specs.Rows.{Row}
+use Rattle.pie_stage.specs.Content.{Staged, content}
+use Rattle.pie_files.specs.Directory.{Directory, file_at, entries_of}
+use Rattle.pie_files.specs.declared.files.Found.{Found}
+use Rattle.pie_view.specs.declared.seen.Seen.{Seen}
+use Rattle.pie_view.specs.declared.seen.Seen.TheVariants.{Absent, By, Clash}
+use Rattle.pie_view.specs.Seen.{Visible, IsOnly}
+use Rattle.pie_bridge.specs.Views.{unmarked}
+use Rattle.pie_fresh.specs.declared.looking.Sight.{Sight}
+use Rattle.pie_fresh.specs.declared.looking.Sight.TheVariants.{File, Clash as Clashes}
+use Rattle.pie_fresh.specs.declared.looking.Provided.{Provided}
+use Rattle.pie_fresh.specs.declared.looking.Provided.TheVariants.{Nothing, Content, Clash as Clashing}
+use Rattle.pie_fresh.specs.Noted.{Noted}
+
+-- what is seen: a file with its mark, or none; or nothing at all where two tasks wrote it
+abbrev pub Sighted : Type 0
+Sighted = Option (Option (List ℕ × ℕ))
+
+-- a file as it was found, with its mark
+abbrev pub found_in : Option Found → Option (List ℕ × ℕ)
+found_in found = option_map (λ (f : Found). (f.bytes.items, f.mark)) found
+
+abbrev pub sight_of : Sight → Sighted
+sight_of (File found) = Some (found_in found)
+sight_of Clashes = None
+
+abbrev pub provided_sight : Provided → Sighted
+provided_sight Nothing = Some None
+provided_sight (Content bytes) = Some (Some (bytes.now, 0))
+provided_sight Clashing = None
+
+-- what is seen of others, whose contents at the path are these
+abbrev pub sight_by : (ℕ → Option (List ℕ)) → Seen → Sighted
+sight_by at Absent = Some None
+sight_by at (By one) = Some (unmarked (at one.0))
+sight_by at Clash = None
+
+-- a task that wrote nothing at a path sees what the tasks wrote there that it requires
+pub record SeesOthers (staged : Staged) (rows : List Row) (needs : List ℕ) (path : List ℕ) (sight : Sighted) : Type 0 where
+  pub seen : Seen
+  pub only : IsOnly (Visible rows needs path) seen
+  pub is : sight ≡ sight_by (λ n. content staged n path) seen
+
+-- what the task wrote itself, and else what others did
+abbrev pub OwnFirst : Option (List ℕ) → Type 0 → Sighted → Type 0
+OwnFirst (Some bytes) others sight = sight ≡ Some (Some (bytes, 0))
+OwnFirst None others sight = others
+
+-- a task sees this at a path under `out/`
+abbrev pub SeesOut : Staged → List Row → Noted → List ℕ → Sighted → Type 0
+SeesOut staged rows n path sight = OwnFirst (content staged n.number path) (SeesOthers staged rows n.needs path sight) sight
+
+-- a task sees this at a path: under `out/` what was written, at a source path the file, and else nothing
+pub record Sees (d : Directory) (staged : Staged) (rows : List Row) (n : Noted) (path : List ℕ) (sight : Sighted) : Type 0 where
+  pub out : is_out path ≡ true → SeesOut staged rows n path sight
+  pub source : is_out path ≡ false → is_source path ≡ true → sight ≡ Some (file_at d path)
+  pub kept : is_out path ≡ false → is_source path ≡ false → sight ≡ Some None
+
+-- a task sees whether a file is there
+pub record SeesPresence (d : Directory) (staged : Staged) (rows : List Row) (n : Noted) (path : List ℕ) (presence : Option Bool) : Type 0 where
+  pub sight : Sighted
+  pub sees : Sees d staged rows n path sight
+  pub is : presence ≡ option_map is_some sight
+
+-- so it is of the directory that the files hold
+abbrev pub SeesHeld : Option Directory → Staged → List Row → Noted → List ℕ → Sighted → Type 0
+SeesHeld held staged rows n path sight = (d : Directory) → held ≡ Some d → Sees d staged rows n path sight
+
+abbrev pub SeesHeldPresence : Option Directory → Staged → List Row → Noted → List ℕ → Option Bool → Type 0
+SeesHeldPresence held staged rows n path presence = (d : Directory) → held ≡ Some d → SeesPresence d staged rows n path presence
+
+-- the entries of a source directory
+abbrev pub listing_in : Directory → List ℕ → Option (List (List ℕ))
+listing_in d dir = cond (is_source dir) (Some (entries_of d dir)) None
