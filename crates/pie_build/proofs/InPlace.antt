@@ -97,7 +97,7 @@ no_content q (w ∷ ws) off on =
     ∙ ap (λ b. or_earlier None (cond b (Some w.1.items) None)) (apart is_out q w.0 off (and_left (is_out w.0) (list_all (λ w. is_out w.0) ws) on))
 
 -- outside of `out/` nothing is written and nothing removed
-none_wanted : (gone : List (List ℕ)) (contents : List (List ℕ × Vec ℕ Global)) (pending : Pending) (store : Vec ℕ Global) (p : Plan)
+pub none_wanted : (gone : List (List ℕ)) (contents : List (List ℕ × Vec ℕ Global)) (pending : Pending) (store : Vec ℕ Global) (p : Plan)
     → IsPlanOf gone contents pending store p → (q : List ℕ) → is_out q ≡ false → later (written p.writes.items q) (removed p.removals.items q) ≡ Same
 none_wanted gone contents pending store p plan q off =
     ap (λ ws. later (written ws q) (removed p.removals.items q)) plan.writes
@@ -106,7 +106,7 @@ none_wanted gone contents pending store p plan q off =
     ∙ ap (λ x. wanted_at x (list_any (same_text q) gone)) (no_content q contents off plan.writes_out)
     ∙ ap (λ b. wanted_at None b) (none_removed q gone off plan.removals_out)
 
-wanted_marker : (gone : List (List ℕ)) (contents : List (List ℕ × Vec ℕ Global)) (pending : Pending) (store : Vec ℕ Global) (p : Plan)
+pub wanted_marker : (gone : List (List ℕ)) (contents : List (List ℕ × Vec ℕ Global)) (pending : Pending) (store : Vec ℕ Global) (p : Plan)
     → IsPlanOf gone contents pending store p → wanted_by p (codes ".pie/open") ≡ Gone
 wanted_marker gone contents pending store p plan =
     ap (λ m. later (at m Gone (codes ".pie/open")) (changes p (codes ".pie/open"))) (places p plan.places).marker
@@ -236,7 +236,7 @@ not_empty true true k = refl
 not_empty true false k = refl
 not_empty false b k = refl
 
-has_store : (gone : List (List ℕ)) (contents : List (List ℕ × Vec ℕ Global)) (pending : Pending) (store : Vec ℕ Global) (p : Plan)
+pub has_store : (gone : List (List ℕ)) (contents : List (List ℕ × Vec ℕ Global)) (pending : Pending) (store : Vec ℕ Global) (p : Plan)
     → IsPlanOf gone contents pending store p → is_empty p ≡ false
 has_store gone contents pending store p plan =
     ap (λ s. is_none p.removals.items && is_none p.writes.items && stores_none s && keeps p.pending) plan.store
@@ -256,7 +256,7 @@ pub record Fits (d : Directory) (gone : List (List ℕ)) (contents : List (List 
   pub names : pending ≡ gone_if (is_some (file_at d (codes ".pie/pending")))
 
 -- what a plan that fits a directory leaves of it, with a report of it
-in_place : (d e : Directory) (after : Option Directory) (gone : List (List ℕ)) (contents : List (List ℕ × Vec ℕ Global)) (pending : Pending)
+pub in_place : (d e : Directory) (after : Option Directory) (gone : List (List ℕ)) (contents : List (List ℕ × Vec ℕ Global)) (pending : Pending)
     (store : Vec ℕ Global) (p : Plan) (r : Report) → Fits d gone contents pending → IsPlanOf gone contents pending store p
     → after ≡ Some e → Brings (wanted_by p) d e → KeepsRest (Some d) after → r.wrote.items ≡ map (λ f. f.0) contents → r.removed.items ≡ gone
     → IsInPlace d e contents store.items r

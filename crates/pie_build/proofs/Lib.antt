@@ -1,3 +1,5 @@
+pub mod Cleaning
+pub mod Crashing
 pub mod InPlace
 pub mod OwnPaths
 pub mod Ran

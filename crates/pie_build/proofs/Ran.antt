@@ -12,7 +12,9 @@ use Rattle.pie_files.specs.Streams.{Counted}
 use Rattle.pie_fresh.specs.Builds.{Gains}
 use Rattle.pie_report.specs.declared.report.Report.{Report}
 use Rattle.pie_project.specs.declared.fault.BuildError.TheVariants as errors
-use Rattle.pie_build.specs.Left.{KeepsRest, LeavesBy}
+use Rattle.pie_project.specs.declared.project.Project.{Project}
+use Rattle.pie_build.specs.Left.{KeepsRest}
+use Rattle.pie_build.specs.Projects.{LeavesFor}
 use Rattle.pie_build.specs.Rebuilt.{Tells}
 
 -- as many tasks as were started before are there still
@@ -35,10 +37,10 @@ ran_encodable n old new ran (Ok r) is g behind same =
 ran_encodable n old new ran (Err e) is g behind same = tt
 
 -- what is left of a directory that was the same before
-pub left_before : (funcs : List (List ℕ × List ℕ)) (roots : List Task) (before mid after : Option Directory) (result : Result Report FilesError) → mid ≡ before
-    → IfSome mid (λ d. IfOk result (λ r. LeavesBy funcs roots r.verdict d r after))
-    → IfSome before (λ d. IfOk result (λ r. LeavesBy funcs roots r.verdict d r after))
-left_before funcs roots before mid after result same h = subst (λ m. IfSome m (λ d. IfOk result (λ r. LeavesBy funcs roots r.verdict d r after))) same h
+pub left_before : (p : Project) (before mid after : Option Directory) (result : Result Report FilesError) → mid ≡ before
+    → IfSome mid (λ d. IfOk result (λ r. LeavesFor p d r after))
+    → IfSome before (λ d. IfOk result (λ r. LeavesFor p d r after))
+left_before p before mid after result same h = subst (λ m. IfSome m (λ d. IfOk result (λ r. LeavesFor p d r after))) same h
 
 pub rest_before : (before mid after : Option Directory) → mid ≡ before → KeepsRest mid after → KeepsRest before after
 rest_before before mid after same h = subst (λ m. KeepsRest m after) same h

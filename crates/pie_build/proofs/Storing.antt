@@ -1,12 +1,12 @@
 -- What a clean build stores.
-use Rattle.std.proofs.Common.{◌≡◌, ℕ, ◌<◌, ◌^◌, List, length, Option, Some, None, Result, Ok, Err, Vec, Global, refl, sym, ap, subst, arith}
+use Rattle.std.proofs.Common.{◌≡◌, ℕ, ◌<◌, ◌^◌, List, length, Option, Some, None, Result, Ok, Err, Vec, Global, refl, sym, subst, arith}
 use Rattle.std.specs.Prelude.{Contains, IfSome, IfOk}
 use Rattle.std.proofs.lemmas.List.Elements.{All-weaker}
 use Rattle.std.proofs.lemmas.List.Sorted.{Contains-permutation}
 use Rattle.pie_base.specs.declared.memory.OutOfMemory.{OutOfMemory}
 use Rattle.pie_checks.specs.declared.built.Built.{Built}
 use Rattle.pie_codegen.specs.Digests.{function_names, HasNames}
-use Rattle.pie_files.specs.declared.files.FilesError.{FilesError}
+use Rattle.pie_commit.proofs.Reading.{if_two}
 use Rattle.pie_files.specs.Directory.{Directory}
 use Rattle.pie_fresh.specs.Builds.{IsKept, IsStored, StoredWhere}
 use Rattle.pie_parser.specs.FunctionTrees.{FunctionTree}
@@ -23,7 +23,8 @@ use Rattle.pie_store.specs.Texts.{IsStoreText}
 use Rattle.pie_value.specs.declared.task.Task.{Task}
 use Rattle.pie_value.specs.declared.verdict.Verdict.{Verdict}
 use Rattle.pie_value.specs.declared.verdict.Verdict.TheVariants.{Accepted}
-use Rattle.pie_build.specs.Left.{Puts, LeavesBy, Leaves}
+use Rattle.pie_build.specs.Left.{Leaves}
+use Rattle.pie_build.specs.Projects.{LeavesFor}
 use Rattle.pie_build.specs.Stored.{MayStand, IsStoreOf}
 
 -- the records of an accepted build may stand in a store with its functions and roots
@@ -71,24 +72,14 @@ storable f funcs t roots r rows a b c few h =
 -- the text of such an image is that of a store with these parts
 pub store_of : (f funcs : List (List ℕ × List ℕ)) (t roots : List Task) (r rows : List TaskRecord) (result : Result (Vec ℕ Global) OutOfMemory)
     → f ≡ funcs → t ≡ roots → r ≡ rows → IfOk result (λ bytes. IsStoreText (image_of f t r) bytes.items)
-    → IfOk result (λ text. IsStoreOf funcs roots (length rows) text.items)
-store_of f funcs t roots r rows (Ok bytes) a b c h = record { image = image_of f t r; text = h; table = refl; funcs = a; roots = b; live = ap length c }
+    → IfOk result (λ text. IsStoreOf funcs roots rows text.items)
+store_of f funcs t roots r rows (Ok bytes) a b c h = record { image = image_of f t r; text = h; no_digest = refl; funcs = a; roots = b; rows = c }
 store_of f funcs t roots r rows (Err e) a b c h = tt
-
--- a build put into place, with the store of its functions and roots
-pub leaves_stored : (before after : Option Directory) (funcs : List (List ℕ × List ℕ)) (roots : List Task) (contents : List (List ℕ × Vec ℕ Global))
-    (text : List ℕ) (live : ℕ) (result : Result Report FilesError) → IfSome before (λ d. IfOk result (λ r. Puts contents text d r after))
-    → IfOk result (λ r. r.live ≡ live) → IsStoreOf funcs roots live text → IfSome before (λ d. IfOk result (λ r. LeavesBy funcs roots r.verdict d r after))
-leaves_stored None after funcs roots contents text live result puts counted store = tt
-leaves_stored (Some d) after funcs roots contents text live (Ok r) puts counted store =
-    subst (λ (x : Verdict). LeavesBy funcs roots x d r after) (sym puts.0)
-    (puts.1, puts.2, contents, text, puts.3, subst (λ (n : ℕ). IsStoreOf funcs roots n text) (sym counted) store)
-leaves_stored (Some d) after funcs roots contents text live (Err e) puts counted store = tt
 
 -- what a build of the project of a directory leaves
 pub project_leaves : (before mid after : Option Directory) (p : Project) (result : Result Report BuildError)
     → IfSome before (λ d. ProjectSays d (Ok (front_of p))) → IfSome before (λ d. HasDigests d p.digests.items) → HasNames p.typed p.digests.items
-    → mid ≡ before → IfSome mid (λ d. IfOk result (λ r. LeavesBy p.digests.items p.roots.items r.verdict d r after))
+    → mid ≡ before → IfSome mid (λ d. IfOk result (λ r. LeavesFor p d r after))
     → IfSome before (λ d. IfOk result (λ r. Leaves d r after))
 project_leaves None mid after p result says digests names same h = tt
 project_leaves (Some d) mid after p (Err e) says digests names same h = tt
@@ -96,5 +87,20 @@ project_leaves (Some d) mid after p (Ok r) says digests names same h = (
   p.digests.items,
   p.roots.items,
   record { functions = p.typed; says = says; names = names; digests = digests },
-  subst (λ m. IfSome m (λ d. LeavesBy p.digests.items p.roots.items r.verdict d r after)) same h,
+  subst (λ m. IfSome m (λ d. LeavesFor p d r after)) same h,
 )
+
+-- what a build of the functions and roots of a directory's project leaves
+pub project_left : (before mid : Option Directory) (p : Project) → IfSome before (λ d. ProjectSays d (Ok (front_of p)))
+    → IfSome before (λ d. HasDigests d p.digests.items) → HasNames p.typed p.digests.items → mid ≡ before
+    → IfSome mid (λ d. (r : Report) (after : Option Directory) → LeavesFor p d r after → Leaves d r after)
+project_left before mid p says digests names same =
+    subst (λ m. IfSome m (λ d. (r : Report) (after : Option Directory) → LeavesFor p d r after → Leaves d r after)) (sym same)
+    (if_two (λ d. ProjectSays d (Ok (front_of p))) (λ d. HasDigests d p.digests.items)
+    (λ d. (r : Report) (after : Option Directory) → LeavesFor p d r after → Leaves d r after) before
+    (λ d a b r after left. (
+      p.digests.items,
+      p.roots.items,
+      record { functions = p.typed; says = a; names = names; digests = b },
+      left,
+    )) says digests)

@@ -1,5 +1,5 @@
 -- What a clean build leaves of a directory.
-use Rattle.std.specs.Prelude.{◌≡◌, ℕ, Bool, true, false, ◌||◌, cond, List, [], ◌∷◌, map, codes, Option, None, Some, IfSome, Ok}
+use Rattle.std.specs.Prelude.{◌≡◌, ℕ, Bool, true, false, ◌||◌, cond, List, [], ◌∷◌, length, map, codes, Option, None, Some, IfSome, Ok}
 use Rattle.std.specs.Option.{option_map}
 use Rattle.std.specs.declared.alloc.Global.{Global}
 use Rattle.std.proofs.Common.{Vec}
@@ -7,13 +7,17 @@ use Rattle.pie_base.specs.Path.{is_out, same_text}
 use Rattle.pie_files.specs.Directory.{Directory, file_at, files_under}
 use Rattle.pie_parser.specs.FunctionTrees.{FunctionTree}
 use Rattle.pie_value.specs.declared.task.Task.{Task}
+use Rattle.pie_value.specs.declared.verdict.Refusal.{Refusal}
 use Rattle.pie_value.specs.declared.verdict.Verdict.{Verdict}
 use Rattle.pie_value.specs.declared.verdict.Verdict.TheVariants.{Accepted, Refused}
+use Rattle.pie_record.specs.declared.task_record.TaskRecord.{TaskRecord}
 use Rattle.pie_collect.specs.Plan.{IsPlan}
 use Rattle.pie_codegen.specs.Digests.{HasNames}
+use Rattle.pie_fresh.specs.Cleans.{contents_in}
 use Rattle.pie_project.specs.Digested.{HasDigests}
 use Rattle.pie_project.specs.Fronts.{ProjectSays}
 use Rattle.pie_report.specs.declared.report.Report.{Report}
+use Rattle.pie_world.specs.Clean.{IsCleanBuild}
 use Rattle.pie_build.specs.Stored.{IsStoreOf}
 
 -- a path that a build may change: one under `out/`, or one of the builder's own three
@@ -56,13 +60,37 @@ pub record IsProjectOf (d : Directory) (funcs : List (List ℕ × List ℕ)) (ro
   pub names : HasNames functions funcs
   pub digests : HasDigests d funcs
 
+-- an accepted build of these functions and roots: the files and the store that it left, its tasks and its outputs are those of the clean build of the model
+pub record LeavesBuilt (fs : List FunctionTree) (funcs : List (List ℕ × List ℕ)) (roots : List Task) (d : Directory) (r : Report) (after : Option Directory)
+    : Type 0 where
+  pub left : Directory
+  pub told : after ≡ Some left
+  pub files : List (List ℕ × Vec ℕ Global)
+  pub rows : List TaskRecord
+  pub text : List ℕ
+  pub place : IsInPlace d left files text r
+  pub store : IsStoreOf funcs roots rows text
+  pub live : r.live ≡ length rows
+  pub clean : IsCleanBuild fs d roots r.ran.items Accepted rows (contents_in files) r.outputs.items
+
+-- a refused build of these functions and roots: it changed nothing, and the clean build of the model has this refusal and started the same tasks
+pub record LeavesAll (fs : List FunctionTree) (roots : List Task) (x : Refusal) (d : Directory) (r : Report) (after : Option Directory) : Type 0 where
+  pub same : after ≡ Some d
+  pub wrote : r.wrote.items ≡ []
+  pub removed : r.removed.items ≡ []
+  pub outputs : r.outputs.items ≡ []
+  pub clean : IsCleanBuild fs d roots r.ran.items (Refused x) [] [] []
+
 -- what a build of these functions and roots with this verdict and report leaves
-abbrev pub LeavesBy : List (List ℕ × List ℕ) → List Task → Verdict → Directory → Report → Option Directory → Type 0
-LeavesBy funcs roots Accepted d r after =
-    (e : Directory) × (after ≡ Some e) × (files : List (List ℕ × Vec ℕ Global)) ×
-    (text : List ℕ) × IsInPlace d e files text r × IsStoreOf funcs roots r.live text
-LeavesBy funcs roots (Refused x) d r after = (after ≡ Some d) × (r.wrote.items ≡ []) × (r.removed.items ≡ [])
+abbrev pub LeavesBy : List FunctionTree → List (List ℕ × List ℕ) → List Task → Verdict → Directory → Report → Option Directory → Type 0
+LeavesBy fs funcs roots Accepted d r after = LeavesBuilt fs funcs roots d r after
+LeavesBy fs funcs roots (Refused x) d r after = LeavesAll fs roots x d r after
+
+-- the same by the verdict of the report, which has no cause to start afresh
+abbrev pub LeavesOf : List FunctionTree → List (List ℕ × List ℕ) → List Task → Directory → Report → Option Directory → Type 0
+LeavesOf fs funcs roots d r after = (r.fresh ≡ None) × LeavesBy fs funcs roots r.verdict d r after
 
 -- a build of the project of a directory leaves what its report says
 abbrev pub Leaves : Directory → Report → Option Directory → Type 0
-Leaves d r after = (funcs : List (List ℕ × List ℕ)) × (roots : List Task) × IsProjectOf d funcs roots × LeavesBy funcs roots r.verdict d r after
+Leaves d r after =
+    (funcs : List (List ℕ × List ℕ)) × (roots : List Task) × (project : IsProjectOf d funcs roots) × LeavesOf project.functions funcs roots d r after

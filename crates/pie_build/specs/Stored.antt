@@ -18,11 +18,11 @@ pub record MayStand (table : List (List ℕ × List ℕ)) (tasks : List Task) (r
   pub known : All (λ (r : TaskRecord). Contains (names_of table) r.task.func) records
   pub closed : All (λ (t : Task). Contains (tasks_in records) t) tasks
 
--- a text is that of a store with a table of these functions, with these roots, and with so many records
-pub record IsStoreOf (rows : List (List ℕ × List ℕ)) (tasks : List Task) (count : ℕ) (bytes : List ℕ) : Type 0 where
+-- a text is that of a store with a table of these functions, with these roots and these records
+pub record IsStoreOf (table : List (List ℕ × List ℕ)) (tasks : List Task) (records : List TaskRecord) (bytes : List ℕ) : Type 0 where
   pub image : StoreImage
   pub text : IsStoreText image bytes
-  pub table : image.pipeline ≡ None
-  pub funcs : image.funcs ≡ rows
+  pub no_digest : image.pipeline ≡ None
+  pub funcs : image.funcs ≡ table
   pub roots : image.roots ≡ tasks
-  pub live : length image.rows ≡ count
+  pub rows : image.rows ≡ records

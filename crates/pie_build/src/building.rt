@@ -1,11 +1,15 @@
 //! A clean build of a directory.
-ghost use Rattle.std.specs.Prelude.{◌≡◌, ◌≤◌, ◌++◌, All, IfSome, IfOk, drop, length};
+ghost use Rattle.std.specs.Prelude.{◌≡◌, ◌≤◌, ◌++◌, All, IfSome, IfOk, OnOk, drop, length};
 ghost use Rattle.pie_files.specs.Streams.{Counted};
 ghost use Rattle.pie_value.specs.Canonical.{IsEncodableTask};
 ghost use Rattle.pie_codegen.specs.Digests.{HasNames};
+ghost use Rattle.pie_commit.specs.Outcomes.{LeavesAsBefore};
 ghost use Rattle.pie_fresh.specs.Builds.{Gains, IsKept, StoredWhere};
-ghost use Rattle.pie_project.specs.Refusals.{Says};
-ghost use Rattle.pie_build.specs.Left.{KeepsRest, Leaves, LeavesBy};
+ghost use Rattle.pie_fresh.specs.Cleans.{IsCleanOf};
+ghost use Rattle.pie_project.specs.Refusals.{IsVerdict, Says};
+ghost use Rattle.pie_build.specs.Crashes.{StaysAtRest, Withstands};
+ghost use Rattle.pie_build.specs.Left.{KeepsRest, Leaves};
+ghost use Rattle.pie_build.specs.Projects.{IsCleanBy, IsReady, LeavesFor};
 ghost use Rattle.pie_build.specs.Rebuilt.{RebuildSays, IsReport, IsRefusal, Tells};
 ghost use Rattle.pie_build.specs.Stored.{MayStand, IsStoreOf};
 ghost use Rattle.pie_store.specs.Canonical.{AreFuncs};
@@ -30,6 +34,7 @@ use std::alloc::Global;
 /// store, and no pending names. A refused build changes no file. The whole plan and the report are made before the
 /// first write. The tasks that are started are added to the runs, and reported.
 /// Rule: docs/BUILDING.md, "A clean build".
+#[tactic(auto, using(crate::proofs::Crashing::withstands_still, crate::proofs::Crashing::rests_still, crate::proofs::Crashing::rests_then))]
 pub fn rebuild<F: Files>(
     alloc: Global,
     files: &mut F,
@@ -39,6 +44,8 @@ pub fn rebuild<F: Files>(
     ensures left { IfSome (F.holds files.old) (λ d. IfOk result (λ r. Leaves d r (F.holds files.new))) }
     ensures refused { IsRefusal result → F.holds files.new ≡ F.holds files.old }
     ensures rest { KeepsRest (F.holds files.old) (F.holds files.new) }
+    ensures crash { Withstands F.holds F.moment F.left_since F.images Leaves files.old files.new }
+    ensures durable { IsVerdict result → StaysAtRest F.holds F.images files.old files.new }
     ensures ran { IfOk result (λ r. runs.new ≡ runs.old ++ r.ran.items) }
     ensures encodable { IfOk result (λ r. All IsEncodableTask r.ran.items) }
     ensures told { Tells F.faults files.old files.new result }
@@ -56,11 +63,14 @@ fn with_project<F: Files>(
     project: Project,
     runs: &mut Runs,
 ) -> Result<Report, BuildError>
+    requires ready { IfSome (F.holds files.old) (λ d. IsReady project.typed project.roots.items) }
     requires names { HasNames project.typed project.digests.items }
     requires funcs { AreFuncs project.digests.items }
     ensures says { Says (λ r. r) IsReport result }
-    ensures left { IfSome (F.holds files.old) (λ d. IfOk result (λ r. LeavesBy project.digests.items project.roots.items r.verdict d r (F.holds files.new))) }
+    ensures left { IfSome (F.holds files.old) (λ d. IfOk result (λ r. LeavesFor project d r (F.holds files.new))) }
     ensures rest { KeepsRest (F.holds files.old) (F.holds files.new) }
+    ensures crash { Withstands F.holds F.moment F.left_since F.images (LeavesFor project) files.old files.new }
+    ensures durable { IsVerdict result → StaysAtRest F.holds F.images files.old files.new }
     ensures ran { IfOk result (λ r. runs.new ≡ runs.old ++ r.ran.items) }
     ensures encodable { IfOk result (λ r. All IsEncodableTask r.ran.items) }
     ensures told { Tells F.faults files.old files.new result }
@@ -72,16 +82,20 @@ fn with_project<F: Files>(
     }
 }
 
+#[tactic(auto, using(crate::proofs::Crashing::withstands_still, crate::proofs::Crashing::withstands_then, crate::proofs::Crashing::rests_ok))]
 fn build<F: Files>(
     alloc: Global,
     files: &mut F,
     project: Project,
     runs: &mut Runs,
 ) -> Result<Report, FilesError>
+    requires ready { IfSome (F.holds files.old) (λ d. IsReady project.typed project.roots.items) }
     requires names { HasNames project.typed project.digests.items }
     requires funcs { AreFuncs project.digests.items }
-    ensures left { IfSome (F.holds files.old) (λ d. IfOk result (λ r. LeavesBy project.digests.items project.roots.items r.verdict d r (F.holds files.new))) }
+    ensures left { IfSome (F.holds files.old) (λ d. IfOk result (λ r. LeavesFor project d r (F.holds files.new))) }
     ensures rest { KeepsRest (F.holds files.old) (F.holds files.new) }
+    ensures crash { Withstands F.holds F.moment F.left_since F.images (LeavesFor project) files.old files.new }
+    ensures durable { OnOk result (StaysAtRest F.holds F.images files.old files.new) }
     ensures ran { IfOk result (λ r. runs.new ≡ runs.old ++ r.ran.items) }
     ensures encodable { IfOk result (λ r. All IsEncodableTask r.ran.items) }
     ensures counted { Counted F.faults FilesError.Failed files.old files.new result }
@@ -93,16 +107,20 @@ fn build<F: Files>(
 }
 
 // What the project comes to.
+#[tactic(auto, using(pie_commit::proofs::Reading::reads))]
 fn evaluate<F: Files>(
     alloc: Global,
     files: &mut F,
     project: &Project,
     runs: &mut Runs,
 ) -> Result<Built, FilesError>
+    requires ready { IfSome (F.holds files.old) (λ d. IsReady project.now.typed project.now.roots.items) }
     ensures kept { IfOk result IsKept }
     ensures stored { IfOk result (λ b. StoredWhere b.verdict project.now.typed project.now.roots.items b) }
+    ensures clean { IfSome (F.holds files.old) (λ d. IfOk result (IsCleanOf project.now.typed d project.now.roots.items runs.old runs.new)) }
     ensures runs { Gains 50000 runs.old runs.new }
     ensures same { F.holds files.new ≡ F.holds files.old }
+    ensures crash { LeavesAsBefore F.holds F.moment F.left_since F.images files.old files.new }
     ensures counted { Counted F.faults FilesError.Failed files.old files.new result }
 {
     let code = compile(alloc, &project.typed)?;
@@ -127,7 +145,7 @@ fn since(alloc: Global, runs: &Runs, before: usize) -> Result<Vec<Task>, OutOfMe
 }
 
 // Puts an accepted build of a project into place.
-#[tactic(auto, using(crate::proofs::OwnPaths::same_keeps))]
+#[tactic(auto, using(crate::proofs::OwnPaths::same_keeps, crate::proofs::Crashing::withstands_none))]
 fn finish<F: Files>(
     alloc: Global,
     files: &mut F,
@@ -139,8 +157,11 @@ fn finish<F: Files>(
     requires funcs { AreFuncs project.digests.items }
     requires kept { IsKept built }
     requires stored { StoredWhere built.verdict project.typed project.roots.items built }
-    ensures left { IfSome (F.holds files.old) (λ d. IfOk result (λ r. LeavesBy project.digests.items project.roots.items r.verdict d r (F.holds files.new))) }
+    requires clean { IfSome (F.holds files.old) (λ d. IsCleanBy project.typed d project.roots.items ran.items built) }
+    ensures left { IfSome (F.holds files.old) (λ d. IfOk result (λ r. LeavesFor project d r (F.holds files.new))) }
     ensures rest { KeepsRest (F.holds files.old) (F.holds files.new) }
+    ensures crash { Withstands F.holds F.moment F.left_since F.images (LeavesFor project) files.old files.new }
+    ensures durable { OnOk result (StaysAtRest F.holds F.images files.old files.new) }
     ensures ran { IfOk result (λ r. r.ran ≡ ran) }
     ensures counted { Counted F.faults FilesError.Failed files.old files.new result }
 {
@@ -169,7 +190,9 @@ fn made_of(
 ) -> Result<Made, OutOfMemory>
     requires { MayStand project.digests.items project.roots.items rows.items }
     ensures contents { IfOk result (λ m. m.contents ≡ contents) }
-    ensures store { IfOk result (λ m. IsStoreOf project.digests.items project.roots.items m.live m.store.items) }
+    ensures outputs { IfOk result (λ m. m.outputs ≡ outputs) }
+    ensures live { IfOk result (λ m. m.live ≡ length rows.items) }
+    ensures store { IfOk result (λ m. IsStoreOf project.digests.items project.roots.items rows.items m.store.items) }
 {
     let live = rows.len();
     let Project { digests, roots, .. } = project;

@@ -1,5 +1,5 @@
 //! What is reported of a build.
-ghost use Rattle.std.specs.Prelude.{◌≡◌, [], IfOk};
+ghost use Rattle.std.specs.Prelude.{◌≡◌, [], None, IfOk};
 ghost use Rattle.pie_value.specs.declared.verdict.Verdict.TheVariants as verdicts;
 
 use pie_base::{OutOfMemory, Path};
@@ -10,9 +10,11 @@ use std::alloc::Global;
 /// The report of a refused build.
 pub(crate) fn refused(alloc: Global, refusal: Refusal, ran: Vec<Task>) -> Report
     ensures verdict { result.verdict ≡ verdicts.Refused refusal }
+    ensures fresh { result.fresh ≡ None }
     ensures ran { result.ran ≡ ran }
     ensures wrote { result.wrote.items ≡ [] }
     ensures removed { result.removed.items ≡ [] }
+    ensures outputs { result.outputs.items ≡ [] }
 {
     Report {
         verdict: Verdict::Refused(refusal),
@@ -34,6 +36,7 @@ pub(crate) fn accepted(
     outputs: Vec<(Task, Value)>,
 ) -> Result<Report, OutOfMemory>
     ensures verdict { IfOk result (λ r. r.verdict ≡ verdicts.Accepted) }
+    ensures fresh { IfOk result (λ r. r.fresh ≡ None) }
     ensures live { IfOk result (λ r. r.live ≡ live) }
     ensures ran { IfOk result (λ r. r.ran ≡ ran) }
     ensures wrote { IfOk result (λ r. r.wrote ≡ wrote) }

@@ -1,14 +1,17 @@
 //! An accepted build put into place.
-ghost use Rattle.std.specs.Prelude.{◌≡◌, true, false, codes, is_some, IfSome, IfOk, OnOk};
+ghost use Rattle.std.specs.Prelude.{◌≡◌, true, false, codes, is_some, IfSome, IfOk, OnOk, OnErr};
 ghost use Rattle.std.specs.List.{list_all};
 ghost use Rattle.pie_base.specs.Path.{is_out};
 ghost use Rattle.pie_files.specs.Directory.{file_at, files_under};
+ghost use Rattle.pie_files.specs.Images.{Only};
 ghost use Rattle.pie_files.specs.Streams.{Counted};
 ghost use Rattle.pie_collect.specs.Plan.{IsPlan};
-ghost use Rattle.pie_commit.specs.Outcomes.{HasBrought, KeepsOthers};
+ghost use Rattle.pie_commit.specs.Outcomes.{HasBrought, KeepsOthers, IsAtRest, IsOfThree, LeavesAsBefore, LeavesFromRest, LeavesMarked};
 ghost use Rattle.pie_commit.specs.Plans.{is_sound, is_empty, wanted_by};
 ghost use Rattle.pie_fresh.specs.Builds.{InPathOrder};
+ghost use Rattle.pie_build.specs.Crashes.{StaysAtRest, Withstands};
 ghost use Rattle.pie_build.specs.Left.{KeepsRest, Puts};
+ghost use Rattle.pie_build.specs.Reported.{IsReportOf, PutsMade};
 ghost use Rattle.pie_build.specs.Plans.{IsPlanOf, gone_if};
 
 use crate::outcome::accepted;
@@ -35,6 +38,7 @@ pub(crate) struct Made {
 }
 
 /// Writes the files and the store that were made, and removes every other file under `out/` and the pending names.
+#[tactic(auto, using(crate::proofs::Crashing::withstands_still, crate::proofs::Crashing::withstands_none, pie_commit::proofs::Reading::reads))]
 pub(crate) fn put_into_place<F: Files>(
     alloc: Global,
     files: &mut F,
@@ -43,9 +47,10 @@ pub(crate) fn put_into_place<F: Files>(
 ) -> Result<Report, FilesError>
     requires { InPathOrder made.contents.items }
     ensures left { IfSome (F.holds files.old) (λ d. IfOk result (λ r. Puts made.contents.items made.store.items d r (F.holds files.new))) }
-    ensures live { IfOk result (λ r. r.live ≡ made.live) }
+    ensures report { IfOk result (IsReportOf made ran) }
     ensures rest { KeepsRest (F.holds files.old) (F.holds files.new) }
-    ensures ran { IfOk result (λ r. r.ran ≡ ran) }
+    ensures crash { Withstands F.holds F.moment F.left_since F.images (PutsMade made ran) files.old files.new }
+    ensures durable { OnOk result (StaysAtRest F.holds F.images files.old files.new) }
     ensures counted { Counted F.faults FilesError.Failed files.old files.new result }
 {
     let Made {
@@ -68,6 +73,9 @@ fn commit_then<F: Files>(files: &mut F, plan: &Plan, report: Report) -> Result<R
     ensures report { IfOk result (λ r. r ≡ report) }
     ensures done { is_empty plan.now ≡ false → OnOk result (HasBrought (wanted_by plan.now) (F.holds files.old) (F.holds files.new)) }
     ensures outside { KeepsOthers plan.now (F.holds files.old) (F.holds files.new) }
+    ensures crash { LeavesFromRest F.holds F.moment F.left_since F.images (IsOfThree plan.now) files.old files.new }
+    ensures failed { OnErr result (IfSome (F.holds files.old) (λ d. Only d (F.images files.old) → LeavesMarked plan.now d (F.images files.new))) }
+    ensures durable { is_empty plan.now ≡ false → OnOk result (IfSome (F.holds files.old) (λ d. IsAtRest (F.holds files.new) (F.images files.new))) }
     ensures counted { Counted F.faults FilesError.Failed files.old files.new result }
 {
     match commit(files, plan) {
@@ -77,10 +85,12 @@ fn commit_then<F: Files>(files: &mut F, plan: &Plan, report: Report) -> Result<R
 }
 
 // The files under `out/` but for these.
+#[tactic(auto, using(pie_commit::proofs::Reading::reads))]
 fn removals<F: Files>(alloc: Global, files: &mut F, kept: &[Path]) -> Result<Vec<Path>, FilesError>
     ensures plan { IfSome (F.holds files.old) (λ d. IfOk result (λ found. IsPlan (files_under d (codes "out")) kept.now found.items)) }
     ensures out { IfOk result (λ found. list_all is_out found.items ≡ true) }
     ensures same { F.holds files.new ≡ F.holds files.old }
+    ensures crash { LeavesAsBefore F.holds F.moment F.left_since F.images files.old files.new }
     ensures counted { Counted F.faults FilesError.Failed files.old files.new result }
 {
     let out = Path::known(alloc, "out")?;
@@ -91,9 +101,11 @@ fn removals<F: Files>(alloc: Global, files: &mut F, kept: &[Path]) -> Result<Vec
 }
 
 // What becomes of the pending names: they go, where there are any.
+#[tactic(auto, using(pie_commit::proofs::Reading::reads))]
 fn end_of_pending<F: Files>(alloc: Global, files: &mut F) -> Result<Pending, FilesError>
     ensures gone { IfSome (F.holds files.old) (λ d. IfOk result (λ p. p ≡ gone_if (is_some (file_at d (codes ".pie/pending"))))) }
     ensures same { F.holds files.new ≡ F.holds files.old }
+    ensures crash { LeavesAsBefore F.holds F.moment F.left_since F.images files.old files.new }
     ensures counted { Counted F.faults FilesError.Failed files.old files.new result }
 {
     let names = Path::known(alloc, ".pie/pending")?;

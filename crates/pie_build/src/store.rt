@@ -1,5 +1,5 @@
 //! The store of an accepted build.
-ghost use Rattle.std.specs.Prelude.{◌≡◌, IfOk, length};
+ghost use Rattle.std.specs.Prelude.{IfOk};
 ghost use Rattle.pie_build.specs.Stored.{MayStand, IsStoreOf};
 
 use pie_base::{OutOfMemory, Text};
@@ -17,7 +17,7 @@ pub(crate) fn store_text(
     rows: Vec<TaskRecord>,
 ) -> Result<Vec<u8>, OutOfMemory>
     requires { MayStand funcs.items roots.items rows.items }
-    ensures { IfOk result (λ text. IsStoreOf funcs.items roots.items (length rows.items) text.items) }
+    ensures { IfOk result (λ text. IsStoreOf funcs.items roots.items rows.items text.items) }
 {
     if roots.len() > u32::MAX as usize {
         return Err(OutOfMemory);

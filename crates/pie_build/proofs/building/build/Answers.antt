@@ -1,3 +1,6 @@
+use Rattle.pie_build.proofs.Cleaning.{clean_by}
+use Rattle.pie_build.specs.Projects.{LeavesFor}
+use Rattle.pie_build.proofs.Crashing.{withstands_still, withstands_then}
 use Rattle.pie_build.proofs.OwnPaths.{same_keeps}
 use Rattle.pie_build.proofs.Ran.{still_there, ran_is, ran_encodable, left_before, rest_before}
 use Rattle.pie_build.proofs.building.build.Goals as goal
@@ -12,7 +15,7 @@ pub returns-in_err-ran-clause-rest : goal.returns-in_err-ran-clause-rest
 returns-in_err-ran-clause-rest g c = same_keeps (g.F.Files.holds c.args.files.now) (g.F.Files.holds c.evaluate.new.files) c.in_ok-built.ensures.same
 
 pub returns-clause-left : goal.returns-clause-left
-returns-clause-left g c = left_before c.args.project.digests.items c.args.project.roots.items (g.F.Files.holds c.args.files.now)
+returns-clause-left g c = left_before c.args.project (g.F.Files.holds c.args.files.now)
     (g.F.Files.holds c.evaluate.new.files) (g.F.Files.holds c.finish.new.files) c.finish.result
     c.in_ok-built.ensures.same c.finish.ensures.left
 
@@ -28,3 +31,16 @@ returns-clause-ran g c = ran_is c.count-before.result c.args.runs.now c.evaluate
 pub returns-clause-encodable : goal.returns-clause-encodable
 returns-clause-encodable g c = ran_encodable c.count-before.result c.args.runs.now c.evaluate.new.runs c.in_ok-ran.ran c.finish.result c.count-before.ensures
     c.in_ok-built.ensures.runs c.in_ok-ran.ensures c.finish.ensures.ran
+
+pub finish-requires-clause-clean : goal.finish-requires-clause-clean
+finish-requires-clause-clean g c = clean_by (g.F.Files.holds c.args.files.now) (g.F.Files.holds c.evaluate.new.files) c.count-before.result c.args.runs.now
+    c.evaluate.new.runs c.in_ok-ran.ran.items c.args.project.typed c.args.project.roots.items c.in_ok-built.built c.count-before.ensures
+    c.in_ok-ran.ensures c.in_ok-built.ensures.same c.in_ok-built.ensures.clean
+
+pub returns-in_err-ran-clause-crash : goal.returns-in_err-ran-clause-crash
+returns-in_err-ran-clause-crash g c = withstands_still g.F.Files.holds g.F.Files.moment g.F.Files.left_since g.F.Files.images (LeavesFor c.args.project)
+    c.args.files.now c.evaluate.new.files c.in_ok-built.ensures.crash
+
+pub returns-clause-crash : goal.returns-clause-crash
+returns-clause-crash g c = withstands_then g.F.Files.holds g.F.Files.moment g.F.Files.left_since g.F.Files.images (LeavesFor c.args.project)
+    c.args.files.now c.evaluate.new.files c.finish.new.files c.in_ok-built.ensures.same c.in_ok-built.ensures.crash c.finish.ensures.crash

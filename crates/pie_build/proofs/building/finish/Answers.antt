@@ -1,4 +1,8 @@
-use Rattle.pie_build.proofs.Storing.{may_stand, leaves_stored}
+use Rattle.pie_build.specs.Projects.{LeavesFor}
+use Rattle.pie_build.specs.Reported.{PutsMade}
+use Rattle.pie_build.proofs.Cleaning.{IsMadeOf, made_left, put_left, ran_of, refused_left}
+use Rattle.pie_build.proofs.Crashing.{rests_none, withstands_as}
+use Rattle.pie_build.proofs.Storing.{may_stand}
 use Rattle.pie_build.proofs.building.finish.Goals as goal
 
 pub made_of-requires : goal.made_of-requires
@@ -8,7 +12,42 @@ made_of-requires g c =
 
 pub returns-in_ok-made-in-Accepted-clause-left : goal.returns-in_ok-made-in-Accepted-clause-left
 returns-in_ok-made-in-Accepted-clause-left g c =
+    let p = c.args.project in
     let made = c.in_ok-made-in-Accepted.made in
-    leaves_stored (g.F.Files.holds c.args.files.now) (g.F.Files.holds c.put_into_place.new.files) c.args.project.digests.items c.args.project.roots.items
-    made.contents.items made.store.items made.live c.put_into_place.result c.put_into_place.ensures.left c.put_into_place.ensures.live
-    c.in_ok-made-in-Accepted.ensures.store
+    let held = g.F.Files.holds c.args.files.now in
+    let of : IsMadeOf p c.args.built made = record {
+      contents = c.in_ok-made-in-Accepted.ensures.contents;
+      outputs = c.in_ok-made-in-Accepted.ensures.outputs;
+      live = c.in_ok-made-in-Accepted.ensures.live;
+      store = c.in_ok-made-in-Accepted.ensures.store;
+    } in
+    put_left held (g.F.Files.holds c.put_into_place.new.files) p made c.args.ran c.put_into_place.result
+    (made_left held p c.args.built made c.args.ran of c.in-Accepted.is c.requires.clean) c.put_into_place.ensures.left c.put_into_place.ensures.report
+
+pub returns-in_ok-made-in-Accepted-clause-ran : goal.returns-in_ok-made-in-Accepted-clause-ran
+returns-in_ok-made-in-Accepted-clause-ran g c =
+    ran_of c.in_ok-made-in-Accepted.made c.args.ran c.put_into_place.result c.put_into_place.ensures.report
+
+pub returns-in_ok-made-in-Accepted-clause-crash : goal.returns-in_ok-made-in-Accepted-clause-crash
+returns-in_ok-made-in-Accepted-clause-crash g c =
+    let p = c.args.project in
+    let made = c.in_ok-made-in-Accepted.made in
+    let held = g.F.Files.holds c.args.files.now in
+    let of : IsMadeOf p c.args.built made = record {
+      contents = c.in_ok-made-in-Accepted.ensures.contents;
+      outputs = c.in_ok-made-in-Accepted.ensures.outputs;
+      live = c.in_ok-made-in-Accepted.ensures.live;
+      store = c.in_ok-made-in-Accepted.ensures.store;
+    } in
+    withstands_as g.F.Files.holds g.F.Files.moment g.F.Files.left_since g.F.Files.images (PutsMade made c.args.ran) (LeavesFor p) c.args.files.now
+    c.put_into_place.new.files
+    (made_left held p c.args.built made c.args.ran of c.in-Accepted.is c.requires.clean) c.put_into_place.ensures.crash
+
+pub returns-in-Refused-clause-left : goal.returns-in-Refused-clause-left
+returns-in-Refused-clause-left g c =
+    refused_left (g.F.Files.holds c.args.files.now) c.args.project c.args.built c.args.ran c.in-Refused.refusal c.refused.result c.in-Refused.is
+    c.refused.ensures.verdict c.refused.ensures.fresh c.refused.ensures.wrote c.refused.ensures.removed c.refused.ensures.outputs c.refused.ensures.ran
+    c.requires.clean
+
+pub returns-in-Refused-clause-durable : goal.returns-in-Refused-clause-durable
+returns-in-Refused-clause-durable g c = rests_none g.F.Files.holds g.F.Files.moment g.F.Files.left_since g.F.Files.images c.args.files.now

@@ -1,5 +1,9 @@
 use Rattle.pie_build.proofs.OwnPaths.{same_keeps}
-use Rattle.pie_build.proofs.Storing.{project_leaves}
+use Rattle.pie_build.proofs.Storing.{project_leaves, project_left}
+use Rattle.pie_build.specs.Left.{Leaves}
+use Rattle.pie_build.specs.Projects.{LeavesFor}
+use Rattle.pie_build.proofs.Cleaning.{is_ready}
+use Rattle.pie_build.proofs.Crashing.{withstands_as, withstands_then}
 use Rattle.pie_build.proofs.building.rebuild.Goals as goal
 
 pub returns-in-Err-clause-rest : goal.returns-in-Err-clause-rest
@@ -9,3 +13,17 @@ pub returns-in-Ok-clause-left : goal.returns-in-Ok-clause-left
 returns-in-Ok-clause-left g c =
     project_leaves (g.F.Files.holds c.args.files.now) (g.F.Files.holds c.read_project.new.files) (g.F.Files.holds c.with_project.new.files) c.in-Ok.project
     c.with_project.result c.in-Ok.ensures.found c.in-Ok.ensures.digests c.in-Ok.ensures.names c.in-Ok.ensures.looks.same c.with_project.ensures.left
+
+pub returns-in-Ok-clause-crash : goal.returns-in-Ok-clause-crash
+returns-in-Ok-clause-crash g c =
+    let p = c.in-Ok.project in
+    withstands_then g.F.Files.holds g.F.Files.moment g.F.Files.left_since g.F.Files.images Leaves c.args.files.now c.read_project.new.files
+    c.with_project.new.files c.in-Ok.ensures.looks.same c.in-Ok.ensures.crash
+    (withstands_as g.F.Files.holds g.F.Files.moment g.F.Files.left_since g.F.Files.images (LeavesFor p) Leaves
+    c.read_project.new.files c.with_project.new.files
+    (project_left (g.F.Files.holds c.args.files.now) (g.F.Files.holds c.read_project.new.files) p c.in-Ok.ensures.found c.in-Ok.ensures.digests
+    c.in-Ok.ensures.names c.in-Ok.ensures.looks.same) c.with_project.ensures.crash)
+
+pub with_project-requires-clause-ready : goal.with_project-requires-clause-ready
+with_project-requires-clause-ready g c = is_ready (g.F.Files.holds c.args.files.now) (g.F.Files.holds c.read_project.new.files) c.in-Ok.project
+    c.in-Ok.ensures.found c.in-Ok.ensures.looks.same

@@ -1,0 +1,8 @@
+use Rattle.pie_build.proofs.Cleaning.{cleaned}
+use Rattle.pie_build.proofs.building.evaluate.Goals as goal
+
+pub returns-clause-clean : goal.returns-clause-clean
+returns-clause-clean g c =
+    cleaned (g.F.Files.holds c.args.files.now) c.args.project.now.typed c.in_ok-code.code.items c.as_slice.result.now c.args.project.now.roots.items
+    c.as_slice-2.result.now c.args.runs.now c.fresh.new.runs c.in_ok-built.built c.as_slice.ensures.value c.as_slice-2.ensures.value c.requires.ready
+    c.in_ok-code.ensures.codes c.in_ok-code.ensures.means c.in_ok-built.ensures.clean
