@@ -221,7 +221,8 @@ fn outputs_are_told_for_each_root(rt: HostRuntime) -> Result<(), Fail> {
         "func m(b: bytes) -> int { len(b) } func n() -> int { require m(to_bytes(\"a\")) }",
         "m(bytes(\"00ff\"))\nn()\nm(bytes(\"00ff\"))",
         Status::Ok,
-        "accepted\nran m(bytes(\"61\"))\nran m(bytes(\"00ff\"))\nran n()\nlive 3\noutput m(bytes(\"00ff\")) = 2\noutput n() = 1\noutput m(bytes(\"00ff\")) = 2\n",
+        "accepted\nran m(bytes(\"61\"))\nran m(bytes(\"00ff\"))\nran n()\nlive 3\noutput m(bytes(\"00ff\")) = 2\noutput n() = 1\noutput \
+            m(bytes(\"00ff\")) = 2\n",
     )?;
     builds(&rt, alloc, "", "", Status::Ok, "accepted\nlive 0\n")
 }
@@ -284,8 +285,8 @@ fn a_report_is_told_as_json(rt: HostRuntime) -> Result<(), Fail> {
     )?;
     let (status, text) = run_words(alloc, &["fresh", "--json"], &mut files)?;
     assert_eq!(rt; status, Status::Ok);
-    let wanted =
-        "{\"fresh\":null,\"live\":1,\"outputs\":[[\"main()\",\"\\\"a\\\\\\\"b\\\"\"]],\"ran\":[\"main()\"],\"removed\":[\"out/q\"],\"verdict\":\"accepted\",\"wrote\":[\"out/p\"]}\n";
+    let wanted = "{\"fresh\":null,\"live\":1,\"outputs\":[[\"main()\",\"\\\"a\\\\\\\"b\\\"\"]],\
+            \"ran\":[\"main()\"],\"removed\":[\"out/q\"],\"verdict\":\"accepted\",\"wrote\":[\"out/p\"]}\n";
     assert!(rt; text.as_str() == wanted, "{text}");
     Ok(())
 }

@@ -1,5 +1,6 @@
 //! Checking a project, and what is told of it.
 ghost use Rattle.std.specs.Prelude.{◌≡◌, true, IfSome, IfOk, string_bytes};
+ghost use Rattle.pie_commit.specs.Outcomes.{LeavesAsBefore};
 ghost use Rattle.pie_files.specs.Streams.{Counted};
 ghost use Rattle.pie_project.specs.Looking.{Asks, front_calls};
 ghost use Rattle.pie_project.specs.Refusals.{plain};
@@ -20,6 +21,7 @@ pub(crate) fn check<F: Files>(alloc: Global, files: &mut F) -> Result<Told, File
     ensures told { IfSome (F.holds files.old) (λ d. IfOk result (Tells d)) }
     ensures answer { IfOk result (λ told. is_answer told.status ≡ true) }
     ensures same { F.holds files.new ≡ F.holds files.old }
+    ensures crash { LeavesAsBefore F.holds F.moment F.left_since F.images files.old files.new }
     ensures asks { Asks front_calls (F.asked files.old) (F.asked files.new) }
     ensures counted { Counted F.faults FilesError.Failed files.old files.new result }
 {

@@ -1,6 +1,8 @@
 //! The top call.
 ghost use Rattle.std.specs.Prelude.{◌≡◌, ◌≢◌, Bool, true, IfSome, string_bytes};
-ghost use Rattle.pie_build.specs.Left.{KeepsRest};
+ghost use Rattle.pie_build.specs.Crashes.{StaysAtRest, Withstands};
+ghost use Rattle.pie_build.specs.Left.{KeepsRest, Leaves};
+ghost use Rattle.pie_commit.specs.Outcomes.{LeavesAsBefore};
 ghost use Rattle.pie_files.specs.Faults.{Rose};
 ghost use Rattle.pie_files.specs.Streams.{StaysSure};
 ghost use Rattle.pie_project.specs.Looking.{Asks, front_calls};
@@ -36,6 +38,10 @@ pub fn run<F: Files, I: Source, K: Sink>(
     ensures front { (json : Bool) → texts_of words.now ≡ words_of (commands.Fresh json)
         → IfSome (F.holds files.old) (λ d. PrintsFront d json (F.holds files.new) (K.held out.old) (K.held out.new)) }
     ensures rest { KeepsRest (F.holds files.old) (F.holds files.new) }
+    ensures crash { (json : Bool) → texts_of words.now ≡ words_of (commands.Fresh json)
+        → Withstands F.holds F.moment F.left_since F.images Leaves files.old files.new }
+    ensures durable { (json : Bool) → texts_of words.now ≡ words_of (commands.Fresh json) → is_answer result ≡ true
+        → StaysAtRest F.holds F.images files.old files.new }
 
     // A check, where the directory and the output are told.
     ensures checked { texts_of words.now ≡ words_of commands.Check → is_answer result ≡ true
@@ -45,6 +51,8 @@ pub fn run<F: Files, I: Source, K: Sink>(
     ensures check_stops { texts_of words.now ≡ words_of commands.Check → result ≡ Status.Pipeline
         → IfSome (F.holds files.old) (λ d. PrintsRefusal d (K.held out.old) (K.held out.new)) }
     ensures check_same { texts_of words.now ≡ words_of commands.Check → F.holds files.new ≡ F.holds files.old }
+    ensures check_crash { texts_of words.now ≡ words_of commands.Check
+        → LeavesAsBefore F.holds F.moment F.left_since F.images files.old files.new }
     ensures check_asks { texts_of words.now ≡ words_of commands.Check → Asks front_calls (F.asked files.old) (F.asked files.new) }
 
     // Words that are no command.
@@ -82,11 +90,16 @@ fn run_command<F: Files, K: Sink>(
     ensures front { (json : Bool) → command ≡ commands.Fresh json
         → IfSome (F.holds files.old) (λ d. PrintsFront d json (F.holds files.new) (K.held out.old) (K.held out.new)) }
     ensures rest { KeepsRest (F.holds files.old) (F.holds files.new) }
+    ensures crash { (json : Bool) → command ≡ commands.Fresh json
+        → Withstands F.holds F.moment F.left_since F.images Leaves files.old files.new }
+    ensures durable { (json : Bool) → command ≡ commands.Fresh json → is_answer result ≡ true
+        → StaysAtRest F.holds F.images files.old files.new }
     ensures checked { command ≡ commands.Check → is_answer result ≡ true
         → IfSome (F.holds files.old) (λ d. HasChecked d (K.held out.old) (K.held out.new) result) }
     ensures check_front { command ≡ commands.Check
         → IfSome (F.holds files.old) (λ d. PrintsCheckFront d (K.held out.old) (K.held out.new)) }
     ensures check_same { command ≡ commands.Check → F.holds files.new ≡ F.holds files.old }
+    ensures check_crash { command ≡ commands.Check → LeavesAsBefore F.holds F.moment F.left_since F.images files.old files.new }
     ensures check_asks { command ≡ commands.Check → Asks front_calls (F.asked files.old) (F.asked files.new) }
     ensures files { result ≡ Status.Files
         → Rose (F.faults files.old) (F.faults files.new) × Gains (K.held out.old) (K.held out.new) files_fault_text }
@@ -108,6 +121,8 @@ fn run_fresh<F: Files, K: Sink>(alloc: Global, files: &mut F, out: &mut K, json:
         → IfSome (F.holds files.old) (λ d. HasBuilt d json (F.holds files.new) (K.held out.old) (K.held out.new) result) }
     ensures front { IfSome (F.holds files.old) (λ d. PrintsFront d json (F.holds files.new) (K.held out.old) (K.held out.new)) }
     ensures rest { KeepsRest (F.holds files.old) (F.holds files.new) }
+    ensures crash { Withstands F.holds F.moment F.left_since F.images Leaves files.old files.new }
+    ensures durable { is_answer result ≡ true → StaysAtRest F.holds F.images files.old files.new }
     ensures files { result ≡ Status.Files
         → Rose (F.faults files.old) (F.faults files.new) × Gains (K.held out.old) (K.held out.new) files_fault_text }
     ensures output { result ≡ Status.Output → Rose (K.faults out.old) (K.faults out.new) }
@@ -128,6 +143,7 @@ fn run_check<F: Files, K: Sink>(alloc: Global, files: &mut F, out: &mut K) -> St
     ensures checked { is_answer result ≡ true → IfSome (F.holds files.old) (λ d. HasChecked d (K.held out.old) (K.held out.new) result) }
     ensures front { IfSome (F.holds files.old) (λ d. PrintsCheckFront d (K.held out.old) (K.held out.new)) }
     ensures same { F.holds files.new ≡ F.holds files.old }
+    ensures crash { LeavesAsBefore F.holds F.moment F.left_since F.images files.old files.new }
     ensures asks { Asks front_calls (F.asked files.old) (F.asked files.new) }
     ensures files { result ≡ Status.Files
         → Rose (F.faults files.old) (F.faults files.new) × Gains (K.held out.old) (K.held out.new) files_fault_text }

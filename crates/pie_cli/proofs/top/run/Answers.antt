@@ -49,3 +49,21 @@ returns-in-Err-Usage-clause-checked g c = λ is. absurd (c.in-Err-Usage.ensures.
 
 pub returns-in-Err-Usage-clause-check_front : goal.returns-in-Err-Usage-clause-check_front
 returns-in-Err-Usage-clause-check_front g c = λ is. absurd (c.in-Err-Usage.ensures.refused commands.Check is)
+
+pub returns-in-Ok-clause-crash : goal.returns-in-Ok-clause-crash
+returns-in-Ok-clause-crash g c = λ json is. c.run_command.ensures.crash json (same_command _ _ (sym c.in-Ok.ensures.accepted ∙ is))
+
+pub returns-in-Ok-clause-durable : goal.returns-in-Ok-clause-durable
+returns-in-Ok-clause-durable g c = λ json is. c.run_command.ensures.durable json (same_command _ _ (sym c.in-Ok.ensures.accepted ∙ is))
+
+pub returns-in-Ok-clause-check_crash : goal.returns-in-Ok-clause-check_crash
+returns-in-Ok-clause-check_crash g c = λ is. c.run_command.ensures.check_crash (same_command _ _ (sym c.in-Ok.ensures.accepted ∙ is))
+
+pub returns-in-Err-Usage-clause-crash : goal.returns-in-Err-Usage-clause-crash
+returns-in-Err-Usage-clause-crash g c = λ json is. absurd (c.in-Err-Usage.ensures.refused (commands.Fresh json) is)
+
+pub returns-in-Err-Usage-clause-durable : goal.returns-in-Err-Usage-clause-durable
+returns-in-Err-Usage-clause-durable g c = λ json is. absurd (c.in-Err-Usage.ensures.refused (commands.Fresh json) is)
+
+pub returns-in-Err-Usage-clause-check_crash : goal.returns-in-Err-Usage-clause-check_crash
+returns-in-Err-Usage-clause-check_crash g c = λ is. absurd (c.in-Err-Usage.ensures.refused commands.Check is)
