@@ -1,0 +1,4 @@
+pub mod Examples
+pub mod Only
+pub mod Pieces
+pub mod Values
