@@ -1,5 +1,6 @@
 //! What no clause says, and the calls once with ample memory.
-use crate::{FaultKind, Path, PathError, Status, Text};
+use crate::{FaultKind, OutOfMemory, Path, PathError, Status, Text};
+use std::alloc::Global;
 use std::test::Fail;
 
 #[test]
@@ -24,31 +25,48 @@ fn a_text_is_read_as_a_path_or_refused(rt: HostRuntime) -> Result<(), Fail> {
     Ok(())
 }
 
+/// Whether a path lies under `out`, is a source, and is below `src`; its parent and its entry in `src`, empty where there is none.
+type Row = (&'static str, bool, bool, bool, &'static str, &'static str);
+
+fn kinds_are(path: &Path, src: &Path, row: &Row) -> bool {
+    path.under_out() == row.1 && path.is_source() == row.2 && path.is_below(src) == row.3
+}
+
+fn parent_is(alloc: Global, path: &Path, wanted: &str) -> Result<bool, OutOfMemory> {
+    let parent = path.parent(alloc)?;
+    Ok(parent.as_ref().map_or("", |p| p.as_str()) == wanted)
+}
+
+fn entry_is(alloc: Global, path: &Path, dir: &Path, wanted: &str) -> Result<bool, OutOfMemory> {
+    let entry = path.entry_of(alloc, dir)?;
+    Ok(entry.as_ref().map_or("", |p| p.as_str()) == wanted)
+}
+
+fn row_holds(alloc: Global, src: &Path, row: &Row) -> Result<bool, OutOfMemory> {
+    let Ok(path) = Path::read(alloc, row.0) else {
+        return Ok(false);
+    };
+    Ok(
+        kinds_are(&path, src, row)
+            && parent_is(alloc, &path, row.4)?
+            && entry_is(alloc, &path, src, row.5)?,
+    )
+}
+
 #[test]
 fn paths_have_kinds_parents_and_entries(rt: HostRuntime) -> Result<(), Fail> {
-    let alloc = rt.alloc();
-    let cases = [
-        ("out", false, false, "", ""),
-        ("out/page", true, false, "out", ""),
-        ("outer/page", false, true, "outer", ""),
-        (".pie/store", false, false, ".pie", ""),
-        ("pie.roots", false, false, "", ""),
-        ("src/a", false, true, "src", "src/a"),
-        ("src/a/b/c", false, true, "src/a/b", "src/a"),
+    let rows = [
+        ("out", false, false, false, "", ""),
+        ("out/page", true, false, false, "out", ""),
+        ("outer/page", false, true, false, "outer", ""),
+        (".pie/store", false, false, false, ".pie", ""),
+        ("pie.roots", false, false, false, "", ""),
+        ("src/a", false, true, true, "src", "src/a"),
+        ("src/a/b/c", false, true, true, "src/a/b", "src/a"),
     ];
-    let src = Path::read(alloc, "src").map_err(|_| "src")?;
-    for (text, out, source, parent, entry) in cases {
-        let path = Path::read(alloc, text).map_err(|_| "path")?;
-        assert_eq!(rt; path.under_out(), out, "{text}");
-        assert_eq!(rt; path.is_source(), source, "{text}");
-        assert_eq!(rt; path.is_below(&src), !entry.is_empty(), "{text}");
-        let up = path.parent(alloc)?;
-        assert!(rt; up.as_ref().map_or("", |p| p.as_str()) == parent, "{text}");
-        let on_way = path.entry_of(alloc, &src)?;
-        assert!(rt;
-            on_way.as_ref().map_or("", |p| p.as_str()) == entry,
-            "{text}"
-        );
+    let src = Path::read(rt.alloc(), "src").map_err(|_| "src")?;
+    for row in rows {
+        assert!(rt; row_holds(rt.alloc(), &src, &row)?, "{}", row.0);
     }
     Ok(())
 }
