@@ -3,7 +3,7 @@
 
 use pie_base::{OutOfMemory, Status};
 use pie_cli::run;
-use pie_files::{DirFiles, StdSink, StdSource};
+use pie_disk::{DirFiles, StdSink, StdSource};
 use std::env;
 use std::process::ExitCode;
 

@@ -11,3 +11,4 @@ pub mod Story
 pub mod StoryLaws
 pub mod Streams
 pub mod SureFiles
+pub mod Within

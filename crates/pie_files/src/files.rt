@@ -1,8 +1,10 @@
 //! The files of a project, as a trait: what a build may ask of the outside.
-ghost use Rattle.std.specs.Prelude.{◌≡◌, ◌≤◌, List, ℕ, Option, Some, IfSome, IfOk, OnOk, IsErrOf};
+ghost use Rattle.std.specs.Prelude.{◌≡◌, ◌≤◌, List, ℕ, Option, Some, IfSome, IfOk, OnOk, IsErrOf, is_some};
 ghost use Rattle.std.specs.Option.{option_map};
+ghost use Rattle.sha2.specs.Sha256.{sha256};
 ghost use Rattle.pie_files.specs.declared.files.Call.{Call};
 ghost use Rattle.pie_files.specs.Directory.{Directory, file_at, with_file, without_file, files_under, entries_of};
+ghost use Rattle.pie_files.specs.Within.{IsWithin};
 ghost use Rattle.pie_files.specs.Calls.{Called, IsWrite, Wrote, MayHaveWritten, MayHaveRemoved};
 ghost use Rattle.pie_files.specs.Images.{MayLeave, Stays, MayWrite, MayRemove, Only};
 
@@ -55,9 +57,20 @@ pub struct Found {
     pub mark: u64,
 }
 
+/// What `read_within` finds at a path.
+#[derive(Drop)]
+pub enum Within {
+    /// No file is there.
+    Absent,
+    /// The file has more bytes than were wanted. None of them is handed out.
+    Long,
+    Whole(Found),
+}
+
 /// A call on the files, as the objects in memory list it.
 #[derive(Drop)]
 pub enum Call {
+    /// A look at one file: `read`, `read_within`, `exists` or `digest`.
     Read(Path),
     Names(Path),
     AllUnder(Path),
@@ -91,6 +104,27 @@ pub trait Files {
     /// The file at a path, or `None` where there is none.
     fn read(&mut self, path: &Path) -> Result<Option<Found>, FilesError>
         ensures found { IfSome (holds self.old) (λ d. IfOk result (λ found. option_map (λ f. (f.bytes.items, f.mark)) found ≡ file_at d path.now)) }
+        ensures same { holds self.new ≡ holds self.old }
+        ensures crash { MayLeave holds moment left_since images Stays self.old self.new }
+        ensures called { Called asked faults (λ c. c ≡ Call.Read path.now) self.old self.new result };
+
+    /// The file at a path, where it has at most so many bytes. A longer one is told by its size.
+    fn read_within(&mut self, path: &Path, most: usize) -> Result<Within, FilesError>
+        ensures found { IfSome (holds self.old) (λ d. IfOk result (λ found. IsWithin most found (file_at d path.now))) }
+        ensures same { holds self.new ≡ holds self.old }
+        ensures crash { MayLeave holds moment left_since images Stays self.old self.new }
+        ensures called { Called asked faults (λ c. c ≡ Call.Read path.now) self.old self.new result };
+
+    /// Whether a file is at a path. Its bytes aren't asked for.
+    fn exists(&mut self, path: &Path) -> Result<bool, FilesError>
+        ensures found { IfSome (holds self.old) (λ d. IfOk result (λ there. there ≡ is_some (file_at d path.now))) }
+        ensures same { holds self.new ≡ holds self.old }
+        ensures crash { MayLeave holds moment left_since images Stays self.old self.new }
+        ensures called { Called asked faults (λ c. c ≡ Call.Read path.now) self.old self.new result };
+
+    /// The SHA-256 of the file at a path, or `None` where there is none. Its bytes needn't fit into memory.
+    fn digest(&mut self, path: &Path) -> Result<Option<[u8; 32]>, FilesError>
+        ensures found { IfSome (holds self.old) (λ d. IfOk result (λ digest. digest ≡ option_map (λ f. sha256 f.0) (file_at d path.now))) }
         ensures same { holds self.new ≡ holds self.old }
         ensures crash { MayLeave holds moment left_since images Stays self.old self.new }
         ensures called { Called asked faults (λ c. c ≡ Call.Read path.now) self.old self.new result };

@@ -3,8 +3,9 @@ ghost use Rattle.std.specs.Prelude.{◌≡◌, ◌≤◌, OnOk, IsErrOf};
 ghost use Rattle.pie_files.specs.Faults.{Rose};
 
 use crate::disk::Disk;
-use crate::{Files, FilesError, Found};
+
 use pie_base::{OutOfMemory, Path};
+use pie_files::{Files, FilesError, Found};
 use std::collections::BTreeSet;
 
 /// The files of a directory on a disk. It tells no contents: that the directory holds what was

@@ -1,7 +1,7 @@
 //! Standard input and standard output: the trusted edge.
 ghost use Rattle.std.specs.Prelude.{◌≡◌};
 
-use crate::{Sink, SinkError, Source, SourceError};
+use pie_files::{Sink, SinkError, Source, SourceError};
 use std::io::{Read, Write};
 
 /// Standard input. It tells no contents.

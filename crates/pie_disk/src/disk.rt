@@ -1,6 +1,7 @@
 //! Calls on a real directory, with the refusals of the disk as faults.
-use crate::{FilesError, Found};
+
 use pie_base::{OutOfMemory, Path, PathError};
+use pie_files::{FilesError, Found};
 use std::alloc::Global;
 use std::collections::BTreeSet;
 use std::fs::{self, File, Metadata};
