@@ -3,7 +3,6 @@ ghost use Rattle.std.specs.Prelude.{◌≡◌, ◌≤◌, OnOk, IsErrOf};
 ghost use Rattle.pie_files.specs.Faults.{Rose};
 
 use crate::disk::Disk;
-
 use pie_base::{OutOfMemory, Path};
 use pie_files::{Files, FilesError, Found};
 use std::collections::BTreeSet;
