@@ -68,7 +68,6 @@ test_a_pipe_among_the_builders_own_files_does_not_hang() {
   ended 0
   regular .pie/store
   absent .pie/open
-  absent .pie/pending
 }
 
 test_a_file_without_write_permission_is_replaced() {

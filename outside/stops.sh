@@ -8,9 +8,12 @@ second_state() {
   pipeline 'func main() -> unit { write(path("out/a/x/y"), "y"); write(path("out/b"), "b"); write(path("out/e"), "e"); }'
 }
 
+# Runs a command that may be killed, in a shell of its own, which says nothing about it.
+quietly() { bash -c '"$@"; exit "$?"' - "$@" </dev/null >../killed 2>&1; }
+
 # Kills a build of the second state at the N-th call on the system of one name.
 killed_at() {
-  strace -f -o /dev/null -e trace="$1" -e inject="$1:signal=KILL:when=$2" "$program" fresh </dev/null >../killed 2>&1
+  quietly strace -f -o /dev/null -e trace="$1" -e inject="$1:signal=KILL:when=$2" "$program" fresh
   [ "$?" = 137 ]
 }
 
@@ -49,7 +52,7 @@ test_a_kill_after_any_time_wedges_nothing() {
     pie fresh
     ended 0
     second_state
-    timeout -s KILL "0.00$((number % 10))$number" "$program" fresh </dev/null >../killed 2>&1
+    quietly timeout -s KILL "0.00$((number % 10))$number" "$program" fresh
     pie fresh
     ended 0
     second_left "a kill" "$number"
