@@ -1,6 +1,6 @@
 //! A directory on a disk, and the names that the system knows its files by.
 
-use crate::explain::{explain_reason, explain_refusal};
+use crate::told::{explain_reason, explain_refusal};
 use pie_base::{OutOfMemory, Path};
 use pie_files::FilesError;
 use std::alloc::Global;

@@ -4,7 +4,6 @@
 mod contents;
 mod dir_files;
 mod disk;
-mod explain;
 mod listing;
 mod lock;
 mod making;
@@ -12,11 +11,12 @@ mod removing;
 mod seen;
 mod std_streams;
 mod syncing;
+mod told;
 mod writing;
 
 pub use dir_files::DirFiles;
-pub use explain::explain;
 pub use std_streams::{StdSink, StdSource};
+pub use told::explain;
 
 #[cfg(test)]
 mod tests;

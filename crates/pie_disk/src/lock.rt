@@ -1,7 +1,7 @@
 //! The lock of a project's directory: one build at a time.
 
 use crate::disk::Disk;
-use crate::explain::explain;
+use crate::told::explain;
 use pie_files::FilesError;
 use std::fs::{File, TryLockError};
 

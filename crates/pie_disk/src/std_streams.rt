@@ -1,7 +1,7 @@
 //! Standard input and standard output: the trusted edge.
 ghost use Rattle.std.specs.Prelude.{◌≡◌};
 
-use crate::explain::{explain_reason, explain_refusal};
+use crate::told::{explain_reason, explain_refusal};
 use pie_files::{Sink, SinkError, Source, SourceError};
 use std::io::{Read, Write};
 
