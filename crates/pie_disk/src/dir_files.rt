@@ -1,6 +1,7 @@
 //! The files of a real directory: the trusted edge.
 ghost use Rattle.std.specs.Prelude.{◌≡◌, ◌≤◌, OnOk, IsErrOf};
 ghost use Rattle.pie_files.specs.Faults.{Rose};
+ghost use Rattle.pie_disk.specs.Locks.{MayCall};
 
 use crate::disk::Disk;
 use crate::lock::Lock;
@@ -53,6 +54,7 @@ impl DirFiles {
 
     // Comes before each call: a build takes the lock first.
     fn enter(&mut self) -> Result<(), FilesError>
+        ensures may { OnOk result (MayCall self.new.lock) }
         ensures later { self.old.faults ≤ self.new.faults }
         ensures steady { OnOk result (self.new.faults ≡ self.old.faults) }
         ensures cause { IsErrOf result FilesError.Failed → Rose self.old.faults self.new.faults }
@@ -63,6 +65,7 @@ impl DirFiles {
 
     // Takes the lock where it is wanted and not taken yet.
     fn locked(&mut self) -> Result<(), FilesError>
+        ensures may { OnOk result (MayCall self.new.lock) }
         ensures same { self.new.faults ≡ self.old.faults }
     {
         match self.lock {
@@ -72,14 +75,15 @@ impl DirFiles {
         }
         self.lock = self.disk.lock()?;
         match self.lock {
-            Lock::Refused => Err(self.disk.refused_lock()),
-            _ => self.disk.remove_fresh(),
+            Lock::Taken(_) => self.disk.remove_fresh(&self.lock),
+            _ => Err(self.disk.refused_lock()),
         }
     }
 
     // Counts a fault of the disk.
     fn counted<T: Drop>(&mut self, answer: Result<T, FilesError>) -> Result<T, FilesError>
         ensures answer { result ≡ answer }
+        ensures lock { self.new.lock ≡ self.old.lock }
         ensures later { self.old.faults ≤ self.new.faults }
         ensures steady { OnOk answer (self.new.faults ≡ self.old.faults) }
         ensures cause { IsErrOf answer FilesError.Failed → Rose self.old.faults self.new.faults }
@@ -149,14 +153,14 @@ impl Files for DirFiles {
     fn write(&mut self, path: &Path, bytes: &[u8]) -> Result<(), FilesError> {
         self.enter()?;
         self.disk.note_unsynced(&mut self.unsynced, path)?;
-        let answer = self.disk.write(path, bytes);
+        let answer = self.disk.write(&self.lock, path, bytes);
         self.counted(answer)
     }
 
     fn remove(&mut self, path: &Path) -> Result<(), FilesError> {
         self.enter()?;
         self.disk.note_unsynced(&mut self.unsynced, path)?;
-        let answer = self.disk.remove(path);
+        let answer = self.disk.remove(&self.lock, path);
         self.counted(answer)
     }
 

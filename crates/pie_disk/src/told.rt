@@ -6,7 +6,8 @@ use std::io::{self, ErrorKind, Write};
 // The variable of the environment that asks for it, where it isn't empty.
 const VARIABLE: &str = "PIE_EXPLAIN";
 
-/// Tells a line on standard error, where the environment has `PIE_EXPLAIN` and it isn't empty. It takes no memory.
+/// Tells a line on standard error, where the environment has `PIE_EXPLAIN` and it isn't empty. It
+/// needs no memory.
 pub fn explain(rt: HostRuntime, line: &str) {
     if is_wanted(rt) {
         let _told = tell(rt, line);
@@ -40,7 +41,12 @@ fn is_wanted(rt: HostRuntime) -> bool {
     }
 }
 
+// In one piece, where there is memory for it, so that lines of two processes stay apart.
 fn tell(rt: HostRuntime, line: &str) -> io::Result<()> {
-    let line = format!(in rt.alloc(); "pie: {line}\n")?;
-    rt.stderr().write_all(line.as_bytes())
+    if let Ok(whole) = format!(in rt.alloc(); "pie: {line}\n") {
+        return rt.stderr().write_all(whole.as_bytes());
+    }
+    rt.stderr().write_all(b"pie: ")?;
+    rt.stderr().write_all(line.as_bytes())?;
+    rt.stderr().write_all(b"\n")
 }

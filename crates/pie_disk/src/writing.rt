@@ -1,6 +1,8 @@
 //! A write: a new file beside the others, which then takes the place.
+ghost use Rattle.pie_disk.specs.Locks.{MayCall};
 
 use crate::disk::{Disk, dir_at, is_own};
+use crate::lock::Lock;
 use crate::seen::{A_LINK, Kind};
 use pie_base::{OutOfMemory, Path};
 use pie_files::FilesError;
@@ -12,7 +14,9 @@ const FRESH: &str = "\u{1}new";
 impl Disk {
     /// Puts a new file of these bytes at a path. What stood there, be it a link, one of many names of
     /// a file, a pipe or a file that may not be written, is replaced and not written to.
-    pub(crate) fn write(&self, path: &Path, bytes: &[u8]) -> Result<(), FilesError> {
+    pub(crate) fn write(&self, _lock: &Lock, path: &Path, bytes: &[u8]) -> Result<(), FilesError>
+        requires { MayCall _lock.now }
+    {
         let place = self.place(path)?;
         let fresh = self.fresh_place(place.as_str())?;
         let own = is_own(path);
@@ -32,7 +36,9 @@ impl Disk {
     }
 
     /// Takes away the new file that a stop may have left in each of the two own directories.
-    pub(crate) fn remove_fresh(&self) -> Result<(), FilesError> {
+    pub(crate) fn remove_fresh(&self, _lock: &Lock) -> Result<(), FilesError>
+        requires { MayCall _lock.now }
+    {
         self.remove_fresh_in("out")?;
         self.remove_fresh_in(".pie")
     }
