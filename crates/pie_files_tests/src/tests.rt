@@ -1,9 +1,9 @@
 //! The objects in memory, each once.
-use crate::{
-    Call, Files, FilesError, Found, Logged, MemFiles, MemSink, MemSource, Pick, Sink, SinkError,
-    Source, SourceError, SureFiles,
-};
 use pie_base::Path;
+use pie_files::{
+    Call, Files, FilesError, Found, Logged, MemFiles, MemSink, MemSource, Pick, Sink, SinkError,
+    Source, SourceError, SureFiles, Within,
+};
 use std::alloc::Global;
 use std::test::Fail;
 
@@ -60,6 +60,59 @@ fn files_in_memory_hold_and_log(rt: HostRuntime) -> Result<(), Fail> {
     assert!(rt; is_found(&put, b"x", 70) && is_found(&written, b"z", 1) && gone.is_none());
     assert_eq!(rt; files.log().len(), 8);
     assert!(rt; matches!(files.log().last(), Some(Logged::Asked(Call::Read(_)))));
+    Ok(())
+}
+
+fn is_whole(found: &Within, bytes: &[u8]) -> bool {
+    match found {
+        Within::Whole(found) => found.bytes.as_slice() == bytes,
+        Within::Absent => false,
+        Within::Long => false,
+    }
+}
+
+#[test]
+fn a_file_is_read_whole_up_to_the_wanted_length(rt: HostRuntime) -> Result<(), Fail> {
+    let alloc = rt.alloc();
+    let mut files = SureFiles::new(alloc);
+    let page = path(alloc, "src/page")?;
+    files.put(&page, b"abc", 1)?;
+    let whole = files.read_within(&page, 3)?;
+    let long = files.read_within(&page, 2)?;
+    let absent = files.read_within(&path(alloc, "src/pag")?, 3)?;
+    assert!(rt; is_whole(&whole, b"abc"));
+    assert!(rt; matches!(long, Within::Long) && matches!(absent, Within::Absent));
+    assert_eq!(rt; files.log().len(), 4);
+    Ok(())
+}
+
+#[test]
+fn a_file_is_looked_for_and_digested_without_its_bytes(rt: HostRuntime) -> Result<(), Fail> {
+    let alloc = rt.alloc();
+    let mut files = SureFiles::new(alloc);
+    let page = path(alloc, "src/page")?;
+    let other = path(alloc, "src")?;
+    files.put(&page, b"abc", 1)?;
+    assert!(rt; files.exists(&page) == Ok(true) && files.exists(&other) == Ok(false));
+    let digest = files.digest(&page)?.ok_or("digest")?;
+    assert!(rt; digest[..4] == [0xba, 0x78, 0x16, 0xbf] && digest[31] == 0xad);
+    assert!(rt; files.digest(&other)?.is_none());
+    assert!(rt; matches!(files.log().last(), Some(Logged::Asked(Call::Read(_)))));
+    Ok(())
+}
+
+#[test]
+fn each_look_that_is_told_to_fails(rt: HostRuntime) -> Result<(), Fail> {
+    let alloc = rt.alloc();
+    let mut files = MemFiles::new(alloc);
+    let page = path(alloc, "src/page")?;
+    files.put(&page, b"abc", 1)?;
+    files.fail_at(&[1, 2, 3])?;
+    assert!(rt; matches!(files.read_within(&page, 3), Err(FilesError::Failed)));
+    assert!(rt; files.exists(&page) == Err(FilesError::Failed));
+    assert!(rt; files.digest(&page) == Err(FilesError::Failed));
+    assert!(rt; files.exists(&page) == Ok(true) && files.digest(&page)?.is_some());
+    assert!(rt; is_whole(&files.read_within(&page, 3)?, b"abc"));
     Ok(())
 }
 
