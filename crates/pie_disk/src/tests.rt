@@ -220,12 +220,12 @@ fn one_build_at_a_time_has_the_directory(rt: HostRuntime) -> Result<(), Fail> {
     let root = scratch(rt, "lock")?;
     let at = root.as_str();
     // What a build leaves that is stopped while it writes.
-    make(rt, at, &["out/\u{1}new"])?;
+    make(rt, at, &["out/\u{7f}new"])?;
     let file = path(alloc, "out/a")?;
     let mut first = DirFiles::for_build_under(rt, at)?;
     let mut second = DirFiles::for_build_under(rt, at)?;
     assert!(rt; !first.exists(&file)?);
-    assert!(rt; !holds(rt, at, "out/\u{1}new", "out/\u{1}new")?);
+    assert!(rt; !holds(rt, at, "out/\u{7f}new", "out/\u{7f}new")?);
     assert!(rt; second.write(&file, b"second") == Err(FilesError::Failed));
     first.write(&file, b"first")?;
     drop(first);

@@ -9,7 +9,7 @@ use pie_files::FilesError;
 use std::fs;
 
 // The name of a new file, until it takes its place. It is no segment of a path, so no listing shows it.
-const FRESH: &str = "\u{1}new";
+const FRESH: &str = "\u{7f}new";
 
 impl Disk {
     /// Puts a new file of these bytes at a path. What stood there, be it a link, one of many names of
