@@ -1,17 +1,16 @@
 -- What a crash may leave of files in memory, after one thing more.
-use Rattle.std.proofs.Common.{◌≡◌, ◌≤◌, ◌<◌, ◌+◌, ℕ, List, [], ◌∷◌, ◌++◌, length, take, Bool, true, false, refl, sym, ap, subst, ◌∙◌, arith, inl, inr, ⊎_elim}
+use Rattle.std.proofs.Common.{◌≡◌, ◌≤◌, ◌+◌, ℕ, List, [], ◌∷◌, ◌++◌, length, take, refl, sym, ap, subst, ◌∙◌, arith, inl, inr, ⊎_elim}
 use Rattle.std.proofs.Common.{◌⊎◌, eq-or-lt_of_le, Vec, Global}
-use Rattle.std.specs.Prelude.{Option, None, Some, Ok, Err}
+use Rattle.std.specs.Prelude.{Option}
 use Rattle.std.proofs.lemmas.List.{take-append-le, take_all, length-append}
 use Rattle.pie_files.specs.declared.files.Call.{Call}
 use Rattle.pie_files.specs.declared.files.Call.TheVariants.{Read, Names, AllUnder, Write, Remove, Sync}
-use Rattle.pie_files.specs.declared.pick.Pick.{Pick}
-use Rattle.pie_files.specs.declared.pick.Pick.TheVariants.{All, Nothing, Torn}
+use Rattle.pie_files.specs.declared.pick.Pick.TheVariants.{All}
 use Rattle.pie_files.specs.declared.sure_files.Logged.{Logged}
 use Rattle.pie_files.specs.declared.sure_files.Logged.TheVariants.{Put, Asked, Wrote, Removed, Synced}
-use Rattle.pie_files.specs.Directory.{Directory, with_file, without_file}
+use Rattle.pie_files.specs.Directory.{Directory}
 use Rattle.pie_files.specs.Images.{Stays, MayWrite, MayRemove, Elapses, Only, Follows, Sets}
-use Rattle.pie_files.specs.Story.{picked, picked_all, after_all, MayTry, MayDo, LeftAfter, LeftFrom, IsLeft, WasLeft}
+use Rattle.pie_files.specs.Story.{picked, after_all, MayTry, LeftAfter, LeftFrom, IsLeft, WasLeft}
 
 -- the directory after one thing more
 pub after_more : (d : Directory) (log : List Logged) (x : Logged) → after_all d (log ++ x ∷ []) ≡ picked All (after_all d log) x

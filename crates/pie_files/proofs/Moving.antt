@@ -1,8 +1,8 @@
 -- What a call on files in memory may leave, said of the files.
 use Rattle.std.proofs.Common.{◌≡◌, ◌++◌, List, [], ◌∷◌, ℕ, ap, sym, subst, ◌∙◌, Vec, Global}
-use Rattle.std.specs.Prelude.{Option, None}
+use Rattle.std.specs.Prelude.{None}
 use Rattle.pie_files.specs.declared.files.Call.{Call}
-use Rattle.pie_files.specs.declared.files.Call.TheVariants.{Read, Names, AllUnder, Write, Remove, Sync}
+use Rattle.pie_files.specs.declared.files.Call.TheVariants.{Write, Remove}
 use Rattle.pie_files.specs.declared.sure_files.SureFiles.{SureFiles}
 use Rattle.pie_files.specs.declared.sure_files.Logged.TheVariants.{Put, Asked, Wrote, Removed, Synced}
 use Rattle.pie_files.specs.Images.{Stays, MayWrite, MayRemove, Elapses, Follows, Only, Sets}

@@ -1,16 +1,15 @@
 -- What a crash picks is one of its images.
-use Rattle.std.proofs.Common.{◌≡◌, ◌≤◌, ◌+◌, ◌/◌, ℕ, suc, List, [], ◌∷◌, ◌++◌, length, take, drop, Bool, true, false, cond, refl, sym, ap, subst, ◌∙◌, arith}
+use Rattle.std.proofs.Common.{◌≡◌, ◌≤◌, ◌+◌, ◌/◌, ℕ, suc, List, [], ◌∷◌, ◌++◌, length, take, drop, Bool, true, false, cond, refl, ap, subst, arith}
 use Rattle.std.proofs.Common.{inl, inr}
 use Rattle.std.specs.Prelude.{◌||◌}
-use Rattle.std.proofs.lemmas.List.{take-append-drop, drop_more}
-use Rattle.pie_files.specs.declared.files.Call.{Call}
+use Rattle.std.proofs.lemmas.List.{take-append-drop}
 use Rattle.pie_files.specs.declared.pick.Pick.{Pick}
 use Rattle.pie_files.specs.declared.pick.Pick.TheVariants.{All, Nothing, Torn}
 use Rattle.pie_files.specs.declared.sure_files.Logged.{Logged}
 use Rattle.pie_files.specs.declared.sure_files.Logged.TheVariants.{Put, Asked, Wrote, Removed, Synced}
-use Rattle.pie_files.specs.Directory.{Directory, with_file, without_file}
+use Rattle.pie_files.specs.Directory.{Directory}
 use Rattle.pie_files.specs.Images.{MayWrite, MayRemove}
-use Rattle.pie_files.specs.Story.{picked, picked_all, picked_write, picked_removal, picked_image, after_all, MayTry, MayDo, LeftAfter, LeftFrom, IsLeft}
+use Rattle.pie_files.specs.Story.{picked, picked_all, picked_write, picked_removal, picked_image, after_all, LeftAfter, LeftFrom, IsLeft}
 use Rattle.pie_files.specs.Story.{is_sync, has_sync, synced}
 use Rattle.pie_files.proofs.Leaving.{tried_not, done_left}
 

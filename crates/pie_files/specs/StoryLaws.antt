@@ -1,5 +1,5 @@
 -- What a crash may leave now and what it may have left since now are one.
-use Rattle.std.proofs.Common.{◌≡◌, ◌≤◌, ℕ, List, length, take, sym, subst, le_refl, le_antisymm}
+use Rattle.std.proofs.Common.{◌≤◌, ℕ, List, length, take, sym, subst, le_refl, le_antisymm}
 use Rattle.std.proofs.Math.Seq.{take-length}
 use Rattle.pie_files.specs.declared.sure_files.Logged.{Logged}
 use Rattle.pie_files.specs.Directory.{Directory}

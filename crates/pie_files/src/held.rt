@@ -1,5 +1,5 @@
 //! The files of a directory in memory.
-ghost use Rattle.std.specs.Prelude.{◌≡◌, [], ◌∷◌, ◌++◌, if◌then◌else◌, OnOk, OnErr, IfOk};
+ghost use Rattle.std.specs.Prelude.{◌≡◌, [], ◌∷◌, ◌++◌, if◌then◌else◌, OnOk, OnErr, IfOk, is_some};
 ghost use Rattle.std.specs.Option.{option_map, option_copied};
 ghost use Rattle.std.specs.FinMap as fin;
 ghost use Rattle.pie_files.specs.Directory.{file_at, with_file, without_file, files_under, entries_of, in_path_order};
@@ -61,6 +61,13 @@ impl Held {
         ensures { option_map content_of (option_copied result) ≡ file_at self.now path.now }
     {
         self.files.get(path)
+    }
+
+    /// Whether a file is at a path.
+    pub(crate) fn has(&self, path: &Path) -> bool
+        ensures { result ≡ is_some (file_at self.now path.now) }
+    {
+        self.get(path).is_some()
     }
 
     /// Sets a file.

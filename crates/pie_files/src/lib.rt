@@ -17,6 +17,3 @@ pub use mem_streams::{MemSink, MemSource};
 pub use pick::Pick;
 pub use streams::{Sink, SinkError, Source, SourceError};
 pub use sure_files::{Logged, SureFiles};
-
-#[cfg(test)]
-mod tests;

@@ -6,7 +6,7 @@ ghost use Rattle.pie_files.specs.Images.{Follows, Only, Sets};
 ghost use Rattle.pie_files.specs.Story.{picked_image};
 
 use crate::failures::Failures;
-use crate::{Call, Files, FilesError, Found, Logged, Pick, SureFiles};
+use crate::{Call, Files, FilesError, Found, Logged, Pick, SureFiles, Within};
 use pie_base::{OutOfMemory, Path};
 use std::alloc::Global;
 
@@ -111,6 +111,33 @@ impl Files for MemFiles {
             return Err(FilesError::Failed);
         }
         self.files.read(path)
+    }
+
+    fn read_within(&mut self, path: &Path, most: usize) -> Result<Within, FilesError> {
+        let call = Call::Read(path.copy()?);
+        if self.failures.next_fails() {
+            self.files.note_asked(call)?;
+            return Err(FilesError::Failed);
+        }
+        self.files.read_within(path, most)
+    }
+
+    fn exists(&mut self, path: &Path) -> Result<bool, FilesError> {
+        let call = Call::Read(path.copy()?);
+        if self.failures.next_fails() {
+            self.files.note_asked(call)?;
+            return Err(FilesError::Failed);
+        }
+        self.files.exists(path)
+    }
+
+    fn digest(&mut self, path: &Path) -> Result<Option<[u8; 32]>, FilesError> {
+        let call = Call::Read(path.copy()?);
+        if self.failures.next_fails() {
+            self.files.note_asked(call)?;
+            return Err(FilesError::Failed);
+        }
+        self.files.digest(path)
     }
 
     fn names(&mut self, dir: &Path) -> Result<Vec<Path>, FilesError> {

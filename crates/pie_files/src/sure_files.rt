@@ -4,16 +4,19 @@ ghost use Rattle.std.specs.Option.{option_map};
 ghost use Rattle.std.specs.FinMap as fin;
 ghost use Rattle.pie_files.specs.Directory.{Directory, file_at, with_file, without_file};
 ghost use Rattle.pie_files.specs.Held.{content_of, directory_code};
+ghost use Rattle.pie_files.specs.Within.{IsWithin};
 ghost use Rattle.pie_files.specs.Memory.{asked_of};
 ghost use Rattle.pie_files.specs.Images.{Follows, Only, Sets};
 ghost use Rattle.pie_files.specs.Story.{picked, after_all, picked_image};
 ghost use Rattle.pie_files.specs.declared.pick.Pick.TheVariants.{All};
 ghost use Rattle.std.specs.Coded.{Coded-set};
+ghost use Rattle.sha2.specs.Sha256.{sha256};
 
 use crate::crashed::crashed;
 use crate::held::Held;
-use crate::{Call, Files, FilesError, Found, Pick};
+use crate::{Call, Files, FilesError, Found, Pick, Within};
 use pie_base::{OutOfMemory, Path};
+use sha2::{Digest, Sha256};
 use std::alloc::Global;
 
 /// What has happened to files in memory, oldest first: each call, and the bytes and the mark that
@@ -166,6 +169,26 @@ impl SureFiles {
         note(&mut self.log, Logged::Synced)
     }
 
+    // The file at a path, where it has at most so many bytes.
+    fn copy_within(&self, path: &Path, most: usize) -> Result<Within, OutOfMemory>
+        ensures { IfOk result (λ found. IsWithin most found (file_at (held_by self.now) path.now)) }
+    {
+        match self.held.get(path) {
+            Some(found) => within(self.alloc, found, most),
+            None => Ok(Within::Absent),
+        }
+    }
+
+    // The digest of the file at a path.
+    fn digest_of(&self, path: &Path) -> Option<[u8; 32]>
+        ensures { result ≡ option_map (λ f. sha256 f.0) (file_at (held_by self.now) path.now) }
+    {
+        match self.held.get(path) {
+            Some(found) => Some(hash_of(found.bytes.as_slice())),
+            None => None,
+        }
+    }
+
     // A copy of the file at a path.
     fn copy_of(&self, path: &Path) -> Result<Option<Found>, OutOfMemory>
         ensures { IfOk result (λ found. option_map content_of found ≡ file_at (held_by self.now) path.now) }
@@ -178,6 +201,27 @@ impl SureFiles {
             None => Ok(None),
         }
     }
+}
+
+// A copy of a file that has at most so many bytes.
+fn within(alloc: Global, found: &Found, most: usize) -> Result<Within, OutOfMemory>
+    ensures { IfOk result (λ copy. IsWithin most copy (Some (content_of found.now))) }
+{
+    if found.bytes.len() > most {
+        return Ok(Within::Long);
+    }
+    Ok(Within::Whole(Found {
+        bytes: found.bytes.to_vec(alloc)?,
+        mark: found.mark,
+    }))
+}
+
+fn hash_of(bytes: &[u8]) -> [u8; 32]
+    ensures { result ≡ sha256 bytes.now }
+{
+    let mut hasher = Sha256::new();
+    hasher.update(bytes);
+    hasher.finalize()
 }
 
 fn copied(alloc: Global, bytes: &[u8]) -> Result<Vec<u8>, OutOfMemory>
@@ -229,6 +273,27 @@ impl Files for SureFiles {
         let found = self.copy_of(path)?;
         self.note_asked(call)?;
         Ok(found)
+    }
+
+    fn read_within(&mut self, path: &Path, most: usize) -> Result<Within, FilesError> {
+        let call = Call::Read(path.copy()?);
+        let found = self.copy_within(path, most)?;
+        self.note_asked(call)?;
+        Ok(found)
+    }
+
+    fn exists(&mut self, path: &Path) -> Result<bool, FilesError> {
+        let call = Call::Read(path.copy()?);
+        let there = self.held.has(path);
+        self.note_asked(call)?;
+        Ok(there)
+    }
+
+    fn digest(&mut self, path: &Path) -> Result<Option<[u8; 32]>, FilesError> {
+        let call = Call::Read(path.copy()?);
+        let digest = self.digest_of(path);
+        self.note_asked(call)?;
+        Ok(digest)
     }
 
     fn names(&mut self, dir: &Path) -> Result<Vec<Path>, FilesError> {

@@ -1,5 +1,4 @@
-use Rattle.std.proofs.Common.{ap, refl}
-use Rattle.std.specs.Prelude.{None}
+use Rattle.std.proofs.Common.{refl}
 use Rattle.pie_files.specs.declared.files.Call.TheVariants.{Read}
 use Rattle.pie_files.proofs.Moving.{look_unnoted, look_noted}
 use Rattle.pie_files.proofs.mem_files.MemFilesFiles.read.Goals as goal

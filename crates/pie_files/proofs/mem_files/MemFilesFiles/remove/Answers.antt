@@ -1,5 +1,4 @@
 use Rattle.std.proofs.Common.{ap, refl}
-use Rattle.std.specs.Prelude.{None}
 use Rattle.pie_files.specs.declared.files.Call.TheVariants.{Remove}
 use Rattle.pie_files.proofs.Moving.{removal_unnoted, removal_noted}
 use Rattle.pie_files.proofs.mem_files.MemFilesFiles.remove.Goals as goal

@@ -1,5 +1,3 @@
-use Rattle.std.proofs.Common.{ap, refl}
-use Rattle.std.specs.Prelude.{None}
 use Rattle.pie_files.specs.declared.files.Call.TheVariants.{Sync}
 use Rattle.pie_files.proofs.Moving.{look_unnoted, look_noted}
 use Rattle.pie_files.proofs.mem_files.MemFilesFiles.sync.Goals as goal

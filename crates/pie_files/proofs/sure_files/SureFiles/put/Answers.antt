@@ -1,5 +1,3 @@
-use Rattle.std.proofs.Common.{ap, sym, subst, ◌∙◌, ◌++◌, [], ◌∷◌}
-use Rattle.pie_files.specs.declared.sure_files.Logged.TheVariants.{Put}
 use Rattle.pie_files.proofs.Moving.{put_done}
 use Rattle.pie_files.proofs.sure_files.SureFiles.put.Goals as goal
 
