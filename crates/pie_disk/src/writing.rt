@@ -3,13 +3,11 @@ ghost use Rattle.pie_disk.specs.Locks.{MayCall};
 
 use crate::disk::{Disk, dir_at, is_own};
 use crate::lock::Lock;
+use crate::making::FRESH;
 use crate::seen::{A_LINK, Kind};
-use pie_base::{OutOfMemory, Path};
+use pie_base::Path;
 use pie_files::FilesError;
 use std::fs;
-
-// The name of a new file, until it takes its place. It is no segment of a path, so no listing shows it.
-const FRESH: &str = "\u{7f}new";
 
 impl Disk {
     /// Puts a new file of these bytes at a path. What stood there, be it a link, one of many names of
@@ -35,12 +33,14 @@ impl Disk {
         }
     }
 
-    /// Takes away the new file that a stop may have left in each of the two own directories.
+    /// Takes away what a stop may have left of new files and directories.
     pub(crate) fn remove_fresh(&self, _lock: &Lock) -> Result<(), FilesError>
         requires { MayCall _lock.now }
     {
-        self.remove_fresh_in("out")?;
-        self.remove_fresh_in(".pie")
+        for top in [".", "out", ".pie"] {
+            self.remove_fresh_in(top)?;
+        }
+        Ok(())
     }
 
     fn remove_fresh_in(&self, top: &str) -> Result<(), FilesError> {
@@ -59,17 +59,6 @@ impl Disk {
         }
     }
 
-    // The place of the new file: in the topmost directory above, which is mostly of the same file system.
-    fn fresh_place(&self, place: &str) -> Result<String, OutOfMemory> {
-        let below = place
-            .split_at_checked(self.root.len())
-            .map_or(place, |p| p.1);
-        match below.split_once('/') {
-            Some((top, _)) => Ok(format!(in self.alloc(); "{}{top}/{FRESH}", self.root)?),
-            None => Ok(format!(in self.alloc(); "{}{FRESH}", self.root)?),
-        }
-    }
-
     // Makes the directories above a place that are missing.
     fn make_way(&self, place: &str, own: bool) -> Result<(), FilesError> {
         let mut top = true;
@@ -85,21 +74,32 @@ impl Disk {
     // Makes a directory where there is none. Below the top of an own directory a link, a pipe, a
     // socket or a device in its place is taken away: no task has written it, and nothing reads it.
     fn need_dir(&self, place: &str, own: bool, top: bool) -> Result<(), FilesError> {
-        let made = match self.seen("write", place, !own)? {
-            None => self.make_dir(place),
+        match self.seen("write", place, !own)? {
+            None => self.put_dir(place),
             Some(seen) => match seen.kind {
-                Kind::Dir => return Ok(()),
-                Kind::File => return Err(self.refused("write", place, "not a directory")),
-                Kind::Link if top => return Err(self.refused("write", place, A_LINK)),
-                Kind::Other if top => return Err(self.refused("write", place, "not a directory")),
-                Kind::Link | Kind::Other => fs::remove_file(&self.rt, place).and_then(
-                    |_| self.make_dir(place),
-                ),
+                Kind::Dir => Ok(()),
+                Kind::Link if top => Err(self.refused("write", place, A_LINK)),
+                Kind::Link | Kind::Other if own && !top => self.put_dir_over(place),
+                _ => Err(self.refused("write", place, "not a directory")),
             },
-        };
-        match made {
-            Ok(()) => Ok(()),
+        }
+    }
+
+    fn put_dir_over(&self, place: &str) -> Result<(), FilesError> {
+        match fs::remove_file(&self.rt, place) {
+            Ok(()) => self.put_dir(place),
             Err(e) => Err(self.failed("write", place, &e)),
+        }
+    }
+
+    fn put_dir(&self, place: &str) -> Result<(), FilesError> {
+        let fresh = self.fresh_place(place)?;
+        match self.make_dir(fresh.as_str(), place) {
+            Ok(()) => Ok(()),
+            Err(e) => {
+                let _gone = fs::remove_dir(&self.rt, fresh.as_str());
+                Err(self.failed("write", place, &e))
+            }
         }
     }
 
