@@ -1,6 +1,6 @@
 use pie_base::Text;
 use pie_files::SureFiles;
-use pie_store::NoOffers;
+use pie_store::{NoOffers, Offers};
 use pie_value::{Items, Task};
 use std::test::Fail;
 
