@@ -46,6 +46,9 @@ module _ (bytes : List ℕ) (long : 1048571 < length bytes) where
   abbrev answer : Answer
   answer = answers.Bytes (Some bytes)
 
+  abbrev told : State → State
+  told s = more (answer ∷ []) s
+
   abbrev more_with : Config → Config
   more_with c = more_for (answer ∷ []) c
 
@@ -128,11 +131,11 @@ module _ (bytes : List ℕ) (long : 1048571 < length bytes) where
   c_question (OfTask t how) s c d = tt
 
   c_asked_with : (q : Question) (left : List Answer) (c : Config)
-      → Cut (settle (asked_with q c.state left) c) (settle (asked_with q (more (answer ∷ []) c.state) (left ++ answer ∷ [])) (more_with c))
-  c_asked_with q [] c = c_question q (noted q (record (more (answer ∷ []) c.state) { answers = [] })) c (more_with c)
+      → Cut (settle (asked_with q c.state left) c) (settle (asked_with q (told c.state) (left ++ answer ∷ [])) (more_with c))
+  c_asked_with q [] c = c_question q (noted q (record (told c.state) { answers = [] })) c (more_with c)
   c_asked_with q (a ∷ left) c =
       c_settled (taken q a) (noted q (record c.state { answers = left })) c
-      (settle (by_answer (taken q a) (noted q (record (more (answer ∷ []) c.state) { answers = left ++ answer ∷ [] }))) (more_with c))
+      (settle (by_answer (taken q a) (noted q (record (told c.state) { answers = left ++ answer ∷ [] }))) (more_with c))
 
   c_asked : (q : Question) → Cuts (act_on (asked q))
   c_asked q c = c_asked_with q c.state.answers c
@@ -154,8 +157,8 @@ module _ (bytes : List ℕ) (long : 1048571 < length bytes) where
 
   c_tests : (x y z : Bool) (q : Question) (c : Config) → Cut
       (settle (cond x (cond y (fails WroteTwice, c.state) (cond z (fails ReadThenWrite, c.state) (asked q c.state))) (fails BadWrite, c.state)) c)
-      (settle (cond x (cond y (fails WroteTwice, more (answer ∷ []) c.state) (cond z (fails ReadThenWrite, more (answer ∷ []) c.state) (asked q (more (answer ∷ []) c.state))))
-      (fails BadWrite, more (answer ∷ []) c.state)) (more_with c))
+      (settle (cond x (cond y (fails WroteTwice, told c.state) (cond z (fails ReadThenWrite, told c.state) (asked q (told c.state))))
+      (fails BadWrite, told c.state)) (more_with c))
   c_tests true true z q c = tt
   c_tests true false true q c = tt
   c_tests true false false q c = c_asked q c

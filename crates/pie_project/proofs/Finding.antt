@@ -30,7 +30,8 @@ use Rattle.pie_project.specs.declared.fault.BuildError.{BuildError}
 use Rattle.pie_project.specs.declared.fault.BuildError.TheVariants as errors
 use Rattle.pie_project.specs.Errors.{files_error, lexer_error, parser_error, reader_error}
 use Rattle.pie_project.specs.Refusals.{Refusal, OfPipeline, OfRoots, Absent, TooLong, Says}
-use Rattle.pie_project.specs.Fronts.{most, Checked, Front, tree_says, TokensSay, tree, expected, too_deep, TextSays, tokens, no_token, BytesSay, pipeline_text, pipeline_too_long}
+use Rattle.pie_project.specs.Fronts.{most, Checked, Front, tree_says, TokensSay, tree, expected, too_deep, TextSays, tokens, no_token}
+use Rattle.pie_project.specs.Fronts.{BytesSay, pipeline_text, pipeline_too_long}
 use Rattle.pie_project.specs.Fronts.{RootsSay, roots_too_long, roots_no_text, bad_root, TypedSays, no_roots, with_roots}
 use Rattle.pie_project.specs.Fronts.{PipelineSays, bad_pipeline, good_pipeline, ProjectSays, no_pipeline, with_pipeline, CheckSays, counts, counts_of}
 use Rattle.pie_project.specs.declared.fault.RootsReason.TheVariants as reasons

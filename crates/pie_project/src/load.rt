@@ -16,11 +16,7 @@ use std::alloc::Global;
 
 /// A file, if it is there and no longer than a pipeline or roots may be.
 #[tactic(auto, using(pie_commit::proofs::Reading::reads))]
-pub(crate) fn load<F: Files>(
-    alloc: Global,
-    files: &mut F,
-    name: &str,
-) -> Result<Within, FilesError>
+pub(crate) fn load<F: Files>(alloc: Global, files: &mut F, name: &str) -> Result<Within, FilesError>
     requires { is_path name.now ≡ true }
     ensures found { IfSome (F.holds files.old) (λ d. IfOk result (λ found. IsWithin most found (file_at d name.now))) }
     ensures same { F.holds files.new ≡ F.holds files.old }
