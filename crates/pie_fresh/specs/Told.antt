@@ -91,7 +91,7 @@ told_reading by path seen = (file_dep (read_kind by) path (reading_stamp by path
 abbrev pub told_hash : List ℕ → Option (List ℕ) → Dep × Answer
 told_hash path hash = (file_dep kinds.Digest path (hash_stamp hash), answers.Digest hash)
 
--- how a task fails that was told more bytes than a value may hold, and might have had so many answers: with the last one for having no more
+-- the fault of a task that was told more bytes than a value may hold; where that was the last answer it may have, it fails for having no more
 abbrev pub too_much : ℕ → FaultKind
 too_much left = cond (left == 1) faults.Budget faults.Big
 
