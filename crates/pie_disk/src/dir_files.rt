@@ -1,22 +1,21 @@
 //! The files of a real directory: the trusted edge.
 ghost use Rattle.std.specs.Prelude.{◌≡◌, ◌≤◌, OnOk, IsErrOf};
 ghost use Rattle.pie_files.specs.Faults.{Rose};
+ghost use Rattle.pie_disk.specs.Locks.{MayCall};
 
 use crate::disk::Disk;
-
+use crate::lock::Lock;
 use pie_base::{OutOfMemory, Path};
-use pie_files::{Files, FilesError, Found};
+use pie_files::{Files, FilesError, Found, Within};
 use std::collections::BTreeSet;
 
 /// The files of a directory on a disk. It tells no contents: that the directory holds what was
 /// written, and that a sync makes it last, is trusted.
-///
-/// A directory in the place of a file reads as no file, and so does a path below a file. An entry
-/// whose name is no segment of a path is no part of the directory. A write makes missing parent
-/// directories, and a removal takes away those that became empty.
+/// Rule: docs/BUILDING.md, "Over a real directory".
 #[derive(Drop)]
 pub struct DirFiles {
     disk: Disk,
+    lock: Lock,
     // The names of files and directories that the next sync is to make last.
     unsynced: BTreeSet<String>,
     faults: u64,
@@ -25,25 +24,66 @@ pub struct DirFiles {
 impl DirFiles {
     /// The files of the current directory.
     pub fn new(rt: HostRuntime) -> DirFiles {
+        DirFiles::over(rt, Disk::new(rt), Lock::Free)
+    }
+
+    /// The files of the current directory, for a build. The first call takes the lock of the directory,
+    /// and takes away the new files that a stop has left; where another build has it, every call fails.
+    pub fn for_build(rt: HostRuntime) -> DirFiles {
+        DirFiles::over(rt, Disk::new(rt), Lock::Wanted)
+    }
+
+    /// The files of the directory with this name.
+    pub fn under(rt: HostRuntime, root: &str) -> Result<DirFiles, OutOfMemory> {
+        Ok(DirFiles::over(rt, Disk::under(rt, root)?, Lock::Free))
+    }
+
+    /// The files of the directory with this name, for a build.
+    pub fn for_build_under(rt: HostRuntime, root: &str) -> Result<DirFiles, OutOfMemory> {
+        Ok(DirFiles::over(rt, Disk::under(rt, root)?, Lock::Wanted))
+    }
+
+    fn over(rt: HostRuntime, disk: Disk, lock: Lock) -> DirFiles {
         DirFiles {
-            disk: Disk::new(rt),
+            disk,
+            lock,
             unsynced: BTreeSet::new(rt.alloc()),
             faults: 0,
         }
     }
 
-    /// The files of the directory with this name.
-    pub fn under(rt: HostRuntime, root: &str) -> Result<DirFiles, OutOfMemory> {
-        Ok(DirFiles {
-            disk: Disk::under(rt, root)?,
-            unsynced: BTreeSet::new(rt.alloc()),
-            faults: 0,
-        })
+    // Comes before each call: a build takes the lock first.
+    fn enter(&mut self) -> Result<(), FilesError>
+        ensures may { OnOk result (MayCall self.new.lock) }
+        ensures later { self.old.faults ≤ self.new.faults }
+        ensures steady { OnOk result (self.new.faults ≡ self.old.faults) }
+        ensures cause { IsErrOf result FilesError.Failed → Rose self.old.faults self.new.faults }
+    {
+        let answer = self.locked();
+        self.counted(answer)
+    }
+
+    // Takes the lock where it is wanted and not taken yet.
+    fn locked(&mut self) -> Result<(), FilesError>
+        ensures may { OnOk result (MayCall self.new.lock) }
+        ensures same { self.new.faults ≡ self.old.faults }
+    {
+        match self.lock {
+            Lock::Free | Lock::Taken(_) => return Ok(()),
+            Lock::Wanted => {}
+            Lock::Refused => return Err(FilesError::Failed),
+        }
+        self.lock = self.disk.lock()?;
+        match self.lock {
+            Lock::Taken(_) => self.disk.remove_fresh(&self.lock),
+            _ => Err(self.disk.refused_lock()),
+        }
     }
 
     // Counts a fault of the disk.
     fn counted<T: Drop>(&mut self, answer: Result<T, FilesError>) -> Result<T, FilesError>
         ensures answer { result ≡ answer }
+        ensures lock { self.new.lock ≡ self.old.lock }
         ensures later { self.old.faults ≤ self.new.faults }
         ensures steady { OnOk answer (self.new.faults ≡ self.old.faults) }
         ensures cause { IsErrOf answer FilesError.Failed → Rose self.old.faults self.new.faults }
@@ -75,31 +115,57 @@ impl Files for DirFiles {
     ghost only_now = { λ files c left. left };
 
     fn read(&mut self, path: &Path) -> Result<Option<Found>, FilesError> {
+        self.enter()?;
         let answer = self.disk.read(path);
         self.counted(answer)
     }
 
+    fn read_within(&mut self, path: &Path, most: usize) -> Result<Within, FilesError> {
+        self.enter()?;
+        let answer = self.disk.read_within(path, most);
+        self.counted(answer)
+    }
+
+    fn exists(&mut self, path: &Path) -> Result<bool, FilesError> {
+        self.enter()?;
+        let answer = self.disk.exists(path);
+        self.counted(answer)
+    }
+
+    fn digest(&mut self, path: &Path) -> Result<Option<[u8; 32]>, FilesError> {
+        self.enter()?;
+        let answer = self.disk.digest(path);
+        self.counted(answer)
+    }
+
     fn names(&mut self, dir: &Path) -> Result<Vec<Path>, FilesError> {
+        self.enter()?;
         let answer = self.disk.names(dir);
         self.counted(answer)
     }
 
     fn all_under(&mut self, dir: &Path) -> Result<Vec<Path>, FilesError> {
+        self.enter()?;
         let answer = self.disk.all_under(dir);
         self.counted(answer)
     }
 
     fn write(&mut self, path: &Path, bytes: &[u8]) -> Result<(), FilesError> {
-        let answer = self.disk.write(&mut self.unsynced, path, bytes);
+        self.enter()?;
+        self.disk.note_unsynced(&mut self.unsynced, path)?;
+        let answer = self.disk.write(&self.lock, path, bytes);
         self.counted(answer)
     }
 
     fn remove(&mut self, path: &Path) -> Result<(), FilesError> {
-        let answer = self.disk.remove(&mut self.unsynced, path);
+        self.enter()?;
+        self.disk.note_unsynced(&mut self.unsynced, path)?;
+        let answer = self.disk.remove(&self.lock, path);
         self.counted(answer)
     }
 
     fn sync(&mut self) -> Result<(), FilesError> {
+        self.enter()?;
         let answer = self.disk.sync(&self.unsynced);
         if answer.is_ok() {
             self.unsynced.clear();

@@ -1,6 +1,7 @@
 //! Standard input and standard output: the trusted edge.
 ghost use Rattle.std.specs.Prelude.{◌≡◌};
 
+use crate::told::{explain_reason, explain_refusal};
 use pie_files::{Sink, SinkError, Source, SourceError};
 use std::io::{Read, Write};
 
@@ -29,7 +30,8 @@ impl Source for StdSource {
     fn take(&mut self, into: &mut [u8]) -> Result<usize, SourceError> {
         match self.rt.stdin().read(into) {
             Ok(n) => Ok(n),
-            Err(_) => {
+            Err(e) => {
+                explain_refusal(self.rt, "read", "standard input", &e);
                 self.faults = self.faults.saturating_add(1);
                 Err(SourceError::Failed)
             }
@@ -61,11 +63,11 @@ impl Sink for StdSink {
 
     fn put(&mut self, piece: &[u8]) -> Result<usize, SinkError> {
         match self.rt.stdout().write(piece) {
-            Ok(n) if n > 0 || piece.is_empty() => Ok(n),
-            _ => {
-                self.faults = self.faults.saturating_add(1);
-                Err(SinkError::Failed)
-            }
+            Ok(n) if n > 0 || piece.is_empty() => return Ok(n),
+            Ok(_) => explain_reason(self.rt, "write", "standard output", "it takes nothing"),
+            Err(e) => explain_refusal(self.rt, "write", "standard output", &e),
         }
+        self.faults = self.faults.saturating_add(1);
+        Err(SinkError::Failed)
     }
 }

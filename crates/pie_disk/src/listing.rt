@@ -1,0 +1,218 @@
+//! Listings: the entries of a directory, and the files below it.
+
+use crate::disk::{Disk, MOST, dir_at, is_absent, is_own};
+use crate::seen::Seen;
+use pie_base::{OutOfMemory, Path, PathError};
+use pie_files::FilesError;
+use std::alloc::Global;
+use std::collections::BTreeSet;
+use std::fs::{self, ReadDir};
+use std::io::ErrorKind;
+
+// An entry of a directory.
+#[derive(Drop)]
+enum Entry {
+    File(Path),
+    Dir(Path),
+}
+
+impl Disk {
+    /// The entries of a directory at which or below which a file is.
+    pub(crate) fn names(&self, dir: &Path) -> Result<Vec<Path>, FilesError> {
+        let mut names = Vec::new(self.alloc());
+        for entry in self.entries(dir)? {
+            match entry {
+                Entry::File(path) => names.push(path)?,
+                Entry::Dir(path) => {
+                    if self.holds_file(&path)? {
+                        names.push(path)?;
+                    }
+                }
+            }
+        }
+        names.sort()?;
+        Ok(names)
+    }
+
+    /// The files below a directory. Below `out` and `.pie` each entry that is no directory counts.
+    pub(crate) fn all_under(&self, dir: &Path) -> Result<Vec<Path>, FilesError> {
+        let mut files = Vec::new(self.alloc());
+        let mut dirs = Vec::new(self.alloc());
+        dirs.push(dir.copy()?)?;
+        for _ in 0..u64::MAX {
+            let Some(dir) = dirs.pop() else {
+                break;
+            };
+            sort_out(self.entries(&dir)?, &mut files, &mut dirs)?;
+            if files.len() > MOST {
+                return Err(self.refused("list", dir.as_str(), "too many files"));
+            }
+        }
+        files.sort()?;
+        Ok(files)
+    }
+
+    /// Whether a file is below a directory. It stops at the first, and looks into no directory twice.
+    pub(crate) fn holds_file(&self, dir: &Path) -> Result<bool, FilesError> {
+        let mut looked = BTreeSet::new(self.alloc());
+        let mut dirs = Vec::new(self.alloc());
+        dirs.push(dir.copy()?)?;
+        for _ in 0..u64::MAX {
+            let Some(dir) = dirs.pop() else {
+                break;
+            };
+            if self.has_file(&dir, &mut looked, &mut dirs)? {
+                return Ok(true);
+            }
+        }
+        Ok(false)
+    }
+
+    // Whether a file is right below a directory; if not, adds the directories below it.
+    fn has_file(
+        &self,
+        dir: &Path,
+        looked: &mut BTreeSet<(u64, u64)>,
+        dirs: &mut Vec<Path>,
+    ) -> Result<bool, FilesError> {
+        let Some(seen) = self.look("list", dir)? else {
+            return Ok(false);
+        };
+        if !looked.insert(seen.identity)? {
+            return Ok(false);
+        }
+        let Some(mut listing) = self.opened(dir)? else {
+            return Ok(false);
+        };
+        for _ in 0..u64::MAX {
+            match self.next_entry(dir, &mut listing)? {
+                None => break,
+                Some(None) => {}
+                Some(Some(Entry::File(_))) => return Ok(true),
+                Some(Some(Entry::Dir(path))) => dirs.push(path)?,
+            }
+        }
+        Ok(false)
+    }
+
+    // The entries of a directory that count, in the disk's order.
+    fn entries(&self, dir: &Path) -> Result<Vec<Entry>, FilesError> {
+        let mut entries = Vec::new(self.alloc());
+        let Some(mut listing) = self.opened(dir)? else {
+            return Ok(entries);
+        };
+        for _ in 0..u64::MAX {
+            match self.next_entry(dir, &mut listing)? {
+                None => break,
+                Some(None) => {}
+                Some(Some(entry)) => entries.push(entry)?,
+            }
+        }
+        Ok(entries)
+    }
+
+    // Opens a directory, where there is one.
+    fn opened(&self, dir: &Path) -> Result<Option<ReadDir>, FilesError> {
+        let seen = self.look("list", dir)?;
+        if !seen.is_some_and(|s| s.is_dir()) {
+            return Ok(None);
+        }
+        let place = self.place(dir)?;
+        match fs::read_dir(&self.rt, place.as_str()) {
+            Ok(listing) => Ok(Some(listing)),
+            Err(e) if is_absent(&e) => Ok(None),
+            Err(e) => Err(self.fault("list", place.as_str(), &e)),
+        }
+    }
+
+    // The next entry of a directory, where there is one: none inside is one that doesn't count.
+    fn next_entry(
+        &self,
+        dir: &Path,
+        listing: &mut ReadDir,
+    ) -> Result<Option<Option<Entry>>, FilesError> {
+        match listing.next() {
+            None => Ok(None),
+            Some(Ok(entry)) => Ok(Some(self.entry(dir, entry.file_name())?)),
+            Some(Err(e)) if e.kind() == ErrorKind::InvalidFilename => Ok(Some(None)),
+            Some(Err(e)) => {
+                let place = self.place(dir)?;
+                Err(self.fault("list", place.as_str(), &e))
+            }
+        }
+    }
+
+    // The entry of this name, where it spells a path of a file or of a directory.
+    fn entry(&self, dir: &Path, name: &str) -> Result<Option<Entry>, FilesError> {
+        let Some(path) = child(self.alloc(), dir, name)? else {
+            return Ok(None);
+        };
+        let place = self.place(&path)?;
+        let own = is_own(&path);
+        match self.seen("list", place.as_str(), !own)? {
+            Some(seen) if seen.is_dir() => {
+                if !own && self.leads_back(place.as_str(), &seen)? {
+                    return Ok(None);
+                }
+                Ok(Some(Entry::Dir(path)))
+            }
+            Some(seen) if own || seen.is_file() => Ok(Some(Entry::File(path))),
+            _ => Ok(None),
+        }
+    }
+
+    // Whether a directory, reached by a link, stands above that link: so the listing would go round in a circle.
+    fn leads_back(&self, place: &str, seen: &Seen) -> Result<bool, FilesError> {
+        let entry = self.seen("list", place, false)?;
+        if !entry.is_some_and(|e| e.is_link()) {
+            return Ok(false);
+        }
+        let top = self.top_place()?;
+        if self.is_same(top.as_str(), seen)? {
+            return Ok(true);
+        }
+        self.is_above(place, seen)
+    }
+
+    // Whether a directory stands above a place.
+    fn is_above(&self, place: &str, seen: &Seen) -> Result<bool, FilesError> {
+        for end in self.root.len()..place.len() {
+            if let Some(dir) = dir_at(place, end) {
+                if self.is_same(dir, seen)? {
+                    return Ok(true);
+                }
+            }
+        }
+        Ok(false)
+    }
+
+    fn is_same(&self, place: &str, seen: &Seen) -> Result<bool, FilesError> {
+        let other = self.seen("list", place, true)?;
+        Ok(other.is_some_and(|o| o.identity == seen.identity))
+    }
+}
+
+// The path of a directory's entry, or none where its name spells no path.
+fn child(alloc: Global, dir: &Path, name: &str) -> Result<Option<Path>, OutOfMemory> {
+    let text = format!(in alloc; "{}/{name}", dir.as_str())?;
+    match Path::read(alloc, text.as_str()) {
+        Ok(path) => Ok(Some(path)),
+        Err(PathError::OutOfMemory) => Err(OutOfMemory),
+        Err(_) => Ok(None),
+    }
+}
+
+// Parts entries into files and directories.
+fn sort_out(
+    entries: Vec<Entry>,
+    files: &mut Vec<Path>,
+    dirs: &mut Vec<Path>,
+) -> Result<(), OutOfMemory> {
+    for entry in entries {
+        match entry {
+            Entry::File(path) => files.push(path)?,
+            Entry::Dir(path) => dirs.push(path)?,
+        }
+    }
+    Ok(())
+}
