@@ -2,7 +2,7 @@
 use Rattle.std.proofs.Common.{◌≡◌}
 use Rattle.pie_vm.specs.Machines.{Belongs}
 use Rattle.pie_vm.specs.declared.machine.MachineState.TheVariants.{Ready}
-use Rattle.pie_evaluator.proofs.stories.answered.Given as goal
+use Rattle.pie_evaluator_tests.proofs.stories.answered.Given as goal
 
 abbrev pub invariant-loop-word : goal.invariant-loop-word
 invariant-loop-word l = (l.machine.phase ≡ Ready) × Belongs l.code l.machine

@@ -1,4 +1,4 @@
-use Rattle.pie_parser.proofs.tests.+show.Given as goal
+use Rattle.pie_parser_tests.proofs.tests.+show.Given as goal
 
 abbrev pub decreases-show : goal.decreases-show
 decreases-show l = l.depth

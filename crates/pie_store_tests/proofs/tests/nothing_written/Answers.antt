@@ -1,5 +1,5 @@
 use Rattle.pie_store.proofs.Empty.{empty_storable}
-use Rattle.pie_store.proofs.tests.nothing_written.Goals as goal
+use Rattle.pie_store_tests.proofs.tests.nothing_written.Goals as goal
 
 pub encode_store-requires : goal.encode_store-requires
 encode_store-requires c =

@@ -1,5 +1,5 @@
 use Rattle.std.proofs.Common.{◌+◌, ◌*◌}
-use Rattle.pie_types.proofs.tests.+show.Given as goal
+use Rattle.pie_types_tests.proofs.tests.+show.Given as goal
 
 abbrev pub decreases-show : goal.decreases-show
 decreases-show l = 2 * l.depth
