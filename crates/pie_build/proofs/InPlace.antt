@@ -143,12 +143,12 @@ mapped : {A B : Type 0} (view : A → B) (o : Option A) → is_some o ≡ is_som
 mapped view None = refl
 mapped view (Some a) = refl
 
--- what stands at the end of a call that read whether there are pending names
-pub names_read : {A : Type 0} (view : A → List ℕ × ℕ) (holds : Option Directory) (o : Option A) (path : List ℕ) (b : Bool)
-    → IfSome holds (λ d. option_map view o ≡ file_at d path) → path ≡ codes ".pie/pending" → is_some o ≡ b
+-- what stands at the end of a call that looked whether there are pending names
+pub names_there : (holds : Option Directory) (there : Bool) (path : List ℕ) (b : Bool)
+    → IfSome holds (λ d. there ≡ is_some (file_at d path)) → path ≡ codes ".pie/pending" → there ≡ b
     → IfSome holds (λ d. gone_if b ≡ gone_if (is_some (file_at d (codes ".pie/pending"))))
-names_read view None o path b found there is = tt
-names_read view (Some d) o path b found there is = ap gone_if (sym is ∙ mapped view o ∙ ap is_some (found ∙ ap (file_at d) there))
+names_there None there path b found at is = tt
+names_there (Some d) there path b found at is = ap gone_if (sym is ∙ found ∙ ap (λ q. is_some (file_at d q)) at)
 
 -- ---- paths in lists
 

@@ -109,10 +109,10 @@ fn end_of_pending<F: Files>(alloc: Global, files: &mut F) -> Result<Pending, Fil
     ensures counted { Counted F.faults FilesError.Failed files.old files.new result }
 {
     let names = Path::known(alloc, ".pie/pending")?;
-    match files.read(&names)? {
-        Some(_) => Ok(Pending::Drop),
-        None => Ok(Pending::Keep),
+    if files.exists(&names)? {
+        return Ok(Pending::Drop);
     }
+    Ok(Pending::Keep)
 }
 
 // The plan of these removals and writes, with this end of the pending names and this text of a store.

@@ -32,3 +32,5 @@ pub mod Rooting
 pub mod Cleaning
 pub mod Walks
 pub mod CleanLemmas
+pub mod TooLong
+pub mod ReadingFiles

@@ -51,7 +51,7 @@ use Rattle.pie_fresh.specs.declared.builder.Builder.{Builder}
 use Rattle.pie_fresh.specs.declared.turn.Turn.{Turn}
 use Rattle.pie_fresh.specs.declared.turn.Turn.TheVariants.{Goes, Rests, Stops}
 use Rattle.pie_fresh.specs.Noted.{observed}
-use Rattle.pie_fresh.specs.Sights.{Sighted, Sees, SeesPresence, listing_in}
+use Rattle.pie_fresh.specs.Sights.{Sighted, hash_in, Sees, SeesDigest, SeesPresence, listing_in}
 use Rattle.pie_fresh.specs.Told.{CameTo, IsTold, IsToldOrFails, IsToldSmall, IsToldList, fails_by, told_flag, told_reading, told_hash}
 use Rattle.pie_fresh.specs.Told.{paths_list}
 use Rattle.pie_fresh.specs.Means.{Site, project_of, table_of, names_of, Means, IsAsking, RefusesAs, TurnMeans}
@@ -211,13 +211,17 @@ read_turn s b w path by sight t A left p h =
     (told_reading by path) (λ seen e. reading_as by path seen (λ f g. same_sight sight seen e (p.kept f g))) (λ seen. refl) (events.Read path by) A.came
     (λ seen. (builders_fit s.headings).readings path by seen) t h
 
-pub digest_turn : (s : Site) (b : Builder) (w : Waiting) (path : List ℕ) (sight : Sighted) (t : Turn) → IsAsking s b w (events.Digest path)
-    → 0 < w.notes.left → Sees s.directory b.ledger.stage b.ledger.rows w.notes path sight → IsToldOrFails w (option_map (told_hash path) sight) t
+hash_is : (path : List ℕ) (seen : Sight) → IsLook looks.Digest path seen (told_hash path (hash_in seen)).0 (told_hash path (hash_in seen)).1
+hash_is path None = digest_is path None
+hash_is path (Some f) = digest_is path (Some f)
+
+pub digest_turn : (s : Site) (b : Builder) (w : Waiting) (path : List ℕ) (hash : Option (Option (List ℕ))) (t : Turn) → IsAsking s b w (events.Digest path)
+    → 0 < w.notes.left → SeesDigest s.directory b.ledger.stage b.ledger.rows w.notes path hash → IsToldOrFails w (option_map (told_hash path) hash) t
     → TurnMeans s b t
-digest_turn s b w path sight t A left p h =
-    look_turn s b w A.means left looks.Digest path A.asks sight (seen_visible s b w.code.now w.machine w.notes A.means path sight p)
-    (told_hash path) (λ seen _. digest_is path seen) (λ seen. refl) (events.Digest path) A.came
-    (λ seen. (builders_fit s.headings).digests path seen) t h
+digest_turn s b w path hash t A left p h =
+    look_turn s b w A.means left looks.Digest path A.asks p.sight (seen_visible s b w.code.now w.machine w.notes A.means path p.sight p.sees)
+    (λ seen. told_hash path (hash_in seen)) (λ seen _. hash_is path seen) (λ seen. refl) (events.Digest path) A.came (λ seen. tt) t
+    (subst (λ o. IsToldOrFails w o t) (ap (option_map (told_hash path)) p.is ∙ map_twice hash_in (told_hash path) p.sight) h)
 
 pub list_turn : (s : Site) (b : Builder) (w : Waiting) (dir : List ℕ) (paths : Option (List (List ℕ))) (t : Turn) → IsAsking s b w (events.List dir)
     → 0 < w.notes.left → paths ≡ listing_in s.directory dir → IsToldList w dir paths t → TurnMeans s b t

@@ -1,5 +1,5 @@
 -- What a machine comes to, and what a task is told.
-use Rattle.std.specs.Prelude.{◌≡◌, ◌⊎◌, ℕ, ◌<◌, Bool, true, false, List, [], ◌∷◌, ◌++◌, map, Option, Some, None}
+use Rattle.std.specs.Prelude.{◌≡◌, ◌==◌, ◌⊎◌, ℕ, ◌<◌, Bool, true, false, cond, List, [], ◌∷◌, ◌++◌, map, Option, Some, None}
 use Rattle.sha2.specs.Sha256.{sha256}
 use Rattle.pie_base.specs.declared.fault.FaultKind.{FaultKind}
 use Rattle.pie_base.specs.declared.fault.FaultKind.TheVariants as faults
@@ -21,14 +21,17 @@ use Rattle.pie_vm.specs.Machines.{Follows}
 use Rattle.pie_record.specs.declared.dep.Dep.{Dep}
 use Rattle.pie_record.specs.declared.dep.DepKind.TheVariants as kinds
 use Rattle.pie_stage.specs.Content.{Staged, content, Puts}
-use Rattle.pie_bridge.specs.Looks.{reading_stamp, reading_answer, digest_stamp, digest_answer}
+use Rattle.pie_bridge.specs.Looks.{reading_stamp, reading_answer}
 use Rattle.pie_fresh.specs.declared.frame.Frame.{Frame}
 use Rattle.pie_fresh.specs.declared.frame.Waiting.{Waiting}
 use Rattle.pie_fresh.specs.declared.frame.Came.{Came}
 use Rattle.pie_fresh.specs.declared.frame.Came.TheVariants.{Asks, Ends, Fails}
+use Rattle.pie_fresh.specs.declared.looking.Sight.{Sight}
+use Rattle.pie_fresh.specs.declared.looking.Sight.TheVariants.{File, Long, Clash as Clashes}
 use Rattle.pie_fresh.specs.declared.turn.Turn.{Turn}
 use Rattle.pie_fresh.specs.declared.turn.Turn.TheVariants.{Goes, Rests, Stops}
 use Rattle.pie_fresh.specs.Noted.{Noted, file_dep, read_kind, observed}
+use Rattle.pie_fresh.specs.Sights.{found_in}
 
 -- ---- what a machine comes to
 
@@ -73,6 +76,11 @@ abbrev pub flag_stamp : Bool → Stamp
 flag_stamp true = stamps.Present
 flag_stamp false = stamps.Absent
 
+-- the stamp by hash
+abbrev pub hash_stamp : Option (List ℕ) → Stamp
+hash_stamp None = stamps.Absent
+hash_stamp (Some hash) = stamps.Hash hash
+
 -- what is noted and told of a file: whether it is there, its bytes, their hash
 abbrev pub told_flag : List ℕ → Bool → Dep × Answer
 told_flag path b = (file_dep kinds.Exists path (flag_stamp b), answers.Flag b)
@@ -80,8 +88,18 @@ told_flag path b = (file_dep kinds.Exists path (flag_stamp b), answers.Flag b)
 abbrev pub told_reading : By → List ℕ → Option (List ℕ × ℕ) → Dep × Answer
 told_reading by path seen = (file_dep (read_kind by) path (reading_stamp by path seen), reading_answer seen)
 
-abbrev pub told_hash : List ℕ → Option (List ℕ × ℕ) → Dep × Answer
-told_hash path seen = (file_dep kinds.Digest path (digest_stamp seen), digest_answer seen)
+abbrev pub told_hash : List ℕ → Option (List ℕ) → Dep × Answer
+told_hash path hash = (file_dep kinds.Digest path (hash_stamp hash), answers.Digest hash)
+
+-- the fault of a task that was told more bytes than a value may hold; where that was the last answer it may have, it fails for having no more
+abbrev pub too_much : ℕ → FaultKind
+too_much left = cond (left == 1) faults.Budget faults.Big
+
+-- a task is told the bytes of a file, or fails for a clash or for too many bytes
+abbrev pub IsToldReading : Waiting → By → List ℕ → Sight → Turn → Type 0
+IsToldReading w by path (File found) t = IsToldOrFails w (Some (told_reading by path (found_in found))) t
+IsToldReading w by path Long t = t ≡ Stops (fails_by w (too_much w.notes.left))
+IsToldReading w by path Clashes t = IsToldOrFails w None t
 
 -- the list of the paths of a listing
 abbrev pub paths_list : List (List ℕ) → Tree

@@ -7,12 +7,14 @@ ghost use Rattle.pie_stage.specs.Content.{content};
 ghost use Rattle.pie_commit.specs.Outcomes.{LeavesAsBefore};
 ghost use Rattle.pie_files.specs.Streams.{Counted};
 ghost use Rattle.pie_bridge.specs.Views.{unmarked};
-ghost use Rattle.pie_fresh.specs.Sights.{SeesHeld, SeesHeldPresence, SeesOut, SeesOthers, provided_sight, sight_by, sight_of};
+ghost use Rattle.pie_fresh.specs.Sights.{SeesHeldDigest, SeesHeldPresence, SeesHeldReading, SeesOut, SeesOthers, SightSays};
+ghost use Rattle.pie_fresh.specs.Sights.{hash_in, provided_sight, sight_by, sight_within};
 
 use crate::ledger::Ledger;
 use crate::notes::Notes;
 use pie_base::{OutOfMemory, Path};
-use pie_files::{Files, FilesError, Found};
+use pie_files::{Files, FilesError, Found, Within};
+use pie_stamp::hash_of;
 use pie_view::{Seen, view};
 
 /// What a task sees at a path under `out/`.
@@ -26,12 +28,17 @@ pub(crate) enum Provided<'b> {
     Clash,
 }
 
-/// What a task sees at any path.
+/// What a task sees that reads, at any path.
 #[derive(Drop)]
 pub(crate) enum Sight {
     File(Option<Found>),
+    /// A source of more bytes than a value may hold. None of them is read.
+    Long,
     Clash,
 }
+
+/// The most bytes that a value may hold: its canonical bytes are five more.
+const MAX_CONTENT_BYTES: usize = 1_048_571;
 
 impl Ledger {
     /// What a task sees at a path under `out/`: what it wrote itself, else what those wrote that it required so far.
@@ -74,7 +81,7 @@ impl Ledger {
         }
     }
 
-    /// What a task sees at a path. Only a source path is asked of the files.
+    /// What a task sees that reads a path. Only a source path is asked of the files.
     #[tactic(auto, using(pie_commit::proofs::Reading::reads))]
     pub(crate) fn sight<F: Files>(
         &self,
@@ -87,14 +94,14 @@ impl Ledger {
         ensures same { F.holds files.new ≡ F.holds files.old }
         ensures crash { LeavesAsBefore F.holds F.moment F.left_since F.images files.old files.new }
         ensures counted { Counted F.faults FilesError.Failed files.old files.new result }
-        ensures sees { IfOk result (λ s. SeesHeld (F.holds files.old) self.now.stage self.now.rows notes.now path.now (sight_of s)) }
+        ensures sees { IfOk result (λ s. SeesHeldReading (F.holds files.old) self.now.stage self.now.rows notes.now path.now s) }
     {
         if path.under_out() {
             return Ok(self.copied(notes, path)?);
         }
         if path.is_source() {
-            let found = files.read(path)?;
-            return Ok(Sight::File(found));
+            let found = files.read_within(path, MAX_CONTENT_BYTES)?;
+            return Ok(source(found));
         }
         Ok(Sight::File(None))
     }
@@ -102,7 +109,7 @@ impl Ledger {
     // What a task sees at a path under `out/`, in memory of its own.
     fn copied(&self, notes: &Notes, path: &Path) -> Result<Sight, OutOfMemory>
         requires { AllBelow (length self.now.rows) notes.now.needs }
-        ensures sees { IfOk result (λ s. SeesOut self.now.stage self.now.rows notes.now path.now (sight_of s)) }
+        ensures sees { IfOk result (λ s. SightSays s (SeesOut self.now.stage self.now.rows notes.now path.now)) }
     {
         match self.provided(notes, path)? {
             Provided::Nothing => Ok(Sight::File(None)),
@@ -135,8 +142,44 @@ impl Ledger {
         if !path.is_source() {
             return Ok(Some(false));
         }
-        let there = files.read(path)?;
-        Ok(Some(there.is_some()))
+        let there = files.exists(path)?;
+        Ok(Some(there))
+    }
+
+    /// The SHA-256 of what a task sees at a path, or `None` where two tasks wrote it.
+    #[tactic(auto, using(pie_commit::proofs::Reading::reads))]
+    pub(crate) fn digest<F: Files>(
+        &self,
+        notes: &Notes,
+        path: &Path,
+        files: &mut F,
+    ) -> Result<Option<Option<[u8; 32]>>, FilesError>
+        requires { AllBelow (length self.now.rows) notes.now.needs }
+        ensures unasked { is_source path.now ≡ false → F.asked files.new ≡ F.asked files.old }
+        ensures same { F.holds files.new ≡ F.holds files.old }
+        ensures crash { LeavesAsBefore F.holds F.moment F.left_since F.images files.old files.new }
+        ensures counted { Counted F.faults FilesError.Failed files.old files.new result }
+        ensures sees { IfOk result (λ h. SeesHeldDigest (F.holds files.old) self.now.stage self.now.rows notes.now path.now h) }
+    {
+        if path.under_out() {
+            return Ok(provided_digest(self.provided(notes, path)?));
+        }
+        if !path.is_source() {
+            return Ok(Some(None));
+        }
+        let hash = files.digest(path)?;
+        Ok(Some(hash))
+    }
+}
+
+// A source, as a task sees it that reads.
+fn source(found: Within) -> Sight
+    ensures { result ≡ sight_within found }
+{
+    match found {
+        Within::Absent => Sight::File(None),
+        Within::Long => Sight::Long,
+        Within::Whole(found) => Sight::File(Some(found)),
     }
 }
 
@@ -146,6 +189,16 @@ fn content_of<'b>(content: Option<&'b [u8]>) -> Provided<'b>
     match content {
         Some(content) => Provided::Content(content),
         None => Provided::Nothing,
+    }
+}
+
+fn provided_digest(provided: Provided) -> Option<Option<[u8; 32]>>
+    ensures { result ≡ option_map hash_in (provided_sight provided.entry) }
+{
+    match provided {
+        Provided::Nothing => Some(None),
+        Provided::Content(content) => Some(Some(hash_of(content))),
+        Provided::Clash => None,
     }
 }
 

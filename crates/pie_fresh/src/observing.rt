@@ -1,8 +1,8 @@
 //! Observations of a running task.
-ghost use Rattle.std.specs.Prelude.{◌≡◌, length, IfOk, Some};
+ghost use Rattle.std.specs.Prelude.{◌≡◌, length, IfOk};
 ghost use Rattle.std.specs.Option.{option_map};
 ghost use Rattle.pie_value.specs.declared.event.Event.TheVariants as events;
-ghost use Rattle.pie_bridge.specs.Looks.{reading_stamp, reading_answer, digest_stamp, digest_answer};
+ghost use Rattle.pie_bridge.specs.Looks.{reading_stamp, reading_answer};
 ghost use Rattle.pie_graph.specs.Numbers.{AllBelow};
 ghost use Rattle.pie_commit.specs.Outcomes.{LeavesAsBefore};
 ghost use Rattle.pie_files.specs.Streams.{Counted};
@@ -10,8 +10,9 @@ ghost use Rattle.pie_record.specs.Canonical.{IsStorableDep};
 ghost use Rattle.pie_fresh.specs.Noted.{file_dep, read_kind, observed as with_dep};
 ghost use Rattle.pie_fresh.specs.Frames.{IsReady, IsWaiting};
 ghost use Rattle.pie_fresh.specs.Turns.{Advanced, Answered};
-ghost use Rattle.pie_fresh.specs.Sights.{found_in, sight_of};
-ghost use Rattle.pie_fresh.specs.Told.{IsTold, IsToldOrFails, flag_stamp, told_flag, told_reading, told_hash};
+ghost use Rattle.pie_fresh.specs.Sights.{found_in};
+ghost use Rattle.pie_fresh.specs.Told.{IsTold, IsToldOrFails, IsToldReading, fails_by, flag_stamp, hash_stamp, told_flag, told_hash, too_much};
+ghost use Rattle.pie_fresh.specs.declared.turn.Turn.TheVariants.{Stops};
 ghost use Rattle.pie_fresh.specs.Means.{LooksAs};
 
 use crate::builder::Builder;
@@ -85,8 +86,8 @@ impl<'a> Builder<'a> {
         ensures counted { Counted F.faults FilesError.Failed files.old files.new result }
         ensures means { IfOk result (λ t. LooksAs (F.holds files.old) self.now waiting.entry (events.Digest path) t) }
     {
-        let sight = self.ledger.sight(&waiting.notes, &path, files)?;
-        let turn = told_digest(waiting, path, sight)?;
+        let hash = self.ledger.digest(&waiting.notes, &path, files)?;
+        let turn = told_digest(waiting, path, hash)?;
         Ok(turn)
     }
 }
@@ -172,7 +173,7 @@ fn blob_of(alloc: Global, seen: Option<Found>) -> Result<Option<Blob>, OutOfMemo
     }
 }
 
-// A task that is told the bytes that are seen. Where two tasks wrote them, it fails.
+// A task that is told the bytes that are seen. Where two tasks wrote them, or they are too many, it fails.
 fn told_contents<'a>(
     alloc: Global,
     waiting: Waiting<'a>,
@@ -182,7 +183,7 @@ fn told_contents<'a>(
 ) -> Result<Turn<'a>, OutOfMemory>
     requires { IsWaiting waiting }
     ensures answered { IfOk result (λ t. Answered waiting.entry.notes t) }
-    ensures told { IfOk result (λ t. IsToldOrFails waiting.entry (option_map (told_reading by path) (sight_of sight)) t) }
+    ensures told { IfOk result (λ t. IsToldReading waiting.entry by path sight t) }
 {
     match sight {
         Sight::File(seen) => {
@@ -190,8 +191,19 @@ fn told_contents<'a>(
             let frame = told(waiting, kind_of(by), path, noted)?;
             Ok(Turn::Goes(frame))
         }
+        Sight::Long => Ok(told_too_much(waiting)),
         Sight::Clash => Ok(failed(waiting.into_task(), FaultKind::Clash)),
     }
+}
+
+// A task that was told more bytes than a value may hold: it fails for them, or for having no answer left.
+fn told_too_much<'a>(waiting: Waiting<'a>) -> Turn<'a>
+    ensures { result ≡ Stops (fails_by waiting.entry (too_much waiting.entry.notes.left)) }
+{
+    if waiting.notes.left == 1 {
+        return failed(waiting.into_task(), FaultKind::Budget);
+    }
+    failed(waiting.into_task(), FaultKind::Big)
 }
 
 fn contents(alloc: Global, by: By, path: &Path, seen: Option<Found>) -> Result<Noted, OutOfMemory>
@@ -207,39 +219,40 @@ fn contents(alloc: Global, by: By, path: &Path, seen: Option<Found>) -> Result<N
     })
 }
 
-// A task that is told the SHA-256 of the bytes that are seen. Where two tasks wrote them, it fails.
-fn told_digest<'a>(waiting: Waiting<'a>, path: Path, sight: Sight) -> Result<Turn<'a>, OutOfMemory>
+// A task that is told the SHA-256 of a file. Where two tasks wrote it, it fails.
+fn told_digest<'a>(
+    waiting: Waiting<'a>,
+    path: Path,
+    hash: Option<Option<[u8; 32]>>,
+) -> Result<Turn<'a>, OutOfMemory>
     requires { IsWaiting waiting }
     ensures answered { IfOk result (λ t. Answered waiting.entry.notes t) }
-    ensures told { IfOk result (λ t. IsToldOrFails waiting.entry (option_map (told_hash path) (sight_of sight)) t) }
+    ensures told { IfOk result (λ t. IsToldOrFails waiting.entry (option_map (told_hash path) hash) t) }
 {
-    match sight {
-        Sight::File(seen) => {
-            let noted = digest(&path, seen);
+    match hash {
+        Some(hash) => {
+            let noted = by_digest(&path, hash);
             let frame = told(waiting, DepKind::Digest, path, noted)?;
             Ok(Turn::Goes(frame))
         }
-        Sight::Clash => Ok(failed(waiting.into_task(), FaultKind::Clash)),
+        None => Ok(failed(waiting.into_task(), FaultKind::Clash)),
     }
 }
 
-fn digest(_path: &Path, seen: Option<Found>) -> Noted
+fn by_digest(_path: &Path, hash: Option<[u8; 32]>) -> Noted
     ensures storable { IsStorableDep (file_dep DepKind.Digest _path.now result.stamp) }
-    ensures stamp { result.stamp ≡ digest_stamp (found_in seen) }
-    ensures answer { result.answer ≡ digest_answer (found_in seen) }
+    ensures stamp { result.stamp ≡ hash_stamp hash }
+    ensures answer { result.answer ≡ Answer.Digest hash }
 {
-    match seen {
+    match hash {
         None => Noted {
             stamp: Stamp::Absent,
             answer: Answer::Digest(None),
         },
-        Some(found) => {
-            let hash = hash_of(found.bytes.as_slice());
-            Noted {
-                stamp: Stamp::Hash(hash),
-                answer: Answer::Digest(Some(hash)),
-            }
-        }
+        Some(hash) => Noted {
+            stamp: Stamp::Hash(hash),
+            answer: Answer::Digest(Some(hash)),
+        },
     }
 }
 

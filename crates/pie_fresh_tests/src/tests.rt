@@ -416,3 +416,37 @@ fn a_call_that_fails_ends_the_build(rt: HostRuntime) -> Result<(), Fail> {
     assert!(&rt; text.as_str() == "failed / ran main()");
     Ok(())
 }
+
+// Files with a source of so many bytes.
+fn source_of(alloc: Global, len: usize) -> Result<SureFiles, Fail> {
+    let mut content = Vec::new(alloc);
+    for _ in 0..len {
+        content.push(b'x')?;
+    }
+    let mut files = SureFiles::new(alloc);
+    put(alloc, &mut files, "s", content.as_slice())?;
+    Ok(files)
+}
+
+#[test]
+fn a_source_that_is_too_long_to_be_a_value_is_big(rt: HostRuntime) -> Result<(), Fail> {
+    let alloc = rt.alloc();
+    let reads =
+        "func main() -> int { len(get(read(path(\"s\")))) + len(get(read_bytes(path(\"s\")))) }";
+    let mut files = source_of(alloc, 1_048_571)?;
+    let text = said(alloc, reads, "main()", &mut files)?;
+    assert!(&rt; text.as_str() == "accepted main() / main() = 2097142 / ran main()");
+    let mut files = source_of(alloc, 1_048_572)?;
+    for reads in [
+        "func main() -> unit { read(path(\"s\")); }",
+        "func main() -> unit { read_bytes(path(\"s\")); }",
+        "func main() -> unit { read(path(\"s\") by mark); }",
+    ] {
+        let text = said(alloc, reads, "main()", &mut files)?;
+        assert!(&rt; text.as_str() == "fault main(): Big / ran main()");
+    }
+    let looks = "func main() -> [bool] { [exists(path(\"s\")), is_null(digest(path(\"s\")))] }";
+    let text = said(alloc, looks, "main()", &mut files)?;
+    assert!(&rt; text.as_str() == "accepted main() / main() = [true, false] / ran main()");
+    Ok(())
+}

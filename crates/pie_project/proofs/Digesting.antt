@@ -1,13 +1,16 @@
 -- The digests of a pipeline's functions, from the tokens of its text.
 use Rattle.std.proofs.Common.{◌≡◌, ℕ, ◌≤◌, ◌<◌, ◌^◌, List, Option, Some, None, Result, Ok, Err, length, sym, subst, ap, ◌∙◌, arith, Vec, Global}
 use Rattle.std.specs.Prelude.{IfSome, IfOk, bytes_eq, IsPermutation}
-use Rattle.std.specs.Option.{option_map}
 use Rattle.std.proofs.lemmas.Cmp.{nat_list_eq_equiv}
 use Rattle.std.proofs.lemmas.List.Elements.{All-weaker}
 use Rattle.std.proofs.lemmas.List.Sorted.{All-permutation, length_permutation}
 use Rattle.std.proofs.lemmas.Map.Keys.{IsDistinct-IsPermutation}
 use Rattle.pie_codegen.specs.Digests.{digests_of, row_names, function_names, HasNames}
-use Rattle.pie_files.specs.Directory.{Directory}
+use Rattle.pie_files.specs.Directory.{Directory, file_at}
+use Rattle.pie_files.specs.Within.{IsWithin}
+use Rattle.pie_files.specs.declared.files.Found.{Found}
+use Rattle.pie_files.specs.declared.files.Within.{Within}
+use Rattle.pie_files.specs.declared.files.Within.TheVariants.{Whole}
 use Rattle.pie_lexer.specs.declared.token.Token.{Token}
 use Rattle.pie_lexer.specs.Tokens.{Lexes}
 use Rattle.pie_parser.specs.FunctionTrees.{FunctionTree}
@@ -18,6 +21,7 @@ use Rattle.pie_project.specs.Digested.{AreDigests, HasDigests, AreRows, IsDigest
 use Rattle.pie_project.specs.Fronts.{most}
 use Rattle.pie_project.specs.Looking.{file_bytes, pipeline_path}
 use Rattle.pie_project.proofs.Ascending.{ascending}
+use Rattle.pie_project.proofs.Finding.{bytes_of}
 use Rattle.pie_project.proofs.Lengths.{rows_within}
 use Rattle.pie_project.proofs.Once.{names_once}
 use Rattle.pie_project.proofs.OneFront.{same_tokens}
@@ -72,15 +76,15 @@ same_text : (o : Option (List ℕ)) (b c : List ℕ) → o ≡ Some b → o ≡ 
 same_text o b c x y = let q = sym x ∙ y in cc
 
 -- where the pipeline's bytes are those of the directory
-pub digests_there : {V : Type 0} (view : V → List ℕ) (holds : Option Directory) (o : Option V) (v : V) (bytes : List ℕ) (result : Result Project BuildError)
-    → IfSome holds (λ d. option_map view o ≡ file_bytes d pipeline_path) → o ≡ Some v → bytes ≡ view v
+pub digests_there : (holds : Option Directory) (w : Within) (found : Found) (bytes : List ℕ) (result : Result Project BuildError)
+    → IfSome holds (λ d. IsWithin most w (file_at d pipeline_path)) → w ≡ Whole found → bytes ≡ found.bytes.items
     → IfOk result (λ p. IsDigested bytes p.typed p.digests.items)
     → IfSome holds (λ d. IfOk result (λ p. HasDigests d p.digests.items))
-digests_there view None o v bytes result h e is k = tt
-digests_there view (Some d) o v bytes (Ok p) h e is k =
+digests_there None w found bytes result h e is k = tt
+digests_there (Some d) w found bytes (Ok p) h e is k =
     λ text there. subst (λ (b : List ℕ). AreDigests b p.digests.items)
-    (same_text (file_bytes d pipeline_path) bytes text (sym h ∙ ap (option_map view) e ∙ ap (λ b. Some b) (sym is)) there) k.digests
-digests_there view (Some d) o v bytes (Err x) h e is k = tt
+    (same_text (file_bytes d pipeline_path) bytes text (bytes_of w found bytes (file_at d pipeline_path) e is h) there) k.digests
+digests_there (Some d) w found bytes (Err x) h e is k = tt
 
 pub names_of_digested : (bytes : List ℕ) (result : Result Project BuildError) → IfOk result (λ p. IsDigested bytes p.typed p.digests.items)
     → IfOk result (λ p. HasNames p.typed p.digests.items)

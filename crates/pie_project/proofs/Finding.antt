@@ -1,9 +1,14 @@
 -- What a stage answers, told by the stage behind it.
-use Rattle.std.proofs.Common.{◌≡◌, ◌≤◌, ℕ, List, length, Option, Some, None, Result, Ok, Err, sym, subst, ap, ◌∙◌}
+use Rattle.std.proofs.Common.{◌≡◌, ◌<◌, ◌≤◌, ℕ, List, length, Option, Some, None, Result, Ok, Err, sym, subst, ap, ◌∙◌}
 use Rattle.std.specs.Prelude.{IfSome}
 use Rattle.std.specs.Option.{option_map}
 use Rattle.std.specs.Str.{IsUtf8}
-use Rattle.pie_files.specs.Directory.{Directory}
+use Rattle.pie_files.specs.Directory.{Directory, file_at}
+use Rattle.pie_files.specs.Within.{IsWithin}
+use Rattle.pie_files.specs.declared.files.Found.{Found}
+use Rattle.pie_files.specs.declared.files.Within.{Within}
+use Rattle.pie_files.specs.declared.files.Within.TheVariants.{Long, Whole}
+use Rattle.pie_files.specs.declared.files.Within.TheVariants as within
 use Rattle.pie_files.specs.declared.files.FilesError.{FilesError}
 use Rattle.pie_files.specs.declared.files.FilesError.TheVariants as files
 use Rattle.pie_lexer.specs.declared.token.Token.{Token}
@@ -24,12 +29,13 @@ use Rattle.pie_roots.specs.RootLists as lists
 use Rattle.pie_project.specs.declared.fault.BuildError.{BuildError}
 use Rattle.pie_project.specs.declared.fault.BuildError.TheVariants as errors
 use Rattle.pie_project.specs.Errors.{files_error, lexer_error, parser_error, reader_error}
-use Rattle.pie_project.specs.Refusals.{Refusal, OfPipeline, OfRoots, Absent, Says}
-use Rattle.pie_project.specs.Fronts.{most, Checked, Front, tree_says, TokensSay, tree, expected, too_deep, TextSays, tokens, no_token, BytesSay, pipeline_text}
+use Rattle.pie_project.specs.Refusals.{Refusal, OfPipeline, OfRoots, Absent, TooLong, Says}
+use Rattle.pie_project.specs.Fronts.{most, Checked, Front, tree_says, TokensSay, tree, expected, too_deep, TextSays, tokens, no_token}
+use Rattle.pie_project.specs.Fronts.{BytesSay, pipeline_text, pipeline_too_long}
 use Rattle.pie_project.specs.Fronts.{RootsSay, roots_too_long, roots_no_text, bad_root, TypedSays, no_roots, with_roots}
 use Rattle.pie_project.specs.Fronts.{PipelineSays, bad_pipeline, good_pipeline, ProjectSays, no_pipeline, with_pipeline, CheckSays, counts, counts_of}
 use Rattle.pie_project.specs.declared.fault.RootsReason.TheVariants as reasons
-use Rattle.pie_project.specs.Looking.{file_bytes, pipeline_path, roots_path}
+use Rattle.pie_project.specs.Looking.{pipeline_path, roots_path}
 use Rattle.pie_project.proofs.Told.{told, told_both}
 
 -- what is said of an answer, told by what more is said
@@ -97,47 +103,74 @@ refuses_check view whole d errors.OutOfMemory h = tt
 pub counts_so : (d : Directory) (f : Front) → ProjectSays d f → (r : Result (ℕ × ℕ) Refusal) → r ≡ counts_of f → CheckSays d r
 counts_so d f h r e = subst (λ (s : Result (ℕ × ℕ) Refusal). CheckSays d s) (sym e) (counts h)
 
--- the bytes of a file that is there
-bytes_of : {V : Type 0} (view : V → List ℕ) (o : Option V) (v : V) (b : Option (List ℕ)) → o ≡ Some v → option_map view o ≡ b → b ≡ Some (view v)
-bytes_of view o v b e h = sym h ∙ ap (option_map view) e
+-- the bytes of a file that is found whole
+pub bytes_of : (w : Within) (found : Found) (slice : List ℕ) (file : Option (List ℕ × ℕ)) → w ≡ Whole found → slice ≡ found.bytes.items
+    → IsWithin most w file → option_map (λ f. f.0) file ≡ Some slice
+bytes_of w found slice file e s h =
+    let is : IsWithin most (Whole found) file = subst (λ (k : Within). IsWithin most k file) e h in
+    ap (option_map (λ f. f.0)) is.0 ∙ ap (λ b. Some b) (sym s)
 
-no_bytes : {V : Type 0} (view : V → List ℕ) (o : Option V) (b : Option (List ℕ)) → o ≡ None → option_map view o ≡ b → b ≡ None
-no_bytes view o b e h = sym h ∙ ap (option_map view) e
+no_bytes : (w : Within) (file : Option (List ℕ × ℕ)) → w ≡ within.Absent → IsWithin most w file → option_map (λ f. f.0) file ≡ None
+no_bytes w file e h =
+    let is : IsWithin most within.Absent file = subst (λ (k : Within). IsWithin most k file) e h in
+    ap (option_map (λ f. f.0)) is
+
+-- a file that is too long has bytes, and these are too many
+many_bytes : (w : Within) (file : Option (List ℕ × ℕ)) → w ≡ Long → IsWithin most w file
+    → (b : List ℕ) × (option_map (λ f. f.0) file ≡ Some b) × (most < length b)
+many_bytes w file e h =
+    let is : IsWithin most Long file = subst (λ (k : Within). IsWithin most k file) e h in
+    (is.0.0, ap (option_map (λ f. f.0)) is.1, is.2)
 
 -- roots that are there
-pub roots_there : {A V : Type 0} (seen : A → List FunctionTree × List Task) (view : V → List ℕ) (holds : Option Directory) (o : Option V) (v : V)
+pub roots_there : {A : Type 0} (seen : A → List FunctionTree × List Task) (holds : Option Directory) (w : Within) (found : Found)
     (slice : List ℕ) (fs : List FunctionTree) (result : Result A BuildError)
-    → IfSome holds (λ d. option_map view o ≡ file_bytes d roots_path) → o ≡ Some v → slice ≡ view v → Says seen (RootsSay fs slice) result
+    → IfSome holds (λ d. IsWithin most w (file_at d roots_path)) → w ≡ Whole found → slice ≡ found.bytes.items → Says seen (RootsSay fs slice) result
     → IfSome holds (λ d. Says seen (TypedSays d fs) result)
-roots_there seen view holds o v slice fs result h e s q =
-    told holds (λ (d : Directory). option_map view o ≡ file_bytes d roots_path) (λ (d : Directory). Says seen (TypedSays d fs) result)
+roots_there seen holds w found slice fs result h e s q =
+    told holds (λ (d : Directory). IsWithin most w (file_at d roots_path)) (λ (d : Directory). Says seen (TypedSays d fs) result)
     (λ d f. says_more seen (RootsSay fs slice) (TypedSays d fs) result
-    (λ r x. with_roots (bytes_of view o v (file_bytes d roots_path) e f ∙ ap (λ b. Some b) (sym s)) x) q) h
+    (λ r x. with_roots (bytes_of w found slice (file_at d roots_path) e s f) x) q) h
+
+-- roots that are too long
+pub roots_long : (holds : Option Directory) (w : Within) (fs : List FunctionTree)
+    → IfSome holds (λ d. IsWithin most w (file_at d roots_path)) → w ≡ Long → IfSome holds (λ d. TypedSays d fs (Err (OfRoots reasons.TooLong)))
+roots_long holds w fs h e =
+    told holds (λ (d : Directory). IsWithin most w (file_at d roots_path)) (λ (d : Directory). TypedSays d fs (Err (OfRoots reasons.TooLong)))
+    (λ d f. let many = many_bytes w (file_at d roots_path) e f in with_roots many.1 (roots_too_long many.2)) h
 
 -- no roots
-pub roots_away : {V : Type 0} (view : V → List ℕ) (holds : Option Directory) (o : Option V) (fs : List FunctionTree)
-    → IfSome holds (λ d. option_map view o ≡ file_bytes d roots_path) → o ≡ None → IfSome holds (λ d. TypedSays d fs (Err (OfRoots reasons.Absent)))
-roots_away view holds o fs h e =
-    told holds (λ (d : Directory). option_map view o ≡ file_bytes d roots_path) (λ (d : Directory). TypedSays d fs (Err (OfRoots reasons.Absent)))
-    (λ d f. no_roots (no_bytes view o (file_bytes d roots_path) e f)) h
+pub roots_away : (holds : Option Directory) (w : Within) (fs : List FunctionTree)
+    → IfSome holds (λ d. IsWithin most w (file_at d roots_path)) → w ≡ within.Absent → IfSome holds (λ d. TypedSays d fs (Err (OfRoots reasons.Absent)))
+roots_away holds w fs h e =
+    told holds (λ (d : Directory). IsWithin most w (file_at d roots_path)) (λ (d : Directory). TypedSays d fs (Err (OfRoots reasons.Absent)))
+    (λ d f. no_roots (no_bytes w (file_at d roots_path) e f)) h
 
 -- a pipeline that is there
-pub pipeline_there : {A V : Type 0} (seen : A → List FunctionTree × List Task) (view : V → List ℕ) (holds after : Option Directory) (o : Option V) (v : V)
-    (slice : List ℕ) (result : Result A BuildError) → IfSome holds (λ d. option_map view o ≡ file_bytes d pipeline_path) → o ≡ Some v → slice ≡ view v
-    → after ≡ holds → IfSome after (λ d. Says seen (PipelineSays d slice) result) → IfSome holds (λ d. Says seen (ProjectSays d) result)
-pipeline_there seen view holds after o v slice result h e k s q =
-    told_both holds (λ (d : Directory). option_map view o ≡ file_bytes d pipeline_path) (λ (d : Directory). Says seen (PipelineSays d slice) result)
+pub pipeline_there : {A : Type 0} (seen : A → List FunctionTree × List Task) (holds after : Option Directory) (w : Within) (found : Found)
+    (slice : List ℕ) (result : Result A BuildError) → IfSome holds (λ d. IsWithin most w (file_at d pipeline_path)) → w ≡ Whole found
+    → slice ≡ found.bytes.items → after ≡ holds → IfSome after (λ d. Says seen (PipelineSays d slice) result)
+    → IfSome holds (λ d. Says seen (ProjectSays d) result)
+pipeline_there seen holds after w found slice result h e k s q =
+    told_both holds (λ (d : Directory). IsWithin most w (file_at d pipeline_path)) (λ (d : Directory). Says seen (PipelineSays d slice) result)
     (λ (d : Directory). Says seen (ProjectSays d) result)
     (λ d f x. says_more seen (PipelineSays d slice) (ProjectSays d) result
-    (λ r y. with_pipeline (bytes_of view o v (file_bytes d pipeline_path) e f ∙ ap (λ b. Some b) (sym k)) y) x)
+    (λ r y. with_pipeline (bytes_of w found slice (file_at d pipeline_path) e k f) y) x)
     h (subst (λ (m : Option Directory). IfSome m (λ d. Says seen (PipelineSays d slice) result)) s q)
 
+-- a pipeline that is too long
+pub pipeline_long : (holds : Option Directory) (w : Within) → IfSome holds (λ d. IsWithin most w (file_at d pipeline_path)) → w ≡ Long
+    → IfSome holds (λ d. ProjectSays d (Err (OfPipeline TooLong)))
+pipeline_long holds w h e =
+    told holds (λ (d : Directory). IsWithin most w (file_at d pipeline_path)) (λ (d : Directory). ProjectSays d (Err (OfPipeline TooLong)))
+    (λ d f. let many = many_bytes w (file_at d pipeline_path) e f in with_pipeline many.1 (bad_pipeline (pipeline_too_long many.2))) h
+
 -- no pipeline
-pub pipeline_away : {V : Type 0} (view : V → List ℕ) (holds : Option Directory) (o : Option V)
-    → IfSome holds (λ d. option_map view o ≡ file_bytes d pipeline_path) → o ≡ None → IfSome holds (λ d. ProjectSays d (Err (OfPipeline Absent)))
-pipeline_away view holds o h e =
-    told holds (λ (d : Directory). option_map view o ≡ file_bytes d pipeline_path) (λ (d : Directory). ProjectSays d (Err (OfPipeline Absent)))
-    (λ d f. no_pipeline (no_bytes view o (file_bytes d pipeline_path) e f)) h
+pub pipeline_away : (holds : Option Directory) (w : Within) → IfSome holds (λ d. IsWithin most w (file_at d pipeline_path)) → w ≡ within.Absent
+    → IfSome holds (λ d. ProjectSays d (Err (OfPipeline Absent)))
+pipeline_away holds w h e =
+    told holds (λ (d : Directory). IsWithin most w (file_at d pipeline_path)) (λ (d : Directory). ProjectSays d (Err (OfPipeline Absent)))
+    (λ d f. no_pipeline (no_bytes w (file_at d pipeline_path) e f)) h
 
 -- what is told of any directory
 pub of_any : (holds : Option Directory) (P : Directory → Type 0) → ((d : Directory) → P d) → IfSome holds P

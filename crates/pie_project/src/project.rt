@@ -16,7 +16,7 @@ use crate::pipeline::{Digested, digested_of};
 use crate::roots::with_roots;
 use crate::{BuildError, PipelineFault, RootsReason};
 use pie_base::Text;
-use pie_files::Files;
+use pie_files::{Files, Within};
 use pie_types::Typed;
 use pie_value::Task;
 use std::alloc::Global;
@@ -57,8 +57,9 @@ fn project_in<F: Files>(alloc: Global, files: &mut F) -> Result<Project, BuildEr
     ensures crash { LeavesAsBefore F.holds F.moment F.left_since F.images files.old files.new }
 {
     match load(alloc, files, "pie.pipeline") {
-        Ok(Some(bytes)) => with_pipeline(alloc, files, bytes.as_slice()),
-        Ok(None) => Err(BuildError::Pipeline(PipelineFault::Absent)),
+        Ok(Within::Whole(found)) => with_pipeline(alloc, files, found.bytes.as_slice()),
+        Ok(Within::Long) => Err(BuildError::Pipeline(PipelineFault::TooLong)),
+        Ok(Within::Absent) => Err(BuildError::Pipeline(PipelineFault::Absent)),
         Err(error) => Err(files_error(error)),
     }
 }
@@ -94,8 +95,9 @@ fn with_digested<F: Files>(
     ensures crash { LeavesAsBefore F.holds F.moment F.left_since F.images files.old files.new }
 {
     match load(alloc, files, "pie.roots") {
-        Ok(Some(lines)) => with_roots(alloc, pipeline, lines.as_slice()),
-        Ok(None) => Err(BuildError::Roots(RootsReason::Absent)),
+        Ok(Within::Whole(found)) => with_roots(alloc, pipeline, found.bytes.as_slice()),
+        Ok(Within::Long) => Err(BuildError::Roots(RootsReason::TooLong)),
+        Ok(Within::Absent) => Err(BuildError::Roots(RootsReason::Absent)),
         Err(error) => Err(files_error(error)),
     }
 }

@@ -1,8 +1,7 @@
-use Rattle.pie_fresh.specs.Sights.{sight_of}
-use Rattle.pie_fresh.proofs.Telling.{read_turn}
+use Rattle.pie_fresh.proofs.ReadingFiles.{reading_turn}
 use Rattle.pie_fresh.proofs.builder.Builder.read.Goals as goal
 
 pub returns-clause-means : goal.returns-clause-means
 returns-clause-means g c = λ s held A.
-    read_turn s c.args.self.now c.args.waiting c.args.path c.args.by (sight_of c.in_ok-sight.sight) c.in_ok-turn.turn A c.requires.waits.left
+    reading_turn s c.args.self.now c.args.waiting c.args.path c.args.by c.in_ok-sight.sight c.in_ok-turn.turn A c.requires.waits.left
     (c.in_ok-sight.ensures.sees s.directory held) c.in_ok-turn.ensures.told

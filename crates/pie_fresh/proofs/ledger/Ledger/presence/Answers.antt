@@ -10,5 +10,4 @@ returns-then-not-is_source-clause-sees g c = λ d held.
 pub returns-clause-sees : goal.returns-clause-sees
 returns-clause-sees g c = λ d held.
     presence_found d c.args.self.now.stage c.args.self.now.rows c.args.notes.now c.args.path.now (g.F.Files.holds c.args.files.now) c.in_ok-there.there
-    c.is_some.result (sym c.under_out.ensures ∙ c.if-under_out.false) (sym c.is_source.ensures ∙ c.if-not-is_source.false) held c.in_ok-there.ensures.found
-    c.is_some.ensures
+    (sym c.under_out.ensures ∙ c.if-under_out.false) (sym c.is_source.ensures ∙ c.if-not-is_source.false) held c.in_ok-there.ensures.found
