@@ -6,8 +6,6 @@ mod bytes;
 mod fault;
 mod finding;
 mod joins;
-#[cfg(test)]
-mod list_tests;
 mod lists;
 mod nulls;
 mod numbers;
@@ -21,6 +19,3 @@ mod trims;
 
 pub use answers::apply;
 pub use fault::BuiltinFault;
-
-#[cfg(test)]
-mod tests;

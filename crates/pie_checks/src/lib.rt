@@ -9,8 +9,6 @@ mod listing;
 mod misses;
 mod nested;
 mod overlap;
-#[cfg(test)]
-mod tests;
 
 pub use built::Built;
 pub use checks::final_checks;

@@ -18,6 +18,3 @@ pub use code::Code;
 pub use error::CodeError;
 pub use instr::{Constant, Each, Instr, Required};
 pub use verifying::{checks, verify};
-
-#[cfg(test)]
-mod tests;

@@ -9,6 +9,7 @@ use Rattle.pie_lexer.specs.declared.token.TokenKind.{TokenKind}
 use Rattle.pie_lexer.specs.declared.token.TokenKind.TheVariants.{Func, Name}
 use Rattle.pie_parser.specs.FunctionTrees.{FunctionTree}
 
+-- whether a token begins a function
 abbrev pub is_func : TokenKind → Bool
 is_func Func = true
 is_func k = false

@@ -18,8 +18,6 @@ mod line;
 mod room;
 mod scope;
 mod spot;
-#[cfg(test)]
-mod tests;
 
 pub use compiling::compile;
 pub use digests::func_digests;

@@ -1,4 +1,3 @@
 pub mod Left
 pub mod Settling
 pub mod Turning
-pub mod Asked

@@ -16,18 +16,3 @@ mod words;
 
 pub use evaluator::Evaluator;
 pub use function::{Came, Outcome, next_of};
-
-#[cfg(test)]
-mod builtin_tests;
-#[cfg(test)]
-mod effect_tests;
-#[cfg(test)]
-mod given;
-#[cfg(test)]
-mod stories;
-#[cfg(test)]
-mod telling;
-#[cfg(test)]
-mod tests;
-#[cfg(test)]
-mod tick_tests;

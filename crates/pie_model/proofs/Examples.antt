@@ -12,6 +12,7 @@ use Rattle.pie_model.specs.Seen.{provided}
 use Rattle.pie_model.specs.Forest.{entered_tasks, live_evaluations}
 use Rattle.pie_model.specs.Verdict.{Accepted, Many, Fault, Cycle, Overlap, Nested, Hidden, verdict}
 use Rattle.pie_model.specs.Built.{provided_at, store_rows}
+use Rattle.pie_model.specs.Changes.{strings_in}
 
 -- ---- a world whose hash is one to one, with the true limits, and one with room for two tasks
 
@@ -261,3 +262,15 @@ not_live : (provided_at (live_evaluations toy (project pair []) (codes "one" ∷
     × (provided_at (live_evaluations toy (project pair []) (codes "one" ∷ [])) (codes "out/two") ≡ None)
 unfolding kind_of provided
 not_live = (refl, refl)
+
+-- contents that were read are observed, those behind an `exists` are not
+abbrev lookers : List (Task × (List Answer → List Event))
+lookers =
+    (codes "reads", λ answers. LookAt ByHash (codes "src") ∷ Done [] ∷ []) ∷ (codes "asks", λ answers. LookAt Exists (codes "src") ∷ Done [] ∷ []) ∷ []
+
+observed_by : List ℕ → List (List ℕ)
+observed_by t = strings_in toy (evaluation toy (project lookers ((codes "src", codes "x") ∷ [])) t)
+
+only_what_is_read_is_observed : (observed_by (codes "reads") ≡ [] ∷ codes "x" ∷ []) × (observed_by (codes "asks") ≡ [] ∷ [])
+unfolding kind_of provided observed_by
+only_what_is_read_is_observed = (refl, refl)

@@ -173,7 +173,7 @@ file_of_seen (Some x) b m h = let p : x.0 ≡ b = holds_bytes x.0 b x.1 m h in l
 
 module _ (w : World) (old now : Project) (Met : List ℕ → Type 0) (sep : StampsSeparate w old now Met) (p : Path) where
   -- two looks at one path whose contents have one stamp answer alike
-  contents_alike : (b b0 : List ℕ) (m m0 : ℕ) (l : Look) → Met b → Met b0
+  contents_alike : (b b0 : List ℕ) (m m0 : ℕ) (l : Look) → MetSeen Met l (Holds b m) → MetSeen Met l (Holds b0 m0)
       → (kind_of p ≡ Source → now.file p ≡ Some (b, m)) → (kind_of p ≡ Source → old.file p ≡ Some (b0, m0))
       → contents_stamp w p b m l ≡ contents_stamp w p b0 m0 l → present_answer w b l ≡ present_answer w b0 l
   contents_alike b b0 m m0 Exists h h0 f f0 e = refl
@@ -192,7 +192,7 @@ module _ (w : World) (old now : Project) (Met : List ℕ → Type 0) (sep : Stam
   seen_answer l (Holds b m) = present_answer w b l
   seen_answer l Clashing = absent_answer l
 
-  pub looks_alike : (l : Look) (s s0 : Seen) → MetSeen Met s → MetSeen Met s0
+  pub looks_alike : (l : Look) (s s0 : Seen) → MetSeen Met l s → MetSeen Met l s0
       → (kind_of p ≡ Source → seen_file (now.file p) ≡ s) → (kind_of p ≡ Source → seen_file (old.file p) ≡ s0)
       → seen_stamp w l p s ≡ seen_stamp w l p s0 → seen_answer l s ≡ seen_answer l s0
   looks_alike l Nothing Nothing h h0 f f0 e = refl

@@ -3,7 +3,7 @@ use Rattle.std.specs.Prelude.{ℕ, ◌≡◌, ◌⊎◌, true, false, Option, So
 use Rattle.std.specs.List.{flat_map}
 use Rattle.std.specs.FinMap as fin
 use Rattle.pie_model.specs.Paths.{Path, Out, Source, kind_of, among}
-use Rattle.pie_model.specs.Tasks.{Task}
+use Rattle.pie_model.specs.Tasks.{Task, Look, Exists, ByHash, ByMark, Digest}
 use Rattle.pie_model.specs.Trees.{Node, node, Trace, ends, looks, lists, writes, needs, Seen, Nothing, Holds, Clashing, Outcome, Ended, Failed, Cycled, Many}
 use Rattle.pie_model.specs.Trees.{outcome_of, trace_of, HasTask, required_by}
 use Rattle.pie_model.specs.Evaluation.{World, Project, evaluation}
@@ -17,11 +17,18 @@ pub record NamesAllChanges (before now : Directory) (changes : List Path) : Type
   pub sources : (p : Path) → kind_of p ≡ Source → among p changes ≡ false → fin.get before p ≡ fin.get now p
   pub provided : (p : Path) → kind_of p ≡ Out → among p changes ≡ false → bytes_at before p ≡ bytes_at now p
 
--- the contents that a look found
-abbrev pub seen_strings : Seen → List (List ℕ)
-seen_strings Nothing = []
-seen_strings (Holds b m) = b ∷ []
-seen_strings Clashing = []
+-- the contents that were found
+abbrev pub contents_strings : Seen → List (List ℕ)
+contents_strings Nothing = []
+contents_strings (Holds b m) = b ∷ []
+contents_strings Clashing = []
+
+-- the contents that a look observed; `exists` observes none
+abbrev pub seen_strings : Look → Seen → List (List ℕ)
+seen_strings Exists s = []
+seen_strings ByHash s = contents_strings s
+seen_strings ByMark s = contents_strings s
+seen_strings Digest s = contents_strings s
 
 -- the canonical bytes of a listing
 abbrev pub listing_strings : World → Option (List Path) → List (List ℕ)
@@ -42,7 +49,7 @@ abbrev mutual
 
   pub strings_below : World → Trace → List (List ℕ)
   strings_below w (ends e) = []
-  strings_below w (looks l p s k) = seen_strings s ++ strings_below w k
+  strings_below w (looks l p s k) = seen_strings l s ++ strings_below w k
   strings_below w (lists d es k) = listing_strings w es ++ strings_below w k
   strings_below w (writes p b k) = b ∷ strings_below w k
   strings_below w (needs h u n k) = strings_in w n ++ strings_below w k

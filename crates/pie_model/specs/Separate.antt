@@ -1,7 +1,7 @@
 -- When stamps tell contents apart, and what a task must not do.
 use Rattle.std.specs.Prelude.{ℕ, ◌≡◌, leb, true, Option, Some, None, List, [], ◌∷◌, ◌++◌, length}
 use Rattle.pie_model.specs.Paths.{Path, Source, kind_of, among}
-use Rattle.pie_model.specs.Tasks.{Answer, Event, Done, Fail, LookAt, ListOf, Write, Require}
+use Rattle.pie_model.specs.Tasks.{Look, Exists, ByHash, ByMark, Digest, Answer, Event, Done, Fail, LookAt, ListOf, Write, Require}
 use Rattle.pie_model.specs.Trees.{Trace, ends, looks, lists, writes, needs, Seen, Nothing, Holds, Clashing, Outcome, Ended, Failed, Cycled, Many, outcome_of}
 use Rattle.pie_model.specs.Evaluation.{World, Project}
 
@@ -16,11 +16,18 @@ ListingsDiffer w =
     (a b : List Path) → leb (length (w.listing_bytes a)) w.most_bytes ≡ true → leb (length (w.listing_bytes b)) w.most_bytes ≡ true
     → w.listing_bytes a ≡ w.listing_bytes b → a ≡ b
 
--- the contents that a look found are met
-abbrev pub MetSeen : (List ℕ → Type 0) → Seen → Type 0
-MetSeen Met Nothing = Unit {0}
-MetSeen Met (Holds b m) = Met b
-MetSeen Met Clashing = Unit {0}
+-- the contents that were found are met
+abbrev pub MetContents : (List ℕ → Type 0) → Seen → Type 0
+MetContents Met Nothing = Unit {0}
+MetContents Met (Holds b m) = Met b
+MetContents Met Clashing = Unit {0}
+
+-- the contents that a look observed are met; `exists` observes none
+abbrev pub MetSeen : (List ℕ → Type 0) → Look → Seen → Type 0
+MetSeen Met Exists s = Unit {0}
+MetSeen Met ByHash s = MetContents Met s
+MetSeen Met ByMark s = MetContents Met s
+MetSeen Met Digest s = MetContents Met s
 
 -- the canonical bytes of a listing are met
 abbrev pub MetListing : World → (List ℕ → Type 0) → Option (List Path) → Type 0
@@ -37,7 +44,7 @@ MetOutcome Met Many = Unit {0}
 -- all contents, listings and outputs that a trace itself observed are met, and what it wrote
 abbrev pub AllMet : World → (List ℕ → Type 0) → Trace → Type 0
 AllMet w Met (ends e) = Unit {0}
-AllMet w Met (looks l p s k) = MetSeen Met s × AllMet w Met k
+AllMet w Met (looks l p s k) = MetSeen Met l s × AllMet w Met k
 AllMet w Met (lists d es k) = MetListing w Met es × AllMet w Met k
 AllMet w Met (writes p b k) = Met b × AllMet w Met k
 AllMet w Met (needs h u n k) = MetOutcome Met (outcome_of n) × AllMet w Met k

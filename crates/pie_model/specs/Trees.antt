@@ -101,6 +101,7 @@ abbrev mutual
   pub levels : Node → ℕ
   levels (node t k) = suc (levels_below k)
 
+  -- how many tasks stand at most one below the other from here on
   pub levels_below : Trace → ℕ
   levels_below (ends e) = 0
   levels_below (looks l p s k) = levels_below k
@@ -117,6 +118,7 @@ abbrev mutual
   pub entered : Node → List Task → List Task
   entered (node t k) all = entered_below k (enter t all)
 
+  -- the tasks that are entered from here on, after these
   pub entered_below : Trace → List Task → List Task
   entered_below (ends e) all = all
   entered_below (looks l p s k) all = entered_below k all

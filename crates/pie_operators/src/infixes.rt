@@ -1,9 +1,10 @@
 //! The operators between two operands.
 
-ghost use Rattle.std.specs.Prelude.{◌≡◌, ◌-ℤ◌, ◌*ℤ◌, int_div};
+ghost use Rattle.std.specs.Prelude.{◌≡◌, ◌≢◌, ◌-ℤ◌, ◌*ℤ◌, int_div};
 ghost use Rattle.pie_value.specs.Values.{tree_of};
 ghost use Rattle.pie_operators.specs.Operators.{binary_answer, of_ints, checked, divided, remainder, same_tree};
 ghost use Rattle.pie_operators.specs.Agreement.{Agrees};
+ghost use Rattle.pie_operators.specs.declared.operator.Binary.TheVariants.{Add};
 
 use crate::fault::refused;
 use crate::{Binary, OperatorFault, comparing, numbers, sums};
@@ -18,16 +19,27 @@ pub fn binary(alloc: Global, operator: Binary, a: Value, b: Value) -> Result<Val
 {
     match operator {
         Binary::Add => sums::sum(alloc, a, b),
-        Binary::Sub => subtracted(&a, &b),
-        Binary::Mul => multiplied(&a, &b),
-        Binary::Div => divided(&a, &b),
-        Binary::Rem => left_over(&a, &b),
-        Binary::Eq => Ok(Value::Bool(same(&a, &b))),
-        Binary::Ne => Ok(Value::Bool(!same(&a, &b))),
-        Binary::Lt => comparing::less(&a, &b),
-        Binary::Le => comparing::less_equal(&a, &b),
-        Binary::Gt => comparing::greater(&a, &b),
-        Binary::Ge => comparing::greater_equal(&a, &b),
+        _ => answered(operator, &a, &b),
+    }
+}
+
+// What an operator that only looks at its operands answers.
+fn answered(operator: Binary, a: &Value, b: &Value) -> Result<Value, OperatorFault>
+    requires { operator ≢ Add }
+    ensures { Agrees result (binary_answer operator (tree_of a.now) (tree_of b.now)) }
+{
+    match operator {
+        Binary::Add => unreachable!(),
+        Binary::Sub => subtracted(a, b),
+        Binary::Mul => multiplied(a, b),
+        Binary::Div => divided(a, b),
+        Binary::Rem => left_over(a, b),
+        Binary::Eq => Ok(Value::Bool(same(a, b))),
+        Binary::Ne => Ok(Value::Bool(!same(a, b))),
+        Binary::Lt => comparing::less(a, b),
+        Binary::Le => comparing::less_equal(a, b),
+        Binary::Gt => comparing::greater(a, b),
+        Binary::Ge => comparing::greater_equal(a, b),
     }
 }
 

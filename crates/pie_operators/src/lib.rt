@@ -19,10 +19,3 @@ pub use infixes::binary;
 pub use operator::{Binary, Unary};
 pub use prefixes::unary;
 pub use taking::{is_content, may_observe, taken};
-
-#[cfg(test)]
-mod growing_tests;
-#[cfg(test)]
-mod taking_tests;
-#[cfg(test)]
-mod tests;

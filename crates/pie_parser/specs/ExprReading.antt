@@ -43,6 +43,7 @@ literal_by s tokens.False = Got (literals.Bool false) s
 literal_by s tokens.UnitWord = Got literals.Unit s
 literal_by s k = Miss Expected s
 
+-- the literal at the front of these tokens
 abbrev pub literal_in : At → List Token → Parsed Literal
 literal_in s [] = Miss Expected s
 literal_in s (t ∷ _) = literal_by s t.kind

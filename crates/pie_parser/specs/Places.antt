@@ -76,6 +76,7 @@ abbrev pub name_by : At → Token → List Token → TokenKind → Parsed Name
 name_by s t ts (tokens.Name x) = Got (record { at = t.at; end = t.end; text = x }) (record { past = t.end; rest = ts; marked = s.marked })
 name_by s t ts k = Miss Expected s
 
+-- the name at the front of these tokens
 abbrev pub name_in : At → List Token → Parsed Name
 name_in s [] = Miss Expected s
 name_in s (t ∷ ts) = name_by s t ts t.kind
@@ -89,6 +90,7 @@ abbrev pub index_by : At → Token → List Token → TokenKind → Parsed Index
 index_by s t ts (tokens.Int n) = Got (record { at = t.at; end = t.end; number = n }) (record { past = t.end; rest = ts; marked = s.marked })
 index_by s t ts k = Miss Expected s
 
+-- the number of a projection at the front of these tokens
 abbrev pub index_in : At → List Token → Parsed Index
 index_in s [] = Miss Expected s
 index_in s (t ∷ ts) = index_by s t ts t.kind

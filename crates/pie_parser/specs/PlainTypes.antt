@@ -11,6 +11,7 @@ mutual
     TupleT : ℕ → ℕ → TypeTrees → TypeTree
     NullableT : ℕ → ℕ → TypeTree → TypeTree
 
+  -- a list of types
   pub data TypeTrees : Type 0 where
     NilT : TypeTrees
     ConsT : TypeTree → TypeTrees → TypeTrees

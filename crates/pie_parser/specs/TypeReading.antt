@@ -27,6 +27,7 @@ abbrev pub keyword_by : At → Option PlainType → Parsed TypeTree
 keyword_by s (Some p) = Got (PlainT (start s) (passed s).past p) (passed s)
 keyword_by s None = Miss Expected s
 
+-- a type that one keyword spells
 abbrev pub keyword_type : Parser TypeTree
 keyword_type s = keyword_by s (plain_at (next s))
 

@@ -34,9 +34,10 @@ impl<'a> Reader<'a> {
     {
         let at = self.start();
         self.open(Kind::OpenBrace, room.brackets)?;
-        let pieces = self.pieces(alloc, room)?;
+        let pieces = Box::new(alloc, self.pieces(alloc, room)?)?;
         self.want(Kind::CloseBrace)?;
         let end = self.past();
+        let pieces = Box::into_inner(pieces);
         let lines = pieces.lines;
         let last = pieces.last;
         Ok(Block {
@@ -105,9 +106,9 @@ impl<'a> Reader<'a> {
         self.want(Kind::Val)?;
         let name = self.name()?;
         self.want(Kind::Assign)?;
-        let value = self.inner(alloc, room, false)?;
+        let value = Box::new(alloc, self.inner(alloc, room, false)?)?;
         self.want(Kind::Semicolon)?;
         let end = self.past();
-        Ok(Line::Val(at, end, name, value))
+        Ok(Line::Val(at, end, name, Box::into_inner(value)))
     }
 }

@@ -72,10 +72,10 @@ impl<'a> Reader<'a> {
         };
         self.pass();
         self.open(Kind::OpenRound, room.brackets)?;
-        let operand = self.inner(alloc, room, false)?;
+        let operand = Box::new(alloc, self.inner(alloc, room, false)?)?;
         self.want(Kind::CloseRound)?;
         let end = self.past();
-        let form = Form::Effect(kind, Box::new(alloc, operand)?);
+        let form = Form::Effect(kind, operand);
         Ok(Expr { at, end, form })
     }
 
@@ -87,11 +87,11 @@ impl<'a> Reader<'a> {
         let at = self.start();
         self.want(Kind::Read)?;
         self.open(Kind::OpenRound, room.brackets)?;
-        let path = self.inner(alloc, room, true)?;
+        let path = Box::new(alloc, self.inner(alloc, room, true)?)?;
         let kind = self.by_of_read()?;
         self.want(Kind::CloseRound)?;
         let end = self.past();
-        let form = Form::Effect(kind, Box::new(alloc, path)?);
+        let form = Form::Effect(kind, path);
         Ok(Expr { at, end, form })
     }
 
@@ -124,12 +124,12 @@ impl<'a> Reader<'a> {
         let at = self.start();
         self.want(Kind::Write)?;
         self.open(Kind::OpenRound, room.brackets)?;
-        let path = self.inner(alloc, room, false)?;
+        let path = Box::new(alloc, self.inner(alloc, room, false)?)?;
         self.want(Kind::Comma)?;
-        let value = self.inner(alloc, room, false)?;
+        let value = Box::new(alloc, self.inner(alloc, room, false)?)?;
         self.want(Kind::CloseRound)?;
         let end = self.past();
-        let form = Form::Write(Box::new(alloc, path)?, Box::new(alloc, value)?);
+        let form = Form::Write(path, value);
         Ok(Expr { at, end, form })
     }
 
@@ -140,12 +140,12 @@ impl<'a> Reader<'a> {
     {
         let at = self.start();
         self.want(Kind::Fail)?;
-        let kind = self.written_type(alloc, room.brackets)?;
+        let kind = Box::new(alloc, self.written_type(alloc, room.brackets)?)?;
         self.open(Kind::OpenRound, room.brackets)?;
-        let text = self.inner(alloc, room, false)?;
+        let text = Box::new(alloc, self.inner(alloc, room, false)?)?;
         self.want(Kind::CloseRound)?;
         let end = self.past();
-        let form = Form::Fail(kind, Box::new(alloc, text)?);
+        let form = Form::Fail(Box::into_inner(kind), text);
         Ok(Expr { at, end, form })
     }
 

@@ -72,13 +72,13 @@ impl<'a> Reader<'a> {
         ensures { Agrees (λ t. t) result self.new (reads.chain_of (reads.operand (around room) level) level self.old) }
     {
         let at = self.start();
-        let first = self.operand(alloc, room, level)?;
+        let first = Box::new(alloc, self.operand(alloc, room, level)?)?;
         let steps = self.steps(alloc, room, level)?;
         if steps.is_empty() {
-            return Ok(first);
+            return Ok(Box::into_inner(first));
         }
         let end = self.past();
-        let form = Form::Chain(Box::new(alloc, first)?, steps);
+        let form = Form::Chain(first, steps);
         Ok(Expr { at, end, form })
     }
 
@@ -135,14 +135,14 @@ impl<'a> Reader<'a> {
         ensures { Agrees (λ t. t) result self.new (reads.comparison (around room) self.old) }
     {
         let at = self.start();
-        let left = self.chain(alloc, room, Level::Sum)?;
+        let left = Box::new(alloc, self.chain(alloc, room, Level::Sum)?)?;
         let Some(comparison) = comparison_of(self.peek()) else {
-            return Ok(left);
+            return Ok(Box::into_inner(left));
         };
         self.pass();
-        let right = self.chain(alloc, room, Level::Sum)?;
+        let right = Box::new(alloc, self.chain(alloc, room, Level::Sum)?)?;
         let end = self.past();
-        let form = Form::Compare(comparison, Box::new(alloc, left)?, Box::new(alloc, right)?);
+        let form = Form::Compare(comparison, left, right);
         Ok(Expr { at, end, form })
     }
 
@@ -156,9 +156,9 @@ impl<'a> Reader<'a> {
         };
         let at = self.start();
         self.pass();
-        let operand = self.projected(alloc, room)?;
+        let operand = Box::new(alloc, self.projected(alloc, room)?)?;
         let end = self.past();
-        let form = Form::Prefix(prefix, Box::new(alloc, operand)?);
+        let form = Form::Prefix(prefix, operand);
         Ok(Expr { at, end, form })
     }
 
@@ -168,13 +168,13 @@ impl<'a> Reader<'a> {
         ensures { Agrees (λ t. t) result self.new (reads.projected (around room) self.old) }
     {
         let at = self.start();
-        let tuple = self.primary(alloc, room)?;
+        let tuple = Box::new(alloc, self.primary(alloc, room)?)?;
         let indices = self.indices(alloc)?;
         if indices.is_empty() {
-            return Ok(tuple);
+            return Ok(Box::into_inner(tuple));
         }
         let end = self.past();
-        let form = Form::Project(Box::new(alloc, tuple)?, indices);
+        let form = Form::Project(tuple, indices);
         Ok(Expr { at, end, form })
     }
 

@@ -58,7 +58,7 @@ impl<'a> Reader<'a> {
         let name = self.name()?;
         let params = self.params(alloc, room.brackets)?;
         self.want(Kind::Arrow)?;
-        let result = self.written_type(alloc, room.brackets)?;
+        let result = Box::new(alloc, self.written_type(alloc, room.brackets)?)?;
         let body = self.block(alloc, room)?;
         let end = self.past();
         Ok(Function {
@@ -66,7 +66,7 @@ impl<'a> Reader<'a> {
             end,
             name,
             params,
-            result,
+            result: Box::into_inner(result),
             body,
         })
     }

@@ -10,8 +10,6 @@ mod kind;
 mod parsing;
 mod primary;
 mod reader;
-#[cfg(test)]
-mod tests;
 mod tree;
 mod type_tree;
 mod typing;

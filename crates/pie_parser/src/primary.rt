@@ -98,12 +98,12 @@ impl<'a> Reader<'a> {
     {
         let at = self.start();
         self.open(Kind::OpenRound, room.brackets)?;
-        let first = self.inner(alloc, room, false)?;
+        let first = Box::new(alloc, self.inner(alloc, room, false)?)?;
         if !is(self.peek(), Kind::Comma) {
             self.want(Kind::CloseRound)?;
-            return Ok(first);
+            return Ok(Box::into_inner(first));
         }
-        let items = self.listed(alloc, room, first)?;
+        let items = self.listed(alloc, room, Box::into_inner(first))?;
         self.want(Kind::CloseRound)?;
         let end = self.past();
         let form = Form::Tuple(items);
@@ -166,13 +166,14 @@ impl<'a> Reader<'a> {
         requires { 0 < room.brackets }
         ensures { Agrees (λ t. t) result self.new (reads.each (around room) at item self.old) }
     {
+        let item = Box::new(alloc, item)?;
         self.want(Kind::For)?;
         let name = self.name()?;
         self.want(Kind::In)?;
-        let list = self.inner(alloc, room, false)?;
+        let list = Box::new(alloc, self.inner(alloc, room, false)?)?;
         self.want(Kind::CloseSquare)?;
         let end = self.past();
-        let form = Form::Each(Box::new(alloc, item)?, name, Box::new(alloc, list)?);
+        let form = Form::Each(item, name, list);
         Ok(Expr { at, end, form })
     }
 

@@ -83,10 +83,10 @@ impl<'a> Reader<'a> {
     {
         let at = self.start();
         self.open(Kind::OpenSquare, room)?;
-        let item = self.inner_type(alloc, room)?;
+        let item = Box::new(alloc, self.inner_type(alloc, room)?)?;
         self.want(Kind::CloseSquare)?;
         let end = self.past();
-        let form = TypeForm::List(Box::new(alloc, item)?);
+        let form = TypeForm::List(item);
         Ok(Type { at, end, form })
     }
 

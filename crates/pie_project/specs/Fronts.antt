@@ -31,6 +31,7 @@ abbrev pub typed_or : Outcome (List FunctionTree) → Checked
 typed_or (Ok fs) = Ok fs
 typed_or (Err e) = Err (OfPipeline (Types e))
 
+-- what the types of these functions say: the functions, or the first refusal
 abbrev pub tree_says : List FunctionTree → Checked
 tree_says fs = typed_or (checked fs)
 
@@ -83,5 +84,6 @@ abbrev pub counts_of : Front → Result (ℕ × ℕ) Refusal
 counts_of (Ok p) = Ok (length p.0, length p.1)
 counts_of (Err e) = Err e
 
+-- what a check says of a directory: how many functions and roots there are, or the first refusal
 pub data CheckSays (d : Directory) : Result (ℕ × ℕ) Refusal → Type 0 where
   counts : {r : Front} → ProjectSays d r → CheckSays d (counts_of r)

@@ -17,6 +17,7 @@ file_bytes d path = option_map (λ file. file.0) (file_at d path)
 abbrev pub pipeline_path : List ℕ
 pipeline_path = codes "pie.pipeline"
 
+-- the file of the roots
 abbrev pub roots_path : List ℕ
 roots_path = codes "pie.roots"
 

@@ -123,12 +123,15 @@ IsTrueStamp (Mark mark) = mark < 2 ^ 64
 IsTrueStamp (Whole value) = HasTrueLeaves (tree_of value)
 IsTrueStamp Done = Unit {0}
 
+-- an observation of the program: what every one there is by its types
 abbrev pub IsTrueDep : Dep → Type 0
 IsTrueDep d = IsTrueOn d.what × IsTrueStamp d.stamp
 
+-- a write of the program: a path, and a SHA-256 of 32 bytes
 abbrev pub IsTrueWrite : List ℕ × List ℕ → Type 0
 IsTrueWrite w = IsTruePath w.0 × (length w.1 ≡ 32)
 
+-- an outcome of the program: what every one there is by its types
 abbrev pub IsTrueOutcome : Outcome → Type 0
 IsTrueOutcome (Gave value) = HasTrueLeaves (tree_of value)
 IsTrueOutcome (Failed fault) = Unit {0}

@@ -22,6 +22,3 @@ pub use record_fault::RecordFault;
 pub use records::Records;
 pub use task_record::{Outcome, TaskRecord};
 pub use writer::{encode_record, put_record};
-
-#[cfg(test)]
-mod tests;

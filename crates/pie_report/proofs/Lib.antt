@@ -1,3 +1,2 @@
-pub mod Encodable
 pub mod Floats
 pub mod Sorting

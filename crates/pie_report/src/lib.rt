@@ -12,6 +12,3 @@ mod verdict;
 pub use object::print_json;
 pub use report::Report;
 pub use text::print;
-
-#[cfg(test)]
-mod tests;

@@ -51,19 +51,19 @@ fn line_of(alloc: Global, object: &Json) -> Result<String, OutOfMemory>
 fn object_of(alloc: Global, report: &Report, runs: &[Task]) -> Result<Json, OutOfMemory>
     ensures { IfOk result (λ object. view object ≡ report_data report.now runs.now) }
 {
-    let fresh = fresh_of(alloc, &report.fresh)?;
-    let outputs = outputs_of(alloc, report.outputs.as_slice())?;
-    let ran = tasks_of(alloc, runs)?;
-    let removed = paths_of(alloc, report.removed.as_slice())?;
-    let verdict = verdict_of(alloc, &report.verdict)?;
-    let wrote = paths_of(alloc, report.wrote.as_slice())?;
     let mut members = Map::new(alloc);
+    let fresh = fresh_of(alloc, &report.fresh)?;
     serde_json::put(&mut members, alloc, "fresh", fresh)?;
     serde_json::put(&mut members, alloc, "live", Json::from(report.live))?;
+    let outputs = outputs_of(alloc, report.outputs.as_slice())?;
     serde_json::put(&mut members, alloc, "outputs", outputs)?;
+    let ran = tasks_of(alloc, runs)?;
     serde_json::put(&mut members, alloc, "ran", ran)?;
+    let removed = paths_of(alloc, report.removed.as_slice())?;
     serde_json::put(&mut members, alloc, "removed", removed)?;
+    let verdict = verdict_of(alloc, &report.verdict)?;
     serde_json::put(&mut members, alloc, "verdict", verdict)?;
+    let wrote = paths_of(alloc, report.wrote.as_slice())?;
     serde_json::put(&mut members, alloc, "wrote", wrote)?;
     Ok(Json::from(members))
 }

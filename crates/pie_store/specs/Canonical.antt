@@ -47,11 +47,12 @@ names_of funcs = map (λ (f : List ℕ × List ℕ). f.0) funcs
 abbrev pub tasks_in : List TaskRecord → List Task
 tasks_in rows = map (λ (r : TaskRecord). r.task) rows
 
--- the tasks that a record requires
+-- the task that an observation requires, if it is one of a task
 abbrev pub required_on : DepOn → List Task
 required_on (File path) = []
 required_on (Called task) = task ∷ []
 
+-- the tasks that a record requires
 abbrev pub needs : TaskRecord → List Task
 needs r = flat_map (λ (d : Dep). required_on d.what) r.deps
 

@@ -99,6 +99,7 @@ fn tail(
 ) -> Result<StoreImage, StoreFault>
     ensures { AgreesWhole result (tail_of end (known_in known) head.version head.pipeline head.funcs.items reader.old) }
 {
+    let head = Box::new(alloc, head)?;
     let roots = roots(end, reader, alloc)?;
     let rows = rows(end, reader, alloc, &known)?;
     if let Some(at) = missing(&rows, roots.as_slice())? {
@@ -108,6 +109,7 @@ fn tail(
         return Err(StoreFault::Rest);
     }
     let tasks = tasks_of(alloc, roots.as_slice())?;
+    let head = Box::into_inner(head);
     Ok(StoreImage {
         version: head.version,
         pipeline: head.pipeline,

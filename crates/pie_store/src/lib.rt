@@ -20,10 +20,3 @@ pub use offers::{NoOffers, Offer, Offers};
 pub use pending::{pending_text, read_pending};
 pub use store_fault::StoreFault;
 pub use writer::encode_store;
-
-#[cfg(test)]
-mod offer_tests;
-#[cfg(test)]
-mod pending_tests;
-#[cfg(test)]
-mod tests;

@@ -146,9 +146,9 @@ impl RankedRows {
             mut rows,
         } = self;
         let task = rec.task.copy()?;
-        names.add(task)?;
-        heights.push(height)?;
         rows.push(rec)?;
+        heights.push(height)?;
+        names.add(task)?;
         Ok(RankedRows {
             names,
             heights,

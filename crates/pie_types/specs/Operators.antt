@@ -29,6 +29,7 @@ abbrev mutual
   same_type BytesTy BytesTy = true
   same_type t u = false
 
+  -- whether two lists of types are the same
   pub same_types : TyTrees → TyTrees → Bool
   same_types NoTy NoTy = true
   same_types (MoreTy t ts) (MoreTy u us) = same_type t u && same_types ts us

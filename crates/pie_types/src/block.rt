@@ -26,7 +26,7 @@ pub fn alone(
     ensures typed { Agrees ty_tree result (spec.if_type headings.now scope.old test.now (block_of then.now) NoElse) }
     ensures scope { OnOk result (scope.new ≡ scope.old) }
 {
-    let _test = expected(headings, scope, &Ty::Bool, test)?;
+    expected(headings, scope, &Ty::Bool, test)?;
     expected_block(headings, scope, &Ty::Unit, then)
 }
 
@@ -42,7 +42,7 @@ pub fn choice(
     ensures typed { Agrees ty_tree result (spec.if_type headings.now scope.old test.now (block_of then.now) (AnElse (block_of otherwise.now))) }
     ensures scope { OnOk result (scope.new ≡ scope.old) }
 {
-    let _test = expected(headings, scope, &Ty::Bool, test)?;
+    expected(headings, scope, &Ty::Bool, test)?;
     let ty = block_type(headings, scope, then)?;
     expected_block(headings, scope, &ty, otherwise)
 }

@@ -56,9 +56,9 @@ fn is_builtin(name: &str) -> bool
 pub fn signature_of(alloc: Global, function: &Function) -> Result<Heading, TypeError>
     ensures { Agrees heading_tree result (spec.signature_of function.now) }
 {
+    let name = function.name.text.copy()?;
     let params = params_of(alloc, function.params.as_slice())?;
     let result = written(alloc, &function.result)?;
-    let name = function.name.text.copy()?;
     Ok(Heading {
         name,
         params,
@@ -83,8 +83,8 @@ fn declare(alloc: Global, done: &mut Scope, param: &Param) -> Result<(), TypeErr
     ensures { Agrees (λ _. done.new) result (spec.with_param done.old param.now) }
 {
     done.may_enter(&param.name)?;
-    let ty = written(alloc, &param.kind)?;
     let name = param.name.text.copy()?;
+    let ty = written(alloc, &param.kind)?;
     done.push(name, ty)?;
     Ok(())
 }

@@ -204,8 +204,10 @@ fn each(
     ensures typed { Agrees ty_tree result (spec.each_type headings.now scope.old item.now name.now list.now) }
     ensures scope { OnOk result (scope.new ≡ scope.old) }
 {
-    let found = type_of(headings, scope, list)?;
-    let one = items_type(headings.alloc(), &found, start_of(list), end_of(list))?;
+    let one = {
+        let found = type_of(headings, scope, list)?;
+        items_type(headings.alloc(), &found, start_of(list), end_of(list))?
+    };
     let ty = within(headings, scope, name, one, item)?;
     Ok(Ty::List(Part::new(headings.alloc(), ty)?))
 }
@@ -250,7 +252,7 @@ fn write(headings: &Headings, scope: &mut Scope, path: &Expr, value: &Expr) -> R
     ensures typed { Agrees ty_tree result (spec.write_type headings.now scope.old path.now value.now) }
     ensures scope { OnOk result (scope.new ≡ scope.old) }
 {
-    let _path = expected(headings, scope, &Ty::Path, path)?;
+    expected(headings, scope, &Ty::Path, path)?;
     let found = type_of(headings, scope, value)?;
     let fits = is_writable(&found);
     let _value = where_fits(fits, Ty::Text, start_of(value), end_of(value), found)?;

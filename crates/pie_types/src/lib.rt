@@ -15,8 +15,6 @@ mod matching;
 mod part;
 mod room;
 mod scope;
-#[cfg(test)]
-mod tests;
 mod typed;
 mod written;
 

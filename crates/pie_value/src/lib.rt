@@ -31,6 +31,3 @@ pub use value::{Items, Value, depth, size};
 pub use value_fault::ValueFault;
 pub use verdict::{Fault, Refusal, Tasks, Verdict};
 pub use writer::{encode, encode_task};
-
-#[cfg(test)]
-mod tests;

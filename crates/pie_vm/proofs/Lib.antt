@@ -4,5 +4,4 @@ pub mod Settling
 pub mod Turning
 pub mod Carried
 pub mod Leading
-pub mod Asked
 pub mod Walks

@@ -22,10 +22,3 @@ pub use paths::PathSet;
 pub use runs::Runs;
 pub use slots::Slots;
 pub use stack::Stack;
-
-#[cfg(test)]
-mod effect_tests;
-#[cfg(test)]
-mod loop_tests;
-#[cfg(test)]
-mod tests;

@@ -1,8 +1,9 @@
 //! The machine: it runs code up to the next effect, and waits for the answer.
-ghost use Rattle.std.specs.Prelude.{◌≡◌, List, [], ◌∷◌, ◌++◌, length, IfOk, OnOk, OnErr};
+ghost use Rattle.std.specs.Prelude.{◌≡◌, List, [], ◌∷◌, ◌++◌, ◌-◌, length, IfOk, OnOk, OnErr};
 ghost use Rattle.pie_value.specs.declared.event.Answer.{Answer};
 ghost use Rattle.pie_value.specs.Tree.{Tree};
-ghost use Rattle.pie_code.specs.Running.{start};
+ghost use Rattle.pie_code.specs.Running.{start, units};
+ghost use Rattle.pie_operators.specs.Domain.{at_start};
 ghost use Rattle.pie_vm.specs.Steps.{outcome_of};
 ghost use Rattle.pie_code.specs.Coming.{CodeNext};
 ghost use Rattle.pie_vm.specs.Machines.{Asks, Belongs, Follows, phase_after};
@@ -30,7 +31,8 @@ pub enum MachineState {
 #[derive(Drop)]
 pub struct Machine {
     state: MachineState,
-    frame: Frame,
+    // Boxed, so that a machine that waits or goes on is moved as a word.
+    frame: Box<Frame>,
 }
 
 impl Model for Machine {
@@ -41,11 +43,11 @@ impl Model for Machine {
 
     ghost coded = { coded_standing };
 
-    ghost view = { λ m. record { phase = m.state; config = m.frame } };
+    ghost view = { λ m. record { phase = m.state; config = m.frame.value } };
 
     ghost use Rattle.pie_vm.specs.Machines.{Unanswered};
 
-    ghost invariant = { λ m. Unanswered m.state m.frame.state.answers };
+    ghost invariant = { λ m. Unanswered m.state m.frame.value.state.answers };
 }
 
 impl Machine {
@@ -63,7 +65,8 @@ impl Machine {
         ensures runs { OnOk result (runs.new ≡ runs.old ++ task.now ∷ []) }
         ensures unchanged { OnErr result (runs.new ≡ runs.old) }
     {
-        let frame = begin(alloc, code.code(), task)?;
+        let slots = slots_of(alloc, code.code(), task)?;
+        let frame = Box::new(alloc, begin(alloc, slots))?;
         let task = task.copy()?;
         runs.add(task)?;
         Ok(Machine {
@@ -130,12 +133,18 @@ fn state_after(event: &Event) -> MachineState
     }
 }
 
-// Where running begins.
-fn begin(alloc: Global, code: &Code, task: &Task) -> Result<Frame, OutOfMemory>
-    ensures { IfOk result (λ c. c ≡ start code.now task.now.args []) }
+// The slots at the start of the code, with the task's arguments.
+fn slots_of(alloc: Global, code: &Code, task: &Task) -> Result<Slots, OutOfMemory>
+    ensures { IfOk result (λ s. s ≡ task.now.args ++ units (code.now.slots - code.now.params)) }
 {
-    let slots = Slots::new(alloc, &task.args, code.slots.saturating_sub(code.params))?;
-    Ok(Frame {
+    Slots::new(alloc, &task.args, code.slots.saturating_sub(code.params))
+}
+
+// Where running begins with these slots.
+fn begin(alloc: Global, slots: Slots) -> Frame
+    ensures { result ≡ record { at = 0; stack = []; slots = slots; state = at_start [] } }
+{
+    Frame {
         alloc,
         at: 0,
         stack: Stack::new(alloc),
@@ -144,5 +153,5 @@ fn begin(alloc: Global, code: &Code, task: &Task) -> Result<Frame, OutOfMemory>
         seen: PathSet::new(alloc),
         wrote: PathSet::new(alloc),
         ticks: 0,
-    })
+    }
 }
