@@ -17,6 +17,3 @@ mod writing;
 pub use dir_files::DirFiles;
 pub use std_streams::{StdSink, StdSource};
 pub use told::explain;
-
-#[cfg(test)]
-mod tests;

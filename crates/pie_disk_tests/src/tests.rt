@@ -1,6 +1,6 @@
 //! The adapters of the real outside, over new directories.
-use crate::{DirFiles, StdSink, StdSource};
 use pie_base::Path;
+use pie_disk::{DirFiles, StdSink, StdSource};
 use pie_files::{Files, FilesError, Sink, Source, Within};
 use std::alloc::Global;
 use std::fs::File;

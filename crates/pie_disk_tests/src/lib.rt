@@ -1,0 +1,5 @@
+//! Tests of the real outside.
+#![tactic(auto)]
+
+#[cfg(test)]
+mod tests;
