@@ -1,11 +1,11 @@
 -- Answered with a content that no value may hold, what code reads makes it fail for that.
-use Rattle.std.proofs.Common.{◌≡◌, ℕ, zero, suc, ◌+◌, ◌≤◌, ◌<◌, Bool, true, false, cond, nat_le, nat_lt, List, [], ◌∷◌, ◌++◌, length, take, drop, reverse}
-use Rattle.std.proofs.Common.{slice_get, slice_set, Option, Some, None, Result, Ok, Err, refl, sym, subst, ap, ◌∙◌, arith}
+use Rattle.std.proofs.Common.{◌≡◌, ℕ, zero, suc, ◌+◌, ◌<◌, Bool, true, false, cond, nat_le, nat_lt, List, [], ◌∷◌, ◌++◌, length, take, drop, reverse}
+use Rattle.std.proofs.Common.{slice_get, Option, Some, None, Ok, Err, refl, sym, subst, ap, ◌∙◌, arith}
 use Rattle.std.proofs.lemmas.Bool.Decides.{nat_tests}
 use Rattle.std.specs.Prelude.{◌&&◌}
 use Rattle.std.specs.Str.{is_utf8}
 use Rattle.pie_base.specs.Path.{is_out}
-use Rattle.pie_base.specs.declared.fault.FaultKind.TheVariants.{Budget, BadList, BadWrite, WroteTwice, ReadThenWrite, Big, NotText, Unknown}
+use Rattle.pie_base.specs.declared.fault.FaultKind.TheVariants.{BadList, BadWrite, WroteTwice, ReadThenWrite, Big, NotText}
 use Rattle.pie_value.specs.declared.event.Answer.{Answer}
 use Rattle.pie_value.specs.declared.event.Answer.TheVariants as answers
 use Rattle.pie_value.specs.declared.event.By.{By}
@@ -13,7 +13,7 @@ use Rattle.pie_value.specs.declared.event.By.TheVariants as stamped
 use Rattle.pie_value.specs.declared.event.Event.{Event}
 use Rattle.pie_value.specs.declared.event.Event.TheVariants as events
 use Rattle.pie_value.specs.Tree.{Tree, TUnit, TBool, TInt, TText, TPath, TList, TTuple, TNull, TBytes}
-use Rattle.pie_value.specs.Limits.{is_small, is_small_task}
+use Rattle.pie_value.specs.Limits.{is_small_task}
 use Rattle.pie_value.specs.BuiltinForms.{Answered, made}
 use Rattle.pie_value.specs.Builtins.{answer_of}
 use Rattle.pie_signature.specs.Signatures.{arity_of}
@@ -22,7 +22,7 @@ use Rattle.pie_operators.specs.declared.asking.Observation.TheVariants.{Exists, 
 use Rattle.pie_operators.specs.declared.asking.Question.{Question}
 use Rattle.pie_operators.specs.declared.asking.Question.TheVariants.{Observe as OfPath, Write as OfWrite, Require as OfTask}
 use Rattle.pie_operators.specs.Operators.{unary_answer, binary_answer, list_with, tuple_with, item_at}
-use Rattle.pie_operators.specs.Domain.{Outcome, done, fails, wants, State, Act, by_answer, holds, fault}
+use Rattle.pie_operators.specs.Domain.{Outcome, done, fails, wants, State, by_answer, holds, fault}
 use Rattle.pie_operators.specs.Effects.{event_of, text_read, asked, asked_with, noted, taken, observe, may_observe, write, write_bytes, require, fail}
 use Rattle.pie_code.specs.declared.instr.Instr.{Instr}
 use Rattle.pie_code.specs.declared.instr.Instr.TheVariants.{Tick, Push, PushText, Load, Store, Drop, Unary, Binary, Jump, JumpIfNot, Each, ListPush}
@@ -31,9 +31,9 @@ use Rattle.pie_code.specs.declared.instr.Each.{Each as EachLoop}
 use Rattle.pie_code.specs.declared.instr.Required.{Required}
 use Rattle.pie_code.specs.declared.code.Code.{Code}
 use Rattle.pie_code.specs.Coming.{CodeNext}
-use Rattle.pie_code.specs.Running.{Config, Turn, goes, ends, misfit, onward, push, push_found, pop_from, pop, pop_two, pop_many, settle, act_on, tick}
+use Rattle.pie_code.specs.Running.{Config, Turn, goes, ends, onward, push_found, pop_from, pop, pop_two, pop_many, settle, act_on, tick}
 use Rattle.pie_code.specs.Running.{push_text, store, branch, start, run, run_on}
-use Rattle.pie_code.specs.Running.{number_in, item_found, next_item, each_turn, each_from, require_named, finish, act, act_found, step}
+use Rattle.pie_code.specs.Running.{number_in, item_found, each_turn, each_from, require_named, finish, act, act_found, step}
 use Rattle.pie_vm.specs.Machines.{more, more_for}
 use Rattle.pie_vm.proofs.Carried.{step_more}
 
@@ -282,8 +282,11 @@ module _ (bytes : List ℕ) (long : 1048571 < length bytes) where
   ends_big code n (goes d) h = absurd h
   ends_big code n (ends o s) h = (s, ap (λ x. Some (x, s)) h)
 
-  outcome_same : (o u : Outcome Tree) (s r : State) → Some (o, s) ≡ Some (u, r) → o ≡ u
-  outcome_same o u s r e = cc
+  some_same : (x y : Outcome Tree × State) → Some x ≡ Some y → x ≡ y
+  some_same x y e = cc
+
+  outcome_same : (o u : Outcome Tree) (s r : State) → ◌≡◌ {A = Option (Outcome Tree × State)} (Some (o, s)) (Some (u, r)) → o ≡ u
+  outcome_same o u s r e = ap (λ (p : Outcome Tree × State). p.0) (some_same (o, s) (u, r) e)
 
   one_step : (code : Code) (n : ℕ) (c : Config) (p : List ℕ) (by : By) (s : State)
       → ((d : Config) → run code n d ≡ Some (wants (events.Read p by), s) → EndsBig code n (more_with d))
