@@ -22,6 +22,14 @@ fn joined(alloc: Global, paths: &[Path]) -> Result<String, Fail> {
     Ok(text)
 }
 
+fn boxed(rt: HostRuntime, root: &str) -> Result<Box<DirFiles>, Fail> {
+    Ok(Box::new(rt.alloc(), DirFiles::under(rt, root)?)?)
+}
+
+fn boxed_build(rt: HostRuntime, root: &str) -> Result<Box<DirFiles>, Fail> {
+    Ok(Box::new(rt.alloc(), DirFiles::for_build_under(rt, root)?)?)
+}
+
 // A new directory for a test, named by itself and the time.
 fn scratch(rt: HostRuntime, test: &str) -> Result<String, Fail> {
     let alloc = rt.alloc();
@@ -89,7 +97,7 @@ fn the_standard_streams_take_what_is_empty(rt: HostRuntime) {
 fn a_real_directory_reads_as_its_files_with_paths(rt: HostRuntime) -> Result<(), Fail> {
     let alloc = rt.alloc();
     let root = scratch(rt, "paths")?;
-    let mut files = DirFiles::under(rt, root.as_str())?;
+    let mut files = boxed(rt, root.as_str())?;
     let (dir, file, below) = (
         path(alloc, "a")?,
         path(alloc, "a/b/c")?,
@@ -130,7 +138,7 @@ fn a_link_under_out_is_listed_and_not_followed(rt: HostRuntime) -> Result<(), Fa
     make(rt, at, &["src/a", "out/c"])?;
     link(rt, at, "..", "out/up")?;
     link(rt, at, "../src/a", "out/b")?;
-    let mut files = DirFiles::under(rt, at)?;
+    let mut files = boxed(rt, at)?;
     assert!(rt; listed(alloc, &mut files, "out")?.as_str() == "out/b out/c out/up ");
     assert!(rt; files.read(&path(alloc, "out/b")?)?.is_none());
     assert!(rt; !files.exists(&path(alloc, "out/up/src/a")?)?);
@@ -151,7 +159,7 @@ fn a_link_at_out_is_a_fault(rt: HostRuntime) -> Result<(), Fail> {
     let at = root.as_str();
     make(rt, at, &["src/a"])?;
     link(rt, at, "src", "out")?;
-    let mut files = DirFiles::under(rt, at)?;
+    let mut files = boxed(rt, at)?;
     let file = path(alloc, "out/a")?;
     assert!(rt; files.all_under(&path(alloc, "out")?).is_err());
     assert!(rt; files.exists(&file) == Err(FilesError::Failed));
@@ -178,7 +186,7 @@ fn links_among_sources_are_followed_and_circles_end(rt: HostRuntime) -> Result<(
     ] {
         link(rt, at, target, name)?;
     }
-    let mut files = DirFiles::under(rt, at)?;
+    let mut files = boxed(rt, at)?;
     assert!(rt; listed(alloc, &mut files, "src")?.as_str() == "src/a src/file src/lib/x ");
     let names = files.names(&path(alloc, "src")?)?;
     assert!(rt; joined(alloc, names.as_slice())?.as_str() == "src/a src/file src/lib ");
@@ -201,7 +209,7 @@ fn a_write_replaces_what_stands_there(rt: HostRuntime) -> Result<(), Fail> {
         place.as_str(),
         format!(in alloc; "{at}/kept")?.as_str(),
     )?;
-    let mut files = DirFiles::under(rt, at)?;
+    let mut files = boxed(rt, at)?;
     files.write(&path(alloc, "out/a")?, b"new")?;
     assert!(rt; text_at(alloc, &mut files, "out/a", "new")?);
     assert!(rt; holds(rt, at, "kept", "out/a")?);
@@ -222,8 +230,8 @@ fn one_build_at_a_time_has_the_directory(rt: HostRuntime) -> Result<(), Fail> {
     // What a build leaves that is stopped while it writes.
     make(rt, at, &["out/\u{7f}new"])?;
     let file = path(alloc, "out/a")?;
-    let mut first = DirFiles::for_build_under(rt, at)?;
-    let mut second = DirFiles::for_build_under(rt, at)?;
+    let mut first = boxed_build(rt, at)?;
+    let mut second = boxed_build(rt, at)?;
     assert!(rt; !first.exists(&file)?);
     assert!(rt; !holds(rt, at, "out/\u{7f}new", "out/\u{7f}new")?);
     assert!(rt; second.write(&file, b"second") == Err(FilesError::Failed));
@@ -231,7 +239,7 @@ fn one_build_at_a_time_has_the_directory(rt: HostRuntime) -> Result<(), Fail> {
     drop(first);
     assert!(rt; second.remove(&file) == Err(FilesError::Failed));
     assert!(rt; holds(rt, at, "out/a", "first")?);
-    let mut third = DirFiles::for_build_under(rt, at)?;
+    let mut third = boxed_build(rt, at)?;
     third.remove(&file)?;
     fs::remove_dir_all(&rt, at)?;
     Ok(())
@@ -244,7 +252,7 @@ fn a_long_file_is_told_by_its_size(rt: HostRuntime) -> Result<(), Fail> {
     let at = root.as_str();
     make(rt, at, &["abc"])?;
     File::create(&rt, format!(in alloc; "{at}/long")?.as_str())?.set_len(5_000_000_000)?;
-    let mut files = DirFiles::under(rt, at)?;
+    let mut files = boxed(rt, at)?;
     let (long, short) = (path(alloc, "long")?, path(alloc, "abc")?);
     assert!(rt; matches!(files.read_within(&long, 1_048_576)?, Within::Long));
     assert!(rt; matches!(files.read_within(&short, 2)?, Within::Long));
