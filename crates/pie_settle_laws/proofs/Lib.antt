@@ -1,0 +1,9 @@
+pub mod Settling
+pub mod Sweeping
+pub mod Ordering
+pub mod Entering
+pub mod Ending
+pub mod Standing
+pub mod Goings
+pub mod Leaving
+pub mod Showing

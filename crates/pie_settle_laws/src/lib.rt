@@ -1,0 +1,16 @@
+//! What is settled while a build goes by what changed, and what the build comes to.
+#![tactic(auto)]
+
+mod ends;
+mod going;
+mod orders;
+mod settled;
+mod shown;
+mod sweeps;
+
+pub use ends::known_roots_decide;
+pub use going::{running_tasks_end, running_tasks_stand, tasks_begin, tasks_keep_going};
+pub use orders::ordered_rows_are_acyclic;
+pub use settled::{settled_tasks_are_known, settled_tasks_stay};
+pub use shown::known_tasks_provide;
+pub use sweeps::finishes_leave_untouched;

@@ -1,0 +1,13 @@
+//! What is settled stays settled.
+ghost use Rattle.pie_settle_laws.specs.Settled.{FinishesSpareSettled, StartsSpareSettled, SettledTasksAreKnown};
+
+/// What is settled stays settled when a task finishes and when a new one starts. Rule: docs/MODEL.md.
+pub fn settled_tasks_stay()
+    ensures finish { FinishesSpareSettled }
+    ensures start { StartsSpareSettled }
+{}
+
+/// Under consistent records a settled task, and each that it reaches, has the record of its evaluation.
+pub fn settled_tasks_are_known()
+    ensures { SettledTasksAreKnown }
+{}
