@@ -139,17 +139,6 @@ names_gone true before after is m = m
 names_gone false None after is m = m
 names_gone false (Some f) after is m = absurd (false≢true (sym is))
 
-mapped : {A B : Type 0} (view : A → B) (o : Option A) → is_some o ≡ is_some (option_map view o)
-mapped view None = refl
-mapped view (Some a) = refl
-
--- what stands at the end of a call that looked whether there are pending names
-pub names_there : (holds : Option Directory) (there : Bool) (path : List ℕ) (b : Bool)
-    → IfSome holds (λ d. there ≡ is_some (file_at d path)) → path ≡ codes ".pie/pending" → there ≡ b
-    → IfSome holds (λ d. gone_if b ≡ gone_if (is_some (file_at d (codes ".pie/pending"))))
-names_there None there path b found at is = tt
-names_there (Some d) there path b found at is = ap gone_if (sym is ∙ found ∙ ap (λ q. is_some (file_at d q)) at)
-
 -- ---- paths in lists
 
 pub is_any : (q : List ℕ) (paths : List (List ℕ)) → Contains paths q → list_any (same_text q) paths ≡ true
