@@ -9,8 +9,3 @@ mod store;
 mod tasks;
 
 pub use building::rebuild;
-
-#[cfg(test)]
-mod store_tests;
-#[cfg(test)]
-mod tests;

@@ -9,8 +9,3 @@ mod told;
 mod top;
 
 pub use top::run;
-
-#[cfg(test)]
-mod build_tests;
-#[cfg(test)]
-mod tests;

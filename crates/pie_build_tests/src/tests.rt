@@ -1,6 +1,6 @@
 //! Whole builds over files in memory.
-use crate::rebuild;
 use pie_base::Path;
+use pie_build::rebuild;
 use pie_files::{Files, MemFiles, SureFiles};
 use pie_project::BuildError;
 use pie_report::Report;

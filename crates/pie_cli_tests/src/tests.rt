@@ -1,6 +1,6 @@
 //! Whole runs over memory.
-use crate::run;
 use pie_base::{Path, Status};
+use pie_cli::run;
 use pie_files::{Files, MemFiles, MemSink, MemSource, SureFiles};
 use std::alloc::Global;
 use std::process::Abort;

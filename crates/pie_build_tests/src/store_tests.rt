@@ -1,6 +1,6 @@
 //! The stores that whole builds leave.
-use crate::rebuild;
 use crate::tests::{lacks, path, project};
+use pie_build::rebuild;
 use pie_files::{Files, SureFiles};
 use pie_store::decode_store;
 use pie_value::Verdict;

@@ -1,0 +1,7 @@
+//! Tests of `pie_cli`: whole runs of the program in memory.
+#![tactic(auto)]
+
+#[cfg(test)]
+mod build_tests;
+#[cfg(test)]
+mod tests;
