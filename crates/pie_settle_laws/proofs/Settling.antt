@@ -53,6 +53,20 @@ start_spares R busy after closed f u s = record { recorded = s.recorded; free = 
     by x q (inl i) = s.free x q i
     by x q (inr e) = let k = closed_reach R closed q s.recorded in none_some (R x) k.kept e k.is
 
+-- what is reached from a closed set of tasks is in it
+chosen_reach : (R : Task → Option Record) (chosen : Task → Type 0)
+    → ((t : Task) (r : Record) (u : Task) → chosen t → R t ≡ Some r → among u (needs_of r.observations) ≡ true → chosen u)
+    → {x u : Task} → Reaches R u x → chosen u → chosen x
+chosen_reach R chosen closed here k = k
+chosen_reach R chosen closed {x} {u} (along {b = v} {r = r} e i q) k = chosen_reach R chosen closed q (closed u r v k e i)
+
+pub closed_settled : (R : Task → Option Record) (busy chosen : Task → Type 0) → ((t : Task) → chosen t → IsRecorded R t)
+    → ((t : Task) → chosen t → busy t → ⊥)
+    → ((t : Task) (r : Record) (u : Task) → chosen t → R t ≡ Some r → among u (needs_of r.observations) ≡ true → chosen u)
+    → (t : Task) → chosen t → IsSettled R busy t
+closed_settled R busy chosen recorded calm closed t k =
+    record { recorded = recorded t k; free = λ x q b. calm x (chosen_reach R chosen closed q k) b }
+
 -- a settled task is known
 pub is_known : (w : World) (old now : Project) (Met : List ℕ → Type 0) (R : Task → Option Record) (told : List Task → Path → Told) (held : List Task)
     (rank : Task → ℕ) (busy : Task → Type 0) → IsConsistent w old now Met R told held rank busy → StampsSeparate w old now Met → ListingsDiffer w

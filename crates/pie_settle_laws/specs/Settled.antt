@@ -31,6 +31,14 @@ StartsSpareSettled =
     → ((t : Task) (r : Record) (u : Task) → R t ≡ Some r → among u (needs_of r.observations) ≡ true → IsRecorded R u)
     → ((x : Task) → Passes busy_after x → Passes busy x ⊎ (R x ≡ None)) → (u : Task) → IsSettled R (Passes busy) u → IsSettled R (Passes busy_after) u
 
+-- recorded tasks that are not busy, with whatever they require among them, are settled
+abbrev pub ClosedTasksAreSettled : Type 0
+ClosedTasksAreSettled =
+    (R : Task → Option Record) (busy chosen : Task → Bool) → ((t : Task) → Passes chosen t → IsRecorded R t)
+    → ((t : Task) → Passes chosen t → Passes busy t → ⊥)
+    → ((t : Task) (r : Record) (u : Task) → Passes chosen t → R t ≡ Some r → among u (needs_of r.observations) ≡ true → Passes chosen u)
+    → (t : Task) → Passes chosen t → IsSettled R (Passes busy) t
+
 -- under consistent records a settled task is known
 abbrev pub SettledTasksAreKnown : Type 0
 SettledTasksAreKnown =
