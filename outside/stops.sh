@@ -17,6 +17,11 @@ killed_at() {
   [ "$?" = 137 ]
 }
 
+# Kills a build after so many seconds, and waits for its end: its lock goes with it.
+killed_after() {
+  quietly bash -c '"$0" fresh & sleep "$1"; kill -KILL "$!"; wait "$!"' "$program" "$1"
+}
+
 # The files, and that nothing else is left: neither a new file that was not renamed nor a marker.
 second_left() {
   left out/a/x/y out/b out/e
@@ -52,7 +57,7 @@ test_a_kill_after_any_time_wedges_nothing() {
     pie fresh
     ended 0
     second_state
-    quietly timeout -s KILL "0.00$((number % 10))$number" "$program" fresh
+    killed_after "0.00$((number % 10))$number"
     pie fresh
     ended 0
     second_left "a kill" "$number"
