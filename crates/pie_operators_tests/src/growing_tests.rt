@@ -1,5 +1,6 @@
 //! Texts, bytes, lists and tuples that grow, up to the limits.
-use crate::tests::{MOST, bytes, ints, many, text, told, told_length};
+use crate::tests::{MOST, Sample, many, of_two, told, told_length, value};
+use pie_base::Text;
 use pie_operators::{Binary, binary, item_of, push_to_list, push_to_tuple};
 use pie_value::{Blob, Items, Value, show};
 use std::alloc::Global;
@@ -18,51 +19,63 @@ fn long(alloc: Global, count: usize) -> Result<Value, Fail> {
     for _ in 0..count {
         all.push('a')?;
     }
-    text(alloc, all.as_str())
+    Ok(Value::Text(Text::new(alloc, all.as_str())?))
+}
+
+// Bytes, so many.
+fn blob(alloc: Global, count: usize) -> Result<Value, Fail> {
+    Ok(Value::Bytes(Blob::new(many(alloc, count)?)))
 }
 
 #[test]
 fn texts_bytes_and_lists_are_joined(rt: HostRuntime) -> Result<(), Fail> {
-    let alloc = rt.alloc();
     let cases = [
-        (text(alloc, "a")?, text(alloc, "é")?, "\"aé\""),
-        (text(alloc, "")?, text(alloc, "")?, "\"\""),
+        (Sample::Text("a"), Sample::Text("é"), "\"aé\""),
+        (Sample::Text(""), Sample::Text(""), "\"\""),
         (
-            bytes(alloc, &[255])?,
-            bytes(alloc, &[0, 1])?,
+            Sample::Bytes(&[255]),
+            Sample::Bytes(&[0, 1]),
             "bytes(\"ff0001\")",
         ),
-        (ints(alloc, &[1])?, ints(alloc, &[2, 3])?, "[1, 2, 3]"),
-        (ints(alloc, &[])?, ints(alloc, &[])?, "[]"),
+        (Sample::List(&[1]), Sample::List(&[2, 3]), "[1, 2, 3]"),
+        (Sample::List(&[]), Sample::List(&[]), "[]"),
     ];
-    for (a, b, wanted) in cases {
-        let answer = binary(alloc, Binary::Add, a, b);
-        let found = told(alloc, answer)?;
-        assert_eq!(rt; found.as_str(), wanted);
+    for (number, (a, b, wanted)) in cases.iter().enumerate() {
+        let found = of_two(rt.alloc(), Binary::Add, *a, *b)?;
+        assert!(rt; found.as_str() == *wanted, "case {number}: {found}");
     }
     Ok(())
+}
+
+pub(crate) type Length = Result<usize, &'static str>;
+
+// The length of a sum.
+fn sum(alloc: Global, a: Value, b: Value) -> Length {
+    told_length(&binary(alloc, Binary::Add, a, b))
+}
+
+fn texts(alloc: Global, most: usize, more: usize) -> Result<Length, Fail> {
+    Ok(sum(alloc, long(alloc, most)?, long(alloc, more)?))
+}
+
+fn blobs(alloc: Global, most: usize, more: usize) -> Result<Length, Fail> {
+    Ok(sum(alloc, blob(alloc, most)?, blob(alloc, more)?))
+}
+
+fn lists(alloc: Global, most: usize, more: usize) -> Result<Length, Fail> {
+    let a = Box::new(alloc, list_of(alloc, long(alloc, most)?)?)?;
+    let b = list_of(alloc, long(alloc, more)?)?;
+    Ok(sum(alloc, Box::into_inner(a), b))
 }
 
 #[test]
 fn a_sum_keeps_the_limit(rt: HostRuntime) -> Result<(), Fail> {
     let alloc = rt.alloc();
-    for (more, wanted) in [(1, Ok(MOST)), (2, Err("Big"))] {
-        let texts = binary(
-            alloc,
-            Binary::Add,
-            long(alloc, MOST - 1)?,
-            long(alloc, more)?,
-        );
-        assert_eq!(rt; told_length(texts), wanted, "texts and {more}");
-        let a = Value::Bytes(Blob::new(many(alloc, MOST - 1)?));
-        let b = Value::Bytes(Blob::new(many(alloc, more)?));
-        let blobs = binary(alloc, Binary::Add, a, b);
-        assert_eq!(rt; told_length(blobs), wanted, "bytes and {more}");
-    }
-    for (more, wanted) in [(1, Ok(2)), (2, Err("Big"))] {
-        let a = list_of(alloc, long(alloc, MOST - 11)?)?;
-        let lists = binary(alloc, Binary::Add, a, list_of(alloc, long(alloc, more)?)?);
-        assert_eq!(rt; told_length(lists), wanted, "lists and {more}");
+    for (more, wanted, wanted_items) in [(1, Ok(MOST), Ok(2)), (2, Err("Big"), Err("Big"))] {
+        let texts = texts(alloc, MOST - 1, more)? == wanted;
+        let blobs = blobs(alloc, MOST - 1, more)? == wanted;
+        let lists = lists(alloc, MOST - 11, more)? == wanted_items;
+        assert!(rt; texts && blobs && lists, "{more}: {texts} {blobs} {lists}");
     }
     Ok(())
 }
@@ -76,57 +89,99 @@ fn nested(alloc: Global, depth: usize) -> Result<Value, Fail> {
     Ok(value)
 }
 
+fn pushed_to_list(alloc: Global, list: Value, item: Value) -> Result<String, Fail> {
+    told(alloc, &push_to_list(alloc, list, item))
+}
+
+fn pushed_to_tuple(alloc: Global, tuple: Value, item: Value) -> Result<String, Fail> {
+    told(alloc, &push_to_tuple(alloc, tuple, item))
+}
+
+fn grown(alloc: Global) -> Result<String, Fail> {
+    let list = pushed_to_list(alloc, value(alloc, Sample::List(&[1]))?, Value::Null)?;
+    let tuple = pushed_to_tuple(alloc, Value::Tuple(Items::new()), Value::Unit)?;
+    Ok(format!(in alloc; "{list} {tuple}")?)
+}
+
+fn refused(alloc: Global) -> Result<String, Fail> {
+    let list = pushed_to_list(alloc, Value::Tuple(Items::new()), Value::Unit)?;
+    let tuple = pushed_to_tuple(alloc, Value::List(Items::new()), Value::Unit)?;
+    Ok(format!(in alloc; "{list} {tuple}")?)
+}
+
 #[test]
 fn a_list_and_a_tuple_grow_by_an_item(rt: HostRuntime) -> Result<(), Fail> {
+    let grown = grown(rt.alloc())?;
+    let refused = refused(rt.alloc())?;
+    let holds = grown.as_str() == "[1, null] (unit)" && refused.as_str() == "Unknown Unknown";
+    assert!(rt; holds, "grown {grown}, refused {refused}");
+    Ok(())
+}
+
+// The length of a list of this value alone.
+fn length_with(alloc: Global, item: Value) -> Length {
+    told_length(&push_to_list(alloc, Value::List(Items::new()), item))
+}
+
+#[test]
+fn a_list_that_grows_keeps_the_limits(rt: HostRuntime) -> Result<(), Fail> {
     let alloc = rt.alloc();
-    let list = push_to_list(alloc, ints(alloc, &[1])?, Value::Null);
-    assert_eq!(rt; told(alloc, list)?.as_str(), "[1, null]");
-    let tuple = push_to_tuple(alloc, Value::Tuple(Items::new()), Value::Unit);
-    assert_eq!(rt; told(alloc, tuple)?.as_str(), "(unit)");
-    let other = push_to_list(alloc, Value::Tuple(Items::new()), Value::Unit);
-    assert_eq!(rt; told(alloc, other)?.as_str(), "Unknown");
-    let other = push_to_tuple(alloc, Value::List(Items::new()), Value::Unit);
-    assert_eq!(rt; told(alloc, other)?.as_str(), "Unknown");
-    for (depth, wanted) in [(63, Ok(1)), (64, Err("Big"))] {
-        let list = push_to_list(alloc, ints(alloc, &[])?, nested(alloc, depth)?);
-        assert_eq!(rt; told_length(list), wanted, "depth {depth}");
-    }
-    for (len, wanted) in [(MOST - 5, Ok(1)), (MOST - 4, Err("Big"))] {
-        let list = push_to_list(alloc, ints(alloc, &[])?, long(alloc, len)?);
-        assert_eq!(rt; told_length(list), wanted, "{len} bytes");
+    for (depth, len, wanted) in [(63, MOST - 5, Ok(1)), (64, MOST - 4, Err("Big"))] {
+        let deep = length_with(alloc, nested(alloc, depth)?) == wanted;
+        let wide = length_with(alloc, long(alloc, len)?) == wanted;
+        assert!(rt; deep && wide, "depth {depth}: {deep}, {len} bytes: {wide}");
     }
     Ok(())
 }
 
+fn sum_with_a_copy(alloc: Global, list: &Value) -> Result<String, Fail> {
+    let more = value(alloc, Sample::List(&[2]))?;
+    told(alloc, &binary(alloc, Binary::Add, list.copy()?, more))
+}
+
+fn pushed_to_a_copy(alloc: Global, list: &Value) -> Result<String, Fail> {
+    pushed_to_list(alloc, list.copy()?, Value::Int(3))
+}
+
+fn shared(alloc: Global, list: &Value) -> Result<String, Fail> {
+    let sum = sum_with_a_copy(alloc, list)?;
+    let more = pushed_to_a_copy(alloc, list)?;
+    let kept = show(alloc, list)?;
+    Ok(format!(in alloc; "{sum} {more} {kept}")?)
+}
+
 #[test]
 fn a_list_that_is_shared_stays_as_it_was(rt: HostRuntime) -> Result<(), Fail> {
-    let alloc = rt.alloc();
-    let list = ints(alloc, &[1])?;
-    let sum = binary(alloc, Binary::Add, list.copy()?, ints(alloc, &[2])?);
-    assert_eq!(rt; told(alloc, sum)?.as_str(), "[1, 2]");
-    let more = push_to_list(alloc, list.copy()?, Value::Int(3));
-    assert_eq!(rt; told(alloc, more)?.as_str(), "[1, 3]");
-    assert_eq!(rt; show(alloc, &list)?.as_str(), "[1]");
+    let found = shared(rt.alloc(), &value(rt.alloc(), Sample::List(&[1]))?)?;
+    assert!(rt; found.as_str() == "[1, 2] [1, 3] [1]", "{found}");
     Ok(())
+}
+
+// A tuple of 7 and the text `a`.
+fn pair(alloc: Global) -> Result<Value, Fail> {
+    let mut items = Items::new();
+    items.push(alloc, Value::Int(7))?;
+    items.push(alloc, value(alloc, Sample::Text("a"))?)?;
+    Ok(Value::Tuple(items))
+}
+
+fn item_text(alloc: Global, number: u32) -> Result<String, Fail> {
+    told(alloc, &item_of(&pair(alloc)?, number))
 }
 
 #[test]
 fn an_item_of_a_tuple_is_counted_from_0(rt: HostRuntime) -> Result<(), Fail> {
     let alloc = rt.alloc();
-    let mut items = Items::new();
-    items.push(alloc, Value::Int(7))?;
-    items.push(alloc, text(alloc, "a")?)?;
-    let tuple = Value::Tuple(items);
     for (number, wanted) in [
         (0, "7"),
         (1, "\"a\""),
         (2, "Unknown"),
         (4_294_967_295, "Unknown"),
     ] {
-        let found = told(alloc, item_of(&tuple, number))?;
-        assert_eq!(rt; found.as_str(), wanted, "item {number}");
+        let found = item_text(alloc, number)?;
+        assert!(rt; found.as_str() == wanted, "item {number}: {found}");
     }
-    let found = told(alloc, item_of(&ints(alloc, &[1])?, 0))?;
-    assert_eq!(rt; found.as_str(), "Unknown");
+    let found = told(alloc, &item_of(&value(alloc, Sample::List(&[1]))?, 0))?;
+    assert!(rt; found.as_str() == "Unknown", "of a list: {found}");
     Ok(())
 }

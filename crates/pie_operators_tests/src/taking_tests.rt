@@ -1,33 +1,47 @@
 //! Each kind of answer to each kind of question.
-use crate::tests::{MOST, many, path, told, told_length};
+use crate::growing_tests::Length;
+use crate::tests::{MOST, Sample, many, told, told_length, value};
 use pie_base::{Path, Text};
-use pie_operators::{Observation, OperatorFault, Question, is_content, may_observe, taken};
+use pie_operators::{Observation, Question, is_content, may_observe, taken};
 use pie_value::{Answer, Blob, By, Event, How, Items, Task, Value};
 use std::alloc::Global;
 use std::test::Fail;
 
+fn observe(alloc: Global, what: Observation) -> Result<Question, Fail> {
+    Ok(Question::Observe(what, Path::read(alloc, "a")?))
+}
+
+fn require(alloc: Global, how: How) -> Result<Question, Fail> {
+    let task = Task {
+        func: Text::new(alloc, "f")?,
+        args: Items::new(),
+    };
+    Ok(Question::Require(task, how))
+}
+
 // A question by its name.
 fn question(alloc: Global, name: &str) -> Result<Question, Fail> {
-    let path = Path::read(alloc, "a")?;
     match name {
-        "exists" => Ok(Question::Observe(Observation::Exists, path)),
-        "hash" => Ok(Question::Observe(Observation::Read(By::Hash), path)),
-        "mark" => Ok(Question::Observe(Observation::Read(By::Mark), path)),
-        "raw" => Ok(Question::Observe(Observation::Read(By::Raw), path)),
-        "digest" => Ok(Question::Observe(Observation::Digest, path)),
-        "list" => Ok(Question::Observe(Observation::List, path)),
-        "write" => Ok(Question::Write(path, Blob::new(Vec::new(alloc)))),
-        "whole" => Ok(Question::Require(task(alloc)?, How::Whole)),
-        "hashed" => Ok(Question::Require(task(alloc)?, How::Hashed)),
-        _ => Ok(Question::Require(task(alloc)?, How::Ran)),
+        "exists" => observe(alloc, Observation::Exists),
+        "hash" => observe(alloc, Observation::Read(By::Hash)),
+        "mark" => observe(alloc, Observation::Read(By::Mark)),
+        "raw" => observe(alloc, Observation::Read(By::Raw)),
+        "digest" => observe(alloc, Observation::Digest),
+        "list" => observe(alloc, Observation::List),
+        "write" => {
+            let path = Path::read(alloc, "a")?;
+            Ok(Question::Write(path, Blob::new(Vec::new(alloc))))
+        }
+        "whole" => require(alloc, How::Whole),
+        "hashed" => require(alloc, How::Hashed),
+        _ => require(alloc, How::Ran),
     }
 }
 
-fn task(alloc: Global) -> Result<Task, Fail> {
-    Ok(Task {
-        func: Text::new(alloc, "f")?,
-        args: Items::new(),
-    })
+fn entries(alloc: Global) -> Result<Items, Fail> {
+    let mut entries = Items::new();
+    entries.push(alloc, value(alloc, Sample::Path("a/b"))?)?;
+    Ok(entries)
 }
 
 // An answer by its name.
@@ -38,11 +52,7 @@ fn answer(alloc: Global, name: &str) -> Result<Answer, Fail> {
         "no file" => Ok(Answer::Bytes(None)),
         "digest" => Ok(Answer::Digest(Some([171; 32]))),
         "no digest" => Ok(Answer::Digest(None)),
-        "entries" => {
-            let mut entries = Items::new();
-            entries.push(alloc, path(alloc, "a/b")?)?;
-            Ok(Answer::Entries(entries))
-        }
+        "entries" => Ok(Answer::Entries(entries(alloc)?)),
         "wrote" => Ok(Answer::Wrote),
         "output" => Ok(Answer::Output(Value::Int(5))),
         "ran" => Ok(Answer::Ran),
@@ -52,38 +62,41 @@ fn answer(alloc: Global, name: &str) -> Result<Answer, Fail> {
 
 // What an answer to a question gives, both by their names.
 fn given(alloc: Global, asked: &str, answered: &str) -> Result<String, Fail> {
-    let question = question(alloc, asked)?;
+    let question = Box::new(alloc, question(alloc, asked)?)?;
     let answer = answer(alloc, answered)?;
-    told(alloc, taken(alloc, &question, answer))
+    told(alloc, &taken(alloc, &question, answer))
 }
+
+const DIGITS: &str = "\"abababababababababababababababababababababababababababababababab\"";
+
+// A question, an answer that fits it, and what it gives.
+const FITTING: &[(&str, &str, &str)] = &[
+    ("exists", "flag", "true"),
+    ("exists", "clash", "Clash"),
+    ("hash", "file", "\"ab\""),
+    ("hash", "no file", "null"),
+    ("hash", "clash", "Clash"),
+    ("mark", "file", "\"ab\""),
+    ("mark", "no file", "null"),
+    ("mark", "clash", "Clash"),
+    ("raw", "file", "bytes(\"6162\")"),
+    ("raw", "no file", "null"),
+    ("raw", "clash", "Clash"),
+    ("digest", "digest", DIGITS),
+    ("digest", "no digest", "null"),
+    ("digest", "clash", "Clash"),
+    ("list", "entries", "[path(\"a/b\")]"),
+    ("write", "wrote", "unit"),
+    ("whole", "output", "5"),
+    ("hashed", "output", "5"),
+    ("ran", "ran", "unit"),
+];
 
 #[test]
 fn an_answer_fits_its_question(rt: HostRuntime) -> Result<(), Fail> {
-    let digits = "\"abababababababababababababababababababababababababababababababab\"";
-    let cases = [
-        ("exists", "flag", "true"),
-        ("exists", "clash", "Clash"),
-        ("hash", "file", "\"ab\""),
-        ("hash", "no file", "null"),
-        ("hash", "clash", "Clash"),
-        ("mark", "file", "\"ab\""),
-        ("mark", "no file", "null"),
-        ("mark", "clash", "Clash"),
-        ("raw", "file", "bytes(\"6162\")"),
-        ("raw", "no file", "null"),
-        ("raw", "clash", "Clash"),
-        ("digest", "digest", digits),
-        ("digest", "no digest", "null"),
-        ("digest", "clash", "Clash"),
-        ("list", "entries", "[path(\"a/b\")]"),
-        ("write", "wrote", "unit"),
-        ("whole", "output", "5"),
-        ("hashed", "output", "5"),
-        ("ran", "ran", "unit"),
-    ];
-    for (asked, answered, wanted) in cases {
+    for (asked, answered, wanted) in FITTING {
         let found = given(rt.alloc(), asked, answered)?;
-        assert_eq!(rt; found.as_str(), wanted, "{asked}: {answered}");
+        assert!(rt; found.as_str() == *wanted, "{asked}: {answered}: {found}");
     }
     Ok(())
 }
@@ -125,24 +138,21 @@ fn an_answer_of_another_kind_is_unknown(rt: HostRuntime) -> Result<(), Fail> {
         ("hashed", 1),
         ("ran", 1),
     ] {
-        assert_eq!(rt; fitting(rt.alloc(), asked)?, wanted, "{asked}");
+        let found = fitting(rt.alloc(), asked)?;
+        assert!(rt; found == wanted, "{asked}: {found}");
     }
     Ok(())
 }
 
-// What the bytes of a file give to one who reads it.
-fn read(alloc: Global, by: By, bytes: Vec<u8>) -> Result<Value, OperatorFault> {
-    let path = match Path::read(alloc, "a") {
-        Ok(path) => path,
-        Err(_) => return Err(OperatorFault::OutOfMemory),
-    };
-    let question = Question::Observe(Observation::Read(by), path);
-    taken(alloc, &question, Answer::Bytes(Some(Blob::new(bytes))))
+// How long a value is that the bytes of a file give to one who reads it.
+fn length_read(alloc: Global, by: By, bytes: Vec<u8>) -> Result<Length, Fail> {
+    let question = observe(alloc, Observation::Read(by))?;
+    let answer = Answer::Bytes(Some(Blob::new(bytes)));
+    Ok(told_length(&taken(alloc, &question, answer)))
 }
 
 #[test]
-fn a_text_is_utf8_within_the_limit(rt: HostRuntime) -> Result<(), Fail> {
-    let alloc = rt.alloc();
+fn a_text_is_utf8(rt: HostRuntime) -> Result<(), Fail> {
     let cases = [
         (By::Hash, b"\xc3\xa9".as_slice(), Ok(2)),
         (By::Hash, b"".as_slice(), Ok(0)),
@@ -150,23 +160,46 @@ fn a_text_is_utf8_within_the_limit(rt: HostRuntime) -> Result<(), Fail> {
         (By::Mark, b"\xc3".as_slice(), Err("NotText")),
         (By::Raw, b"a\xff".as_slice(), Ok(2)),
     ];
-    for (by, bytes, wanted) in cases {
-        let found = told_length(read(alloc, by, bytes.to_vec(alloc)?));
-        assert_eq!(rt; found, wanted, "{by:?}");
+    for (number, (by, bytes, wanted)) in cases.iter().enumerate() {
+        let found = length_read(rt.alloc(), *by, bytes.to_vec(rt.alloc())?)?;
+        assert!(rt; found == *wanted, "case {number}: {found:?}");
     }
+    Ok(())
+}
+
+#[test]
+fn a_value_of_bytes_is_within_the_limit(rt: HostRuntime) -> Result<(), Fail> {
+    let alloc = rt.alloc();
     for by in [By::Hash, By::Mark, By::Raw] {
-        assert_eq!(rt;
-            told_length(read(alloc, by, many(alloc, MOST)?)),
-            Ok(MOST),
-            "{by:?}"
-        );
-        let found = told_length(read(alloc, by, many(alloc, MOST + 1)?));
-        assert_eq!(rt; found, Err("Big"), "{by:?}");
+        let most = length_read(alloc, by, many(alloc, MOST)?)?;
+        let more = length_read(alloc, by, many(alloc, MOST + 1)?)?;
+        let holds = most == Ok(MOST) && more == Err("Big");
+        assert!(rt; holds, "{by:?}: {most:?} {more:?}");
     }
     let mut other = many(alloc, MOST)?;
     other.push(255)?;
-    assert_eq!(rt; told_length(read(alloc, By::Hash, other)), Err("Big"));
+    let found = length_read(alloc, By::Hash, other)?;
+    assert!(rt; found == Err("Big"), "what is no text: {found:?}");
     Ok(())
+}
+
+// Whether each observation of a path but listing is allowed and is of what it contains.
+fn is_open(path: &Path) -> bool {
+    let mut all = true;
+    for what in [
+        Observation::Exists,
+        Observation::Read(By::Raw),
+        Observation::Digest,
+    ] {
+        all = all && may_observe(what, path) && is_content(what);
+    }
+    all
+}
+
+// Whether a path may be listed, and whether it is open to each other observation.
+fn allowed(alloc: Global, text: &str) -> Result<(bool, bool), Fail> {
+    let path = Path::read(alloc, text)?;
+    Ok((may_observe(Observation::List, &path), is_open(&path)))
 }
 
 #[test]
@@ -180,31 +213,31 @@ fn sources_alone_are_listed(rt: HostRuntime) -> Result<(), Fail> {
         ("pie.roots", false),
     ];
     for (text, wanted) in cases {
-        let path = Path::read(rt.alloc(), text)?;
-        assert_eq!(rt; may_observe(Observation::List, &path), wanted, "{text}");
-        for what in [
-            Observation::Exists,
-            Observation::Read(By::Raw),
-            Observation::Digest,
-        ] {
-            assert!(rt; may_observe(what, &path), "{what:?} of {text}");
-            assert!(rt; is_content(what), "{what:?}");
-        }
+        let (listed, open) = allowed(rt.alloc(), text)?;
+        assert!(rt; listed == wanted && open, "{text}: {listed} {open}");
     }
     assert!(rt; !is_content(Observation::List));
     Ok(())
 }
 
+// How the file `a` is read by an event.
+fn read_by(event: &Event) -> Option<By> {
+    match event {
+        Event::Read(path, by) if path.as_str() == "a" => Some(*by),
+        _ => None,
+    }
+}
+
+fn event_of(alloc: Global, asked: &str) -> Result<Option<By>, Fail> {
+    let question = question(alloc, asked)?;
+    Ok(read_by(&question.into_event()))
+}
+
 #[test]
 fn bytes_that_become_a_value_are_observed_by_their_hash(rt: HostRuntime) -> Result<(), Fail> {
     for (asked, wanted) in [("hash", By::Hash), ("mark", By::Mark), ("raw", By::Hash)] {
-        match question(rt.alloc(), asked)?.into_event() {
-            Event::Read(path, by) => {
-                assert_eq!(rt; path.as_str(), "a");
-                assert_eq!(rt; by, wanted, "{asked}");
-            }
-            _ => panic!(rt; "another event for {asked}"),
-        }
+        let found = event_of(rt.alloc(), asked)?;
+        assert!(rt; found == Some(wanted), "{asked}: {found:?}");
     }
     Ok(())
 }

@@ -1,4 +1,5 @@
 //! Each operator on worked cases.
+//! What an operator answers is told as a text by functions that borrow, and the tables hold what values are made of.
 use pie_base::{FaultKind, Path, Text};
 use pie_operators::{Binary, OperatorFault, Unary, binary, unary};
 use pie_value::{Blob, Items, Value, show};
@@ -12,25 +13,42 @@ const GREATEST: i64 = 9_223_372_036_854_775_807;
 // The most bytes of a text or of a blob: a value has 1,048,576 canonical bytes, five of them before the contents.
 pub(crate) const MOST: usize = 1_048_571;
 
-pub(crate) fn text(alloc: Global, text: &str) -> Result<Value, Fail> {
-    Ok(Value::Text(Text::new(alloc, text)?))
+/// A value as a case writes it.
+#[derive(Clone, Copy)]
+pub(crate) enum Sample<'a> {
+    Unit,
+    Null,
+    Bool(bool),
+    Int(i64),
+    Text(&'a str),
+    Path(&'a str),
+    Bytes(&'a [u8]),
+    List(&'a [i64]),
+    NoItems,
 }
 
-pub(crate) fn path(alloc: Global, text: &str) -> Result<Value, Fail> {
-    Ok(Value::Path(Path::read(alloc, text)?))
+// The value that a case writes.
+pub(crate) fn value(alloc: Global, sample: Sample) -> Result<Value, Fail> {
+    match sample {
+        Sample::Unit => Ok(Value::Unit),
+        Sample::Null => Ok(Value::Null),
+        Sample::Bool(b) => Ok(Value::Bool(b)),
+        Sample::Int(n) => Ok(Value::Int(n)),
+        Sample::Text(text) => Ok(Value::Text(Text::new(alloc, text)?)),
+        Sample::Path(text) => Ok(Value::Path(Path::read(alloc, text)?)),
+        Sample::Bytes(bytes) => Ok(Value::Bytes(Blob::new(bytes.to_vec(alloc)?))),
+        Sample::List(ints) => Ok(Value::List(items(alloc, ints)?)),
+        Sample::NoItems => Ok(Value::Tuple(Items::new())),
+    }
 }
 
-pub(crate) fn bytes(alloc: Global, bytes: &[u8]) -> Result<Value, Fail> {
-    Ok(Value::Bytes(Blob::new(bytes.to_vec(alloc)?)))
-}
-
-// A list of these integers.
-pub(crate) fn ints(alloc: Global, ints: &[i64]) -> Result<Value, Fail> {
+// These integers.
+fn items(alloc: Global, ints: &[i64]) -> Result<Items, Fail> {
     let mut items = Items::new();
     for n in ints {
         items.push(alloc, Value::Int(*n))?;
     }
-    Ok(Value::List(items))
+    Ok(items)
 }
 
 // So many bytes `a`.
@@ -56,27 +74,37 @@ fn fault_name(fault: &OperatorFault) -> &'static str {
 }
 
 // An answer as text: the value as it is shown, or the fault.
-pub(crate) fn told(alloc: Global, answer: Result<Value, OperatorFault>) -> Result<String, Fail> {
+pub(crate) fn told(alloc: Global, answer: &Result<Value, OperatorFault>) -> Result<String, Fail> {
     match answer {
-        Ok(value) => Ok(show(alloc, &value)?),
-        Err(fault) => Ok(String::from_str(alloc, fault_name(&fault))?),
+        Ok(value) => Ok(show(alloc, value)?),
+        Err(fault) => Ok(String::from_str(alloc, fault_name(fault))?),
     }
 }
 
 // The length of an answer: of a text, of bytes or of a list; or the fault.
-pub(crate) fn told_length(answer: Result<Value, OperatorFault>) -> Result<usize, &'static str> {
+pub(crate) fn told_length(answer: &Result<Value, OperatorFault>) -> Result<usize, &'static str> {
     match answer {
         Ok(Value::Text(text)) => Ok(text.as_str().len()),
         Ok(Value::Bytes(bytes)) => Ok(bytes.as_slice().len()),
         Ok(Value::List(items)) => Ok(items.as_slice().len()),
         Ok(_) => Err("another"),
-        Err(fault) => Err(fault_name(&fault)),
+        Err(fault) => Err(fault_name(fault)),
     }
+}
+
+// What an operator answers to two values, as text.
+pub(crate) fn of_two(
+    alloc: Global,
+    operator: Binary,
+    a: Sample,
+    b: Sample,
+) -> Result<String, Fail> {
+    let answer = binary(alloc, operator, value(alloc, a)?, value(alloc, b)?);
+    told(alloc, &answer)
 }
 
 #[test]
 fn integers_are_computed_within_64_bits(rt: HostRuntime) -> Result<(), Fail> {
-    let alloc = rt.alloc();
     let cases = [
         (Binary::Add, 2, 3, "5"),
         (Binary::Add, LEAST, GREATEST, "-1"),
@@ -92,9 +120,8 @@ fn integers_are_computed_within_64_bits(rt: HostRuntime) -> Result<(), Fail> {
         (Binary::Mul, 3_037_000_500, 3_037_000_500, "Overflow"),
     ];
     for (operator, a, b, wanted) in cases {
-        let answer = binary(alloc, operator, Value::Int(a), Value::Int(b));
-        let found = told(alloc, answer)?;
-        assert_eq!(rt; found.as_str(), wanted, "{operator:?} of {a} and {b}");
+        let found = of_two(rt.alloc(), operator, Sample::Int(a), Sample::Int(b))?;
+        assert!(rt; found.as_str() == wanted, "{operator:?} of {a} and {b}");
     }
     Ok(())
 }
@@ -103,7 +130,6 @@ fn integers_are_computed_within_64_bits(rt: HostRuntime) -> Result<(), Fail> {
 fn division_truncates_and_the_remainder_has_the_sign_of_the_dividend(
     rt: HostRuntime,
 ) -> Result<(), Fail> {
-    let alloc = rt.alloc();
     let cases = [
         (7, 2, "3", "1"),
         (-7, 2, "-3", "-1"),
@@ -117,42 +143,60 @@ fn division_truncates_and_the_remainder_has_the_sign_of_the_dividend(
         (LEAST, 0, "Zero", "Zero"),
     ];
     for (a, b, quotient, remainder) in cases {
-        let answer = binary(alloc, Binary::Div, Value::Int(a), Value::Int(b));
-        let found = told(alloc, answer)?;
-        assert_eq!(rt; found.as_str(), quotient, "{a} / {b}");
-        let answer = binary(alloc, Binary::Rem, Value::Int(a), Value::Int(b));
-        let found = told(alloc, answer)?;
-        assert_eq!(rt; found.as_str(), remainder, "{a} % {b}");
+        let divided = of_two(rt.alloc(), Binary::Div, Sample::Int(a), Sample::Int(b))?;
+        let left = of_two(rt.alloc(), Binary::Rem, Sample::Int(a), Sample::Int(b))?;
+        let holds = divided.as_str() == quotient && left.as_str() == remainder;
+        assert!(rt; holds, "{a} by {b}: {divided} and {left}");
     }
     Ok(())
 }
 
+// What an operator answers to one value, as text.
+fn of_one(alloc: Global, operator: Unary, operand: Sample) -> Result<String, Fail> {
+    let operand = value(alloc, operand)?;
+    told(alloc, &unary(operator, &operand))
+}
+
 #[test]
 fn a_prefix_takes_an_integer_or_a_truth_value(rt: HostRuntime) -> Result<(), Fail> {
-    let alloc = rt.alloc();
     let cases = [
-        (Unary::Neg, Value::Int(5), "-5"),
-        (Unary::Neg, Value::Int(0), "0"),
-        (Unary::Neg, Value::Int(GREATEST), "-9223372036854775807"),
-        (Unary::Neg, Value::Int(LEAST), "Overflow"),
-        (Unary::Neg, Value::Bool(true), "Unknown"),
-        (Unary::Neg, text(alloc, "1")?, "Unknown"),
-        (Unary::Not, Value::Bool(true), "false"),
-        (Unary::Not, Value::Bool(false), "true"),
-        (Unary::Not, Value::Int(0), "Unknown"),
-        (Unary::Not, Value::Null, "Unknown"),
+        (Unary::Neg, Sample::Int(5), "-5"),
+        (Unary::Neg, Sample::Int(0), "0"),
+        (Unary::Neg, Sample::Int(GREATEST), "-9223372036854775807"),
+        (Unary::Neg, Sample::Int(LEAST), "Overflow"),
+        (Unary::Neg, Sample::Bool(true), "Unknown"),
+        (Unary::Neg, Sample::Text("1"), "Unknown"),
+        (Unary::Not, Sample::Bool(true), "false"),
+        (Unary::Not, Sample::Bool(false), "true"),
+        (Unary::Not, Sample::Int(0), "Unknown"),
+        (Unary::Not, Sample::Null, "Unknown"),
     ];
-    for (operator, operand, wanted) in cases {
-        let found = told(alloc, unary(operator, &operand))?;
-        assert_eq!(rt; found.as_str(), wanted, "{operator:?}");
+    for (number, (operator, operand, wanted)) in cases.iter().enumerate() {
+        let found = of_one(rt.alloc(), *operator, *operand)?;
+        assert!(rt; found.as_str() == *wanted, "case {number}: {found}");
     }
     Ok(())
+}
+
+// A mark for what an operator answers to copies of two values: `.` for the fault Unknown.
+fn mark_of(alloc: Global, operator: Binary, a: &Value, b: &Value) -> Result<char, Fail> {
+    Ok(mark(&binary(alloc, operator, a.copy()?, b.copy()?)))
+}
+
+fn mark(answer: &Result<Value, OperatorFault>) -> char {
+    match answer {
+        Err(OperatorFault::Fault(FaultKind::Unknown)) => '.',
+        Ok(Value::Bool(false)) => 'f',
+        Ok(Value::Bool(true)) => 't',
+        Ok(_) => 'v',
+        Err(_) => 'e',
+    }
 }
 
 // The operators between two operands that answer true, in their order; `?` where one has no answer.
 fn that_hold(alloc: Global, a: &Value, b: &Value) -> Result<String, Fail> {
     let mut all = String::new(alloc);
-    for (operator, mark) in [
+    for (operator, sign) in [
         (Binary::Eq, "=="),
         (Binary::Ne, "!="),
         (Binary::Lt, "<"),
@@ -160,71 +204,79 @@ fn that_hold(alloc: Global, a: &Value, b: &Value) -> Result<String, Fail> {
         (Binary::Gt, ">"),
         (Binary::Ge, ">="),
     ] {
-        match binary(alloc, operator, a.copy()?, b.copy()?) {
-            Ok(Value::Bool(true)) => all.push_str(mark)?,
-            Ok(Value::Bool(false)) => {}
+        match mark_of(alloc, operator, a, b)? {
+            't' => all.push_str(sign)?,
+            'f' => {}
             _ => all.push_str("?")?,
         }
     }
     Ok(all)
 }
 
+fn comparison(alloc: Global, a: Sample, b: Sample) -> Result<String, Fail> {
+    let a = Box::new(alloc, value(alloc, a)?)?;
+    that_hold(alloc, &a, &value(alloc, b)?)
+}
+
 #[test]
 fn integers_texts_and_paths_are_ordered(rt: HostRuntime) -> Result<(), Fail> {
-    let alloc = rt.alloc();
     let cases = [
-        (Value::Int(2), Value::Int(2), "==<=>="),
-        (Value::Int(-1), Value::Int(0), "!=<<="),
-        (Value::Int(GREATEST), Value::Int(LEAST), "!=>>="),
-        (text(alloc, "a")?, text(alloc, "a")?, "==<=>="),
-        (text(alloc, "")?, text(alloc, "a")?, "!=<<="),
-        (text(alloc, "a")?, text(alloc, "aa")?, "!=<<="),
-        (text(alloc, "b")?, text(alloc, "aa")?, "!=>>="),
-        (text(alloc, "é")?, text(alloc, "z")?, "!=>>="),
-        (path(alloc, "a/b")?, path(alloc, "a/b")?, "==<=>="),
-        (path(alloc, "a/b")?, path(alloc, "a-b")?, "!=>>="),
-        (text(alloc, "a")?, path(alloc, "a")?, "!=????"),
-        (Value::Bool(false), Value::Bool(true), "!=????"),
-        (ints(alloc, &[1, 2])?, ints(alloc, &[1, 2])?, "==????"),
-        (ints(alloc, &[1, 2])?, ints(alloc, &[1])?, "!=????"),
+        (Sample::Int(2), Sample::Int(2), "==<=>="),
+        (Sample::Int(-1), Sample::Int(0), "!=<<="),
+        (Sample::Int(GREATEST), Sample::Int(LEAST), "!=>>="),
+        (Sample::Text("a"), Sample::Text("a"), "==<=>="),
+        (Sample::Text(""), Sample::Text("a"), "!=<<="),
+        (Sample::Text("a"), Sample::Text("aa"), "!=<<="),
+        (Sample::Text("b"), Sample::Text("aa"), "!=>>="),
+        (Sample::Text("é"), Sample::Text("z"), "!=>>="),
+        (Sample::Path("a/b"), Sample::Path("a/b"), "==<=>="),
+        (Sample::Path("a/b"), Sample::Path("a-b"), "!=>>="),
+        (Sample::Text("a"), Sample::Path("a"), "!=????"),
+        (Sample::Bool(false), Sample::Bool(true), "!=????"),
+        (Sample::List(&[1, 2]), Sample::List(&[1, 2]), "==????"),
+        (Sample::List(&[1, 2]), Sample::List(&[1]), "!=????"),
     ];
-    for (a, b, wanted) in cases {
-        let found = that_hold(alloc, &a, &b)?;
-        let shown = show(alloc, &a)?;
-        assert_eq!(rt; found.as_str(), wanted, "at {shown}");
+    for (number, (a, b, wanted)) in cases.iter().enumerate() {
+        let found = comparison(rt.alloc(), *a, *b)?;
+        assert!(rt; found.as_str() == *wanted, "case {number}: {found}");
     }
     Ok(())
 }
 
 // One value of each kind.
-fn kinds(alloc: Global) -> Result<[Value; 9], Fail> {
-    Ok([
-        Value::Unit,
-        Value::Null,
-        Value::Bool(true),
-        Value::Tuple(Items::new()),
-        path(alloc, "a")?,
-        text(alloc, "a")?,
-        Value::Int(1),
-        bytes(alloc, b"a")?,
-        Value::List(Items::new()),
-    ])
+fn kinds(alloc: Global) -> Result<Items, Fail> {
+    let mut kinds = Items::new();
+    for sample in [
+        Sample::Unit,
+        Sample::Null,
+        Sample::Bool(true),
+        Sample::NoItems,
+        Sample::Path("a"),
+        Sample::Text("a"),
+        Sample::Int(1),
+        Sample::Bytes(b"a"),
+        Sample::List(&[]),
+    ] {
+        kinds.push(alloc, value(alloc, sample)?)?;
+    }
+    Ok(kinds)
 }
 
-// What an operator answers to each two kinds, a row for each: `.` where it is the fault Unknown.
-fn answered(alloc: Global, operator: Binary) -> Result<String, Fail> {
-    let kinds = kinds(alloc)?;
+// What an operator answers to a value and each of some values.
+fn row(alloc: Global, operator: Binary, a: &Value, kinds: &[Value]) -> Result<String, Fail> {
+    let mut row = String::new(alloc);
+    for b in kinds {
+        row.push(mark_of(alloc, operator, a, b)?)?;
+    }
+    Ok(row)
+}
+
+// What an operator answers to each two of some values, a row for each.
+fn answered(alloc: Global, operator: Binary, kinds: &[Value]) -> Result<String, Fail> {
     let mut rows = String::new(alloc);
-    for a in &kinds {
-        for b in &kinds {
-            match binary(alloc, operator, a.copy()?, b.copy()?) {
-                Err(OperatorFault::Fault(FaultKind::Unknown)) => rows.push('.')?,
-                Ok(Value::Bool(false)) => rows.push('f')?,
-                Ok(Value::Bool(true)) => rows.push('t')?,
-                Ok(_) => rows.push('v')?,
-                Err(_) => rows.push('e')?,
-            }
-        }
+    for a in kinds {
+        let row = row(alloc, operator, a, kinds)?;
+        rows.push_str(row.as_str())?;
         rows.push(' ')?;
     }
     Ok(rows)
@@ -240,6 +292,7 @@ fn operands_of_other_kinds_are_unknown(rt: HostRuntime) -> Result<(), Fail> {
         "tffffffff ftfffffff fftffffff ffftfffff fffftffff ffffftfff fffffftff ffffffftf fffffffft ";
     let ordered =
         "......... ......... ......... ......... ....t.... .....t... ......t.. ......... ......... ";
+    let kinds = kinds(rt.alloc())?;
     for (operator, wanted) in [
         (Binary::Add, sums),
         (Binary::Sub, ints),
@@ -250,8 +303,8 @@ fn operands_of_other_kinds_are_unknown(rt: HostRuntime) -> Result<(), Fail> {
         (Binary::Le, ordered),
         (Binary::Ge, ordered),
     ] {
-        let found = answered(rt.alloc(), operator)?;
-        assert_eq!(rt; found.as_str(), wanted, "{operator:?}");
+        let found = answered(rt.alloc(), operator, kinds.as_slice())?;
+        assert!(rt; found.as_str() == wanted, "{operator:?}: {found}");
     }
     Ok(())
 }
