@@ -1,33 +1,53 @@
 //! The built-in functions on lists, on worked cases.
-use crate::tests::{answer, list, path, text};
-use pie_value::{Builtin, Value};
+use crate::tests::{Sample, add, answer, of, values};
+use pie_value::{Builtin, Items, Value};
 use std::alloc::Global;
 use std::test::Fail;
 
-// The answer to one list.
-fn of_list(alloc: Global, which: Builtin, values: Vec<Value>) -> Result<String, Fail> {
-    let args = [list(alloc, values)?];
-    answer(alloc, which, args.as_slice())
+// A list of these values, and further arguments.
+fn list_and(alloc: Global, list: &[Sample], more: &[Sample]) -> Result<Items, Fail> {
+    let mut args = Items::new();
+    args.push(alloc, Value::List(values(alloc, list)?))?;
+    add(alloc, &mut args, more)?;
+    Ok(args)
+}
+
+// The answer to one list of these values, and further arguments.
+fn of_list(
+    alloc: Global,
+    which: Builtin,
+    list: &[Sample],
+    more: &[Sample],
+) -> Result<String, Fail> {
+    answer(alloc, which, &list_and(alloc, list, more)?)
+}
+
+// Whether a built-in function answers this to one list of these values.
+fn gives(alloc: Global, which: Builtin, list: &[Sample], wanted: &str) -> Result<bool, Fail> {
+    Ok(of_list(alloc, which, list, &[])?.as_str() == wanted)
 }
 
 #[test]
 fn lists_are_counted_read_and_turned(rt: HostRuntime) -> Result<(), Fail> {
-    let values = vec![in rt.alloc(); Value::Int(5), Value::Null]?;
-    let args = [list(rt.alloc(), values)?];
-    let found = answer(rt.alloc(), Builtin::Len, args.as_slice())?;
-    assert_eq!(rt; found.as_str(), "2");
-    let found = answer(rt.alloc(), Builtin::Reverse, args.as_slice())?;
-    assert_eq!(rt; found.as_str(), "[null, 5]");
+    let list = [Sample::Int(5), Sample::Null];
+    for (which, wanted) in [(Builtin::Len, "2"), (Builtin::Reverse, "[null, 5]")] {
+        let found = of_list(rt.alloc(), which, list.as_slice(), &[])?;
+        assert!(rt; found.as_str() == wanted, "{found}, not {wanted}");
+    }
     Ok(())
 }
 
 #[test]
 fn an_item_is_counted_from_0(rt: HostRuntime) -> Result<(), Fail> {
+    let list = [Sample::Int(5), Sample::Null];
     for (place, wanted) in [(0, "5"), (1, "null"), (2, "Range"), (-1, "Range")] {
-        let values = vec![in rt.alloc(); Value::Int(5), Value::Null]?;
-        let args = [list(rt.alloc(), values)?, Value::Int(place)];
-        let found = answer(rt.alloc(), Builtin::At, args.as_slice())?;
-        assert_eq!(rt; found.as_str(), wanted, "at {place}");
+        let found = of_list(
+            rt.alloc(),
+            Builtin::At,
+            list.as_slice(),
+            &[Sample::Int(place)],
+        )?;
+        assert!(rt; found.as_str() == wanted, "at {place}: {found}");
     }
     Ok(())
 }
@@ -46,9 +66,9 @@ fn a_range_ends_before_its_last(rt: HostRuntime) -> Result<(), Fail> {
         ),
     ];
     for (from, to, wanted) in cases {
-        let args = [Value::Int(from), Value::Int(to)];
-        let found = answer(rt.alloc(), Builtin::Range, args.as_slice())?;
-        assert_eq!(rt; found.as_str(), wanted, "from {from} to {to}");
+        let args = [Sample::Int(from), Sample::Int(to)];
+        let found = of(rt.alloc(), Builtin::Range, args.as_slice())?;
+        assert!(rt; found.as_str() == wanted, "from {from} to {to}: {found}");
     }
     Ok(())
 }
@@ -56,32 +76,42 @@ fn a_range_ends_before_its_last(rt: HostRuntime) -> Result<(), Fail> {
 #[test]
 fn items_are_joined(rt: HostRuntime) -> Result<(), Fail> {
     let alloc = rt.alloc();
-    let values = vec![in alloc; text(alloc, "b")?, text(alloc, "ab")?]?;
-    let args = [list(alloc, values)?, text(alloc, ", ")?];
-    let joined = answer(alloc, Builtin::JoinText, args.as_slice())?;
-    assert_eq!(rt; joined.as_str(), "\"b, ab\"");
-    let values = vec![in alloc; list(alloc, Vec::new(alloc))?, text(alloc, "a")?]?;
-    let refused = of_list(alloc, Builtin::Flatten, values)?;
-    assert_eq!(rt; refused.as_str(), "Unknown");
+    let texts = [Sample::Text("b"), Sample::Text("ab")];
+    let joined = of_list(
+        alloc,
+        Builtin::JoinText,
+        texts.as_slice(),
+        &[Sample::Text(", ")],
+    )?;
+    assert!(rt; joined.as_str() == "\"b, ab\"", "{joined}");
+    let mixed = [Sample::NoItems, Sample::Text("a")];
+    let refused = of_list(alloc, Builtin::Flatten, mixed.as_slice(), &[])?;
+    assert!(rt; refused.as_str() == "Unknown", "{refused}");
     Ok(())
 }
 
 #[test]
 fn items_of_one_kind_are_sorted(rt: HostRuntime) -> Result<(), Fail> {
     let alloc = rt.alloc();
-    let ints = vec![in alloc; Value::Int(2), Value::Int(-1), Value::Int(2)]?;
-    let found = of_list(alloc, Builtin::Sort, ints)?;
-    assert_eq!(rt; found.as_str(), "[-1, 2, 2]");
-    let texts = vec![in alloc; text(alloc, "b")?, text(alloc, "ab")?, text(alloc, "a")?]?;
-    let found = of_list(alloc, Builtin::Sort, texts)?;
-    assert_eq!(rt; found.as_str(), "[\"a\", \"ab\", \"b\"]");
-    let paths = vec![in alloc; path(alloc, "a/b")?, path(alloc, "a-b")?]?;
-    let found = of_list(alloc, Builtin::Sort, paths)?;
-    assert_eq!(rt; found.as_str(), "[path(\"a-b\"), path(\"a/b\")]");
-    let found = of_list(alloc, Builtin::Sort, Vec::new(alloc))?;
-    assert_eq!(rt; found.as_str(), "[]");
-    let mixed = vec![in alloc; Value::Int(2), text(alloc, "a")?]?;
-    let found = of_list(alloc, Builtin::Sort, mixed)?;
-    assert_eq!(rt; found.as_str(), "Unknown");
+    let ints = [Sample::Int(2), Sample::Int(-1), Sample::Int(2)];
+    let ints = gives(alloc, Builtin::Sort, ints.as_slice(), "[-1, 2, 2]")?;
+    let texts = [Sample::Text("b"), Sample::Text("ab"), Sample::Text("a")];
+    let texts = gives(
+        alloc,
+        Builtin::Sort,
+        texts.as_slice(),
+        "[\"a\", \"ab\", \"b\"]",
+    )?;
+    let paths = [Sample::Path("a/b"), Sample::Path("a-b")];
+    let told = "[path(\"a-b\"), path(\"a/b\")]";
+    let paths = gives(alloc, Builtin::Sort, paths.as_slice(), told)?;
+    let none = gives(alloc, Builtin::Sort, &[], "[]")?;
+    assert!(rt;
+        ints && texts && paths && none,
+        "{ints} {texts} {paths} {none}"
+    );
+    let mixed = [Sample::Int(2), Sample::Text("a")];
+    let refused = of_list(alloc, Builtin::Sort, mixed.as_slice(), &[])?;
+    assert!(rt; refused.as_str() == "Unknown", "{refused}");
     Ok(())
 }

@@ -1,28 +1,48 @@
 //! Each built-in function on worked cases.
+//! The tables hold what values are made of, and what a function answers is told as a text.
 use pie_base::{FaultKind, Path, Text};
 use pie_builtins::{BuiltinFault, apply};
 use pie_value::{Blob, Builtin, Items, Value, show};
 use std::alloc::Global;
 use std::test::Fail;
 
-pub(crate) fn text(alloc: Global, text: &str) -> Result<Value, Fail> {
-    Ok(Value::Text(Text::new(alloc, text)?))
+/// A value as a case writes it.
+#[derive(Clone, Copy)]
+pub(crate) enum Sample<'a> {
+    Null,
+    Bool(bool),
+    Int(i64),
+    Text(&'a str),
+    Path(&'a str),
+    Bytes(&'a [u8]),
+    NoItems,
 }
 
-pub(crate) fn path(alloc: Global, text: &str) -> Result<Value, Fail> {
-    Ok(Value::Path(Path::read(alloc, text)?))
-}
-
-fn bytes(alloc: Global, bytes: &[u8]) -> Result<Value, Fail> {
-    Ok(Value::Bytes(Blob::new(bytes.to_vec(alloc)?)))
-}
-
-pub(crate) fn list(alloc: Global, values: Vec<Value>) -> Result<Value, Fail> {
-    let mut items = Items::new();
-    for value in values {
-        items.push(alloc, value)?;
+// The value that a case writes.
+fn value(alloc: Global, sample: Sample) -> Result<Value, Fail> {
+    match sample {
+        Sample::Null => Ok(Value::Null),
+        Sample::Bool(b) => Ok(Value::Bool(b)),
+        Sample::Int(n) => Ok(Value::Int(n)),
+        Sample::Text(text) => Ok(Value::Text(Text::new(alloc, text)?)),
+        Sample::Path(text) => Ok(Value::Path(Path::read(alloc, text)?)),
+        Sample::Bytes(bytes) => Ok(Value::Bytes(Blob::new(bytes.to_vec(alloc)?))),
+        Sample::NoItems => Ok(Value::List(Items::new())),
     }
-    Ok(Value::List(items))
+}
+
+// The values that a case writes.
+pub(crate) fn values(alloc: Global, samples: &[Sample]) -> Result<Items, Fail> {
+    let mut items = Items::new();
+    add(alloc, &mut items, samples)?;
+    Ok(items)
+}
+
+pub(crate) fn add(alloc: Global, items: &mut Items, samples: &[Sample]) -> Result<(), Fail> {
+    for sample in samples {
+        items.push(alloc, value(alloc, *sample)?)?;
+    }
+    Ok(())
 }
 
 fn fault_name(fault: &BuiltinFault) -> &'static str {
@@ -37,24 +57,21 @@ fn fault_name(fault: &BuiltinFault) -> &'static str {
     }
 }
 
-// What a built-in function answers, as text: the value as it is shown, or the fault.
-pub(crate) fn answer(alloc: Global, which: Builtin, args: &[Value]) -> Result<String, Fail> {
-    match apply(alloc, which, args) {
-        Ok(value) => Ok(show(alloc, &value)?),
-        Err(fault) => Ok(String::from_str(alloc, fault_name(&fault))?),
+fn told(alloc: Global, answer: &Result<Value, BuiltinFault>) -> Result<String, Fail> {
+    match answer {
+        Ok(value) => Ok(show(alloc, value)?),
+        Err(fault) => Ok(String::from_str(alloc, fault_name(fault))?),
     }
 }
 
-// The answer to one text.
-fn of_text(alloc: Global, which: Builtin, s: &str) -> Result<String, Fail> {
-    let args = [text(alloc, s)?];
-    answer(alloc, which, args.as_slice())
+// What a built-in function answers, as text: the value as it is shown, or the fault.
+pub(crate) fn answer(alloc: Global, which: Builtin, args: &Items) -> Result<String, Fail> {
+    told(alloc, &apply(alloc, which, args.as_slice()))
 }
 
-// The answer to two texts.
-fn of_texts(alloc: Global, which: Builtin, s: &str, t: &str) -> Result<String, Fail> {
-    let args = [text(alloc, s)?, text(alloc, t)?];
-    answer(alloc, which, args.as_slice())
+// The answer to these arguments.
+pub(crate) fn of(alloc: Global, which: Builtin, args: &[Sample]) -> Result<String, Fail> {
+    answer(alloc, which, &values(alloc, args)?)
 }
 
 #[test]
@@ -80,8 +97,8 @@ fn a_text_becomes_a_path_bytes_or_a_text_without_spaces(rt: HostRuntime) -> Resu
         ),
     ];
     for (which, s, wanted) in cases {
-        let found = of_text(rt.alloc(), which, s)?;
-        assert_eq!(rt; found.as_str(), wanted, "at {s}");
+        let found = of(rt.alloc(), which, &[Sample::Text(s)])?;
+        assert!(rt; found.as_str() == wanted, "at {s}: {found}");
     }
     Ok(())
 }
@@ -104,8 +121,8 @@ fn an_integer_is_an_optional_minus_sign_and_digits(rt: HostRuntime) -> Result<()
         ("-9223372036854775809", "null"),
     ];
     for (s, wanted) in cases {
-        let found = of_text(rt.alloc(), Builtin::ParseInt, s)?;
-        assert_eq!(rt; found.as_str(), wanted, "at {s}");
+        let found = of(rt.alloc(), Builtin::ParseInt, &[Sample::Text(s)])?;
+        assert!(rt; found.as_str() == wanted, "at {s}: {found}");
     }
     Ok(())
 }
@@ -128,8 +145,8 @@ fn one_text_is_looked_for_in_another(rt: HostRuntime) -> Result<(), Fail> {
         (Builtin::Split, "a", "", "Range"),
     ];
     for (which, s, t, wanted) in cases {
-        let found = of_texts(rt.alloc(), which, s, t)?;
-        assert_eq!(rt; found.as_str(), wanted, "at {s} and {t}");
+        let found = of(rt.alloc(), which, &[Sample::Text(s), Sample::Text(t)])?;
+        assert!(rt; found.as_str() == wanted, "at {s} and {t}: {found}");
     }
     Ok(())
 }
@@ -146,46 +163,69 @@ fn a_part_is_cut_between_characters_in_the_text(rt: HostRuntime) -> Result<(), F
         ("é", 0, 2, "\"é\""),
     ];
     for (s, from, to, wanted) in cases {
-        let args = [text(rt.alloc(), s)?, Value::Int(from), Value::Int(to)];
-        let found = answer(rt.alloc(), Builtin::Slice, args.as_slice())?;
-        assert_eq!(rt; found.as_str(), wanted, "at {s} from {from} to {to}");
+        let args = [Sample::Text(s), Sample::Int(from), Sample::Int(to)];
+        let found = of(rt.alloc(), Builtin::Slice, args.as_slice())?;
+        assert!(rt;
+            found.as_str() == wanted,
+            "at {s} from {from} to {to}: {found}"
+        );
+    }
+    Ok(())
+}
+
+// Whether a built-in function answers this to these arguments.
+fn gives(alloc: Global, which: Builtin, args: &[Sample], wanted: &str) -> Result<bool, Fail> {
+    Ok(of(alloc, which, args)?.as_str() == wanted)
+}
+
+#[test]
+fn bytes_are_cut_anywhere_and_read_as_text(rt: HostRuntime) -> Result<(), Fail> {
+    let alloc = rt.alloc();
+    let args = [
+        Sample::Bytes(&[195, 169, 97]),
+        Sample::Int(1),
+        Sample::Int(3),
+    ];
+    let cut = gives(
+        alloc,
+        Builtin::SliceBytes,
+        args.as_slice(),
+        "bytes(\"a961\")",
+    )?;
+    let read = gives(
+        alloc,
+        Builtin::FromBytes,
+        &[Sample::Bytes(&[195, 169])],
+        "\"é\"",
+    )?;
+    let broken = gives(alloc, Builtin::FromBytes, &[Sample::Bytes(&[169])], "null")?;
+    assert!(rt;
+        cut && read && broken,
+        "cut {cut}, read {read}, broken {broken}"
+    );
+    Ok(())
+}
+
+#[test]
+fn paths_are_joined(rt: HostRuntime) -> Result<(), Fail> {
+    for (rest, wanted) in [("a/b", "path(\"out/a/b\")"), ("", "BadPath")] {
+        let args = [Sample::Path("out"), Sample::Text(rest)];
+        let found = of(rt.alloc(), Builtin::Join, args.as_slice())?;
+        assert!(rt; found.as_str() == wanted, "out and {rest}: {found}");
     }
     Ok(())
 }
 
 #[test]
-fn bytes_are_cut_anywhere_and_read_as_text(rt: HostRuntime) -> Result<(), Fail> {
-    let args = [
-        bytes(rt.alloc(), &[195, 169, 97])?,
-        Value::Int(1),
-        Value::Int(3),
-    ];
-    let cut = answer(rt.alloc(), Builtin::SliceBytes, args.as_slice())?;
-    assert_eq!(rt; cut.as_str(), "bytes(\"a961\")");
-    let args = [bytes(rt.alloc(), &[195, 169])?];
-    let read = answer(rt.alloc(), Builtin::FromBytes, args.as_slice())?;
-    assert_eq!(rt; read.as_str(), "\"é\"");
-    let args = [bytes(rt.alloc(), &[169])?];
-    let read = answer(rt.alloc(), Builtin::FromBytes, args.as_slice())?;
-    assert_eq!(rt; read.as_str(), "null");
-    Ok(())
-}
-
-#[test]
-fn paths_are_joined_and_taken_apart(rt: HostRuntime) -> Result<(), Fail> {
-    let args = [path(rt.alloc(), "out")?, text(rt.alloc(), "a/b")?];
-    let joined = answer(rt.alloc(), Builtin::Join, args.as_slice())?;
-    assert_eq!(rt; joined.as_str(), "path(\"out/a/b\")");
-    let args = [path(rt.alloc(), "out")?, text(rt.alloc(), "")?];
-    let joined = answer(rt.alloc(), Builtin::Join, args.as_slice())?;
-    assert_eq!(rt; joined.as_str(), "BadPath");
-    let args = [path(rt.alloc(), "src/a")?];
-    let parent = answer(rt.alloc(), Builtin::Parent, args.as_slice())?;
-    assert_eq!(rt; parent.as_str(), "path(\"src\")");
-    let name = answer(rt.alloc(), Builtin::Name, args.as_slice())?;
-    assert_eq!(rt; name.as_str(), "\"a\"");
-    let shown = answer(rt.alloc(), Builtin::ToText, args.as_slice())?;
-    assert_eq!(rt; shown.as_str(), "\"src/a\"");
+fn a_path_is_taken_apart(rt: HostRuntime) -> Result<(), Fail> {
+    for (which, wanted) in [
+        (Builtin::Parent, "path(\"src\")"),
+        (Builtin::Name, "\"a\""),
+        (Builtin::ToText, "\"src/a\""),
+    ] {
+        let found = of(rt.alloc(), which, &[Sample::Path("src/a")])?;
+        assert!(rt; found.as_str() == wanted, "{found}, not {wanted}");
+    }
     Ok(())
 }
 
@@ -198,21 +238,22 @@ fn null_has_no_value(rt: HostRuntime) -> Result<(), Fail> {
         (Builtin::Trim, "Unknown"),
         (Builtin::Len, "Unknown"),
     ];
-    for (which, wanted) in cases {
-        let found = answer(rt.alloc(), which, &[Value::Null])?;
-        assert_eq!(rt; found.as_str(), wanted);
+    for (number, (which, wanted)) in cases.iter().enumerate() {
+        let found = of(rt.alloc(), *which, &[Sample::Null])?;
+        assert!(rt; found.as_str() == *wanted, "case {number}: {found}");
     }
     Ok(())
 }
 
 #[test]
 fn numbers_are_spelt_in_digits(rt: HostRuntime) -> Result<(), Fail> {
-    let args = [Value::Int(-12)];
-    let found = answer(rt.alloc(), Builtin::ToText, args.as_slice())?;
-    assert_eq!(rt; found.as_str(), "\"-12\"");
-    let args = [Value::Bool(true)];
-    let found = answer(rt.alloc(), Builtin::ToText, args.as_slice())?;
-    assert_eq!(rt; found.as_str(), "\"true\"");
+    for (sample, wanted) in [
+        (Sample::Int(-12), "\"-12\""),
+        (Sample::Bool(true), "\"true\""),
+    ] {
+        let found = of(rt.alloc(), Builtin::ToText, &[sample])?;
+        assert!(rt; found.as_str() == wanted, "{found}, not {wanted}");
+    }
     Ok(())
 }
 
@@ -224,13 +265,9 @@ fn occurrences_are_replaced_from_the_left(rt: HostRuntime) -> Result<(), Fail> {
         ("a,b", ",", "", "\"ab\""),
     ];
     for (s, part, by, wanted) in cases {
-        let args = [
-            text(rt.alloc(), s)?,
-            text(rt.alloc(), part)?,
-            text(rt.alloc(), by)?,
-        ];
-        let found = answer(rt.alloc(), Builtin::Replace, args.as_slice())?;
-        assert_eq!(rt; found.as_str(), wanted, "at {s}");
+        let args = [Sample::Text(s), Sample::Text(part), Sample::Text(by)];
+        let found = of(rt.alloc(), Builtin::Replace, args.as_slice())?;
+        assert!(rt; found.as_str() == wanted, "at {s}: {found}");
     }
     Ok(())
 }
