@@ -58,8 +58,8 @@ no_longer m n le h =
     below a b l = grind arith
 
 -- what stands before a slash of a path is a path
-pub front_is_path : (path : List ℕ) (end : ℕ) → IsTrue (is_path path) → end < length path → slice_index path end ≡ 47 → IsTrue (is_path (take end path))
-front_is_path path end is inside slash =
+pub prefix_is_path : (path : List ℕ) (end : ℕ) → IsTrue (is_path path) → end < length path → slice_index path end ≡ 47 → IsTrue (is_path (take end path))
+prefix_is_path path end is inside slash =
     let outer = and_parts (not (length path == 0) && not (nat_lt 255 (length path))) (list_all is_segment (segments path)) is in
     let inner = and_parts (not (length path == 0)) (not (nat_lt 255 (length path))) outer.0 in
     let whole : path ≡ take end path ++ (47 ∷ drop (end + 1) path) = cut_at path end inside ∙ ap (λ b. take end path ++ (b ∷ drop (end + 1) path)) slash in

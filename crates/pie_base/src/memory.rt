@@ -1,4 +1,4 @@
-//! Want of memory, which every call that allocates can answer.
+//! Out of memory, which every call that allocates can answer.
 ghost use Rattle.std.specs.Prelude.{◌≡◌};
 ghost use Rattle.pie_base.specs.declared.memory.OutOfMemory.{OutOfMemory};
 

@@ -3,7 +3,7 @@ use Rattle.std.proofs.Common.{◌≡◌, ℕ, ◌+◌, List, [], ◌∷◌, leng
 use Rattle.std.specs.Prelude.{All, Option, None, Some, Result, Ok, Err, IfSome, IfOk}
 use Rattle.std.proofs.lemmas.List.Elements.{All-cons, All-nil}
 use Rattle.std.proofs.Math.Seq.{drop-append_seam}
-use Rattle.pie_bridge.specs.Events.{AreCompiled}
+use Rattle.pie_builder_laws.specs.Events.{AreCompiled}
 use Rattle.pie_checks.specs.declared.built.Built.{Built}
 use Rattle.pie_code.specs.declared.code.Code.{Code}
 use Rattle.pie_codegen.specs.Pipelines.{AreCodesOf, AllMean}
@@ -23,7 +23,7 @@ use Rattle.pie_record.specs.declared.task_record.TaskRecord.{TaskRecord}
 use Rattle.pie_report.specs.declared.report.Report.{Report}
 use Rattle.pie_roots.specs.Lines.{texts}
 use Rattle.pie_roots.specs.RootLists.{Named, NameAll, before, ended, blank, named, stranger, bad}
-use Rattle.pie_types.specs.Faults.{Outcome}
+use Rattle.pie_types.specs.Faults.{TypingResult}
 use Rattle.pie_types.specs.Whole.{checked, number_from}
 use Rattle.pie_types.specs.WholeRules.{IsTyped}
 use Rattle.pie_types.proofs.WholeLaw.{checked_sound, checked_complete}
@@ -32,7 +32,7 @@ use Rattle.pie_value.specs.declared.value.Value.{Value}
 use Rattle.pie_value.specs.declared.verdict.Refusal.{Refusal}
 use Rattle.pie_value.specs.declared.verdict.Verdict.{Verdict}
 use Rattle.pie_value.specs.declared.verdict.Verdict.TheVariants.{Accepted, Refused}
-use Rattle.pie_world.specs.Clean.{IsCleanBuild}
+use Rattle.pie_model_pipeline.specs.Clean.{IsCleanBuild}
 use Rattle.pie_build.specs.declared.place.Made.{Made}
 use Rattle.pie_build.specs.Left.{LeavesBy, Puts}
 use Rattle.pie_build.specs.Projects.{IsCleanBy, IsReady, LeavesFor}
@@ -45,9 +45,9 @@ abbrev AreTypedIn : Checked → Type 0
 AreTypedIn (Ok fs) = IsTyped fs
 AreTypedIn (Err e) = Unit {0}
 
-typed_if_checked : (o : Outcome (List FunctionTree)) (fs : List FunctionTree) → checked fs ≡ o → AreTypedIn (typed_or o)
+typed_if_checked : (o : TypingResult (List FunctionTree)) (fs : List FunctionTree) → checked fs ≡ o → AreTypedIn (typed_or o)
 typed_if_checked (Ok gs) fs is =
-    let one : ◌≡◌ {A = Outcome (List FunctionTree)} (Ok fs) (Ok gs) = sym (checked_complete fs (checked_sound fs gs is)) ∙ is in
+    let one : ◌≡◌ {A = TypingResult (List FunctionTree)} (Ok fs) (Ok gs) = sym (checked_complete fs (checked_sound fs gs is)) ∙ is in
     let same : fs ≡ gs = cc in subst IsTyped same (checked_sound fs gs is)
 typed_if_checked (Err e) fs is = tt
 

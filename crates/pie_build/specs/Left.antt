@@ -17,14 +17,14 @@ use Rattle.pie_fresh.specs.Cleans.{contents_in}
 use Rattle.pie_project.specs.Digested.{HasDigests}
 use Rattle.pie_project.specs.Fronts.{ProjectSays}
 use Rattle.pie_report.specs.declared.report.Report.{Report}
-use Rattle.pie_world.specs.Clean.{IsCleanBuild}
+use Rattle.pie_model_pipeline.specs.Clean.{IsCleanBuild}
 use Rattle.pie_build.specs.Stored.{IsStoreOf}
 
 -- a path that a build may change: one under `out/`, or one of the builder's own three
 abbrev pub may_change : List ℕ → Bool
 may_change q = is_out q || same_text q (codes ".pie/open") || same_text q (codes ".pie/store") || same_text q (codes ".pie/pending")
 
--- where the directory is told, it is told still, and every other path has the file that it had
+-- where the directory is observable, it is told still, and every other path has the file that it had
 pub record KeepsRest (before after : Option Directory) : Type 0 where
   pub kept : IfSome before (λ d. (e : Directory) × (after ≡ Some e) × ((q : List ℕ) → may_change q ≡ false → file_at e q ≡ file_at d q))
 

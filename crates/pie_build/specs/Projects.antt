@@ -8,7 +8,7 @@ use Rattle.pie_project.specs.declared.project.Project.{Project}
 use Rattle.pie_report.specs.declared.report.Report.{Report}
 use Rattle.pie_types.specs.WholeRules.{IsTyped}
 use Rattle.pie_value.specs.declared.task.Task.{Task}
-use Rattle.pie_world.specs.Clean.{IsCleanBuild}
+use Rattle.pie_model_pipeline.specs.Clean.{IsCleanBuild}
 use Rattle.pie_build.specs.Left.{LeavesOf}
 
 -- the functions are typed, and the roots are tasks of them

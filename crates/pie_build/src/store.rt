@@ -9,7 +9,7 @@ use pie_value::{Task, Tasks};
 use std::alloc::Global;
 
 /// The text of a store with these functions, roots and records. Where the number of roots has more than 32 bits,
-/// it is want of memory. Rule: docs/FORMATS.md, "The store".
+/// it is out of memory. Rule: docs/FORMATS.md, "The store".
 pub(crate) fn store_text(
     alloc: Global,
     funcs: Vec<(Text, [u8; 32])>,

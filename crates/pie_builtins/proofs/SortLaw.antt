@@ -16,7 +16,7 @@ use Rattle.pie_value.specs.BuiltinItems.{all_as, as_int, as_path, as_text, sorte
 use Rattle.pie_value.specs.BuiltinTexts.{and_then}
 use Rattle.pie_value.specs.Builtins.{sort_answer}
 use Rattle.pie_builtins.specs.declared.fault.BuiltinFault.{BuiltinFault}
-use Rattle.pie_builtins.specs.Agreement.{Agrees}
+use Rattle.pie_builtins.specs.Agreement.{AnswerAgrees}
 use Rattle.pie_builtins.specs.Laws.{IsAtMost, IsSortedList}
 use Rattle.pie_builtins.proofs.Sorting.{sorted_permutes, sorted_rises}
 use Rattle.pie_builtins.proofs.Splitting.{made_is}
@@ -75,7 +75,7 @@ answered ts v None (Some texts) paths i t p e = sorted_so as_text (λ s. TText s
 answered ts v None None (Some paths) i t p e = sorted_so as_path (λ s. TPath s) is_path (slice_cmp nat_cmp) nat_list_cmp_total (λ x y h. h) ts paths v p e
 answered ts v None None None i t p e = cc
 
-pub sort_law : (ts : Trees) (r : Result Value BuiltinFault) → Agrees r (sort_answer ts (all_as as_int ts) (all_as as_text ts) (all_as as_path ts))
+pub sort_law : (ts : Trees) (r : Result Value BuiltinFault) → AnswerAgrees r (sort_answer ts (all_as as_int ts) (all_as as_text ts) (all_as as_path ts))
     → IfOk r (λ v. IsSortedList ts (tree_of v))
 sort_law ts (Ok v) agrees = answered ts v (all_as as_int ts) (all_as as_text ts) (all_as as_path ts) refl refl refl agrees
 sort_law ts (Err e) agrees = tt

@@ -16,7 +16,7 @@ use Rattle.pie_value.specs.BuiltinForms.{made}
 use Rattle.pie_value.specs.BuiltinItems.{text_list}
 use Rattle.pie_value.specs.BuiltinTexts.{starts_with, first_place, pieces, pieces_from, pieces_within, with_between, without_last_empty}
 use Rattle.pie_builtins.specs.declared.fault.BuiltinFault.{BuiltinFault}
-use Rattle.pie_builtins.specs.Agreement.{Agrees}
+use Rattle.pie_builtins.specs.Agreement.{AnswerAgrees}
 use Rattle.pie_builtins.specs.Laws.{Holds, NoneHolds, AreSplit, AreLines, IsReplaced, IsTexts}
 use Rattle.pie_builtins.proofs.Places.{starts_yes, starts_is}
 
@@ -181,7 +181,7 @@ are_lines s p some =
 pub made_is : (t u : Tree) → made t ≡ Ok u → u ≡ t
 made_is t u = elim (is_small t) as (λ b. cond b (Ok t) (Err Big) ≡ Ok u → u ≡ t) [ true ↦ λ e. cc | false ↦ λ e. cc ]
 
-made_texts : (property : List (List ℕ) → Type 0) (texts : List (List ℕ)) (r : Result Value BuiltinFault) → property texts → Agrees r (made (text_list texts))
+made_texts : (property : List (List ℕ) → Type 0) (texts : List (List ℕ)) (r : Result Value BuiltinFault) → property texts → AnswerAgrees r (made (text_list texts))
     → IfOk r (λ v. IsTexts property (tree_of v))
 made_texts property texts (Ok v) h agrees = (texts, made_is (text_list texts) (tree_of v) agrees, h)
 made_texts property texts (Err e) h agrees = tt
@@ -190,7 +190,7 @@ replaced_by : (s p r : List ℕ) → 0 < length p → IsReplaced s p r (TText (w
 replaced_by s [] r some = absurd (omega arith)
 replaced_by s (b ∷ p) r some = (pieces s (b ∷ p), are_split s (b ∷ p) some, refl)
 
-pub replace_law : (s p r : List ℕ) (found : Result Value BuiltinFault) → 0 < length p → Agrees found (made (TText (with_between r (pieces s p))))
+pub replace_law : (s p r : List ℕ) (found : Result Value BuiltinFault) → 0 < length p → AnswerAgrees found (made (TText (with_between r (pieces s p))))
     → IfOk found (λ v. IsReplaced s p r (tree_of v))
 replace_law s p r (Ok v) some agrees = subst (IsReplaced s p r) (sym (made_is (TText (with_between r (pieces s p))) (tree_of v) agrees))
     (replaced_by s p r some)
@@ -200,15 +200,15 @@ replaced_alike : (s p r : List ℕ) → length p ≡ 0 → IsReplaced s p r (TTe
 replaced_alike s [] r none = refl
 replaced_alike s (b ∷ p) r none = absurd (omega arith)
 
-pub replace_law_none : (s p r : List ℕ) (found : Result Value BuiltinFault) → length p ≡ 0 → Agrees found (made (TText s))
+pub replace_law_none : (s p r : List ℕ) (found : Result Value BuiltinFault) → length p ≡ 0 → AnswerAgrees found (made (TText s))
     → IfOk found (λ v. IsReplaced s p r (tree_of v))
 replace_law_none s p r (Ok v) none agrees = subst (IsReplaced s p r) (sym (made_is (TText s) (tree_of v) agrees)) (replaced_alike s p r none)
 replace_law_none s p r (Err e) none agrees = tt
 
-pub split_law : (s p : List ℕ) (r : Result Value BuiltinFault) → 0 < length p → Agrees r (made (text_list (pieces s p)))
+pub split_law : (s p : List ℕ) (r : Result Value BuiltinFault) → 0 < length p → AnswerAgrees r (made (text_list (pieces s p)))
     → IfOk r (λ v. IsTexts (AreSplit s p) (tree_of v))
 split_law s p r some agrees = made_texts (AreSplit s p) (pieces s p) r (are_split s p some) agrees
 
-pub lines_law : (s p : List ℕ) (r : Result Value BuiltinFault) → 0 < length p → Agrees r (made (text_list (without_last_empty (pieces s p))))
+pub lines_law : (s p : List ℕ) (r : Result Value BuiltinFault) → 0 < length p → AnswerAgrees r (made (text_list (without_last_empty (pieces s p))))
     → IfOk r (λ v. IsTexts (AreLines s p) (tree_of v))
 lines_law s p r some agrees = made_texts (AreLines s p) (without_last_empty (pieces s p)) r (are_lines s p some) agrees

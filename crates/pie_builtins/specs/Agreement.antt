@@ -6,8 +6,8 @@ use Rattle.pie_value.specs.BuiltinForms.{Answered}
 use Rattle.pie_builtins.specs.declared.fault.BuiltinFault.{BuiltinFault}
 use Rattle.pie_builtins.specs.declared.fault.BuiltinFault.TheVariants.{Fault, OutOfMemory}
 
--- a value exactly where the definition gives its tree, a fault exactly where it gives that fault; want of memory says nothing
-abbrev pub Agrees : Result Value BuiltinFault → Answered → Type 0
-Agrees (Ok v) answer = answer ≡ Ok (tree_of v)
-Agrees (Err (Fault kind)) answer = answer ≡ Err kind
-Agrees (Err OutOfMemory) answer = Unit {0}
+-- a value exactly where the definition gives its tree, a fault exactly where it gives that fault; out of memory says nothing
+abbrev pub AnswerAgrees : Result Value BuiltinFault → Answered → Type 0
+AnswerAgrees (Ok v) answer = answer ≡ Ok (tree_of v)
+AnswerAgrees (Err (Fault kind)) answer = answer ≡ Err kind
+AnswerAgrees (Err OutOfMemory) answer = Unit {0}

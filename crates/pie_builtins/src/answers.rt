@@ -2,7 +2,7 @@
 ghost use Rattle.std.specs.Prelude.{IfOk};
 ghost use Rattle.pie_value.specs.Values.{tree_of, trees_of};
 ghost use Rattle.pie_value.specs.Builtins.{answer_of};
-ghost use Rattle.pie_builtins.specs.Agreement.{Agrees};
+ghost use Rattle.pie_builtins.specs.Agreement.{AnswerAgrees};
 ghost use Rattle.pie_builtins.specs.Laws.{LawOf};
 
 use crate::{
@@ -15,7 +15,7 @@ use std::alloc::Global;
 /// What a built-in function answers to these arguments.
 /// Rule: docs/LANGUAGE.md, "Built-in functions".
 pub fn apply(alloc: Global, which: Builtin, args: &[Value]) -> Result<Value, BuiltinFault>
-    ensures answer { Agrees result (answer_of which (trees_of args.now)) }
+    ensures answer { AnswerAgrees result (answer_of which (trees_of args.now)) }
     ensures law { IfOk result (λ value. LawOf which (trees_of args.now) (tree_of value)) }
 {
     match which {

@@ -3,7 +3,7 @@ ghost use Rattle.std.specs.Prelude.{◌≡◌, Err};
 ghost use Rattle.pie_value.specs.Tree.{TText};
 ghost use Rattle.pie_value.specs.Values.{tree_of};
 ghost use Rattle.pie_value.specs.BuiltinForms.{made as spec_made, made_number};
-ghost use Rattle.pie_builtins.specs.Agreement.{Agrees};
+ghost use Rattle.pie_builtins.specs.Agreement.{AnswerAgrees};
 
 use pie_base::{FaultKind, OutOfMemory, Text};
 use pie_value::Value;
@@ -56,7 +56,7 @@ pub fn refused(kind: FaultKind) -> Result<Value, BuiltinFault>
 
 /// A new value, or the fault Big where it passes the limits.
 pub fn made(value: Value) -> Result<Value, BuiltinFault>
-    ensures { Agrees result (spec_made (tree_of value)) }
+    ensures { AnswerAgrees result (spec_made (tree_of value)) }
 {
     if value.is_small() {
         Ok(value)
@@ -67,14 +67,14 @@ pub fn made(value: Value) -> Result<Value, BuiltinFault>
 
 /// A new text, or the fault Big where it passes the limits.
 pub fn made_text(alloc: Global, text: &str) -> Result<Value, BuiltinFault>
-    ensures { Agrees result (spec_made (TText text.now)) }
+    ensures { AnswerAgrees result (spec_made (TText text.now)) }
 {
     made(Value::Text(Text::new(alloc, text)?))
 }
 
 /// A length as an integer. One past the greatest integer belongs to nothing that memory holds, and is answered as want of it.
 pub fn made_length(len: usize) -> Result<Value, BuiltinFault>
-    ensures { Agrees result (made_number len) }
+    ensures { AnswerAgrees result (made_number len) }
 {
     match i64::try_from(len) {
         Ok(len) => made(Value::Int(len)),

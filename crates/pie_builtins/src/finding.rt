@@ -4,7 +4,7 @@ ghost use Rattle.pie_value.specs.declared.builtin.Builtin.TheVariants.{Contains,
 ghost use Rattle.pie_value.specs.Values.{trees_of};
 ghost use Rattle.pie_value.specs.BuiltinTexts.{first_place};
 ghost use Rattle.pie_value.specs.Builtins.{answer_of};
-ghost use Rattle.pie_builtins.specs.Agreement.{Agrees};
+ghost use Rattle.pie_builtins.specs.Agreement.{AnswerAgrees};
 
 use crate::BuiltinFault;
 use crate::fault::{made, made_length, refused};
@@ -13,7 +13,7 @@ use pie_value::Value;
 
 /// Where the second text first occurs in the first, in bytes from 0, or null.
 pub fn find(args: &[Value]) -> Result<Value, BuiltinFault>
-    ensures { Agrees result (answer_of Find (trees_of args.now)) }
+    ensures { AnswerAgrees result (answer_of Find (trees_of args.now)) }
 {
     match args {
         [Value::Text(text), Value::Text(part)] => match place_of(text.as_str(), part.as_str()) {
@@ -26,7 +26,7 @@ pub fn find(args: &[Value]) -> Result<Value, BuiltinFault>
 
 /// Whether the second text occurs in the first.
 pub fn contains(args: &[Value]) -> Result<Value, BuiltinFault>
-    ensures { Agrees result (answer_of Contains (trees_of args.now)) }
+    ensures { AnswerAgrees result (answer_of Contains (trees_of args.now)) }
 {
     match args {
         [Value::Text(text), Value::Text(part)] => {
@@ -38,7 +38,7 @@ pub fn contains(args: &[Value]) -> Result<Value, BuiltinFault>
 
 /// Whether the second text is a prefix of the first.
 pub fn starts(args: &[Value]) -> Result<Value, BuiltinFault>
-    ensures { Agrees result (answer_of Starts (trees_of args.now)) }
+    ensures { AnswerAgrees result (answer_of Starts (trees_of args.now)) }
 {
     match args {
         [Value::Text(text), Value::Text(front)] => {
@@ -51,7 +51,7 @@ pub fn starts(args: &[Value]) -> Result<Value, BuiltinFault>
 
 /// Whether the second text is a suffix of the first.
 pub fn ends(args: &[Value]) -> Result<Value, BuiltinFault>
-    ensures { Agrees result (answer_of Ends (trees_of args.now)) }
+    ensures { AnswerAgrees result (answer_of Ends (trees_of args.now)) }
 {
     match args {
         [Value::Text(text), Value::Text(end)] => {

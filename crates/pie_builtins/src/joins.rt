@@ -7,7 +7,7 @@ ghost use Rattle.pie_value.specs.BuiltinItems.{all_as, all_joined as spec_all_jo
 ghost use Rattle.pie_value.specs.BuiltinTexts.{with_between};
 ghost use Rattle.pie_value.specs.BuiltinForms.{given, made as spec_made};
 ghost use Rattle.pie_value.specs.Builtins.{answer_of};
-ghost use Rattle.pie_builtins.specs.Agreement.{Agrees};
+ghost use Rattle.pie_builtins.specs.Agreement.{AnswerAgrees};
 ghost use Rattle.pie_builtins.specs.Gathered.{all_lists as spec_all_lists, all_texts as spec_all_texts, each_after, items_among, items_in as spec_items_in};
 ghost use Rattle.pie_builtins.specs.Gathered.{text_in, texts_between};
 
@@ -19,7 +19,7 @@ use std::alloc::Global;
 
 /// The items with the text between them.
 pub fn join_text(alloc: Global, args: &[Value]) -> Result<Value, BuiltinFault>
-    ensures { Agrees result (answer_of JoinText (trees_of args.now)) }
+    ensures { AnswerAgrees result (answer_of JoinText (trees_of args.now)) }
 {
     match args {
         [Value::List(items), Value::Text(between)] => {
@@ -31,7 +31,7 @@ pub fn join_text(alloc: Global, args: &[Value]) -> Result<Value, BuiltinFault>
 
 /// The items of the items.
 pub fn flatten(alloc: Global, args: &[Value]) -> Result<Value, BuiltinFault>
-    ensures { Agrees result (answer_of Flatten (trees_of args.now)) }
+    ensures { AnswerAgrees result (answer_of Flatten (trees_of args.now)) }
 {
     match args {
         [Value::List(items)] => lists_joined(alloc, items.as_slice()),
@@ -42,7 +42,7 @@ pub fn flatten(alloc: Global, args: &[Value]) -> Result<Value, BuiltinFault>
 // The texts with another between them, where all items are texts.
 #[tactic(auto, using(crate::proofs::Gathering::texts_not_all, crate::proofs::Gathering::texts_all))]
 fn texts_joined(alloc: Global, items: &[Value], between: &str) -> Result<Value, BuiltinFault>
-    ensures { Agrees result (given (all_as as_text (items_of (trees_of items.now))) (λ texts. spec_made (TText (with_between between.now texts)))) }
+    ensures { AnswerAgrees result (given (all_as as_text (items_of (trees_of items.now))) (λ texts. spec_made (TText (with_between between.now texts)))) }
 {
     if !all_texts(items) {
         return refused(FaultKind::Unknown);
@@ -52,7 +52,7 @@ fn texts_joined(alloc: Global, items: &[Value], between: &str) -> Result<Value, 
 
 // The texts with another between them.
 fn all_joined(alloc: Global, items: &[Value], between: &str) -> Result<Value, BuiltinFault>
-    ensures { Agrees result (spec_made (TText (texts_between between.now (trees_of items.now)))) }
+    ensures { AnswerAgrees result (spec_made (TText (texts_between between.now (trees_of items.now)))) }
 {
     match items {
         [] => made_text(alloc, ""),
@@ -68,7 +68,7 @@ fn each_joined(
     others: &[Value],
     between: &str,
 ) -> Result<Value, BuiltinFault>
-    ensures { Agrees result (spec_made (TText (first.now ++ each_after between.now (trees_of others.now)))) }
+    ensures { AnswerAgrees result (spec_made (TText (first.now ++ each_after between.now (trees_of others.now)))) }
 {
     let mut out = String::from_str(alloc, first)?;
     for other in others {
@@ -84,7 +84,7 @@ fn each_joined(
 // The lists one after another, where all items are lists.
 #[tactic(auto, using(crate::proofs::Gathering::lists_not_all, crate::proofs::Gathering::lists_all))]
 fn lists_joined(alloc: Global, items: &[Value]) -> Result<Value, BuiltinFault>
-    ensures { Agrees result (given (all_as as_list (items_of (trees_of items.now))) (λ lists. spec_made (TList (spec_all_joined lists)))) }
+    ensures { AnswerAgrees result (given (all_as as_list (items_of (trees_of items.now))) (λ lists. spec_made (TList (spec_all_joined lists)))) }
 {
     if !all_lists(items) {
         return refused(FaultKind::Unknown);
@@ -95,7 +95,7 @@ fn lists_joined(alloc: Global, items: &[Value]) -> Result<Value, BuiltinFault>
 // The items of the items that are lists.
 #[tactic(auto, using(crate::proofs::Joining::too_many_items))]
 fn each_list(alloc: Global, lists: &[Value]) -> Result<Value, BuiltinFault>
-    ensures { Agrees result (spec_made (TList (items_of (items_among (trees_of lists.now))))) }
+    ensures { AnswerAgrees result (spec_made (TList (items_of (items_among (trees_of lists.now))))) }
 {
     let mut items = Items::new();
     for list in lists {

@@ -5,7 +5,7 @@ ghost use Rattle.pie_value.specs.Tree.{TList, items_of, list_of};
 ghost use Rattle.pie_value.specs.Values.{tree_of, trees_of};
 ghost use Rattle.pie_value.specs.BuiltinForms.{at_place, made as spec_made};
 ghost use Rattle.pie_value.specs.Builtins.{answer_of, item_or_fault};
-ghost use Rattle.pie_builtins.specs.Agreement.{Agrees};
+ghost use Rattle.pie_builtins.specs.Agreement.{AnswerAgrees};
 
 use crate::BuiltinFault;
 use crate::fault::{made, refused};
@@ -15,7 +15,7 @@ use std::alloc::Global;
 
 /// The item at a place, counted from 0.
 pub fn at(args: &[Value]) -> Result<Value, BuiltinFault>
-    ensures { Agrees result (answer_of At (trees_of args.now)) }
+    ensures { AnswerAgrees result (answer_of At (trees_of args.now)) }
 {
     match args {
         [Value::List(items), Value::Int(place)] => item_at(items, *place),
@@ -25,7 +25,7 @@ pub fn at(args: &[Value]) -> Result<Value, BuiltinFault>
 
 /// The items backwards.
 pub fn reverse(alloc: Global, args: &[Value]) -> Result<Value, BuiltinFault>
-    ensures { Agrees result (answer_of Reverse (trees_of args.now)) }
+    ensures { AnswerAgrees result (answer_of Reverse (trees_of args.now)) }
 {
     match args {
         [Value::List(items)] => turned(alloc, items),
@@ -35,7 +35,7 @@ pub fn reverse(alloc: Global, args: &[Value]) -> Result<Value, BuiltinFault>
 
 // The item at a place, counted from 0.
 fn item_at(items: &Items, place: i64) -> Result<Value, BuiltinFault>
-    ensures { Agrees result (at_place place (λ i. item_or_fault (slice_get (list_of (items_of items.now)) i))) }
+    ensures { AnswerAgrees result (at_place place (λ i. item_or_fault (slice_get (list_of (items_of items.now)) i))) }
 {
     match usize::try_from(place) {
         Ok(place) => item_there(items, place),
@@ -46,14 +46,14 @@ fn item_at(items: &Items, place: i64) -> Result<Value, BuiltinFault>
 // The same at a place that is no number below 0.
 #[tactic(auto, using(pie_value::proofs::Elements::list_of_items))]
 fn item_there(items: &Items, place: usize) -> Result<Value, BuiltinFault>
-    ensures { Agrees result (item_or_fault (slice_get (list_of (items_of items.now)) place)) }
+    ensures { AnswerAgrees result (item_or_fault (slice_get (list_of (items_of items.now)) place)) }
 {
     item_among(items.as_slice(), place)
 }
 
 // The same of values in a slice.
 fn item_among(items: &[Value], place: usize) -> Result<Value, BuiltinFault>
-    ensures { Agrees result (item_or_fault (slice_get (trees_of items.now) place)) }
+    ensures { AnswerAgrees result (item_or_fault (slice_get (trees_of items.now) place)) }
 {
     match items.get(place) {
         Some(item) => Ok(item.copy()?),
@@ -64,7 +64,7 @@ fn item_among(items: &[Value], place: usize) -> Result<Value, BuiltinFault>
 // A new list of the items backwards.
 #[tactic(auto, using(pie_value::proofs::Elements::list_of_items))]
 fn turned(alloc: Global, items: &Items) -> Result<Value, BuiltinFault>
-    ensures { Agrees result (spec_made (TList (items_of (reversed (list_of (items_of items.now)))))) }
+    ensures { AnswerAgrees result (spec_made (TList (items_of (reversed (list_of (items_of items.now)))))) }
 {
     made(Value::List(backwards(alloc, items.as_slice())?))
 }

@@ -2,7 +2,7 @@
 ghost use Rattle.pie_value.specs.declared.builtin.Builtin.TheVariants.{Get, IsNull, Some as SomeOf};
 ghost use Rattle.pie_value.specs.Values.{trees_of};
 ghost use Rattle.pie_value.specs.Builtins.{answer_of};
-ghost use Rattle.pie_builtins.specs.Agreement.{Agrees};
+ghost use Rattle.pie_builtins.specs.Agreement.{AnswerAgrees};
 
 use crate::BuiltinFault;
 use crate::fault::{made, refused};
@@ -11,7 +11,7 @@ use pie_value::Value;
 
 /// The value itself, as one that may be null.
 pub fn some(args: &[Value]) -> Result<Value, BuiltinFault>
-    ensures { Agrees result (answer_of SomeOf (trees_of args.now)) }
+    ensures { AnswerAgrees result (answer_of SomeOf (trees_of args.now)) }
 {
     match args {
         [Value::Null] => refused(FaultKind::Unknown),
@@ -22,7 +22,7 @@ pub fn some(args: &[Value]) -> Result<Value, BuiltinFault>
 
 /// The value, or the fault Null for null.
 pub fn get(args: &[Value]) -> Result<Value, BuiltinFault>
-    ensures { Agrees result (answer_of Get (trees_of args.now)) }
+    ensures { AnswerAgrees result (answer_of Get (trees_of args.now)) }
 {
     match args {
         [Value::Null] => refused(FaultKind::Null),
@@ -33,7 +33,7 @@ pub fn get(args: &[Value]) -> Result<Value, BuiltinFault>
 
 /// Whether the value is null.
 pub fn is_null(args: &[Value]) -> Result<Value, BuiltinFault>
-    ensures { Agrees result (answer_of IsNull (trees_of args.now)) }
+    ensures { AnswerAgrees result (answer_of IsNull (trees_of args.now)) }
 {
     match args {
         [Value::Null] => made(Value::Bool(true)),

@@ -6,7 +6,7 @@ ghost use Rattle.pie_value.specs.Values.{trees_of};
 ghost use Rattle.pie_value.specs.BuiltinForms.{made_number};
 ghost use Rattle.pie_value.specs.BuiltinTexts.{int_spelt as spec_int_spelt};
 ghost use Rattle.pie_value.specs.Builtins.{answer_of};
-ghost use Rattle.pie_builtins.specs.Agreement.{Agrees};
+ghost use Rattle.pie_builtins.specs.Agreement.{AnswerAgrees};
 
 use crate::BuiltinFault;
 use crate::fault::{made, made_length, made_text, refused};
@@ -16,7 +16,7 @@ use std::alloc::Global;
 
 /// An integer in decimal digits, `true` or `false`, or the text of a path.
 pub fn to_text(alloc: Global, args: &[Value]) -> Result<Value, BuiltinFault>
-    ensures { Agrees result (answer_of ToText (trees_of args.now)) }
+    ensures { AnswerAgrees result (answer_of ToText (trees_of args.now)) }
 {
     match args {
         [Value::Int(n)] => {
@@ -32,7 +32,7 @@ pub fn to_text(alloc: Global, args: &[Value]) -> Result<Value, BuiltinFault>
 
 /// The bytes of a text or of bytes, or the items of a list.
 pub fn len(args: &[Value]) -> Result<Value, BuiltinFault>
-    ensures { Agrees result (answer_of Len (trees_of args.now)) }
+    ensures { AnswerAgrees result (answer_of Len (trees_of args.now)) }
 {
     match args {
         [Value::Text(text)] => made_length(text.as_str().len()),
@@ -44,7 +44,7 @@ pub fn len(args: &[Value]) -> Result<Value, BuiltinFault>
 
 /// The integer that a text spells, or null where it spells none of 64 bits.
 pub fn parse_int(args: &[Value]) -> Result<Value, BuiltinFault>
-    ensures { Agrees result (answer_of ParseInt (trees_of args.now)) }
+    ensures { AnswerAgrees result (answer_of ParseInt (trees_of args.now)) }
 {
     match args {
         [Value::Text(text)] => match int_spelt(text.as_str()) {
@@ -68,7 +68,7 @@ fn int_spelt(text: &str) -> Option<i64>
 // How many items there are.
 #[tactic(auto, using(pie_value::proofs::Elements::count_of_trees))]
 fn count(items: &Items) -> Result<Value, BuiltinFault>
-    ensures { Agrees result (made_number (count_of (items_of items.now))) }
+    ensures { AnswerAgrees result (made_number (count_of (items_of items.now))) }
 {
     made_length(items.as_slice().len())
 }

@@ -7,7 +7,7 @@ ghost use Rattle.pie_value.specs.declared.builtin.Builtin.TheVariants.{Join, Nam
 ghost use Rattle.pie_value.specs.Values.{trees_of};
 ghost use Rattle.pie_value.specs.BuiltinForms.{made as spec_made};
 ghost use Rattle.pie_value.specs.Builtins.{answer_of, path_or_fault};
-ghost use Rattle.pie_builtins.specs.Agreement.{Agrees};
+ghost use Rattle.pie_builtins.specs.Agreement.{AnswerAgrees};
 
 use crate::BuiltinFault;
 use crate::fault::{made, made_text, refused};
@@ -17,7 +17,7 @@ use std::alloc::Global;
 
 /// The path that the text spells.
 pub fn path(alloc: Global, args: &[Value]) -> Result<Value, BuiltinFault>
-    ensures { Agrees result (answer_of PathOf (trees_of args.now)) }
+    ensures { AnswerAgrees result (answer_of PathOf (trees_of args.now)) }
 {
     match args {
         [Value::Text(text)] => path_spelt(alloc, text.as_str()),
@@ -27,7 +27,7 @@ pub fn path(alloc: Global, args: &[Value]) -> Result<Value, BuiltinFault>
 
 /// The path, a slash and the text.
 pub fn join(alloc: Global, args: &[Value]) -> Result<Value, BuiltinFault>
-    ensures { Agrees result (answer_of Join (trees_of args.now)) }
+    ensures { AnswerAgrees result (answer_of Join (trees_of args.now)) }
 {
     match args {
         [Value::Path(path), Value::Text(text)] => joined(alloc, path.as_str(), text.as_str()),
@@ -37,7 +37,7 @@ pub fn join(alloc: Global, args: &[Value]) -> Result<Value, BuiltinFault>
 
 /// The path without its last segment, or null for one segment.
 pub fn parent(alloc: Global, args: &[Value]) -> Result<Value, BuiltinFault>
-    ensures { Agrees result (answer_of Parent (trees_of args.now)) }
+    ensures { AnswerAgrees result (answer_of Parent (trees_of args.now)) }
 {
     match args {
         [Value::Path(path)] => match path.parent(alloc)? {
@@ -51,7 +51,7 @@ pub fn parent(alloc: Global, args: &[Value]) -> Result<Value, BuiltinFault>
 // The path that the text spells.
 #[tactic(auto, using(pie_value::proofs::TextTests::path_taken, pie_value::proofs::TextTests::path_refused))]
 fn path_spelt(alloc: Global, text: &str) -> Result<Value, BuiltinFault>
-    ensures { Agrees result (path_or_fault text.now) }
+    ensures { AnswerAgrees result (path_or_fault text.now) }
 {
     match Path::read(alloc, text) {
         Ok(path) => made(Value::Path(path)),
@@ -63,7 +63,7 @@ fn path_spelt(alloc: Global, text: &str) -> Result<Value, BuiltinFault>
 // The path, a slash and the text. No memory is taken for a text that is too long for any path.
 #[tactic(auto, using(crate::proofs::Joined::long_is_no_path))]
 fn joined(alloc: Global, path: &str, text: &str) -> Result<Value, BuiltinFault>
-    ensures { Agrees result (path_or_fault (path.now ++ (codes "/" ++ text.now))) }
+    ensures { AnswerAgrees result (path_or_fault (path.now ++ (codes "/" ++ text.now))) }
 {
     if text.len() > MAX_PATH_BYTES {
         return refused(FaultKind::BadPath);

@@ -8,7 +8,7 @@ ghost use Rattle.pie_value.specs.BuiltinItems.{text_list};
 ghost use Rattle.pie_value.specs.BuiltinTexts.{lines_of, pieces, without_last_empty, replaced as spec_replaced, with_between};
 ghost use Rattle.pie_value.specs.BuiltinForms.{made as spec_made};
 ghost use Rattle.pie_value.specs.Builtins.{answer_of, split_answer};
-ghost use Rattle.pie_builtins.specs.Agreement.{Agrees};
+ghost use Rattle.pie_builtins.specs.Agreement.{AnswerAgrees};
 ghost use Rattle.pie_builtins.specs.Laws.{AreLines, AreSplit, IsReplaced, IsTexts, LawOf};
 
 use crate::BuiltinFault;
@@ -19,7 +19,7 @@ use std::alloc::Global;
 
 /// The pieces between the occurrences of the second text in the first.
 pub fn split(alloc: Global, args: &[Value]) -> Result<Value, BuiltinFault>
-    ensures answer { Agrees result (answer_of Split (trees_of args.now)) }
+    ensures answer { AnswerAgrees result (answer_of Split (trees_of args.now)) }
     ensures law { IfOk result (λ value. LawOf Split (trees_of args.now) (tree_of value)) }
 {
     match args {
@@ -30,7 +30,7 @@ pub fn split(alloc: Global, args: &[Value]) -> Result<Value, BuiltinFault>
 
 /// The pieces between newlines, without a last empty one.
 pub fn lines(alloc: Global, args: &[Value]) -> Result<Value, BuiltinFault>
-    ensures answer { Agrees result (answer_of Lines (trees_of args.now)) }
+    ensures answer { AnswerAgrees result (answer_of Lines (trees_of args.now)) }
     ensures law { IfOk result (λ value. LawOf Lines (trees_of args.now) (tree_of value)) }
 {
     match args {
@@ -41,7 +41,7 @@ pub fn lines(alloc: Global, args: &[Value]) -> Result<Value, BuiltinFault>
 
 /// The first text, in which the occurrences of the second become the third.
 pub fn replace(alloc: Global, args: &[Value]) -> Result<Value, BuiltinFault>
-    ensures answer { Agrees result (answer_of Replace (trees_of args.now)) }
+    ensures answer { AnswerAgrees result (answer_of Replace (trees_of args.now)) }
     ensures law { IfOk result (λ value. LawOf Replace (trees_of args.now) (tree_of value)) }
 {
     match args {
@@ -55,7 +55,7 @@ pub fn replace(alloc: Global, args: &[Value]) -> Result<Value, BuiltinFault>
 // The pieces between the occurrences of the second text in the first.
 #[tactic(auto, using(crate::proofs::Parting::split_at_none, crate::proofs::Parting::split_at_some))]
 fn split_at(alloc: Global, text: &str, part: &str) -> Result<Value, BuiltinFault>
-    ensures answer { Agrees result (split_answer text.now part.now) }
+    ensures answer { AnswerAgrees result (split_answer text.now part.now) }
     ensures law { IfOk result (λ value. IsTexts (AreSplit text.now part.now) (tree_of value)) }
 {
     if part.is_empty() {
@@ -66,7 +66,7 @@ fn split_at(alloc: Global, text: &str, part: &str) -> Result<Value, BuiltinFault
 
 // The pieces between newlines, without a last empty one.
 fn lines_in(alloc: Global, text: &str) -> Result<Value, BuiltinFault>
-    ensures answer { Agrees result (spec_made (text_list (lines_of text.now))) }
+    ensures answer { AnswerAgrees result (spec_made (text_list (lines_of text.now))) }
     ensures law { IfOk result (λ value. IsTexts (AreLines text.now (codes "\n")) (tree_of value)) }
 {
     all_lines(alloc, text, "\n")
@@ -75,7 +75,7 @@ fn lines_in(alloc: Global, text: &str) -> Result<Value, BuiltinFault>
 // The first text, in which the occurrences of the second become the third.
 #[tactic(auto, using(crate::proofs::Parting::replaced_none, crate::proofs::Parting::replaced_some))]
 fn replaced(alloc: Global, text: &str, part: &str, by: &str) -> Result<Value, BuiltinFault>
-    ensures answer { Agrees result (spec_made (TText (spec_replaced text.now part.now by.now))) }
+    ensures answer { AnswerAgrees result (spec_made (TText (spec_replaced text.now part.now by.now))) }
     ensures law { IfOk result (λ value. IsReplaced text.now part.now by.now (tree_of value)) }
 {
     if part.is_empty() {
@@ -88,7 +88,7 @@ fn replaced(alloc: Global, text: &str, part: &str, by: &str) -> Result<Value, Bu
 #[tactic(auto, using(crate::proofs::Parting::grows, crate::proofs::Parting::ends, crate::proofs::Parting::shorter, crate::proofs::Joining::too_many_items))]
 fn all_pieces(alloc: Global, text: &str, part: &str) -> Result<Value, BuiltinFault>
     requires { 0 < length part.now }
-    ensures { Agrees result (spec_made (text_list (pieces text.now part.now))) }
+    ensures { AnswerAgrees result (spec_made (text_list (pieces text.now part.now))) }
 {
     let mut items = Items::new();
     let mut rest = text;
@@ -107,7 +107,7 @@ fn all_pieces(alloc: Global, text: &str, part: &str) -> Result<Value, BuiltinFau
 #[tactic(auto, using(crate::proofs::Walks::lines_walk))]
 fn all_lines(alloc: Global, text: &str, part: &str) -> Result<Value, BuiltinFault>
     requires { 0 < length part.now }
-    ensures { Agrees result (spec_made (text_list (without_last_empty (pieces text.now part.now)))) }
+    ensures { AnswerAgrees result (spec_made (text_list (without_last_empty (pieces text.now part.now)))) }
 {
     let mut items = Items::new();
     let mut rest = text;
@@ -129,7 +129,7 @@ fn all_lines(alloc: Global, text: &str, part: &str) -> Result<Value, BuiltinFaul
 #[tactic(auto, using(crate::proofs::Parting::puts, crate::proofs::Parting::puts_last, crate::proofs::Parting::shorter, crate::proofs::Joining::too_long))]
 fn all_replaced(alloc: Global, text: &str, part: &str, by: &str) -> Result<Value, BuiltinFault>
     requires { 0 < length part.now }
-    ensures { Agrees result (spec_made (TText (with_between by.now (pieces text.now part.now)))) }
+    ensures { AnswerAgrees result (spec_made (TText (with_between by.now (pieces text.now part.now)))) }
 {
     let mut out = String::new(alloc);
     let mut rest = text;

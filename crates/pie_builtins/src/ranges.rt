@@ -7,7 +7,7 @@ ghost use Rattle.pie_value.specs.Values.{trees_of};
 ghost use Rattle.pie_value.specs.BuiltinItems.{ints_from};
 ghost use Rattle.pie_value.specs.BuiltinForms.{made as spec_made};
 ghost use Rattle.pie_value.specs.Builtins.{answer_of};
-ghost use Rattle.pie_builtins.specs.Agreement.{Agrees};
+ghost use Rattle.pie_builtins.specs.Agreement.{AnswerAgrees};
 
 use crate::BuiltinFault;
 use crate::fault::{made, refused};
@@ -17,7 +17,7 @@ use std::alloc::Global;
 
 /// The integers from the first up to before the second, none where it isn't less.
 pub fn range(alloc: Global, args: &[Value]) -> Result<Value, BuiltinFault>
-    ensures { Agrees result (answer_of RangeOf (trees_of args.now)) }
+    ensures { AnswerAgrees result (answer_of RangeOf (trees_of args.now)) }
 {
     match args {
         [Value::Int(from), Value::Int(to)] => between(alloc, *from, *to),
@@ -28,7 +28,7 @@ pub fn range(alloc: Global, args: &[Value]) -> Result<Value, BuiltinFault>
 // The integers from the first up to before the second.
 #[tactic(auto, using(crate::proofs::Counted::gap_above, crate::proofs::Counted::gap_ends, crate::proofs::Counted::gap_reaches))]
 fn between(alloc: Global, from: i64, to: i64) -> Result<Value, BuiltinFault>
-    ensures { Agrees result (spec_made (TList (ints_from from (int_gap from to)))) }
+    ensures { AnswerAgrees result (spec_made (TList (ints_from from (int_gap from to)))) }
 {
     if from < to {
         counted(alloc, from, to.abs_diff(from))
@@ -41,7 +41,7 @@ fn between(alloc: Global, from: i64, to: i64) -> Result<Value, BuiltinFault>
 #[tactic(auto, using(crate::proofs::Counted::too_many_ints))]
 fn counted(alloc: Global, from: i64, count: u64) -> Result<Value, BuiltinFault>
     requires { FitsSigned w64 (from +ℤ pos count) }
-    ensures { Agrees result (spec_made (TList (ints_from from count))) }
+    ensures { AnswerAgrees result (spec_made (TList (ints_from from count))) }
 {
     if count > MAX_VALUE_BYTES / 9 {
         return refused(FaultKind::Big);

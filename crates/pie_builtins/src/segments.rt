@@ -5,7 +5,7 @@ ghost use Rattle.pie_base.specs.Path.{is_slash};
 ghost use Rattle.pie_value.specs.declared.builtin.Builtin.TheVariants.{Name};
 ghost use Rattle.pie_value.specs.Values.{trees_of};
 ghost use Rattle.pie_value.specs.Builtins.{answer_of};
-ghost use Rattle.pie_builtins.specs.Agreement.{Agrees};
+ghost use Rattle.pie_builtins.specs.Agreement.{AnswerAgrees};
 
 use crate::BuiltinFault;
 use crate::fault::{made_text, refused};
@@ -15,7 +15,7 @@ use std::alloc::Global;
 
 /// The last segment of a path.
 pub fn name(alloc: Global, args: &[Value]) -> Result<Value, BuiltinFault>
-    ensures { Agrees result (answer_of Name (trees_of args.now)) }
+    ensures { AnswerAgrees result (answer_of Name (trees_of args.now)) }
 {
     match args {
         [Value::Path(path)] => made_text(alloc, last_segment(path.as_str())),

@@ -8,7 +8,7 @@ ghost use Rattle.pie_value.specs.Values.{tree_of, trees_of};
 ghost use Rattle.pie_value.specs.BuiltinItems.{all_as, as_int, as_path, as_text, sorted_by};
 ghost use Rattle.pie_value.specs.BuiltinForms.{made as spec_made};
 ghost use Rattle.pie_value.specs.Builtins.{answer_of, sort_answer};
-ghost use Rattle.pie_builtins.specs.Agreement.{Agrees};
+ghost use Rattle.pie_builtins.specs.Agreement.{AnswerAgrees};
 ghost use Rattle.pie_builtins.specs.Laws.{IsSortedList, LawOf};
 
 use crate::BuiltinFault;
@@ -19,7 +19,7 @@ use std::alloc::Global;
 
 /// The items in ascending order, where all are integers, texts or paths.
 pub fn sort(alloc: Global, args: &[Value]) -> Result<Value, BuiltinFault>
-    ensures answer { Agrees result (answer_of Sort (trees_of args.now)) }
+    ensures answer { AnswerAgrees result (answer_of Sort (trees_of args.now)) }
     ensures law { IfOk result (λ value. LawOf Sort (trees_of args.now) (tree_of value)) }
 {
     match args {
@@ -30,7 +30,7 @@ pub fn sort(alloc: Global, args: &[Value]) -> Result<Value, BuiltinFault>
 
 // The items of a list in ascending order.
 fn list_sorted(alloc: Global, items: &Items) -> Result<Value, BuiltinFault>
-    ensures answer { let ts = items_of items.now in Agrees result (sort_answer ts (all_as as_int ts) (all_as as_text ts) (all_as as_path ts)) }
+    ensures answer { let ts = items_of items.now in AnswerAgrees result (sort_answer ts (all_as as_int ts) (all_as as_text ts) (all_as as_path ts)) }
     ensures law { IfOk result (λ value. IsSortedList (items_of items.now) (tree_of value)) }
 {
     sorted(alloc, items.as_slice())
@@ -38,7 +38,7 @@ fn list_sorted(alloc: Global, items: &Items) -> Result<Value, BuiltinFault>
 
 // The same of items in a slice: all of them are of one kind.
 fn sorted(alloc: Global, items: &[Value]) -> Result<Value, BuiltinFault>
-    ensures { let ts = items_of (trees_of items.now) in Agrees result (sort_answer ts (all_as as_int ts) (all_as as_text ts) (all_as as_path ts)) }
+    ensures { let ts = items_of (trees_of items.now) in AnswerAgrees result (sort_answer ts (all_as as_int ts) (all_as as_text ts) (all_as as_path ts)) }
 {
     if let Some(ints) = all_ints(alloc, items)? {
         return sorted_ints(alloc, ints);
@@ -95,21 +95,21 @@ fn all_paths(alloc: Global, items: &[Value]) -> Result<Option<Vec<Path>>, OutOfM
 }
 
 fn sorted_ints(alloc: Global, mut ints: Vec<i64>) -> Result<Value, BuiltinFault>
-    ensures { Agrees result (spec_made (TList (items_of (map TInt (sorted_by int_cmp ints.items))))) }
+    ensures { AnswerAgrees result (spec_made (TList (items_of (map TInt (sorted_by int_cmp ints.items))))) }
 {
     ints.sort()?;
     made(Value::List(list_of_ints(alloc, ints.as_slice())?))
 }
 
 fn sorted_texts(alloc: Global, mut texts: Vec<&str>) -> Result<Value, BuiltinFault>
-    ensures { Agrees result (spec_made (TList (items_of (map TText (sorted_by (slice_cmp nat_cmp) (map (λ text. text.now) texts.entry.items)))))) }
+    ensures { AnswerAgrees result (spec_made (TList (items_of (map TText (sorted_by (slice_cmp nat_cmp) (map (λ text. text.now) texts.entry.items)))))) }
 {
     texts.sort()?;
     made(Value::List(list_of_texts(alloc, texts.as_slice())?))
 }
 
 fn sorted_paths(alloc: Global, mut paths: Vec<Path>) -> Result<Value, BuiltinFault>
-    ensures { Agrees result (spec_made (TList (items_of (map TPath (sorted_by (slice_cmp nat_cmp) paths.items))))) }
+    ensures { AnswerAgrees result (spec_made (TList (items_of (map TPath (sorted_by (slice_cmp nat_cmp) paths.items))))) }
 {
     paths.sort()?;
     made(Value::List(list_of_paths(alloc, paths.as_slice())?))

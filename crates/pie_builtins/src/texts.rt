@@ -7,7 +7,7 @@ ghost use Rattle.pie_value.specs.Values.{trees_of};
 ghost use Rattle.pie_value.specs.BuiltinTexts.{is_between_characters};
 ghost use Rattle.pie_value.specs.BuiltinForms.{cut_out};
 ghost use Rattle.pie_value.specs.Builtins.{answer_of};
-ghost use Rattle.pie_builtins.specs.Agreement.{Agrees};
+ghost use Rattle.pie_builtins.specs.Agreement.{AnswerAgrees};
 
 use crate::BuiltinFault;
 use crate::fault::{made_text, refused};
@@ -18,7 +18,7 @@ use std::alloc::Global;
 
 /// The SHA-256 of the text in 64 lower-case hexadecimal digits.
 pub fn sha256(alloc: Global, args: &[Value]) -> Result<Value, BuiltinFault>
-    ensures { Agrees result (answer_of HashOf (trees_of args.now)) }
+    ensures { AnswerAgrees result (answer_of HashOf (trees_of args.now)) }
 {
     match args {
         [Value::Text(text)] => {
@@ -32,7 +32,7 @@ pub fn sha256(alloc: Global, args: &[Value]) -> Result<Value, BuiltinFault>
 
 /// The bytes from the first number up to before the second, where no character is cut.
 pub fn slice(alloc: Global, args: &[Value]) -> Result<Value, BuiltinFault>
-    ensures { Agrees result (answer_of Slice (trees_of args.now)) }
+    ensures { AnswerAgrees result (answer_of Slice (trees_of args.now)) }
 {
     match args {
         [Value::Text(text), Value::Int(from), Value::Int(to)] => {
@@ -44,7 +44,7 @@ pub fn slice(alloc: Global, args: &[Value]) -> Result<Value, BuiltinFault>
 
 // The bytes from one place up to before another, where no character is cut.
 fn cut_text(alloc: Global, text: &str, from: i64, to: i64) -> Result<Value, BuiltinFault>
-    ensures { Agrees result (cut_out TText (is_between_characters text.now) text.now from to) }
+    ensures { AnswerAgrees result (cut_out TText (is_between_characters text.now) text.now from to) }
 {
     let Ok(from) = usize::try_from(from) else {
         return refused(FaultKind::Range);
@@ -58,7 +58,7 @@ fn cut_text(alloc: Global, text: &str, from: i64, to: i64) -> Result<Value, Buil
 // The same of places that are no numbers below 0.
 #[tactic(auto, using(crate::proofs::Cuts::cut_there))]
 fn between(alloc: Global, text: &str, from: usize, to: usize) -> Result<Value, BuiltinFault>
-    ensures { Agrees result (cut_out TText (is_between_characters text.now) text.now (pos from) (pos to)) }
+    ensures { AnswerAgrees result (cut_out TText (is_between_characters text.now) text.now (pos from) (pos to)) }
 {
     if from <= to && may_cut(text, from) && may_cut(text, to) {
         made_text(alloc, &text[from..to])

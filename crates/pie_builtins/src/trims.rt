@@ -4,7 +4,7 @@ ghost use Rattle.pie_value.specs.declared.builtin.Builtin.TheVariants.{Trim};
 ghost use Rattle.pie_value.specs.Values.{trees_of};
 ghost use Rattle.pie_value.specs.BuiltinTexts.{is_space as spec_is_space, after_spaces as spec_after_spaces};
 ghost use Rattle.pie_value.specs.Builtins.{answer_of};
-ghost use Rattle.pie_builtins.specs.Agreement.{Agrees};
+ghost use Rattle.pie_builtins.specs.Agreement.{AnswerAgrees};
 
 use crate::BuiltinFault;
 use crate::fault::{made_text, refused};
@@ -14,7 +14,7 @@ use std::alloc::Global;
 
 /// The text without spaces, tabs, newlines and carriage returns at both ends.
 pub fn trim(alloc: Global, args: &[Value]) -> Result<Value, BuiltinFault>
-    ensures { Agrees result (answer_of Trim (trees_of args.now)) }
+    ensures { AnswerAgrees result (answer_of Trim (trees_of args.now)) }
 {
     match args {
         [Value::Text(text)] => made_text(alloc, before_spaces(after_spaces(text.as_str()))),

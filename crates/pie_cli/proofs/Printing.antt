@@ -3,12 +3,12 @@ use Rattle.std.proofs.Common.{◌≡◌, ℕ, ◌+◌, ◌≤◌, List, ◌++◌
 use Rattle.std.specs.Prelude.{Option, None, Some, IfSome}
 
 -- so many bytes of the text are done, the output gained just these, and no call failed
-pub record Printing {S : Type 0} (held : S → Option (List ℕ)) (faults : S → ℕ) (IsSure : S
+pub record Printing {S : Type 0} (held : S → Option (List ℕ)) (faults : S → ℕ) (IsInfallible : S
     → Type 0) (old new : S) (text : List ℕ) (done : ℕ) : Type 0 where
   pub inside : done ≤ length text
   pub gained : IfSome (held old) (λ bytes. held new ≡ Some (bytes ++ take done text))
   pub steady : faults new ≡ faults old
-  pub sure : IsSure old → IsSure new
+  pub infallible : IsInfallible old → IsInfallible new
 
 -- one more piece of the text
 pub gained_more : (before middle after : Option (List ℕ)) (text : List ℕ) (done n : ℕ)

@@ -14,14 +14,14 @@ use Rattle.pie_project.specs.declared.fault.RootsReason.TheVariants as reasons
 use Rattle.pie_project.specs.Refusals.{Refusal, OfPipeline, OfRoots, PipelineRefusal, Absent, TooLong, NotText, Lex, Parse, Types}
 use Rattle.pie_project.specs.Fronts.{CheckSays}
 use Rattle.pie_project.specs.Stops.{PipelineStops, OnParse}
-use Rattle.pie_cli.specs.declared.told.Told.{Told}
-use Rattle.pie_cli.specs.Run.{Gains, GainsFront, files_fault_text}
+use Rattle.pie_cli.specs.declared.told.CommandResult.{CommandResult}
+use Rattle.pie_cli.specs.Run.{Gains, GainsPrefix, files_fault_text}
 
 -- a kind of refusal at a byte
 abbrev pub placed : ℕ → List ℕ → List ℕ
 placed at kind = codes "at " ++ (decimal at ++ (codes ": " ++ kind))
 
--- a refusal of the lexer; it is never want of memory
+-- a refusal of the lexer; it is never out of memory
 abbrev pub lex_reason : LexError → List ℕ
 lex_reason (lexer.BadChar at) = placed at (codes "BadChar")
 lex_reason (lexer.OpenText at) = placed at (codes "OpenText")
@@ -29,7 +29,7 @@ lex_reason (lexer.BadEscape at) = placed at (codes "BadEscape")
 lex_reason (lexer.WideInt at) = placed at (codes "WideInt")
 lex_reason lexer.OutOfMemory = codes "out of memory"
 
--- a refusal of the parser; it is never want of memory
+-- a refusal of the parser; it is never out of memory
 abbrev pub parse_reason : ParseError → List ℕ
 parse_reason (parser.Expected at) = placed at (codes "Expected")
 parse_reason (parser.TooDeep at) = placed at (codes "TooDeep")
@@ -88,17 +88,17 @@ check_status (Ok p) = status.Ok
 check_status (Err e) = status.Pipeline
 
 -- what is told is the counts of a directory's project, or its refusal
-abbrev pub Tells : Directory → Told → Type 0
+abbrev pub Tells : Directory → CommandResult → Type 0
 Tells d told = (r : Result (ℕ × ℕ) Refusal) × CheckSays d r × (string_bytes told.text ≡ check_text r) × (told.status ≡ check_status r)
 
 -- a directory was checked: the status, and what the output gained
 abbrev pub HasChecked : Directory → Option (List ℕ) → Option (List ℕ) → Status → Type 0
 HasChecked d before after ended = (r : Result (ℕ × ℕ) Refusal) × CheckSays d r × (ended ≡ check_status r) × Gains before after (check_text r)
 
--- the output gained the front of a text that `check` may print of this directory: its counts or its refusal, or that a call on the files failed
-abbrev pub PrintsCheckFront : Directory → Option (List ℕ) → Option (List ℕ) → Type 0
-PrintsCheckFront d before after = ((r : Result (ℕ × ℕ) Refusal) × CheckSays d r × GainsFront before after (check_text r))
-    ⊎ GainsFront before after files_fault_text
+-- the output gained the prefix of a text that `check` may print of this directory: its counts or its refusal, or that a call on the files failed
+abbrev pub PrintsCheckPrefix : Directory → Option (List ℕ) → Option (List ℕ) → Type 0
+PrintsCheckPrefix d before after = ((r : Result (ℕ × ℕ) Refusal) × CheckSays d r × GainsPrefix before after (check_text r))
+    ⊎ GainsPrefix before after files_fault_text
 
 -- a directory was refused: the output gained the line of the refusal, and where it is for the tokens, they stop at the place in that line
 abbrev pub PrintsRefusal : Directory → Option (List ℕ) → Option (List ℕ) → Type 0

@@ -12,7 +12,7 @@ use Rattle.pie_report.specs.Texts.{IsText}
 use Rattle.pie_value.specs.declared.verdict.Verdict.{Verdict}
 use Rattle.pie_value.specs.declared.verdict.Verdict.TheVariants as verdicts
 use Rattle.pie_cli.specs.Check.{refusal_line}
-use Rattle.pie_cli.specs.Run.{Gains, GainsFront, files_fault_text}
+use Rattle.pie_cli.specs.Run.{Gains, GainsPrefix, files_fault_text}
 
 -- a text is that of a report: its lines, or its one line of JSON
 abbrev pub IsPrinted : Bool → Report → List ℕ → Type 0
@@ -41,7 +41,7 @@ FreshSays d json after text ended = IsRefused d after text ended ⊎ IsReported 
 abbrev pub HasBuilt : Directory → Bool → Option Directory → Option (List ℕ) → Option (List ℕ) → Status → Type 0
 HasBuilt d json after held gained ended = (text : List ℕ) × FreshSays d json after text ended × Gains held gained text
 
--- the output gained the front of a text that `fresh` prints of this directory, or that a call on the files failed
-abbrev pub PrintsFront : Directory → Bool → Option Directory → Option (List ℕ) → Option (List ℕ) → Type 0
-PrintsFront d json after held gained =
-    ((text : List ℕ) × (ended : Status) × FreshSays d json after text ended × GainsFront held gained text) ⊎ GainsFront held gained files_fault_text
+-- the output gained the prefix of a text that `fresh` prints of this directory, or that a call on the files failed
+abbrev pub PrintsPrefix : Directory → Bool → Option Directory → Option (List ℕ) → Option (List ℕ) → Type 0
+PrintsPrefix d json after held gained =
+    ((text : List ℕ) × (ended : Status) × FreshSays d json after text ended × GainsPrefix held gained text) ⊎ GainsPrefix held gained files_fault_text

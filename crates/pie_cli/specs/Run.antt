@@ -13,7 +13,7 @@ IsUsage words = (command : Command) → words ≢ words_of command
 abbrev pub files_fault_text : List ℕ
 files_fault_text = codes "files fault\n"
 
--- a status that says what became of the command: not that a fault or want of memory ended it
+-- a status that says what became of the command: not that a fault or out of memory ended it
 abbrev pub is_answer : Status → Bool
 is_answer status.Ok = true
 is_answer status.Refused = true
@@ -29,9 +29,9 @@ is_answer status.Memory = false
 abbrev pub Gains : Option (List ℕ) → Option (List ℕ) → List ℕ → Type 0
 Gains before after text = IfSome before (λ bytes. after ≡ Some (bytes ++ text))
 
--- the output gained the front of this text
-abbrev pub GainsFront : Option (List ℕ) → Option (List ℕ) → List ℕ → Type 0
-GainsFront before after text = IfSome before (λ bytes. (n : ℕ) × (after ≡ Some (bytes ++ take n text)))
+-- the output gained a prefix of this text
+abbrev pub GainsPrefix : Option (List ℕ) → Option (List ℕ) → List ℕ → Type 0
+GainsPrefix before after text = IfSome before (λ bytes. (n : ℕ) × (after ≡ Some (bytes ++ take n text)))
 
 -- a status whose text was printed whole
 abbrev pub is_told : Status → Bool

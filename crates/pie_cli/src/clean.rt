@@ -8,7 +8,7 @@ ghost use Rattle.pie_cli.specs.Fresh.{FreshSays, IsPrinted, verdict_status};
 ghost use Rattle.pie_cli.specs.Run.{is_answer};
 
 use crate::check::{bad_pipeline, bad_roots};
-use crate::told::Told;
+use crate::told::CommandResult;
 use pie_base::{OutOfMemory, Status};
 use pie_build::rebuild;
 use pie_files::{Files, FilesError};
@@ -20,7 +20,11 @@ use std::alloc::Global;
 
 /// Builds a directory as from an empty store, and tells the report, as JSON where that is wanted, or the first refusal
 /// of the project.
-pub(crate) fn fresh<F: Files>(alloc: Global, files: &mut F, json: bool) -> Result<Told, FilesError>
+pub(crate) fn fresh<F: Files>(
+    alloc: Global,
+    files: &mut F,
+    json: bool,
+) -> Result<CommandResult, FilesError>
     ensures built { IfSome (F.holds files.old) (λ d. IfOk result (λ told. FreshSays d json (F.holds files.new) (string_bytes told.text) told.status)) }
     ensures answer { IfOk result (λ told. is_answer told.status ≡ true) }
     ensures rest { KeepsRest (F.holds files.old) (F.holds files.new) }
@@ -39,7 +43,7 @@ pub(crate) fn fresh<F: Files>(alloc: Global, files: &mut F, json: bool) -> Resul
 }
 
 // What is told of a report.
-fn of_report(alloc: Global, report: Report, json: bool) -> Result<Told, OutOfMemory>
+fn of_report(alloc: Global, report: Report, json: bool) -> Result<CommandResult, OutOfMemory>
     requires { All IsEncodableTask report.ran.items }
     ensures text { IfOk result (λ told. IsPrinted json report (string_bytes told.text)) }
     ensures status { IfOk result (λ told. told.status ≡ verdict_status report.verdict) }
@@ -47,7 +51,7 @@ fn of_report(alloc: Global, report: Report, json: bool) -> Result<Told, OutOfMem
 {
     let text = printed(alloc, &report, json)?;
     let status = status_of(&report.verdict);
-    Ok(Told { text, status })
+    Ok(CommandResult { text, status })
 }
 
 fn printed(alloc: Global, report: &Report, json: bool) -> Result<String, OutOfMemory>

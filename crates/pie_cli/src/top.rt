@@ -4,18 +4,18 @@ ghost use Rattle.pie_build.specs.Crashes.{StaysAtRest, Withstands};
 ghost use Rattle.pie_build.specs.Left.{KeepsRest, Leaves};
 ghost use Rattle.pie_commit.specs.Outcomes.{LeavesAsBefore};
 ghost use Rattle.pie_files.specs.Faults.{Rose};
-ghost use Rattle.pie_files.specs.Streams.{StaysSure};
-ghost use Rattle.pie_project.specs.Looking.{Asks, front_calls};
+ghost use Rattle.pie_files.specs.Streams.{StaysInfallible};
+ghost use Rattle.pie_project.specs.Looking.{Asks, prefix_calls};
 ghost use Rattle.pie_words.specs.Commands.{words_of, texts_of, usage_text};
 ghost use Rattle.pie_words.specs.declared.command.Command.TheVariants as commands;
-ghost use Rattle.pie_cli.specs.Check.{HasChecked, PrintsCheckFront, PrintsRefusal};
-ghost use Rattle.pie_cli.specs.Fresh.{HasBuilt, PrintsFront};
-ghost use Rattle.pie_cli.specs.Run.{is_answer, is_told, files_fault_text, IsUsage, Gains, GainsFront, Shows};
+ghost use Rattle.pie_cli.specs.Check.{HasChecked, PrintsCheckPrefix, PrintsRefusal};
+ghost use Rattle.pie_cli.specs.Fresh.{HasBuilt, PrintsPrefix};
+ghost use Rattle.pie_cli.specs.Run.{is_answer, is_told, files_fault_text, IsUsage, Gains, GainsPrefix, Shows};
 
 use crate::check::check;
 use crate::clean::fresh;
 use crate::print::print_text;
-use crate::told::Told;
+use crate::told::CommandResult;
 use pie_base::Status;
 use pie_files::{Files, FilesError, Sink, SinkError, Source};
 use pie_words::{Command, USAGE, WordsFault, read_words};
@@ -36,7 +36,7 @@ pub fn run<F: Files, I: Source, K: Sink>(
     ensures built { (json : Bool) → texts_of words.now ≡ words_of (commands.Fresh json) → is_answer result ≡ true
         → IfSome (F.holds files.old) (λ d. HasBuilt d json (F.holds files.new) (K.held out.old) (K.held out.new) result) }
     ensures front { (json : Bool) → texts_of words.now ≡ words_of (commands.Fresh json)
-        → IfSome (F.holds files.old) (λ d. PrintsFront d json (F.holds files.new) (K.held out.old) (K.held out.new)) }
+        → IfSome (F.holds files.old) (λ d. PrintsPrefix d json (F.holds files.new) (K.held out.old) (K.held out.new)) }
     ensures rest { KeepsRest (F.holds files.old) (F.holds files.new) }
     ensures crash { (json : Bool) → texts_of words.now ≡ words_of (commands.Fresh json)
         → Withstands F.holds F.moment F.left_since F.images Leaves files.old files.new }
@@ -46,29 +46,29 @@ pub fn run<F: Files, I: Source, K: Sink>(
     // A check, where the directory and the output are told.
     ensures checked { texts_of words.now ≡ words_of commands.Check → is_answer result ≡ true
         → IfSome (F.holds files.old) (λ d. HasChecked d (K.held out.old) (K.held out.new) result) }
-    ensures check_front { texts_of words.now ≡ words_of commands.Check
-        → IfSome (F.holds files.old) (λ d. PrintsCheckFront d (K.held out.old) (K.held out.new)) }
+    ensures check_prefix { texts_of words.now ≡ words_of commands.Check
+        → IfSome (F.holds files.old) (λ d. PrintsCheckPrefix d (K.held out.old) (K.held out.new)) }
     ensures check_stops { texts_of words.now ≡ words_of commands.Check → result ≡ Status.Pipeline
         → IfSome (F.holds files.old) (λ d. PrintsRefusal d (K.held out.old) (K.held out.new)) }
     ensures check_same { texts_of words.now ≡ words_of commands.Check → F.holds files.new ≡ F.holds files.old }
     ensures check_crash { texts_of words.now ≡ words_of commands.Check
         → LeavesAsBefore F.holds F.moment F.left_since F.images files.old files.new }
-    ensures check_asks { texts_of words.now ≡ words_of commands.Check → Asks front_calls (F.asked files.old) (F.asked files.new) }
+    ensures check_asks { texts_of words.now ≡ words_of commands.Check → Asks prefix_calls (F.asked files.old) (F.asked files.new) }
 
     // Words that are no command.
     ensures usage { IsUsage (texts_of words.now) → is_answer result ≡ true
         → (result ≡ Status.Usage) × Gains (K.held out.old) (K.held out.new) usage_text }
-    ensures usage_front { IsUsage (texts_of words.now) → GainsFront (K.held out.old) (K.held out.new) usage_text }
+    ensures usage_prefix { IsUsage (texts_of words.now) → GainsPrefix (K.held out.old) (K.held out.new) usage_text }
     ensures nothing_asked { IsUsage (texts_of words.now) → files.new ≡ files.old }
 
-    // The cause of each status that is no answer; want of memory alone has none.
+    // The cause of each status that is no answer; out of memory alone has none.
     ensures files { result ≡ Status.Files
         → Rose (F.faults files.old) (F.faults files.new) × Gains (K.held out.old) (K.held out.new) files_fault_text }
     ensures output { result ≡ Status.Output → Rose (K.faults out.old) (K.faults out.new) }
     ensures no_input { result ≢ Status.Input }
     ensures steady { is_answer result ≡ true → (F.faults files.new ≡ F.faults files.old) × (K.faults out.new ≡ K.faults out.old) }
     ensures output_steady { result ≡ Status.Files → K.faults out.new ≡ K.faults out.old }
-    ensures sure { StaysSure K.sure K.faults out.old out.new }
+    ensures infallible { StaysInfallible K.infallible K.faults out.old out.new }
     ensures input { input.new ≡ input.old }
 {
     match read_words(words) {
@@ -88,7 +88,7 @@ fn run_command<F: Files, K: Sink>(
     ensures built { (json : Bool) → command ≡ commands.Fresh json → is_answer result ≡ true
         → IfSome (F.holds files.old) (λ d. HasBuilt d json (F.holds files.new) (K.held out.old) (K.held out.new) result) }
     ensures front { (json : Bool) → command ≡ commands.Fresh json
-        → IfSome (F.holds files.old) (λ d. PrintsFront d json (F.holds files.new) (K.held out.old) (K.held out.new)) }
+        → IfSome (F.holds files.old) (λ d. PrintsPrefix d json (F.holds files.new) (K.held out.old) (K.held out.new)) }
     ensures rest { KeepsRest (F.holds files.old) (F.holds files.new) }
     ensures crash { (json : Bool) → command ≡ commands.Fresh json
         → Withstands F.holds F.moment F.left_since F.images Leaves files.old files.new }
@@ -96,18 +96,18 @@ fn run_command<F: Files, K: Sink>(
         → StaysAtRest F.holds F.images files.old files.new }
     ensures checked { command ≡ commands.Check → is_answer result ≡ true
         → IfSome (F.holds files.old) (λ d. HasChecked d (K.held out.old) (K.held out.new) result) }
-    ensures check_front { command ≡ commands.Check
-        → IfSome (F.holds files.old) (λ d. PrintsCheckFront d (K.held out.old) (K.held out.new)) }
+    ensures check_prefix { command ≡ commands.Check
+        → IfSome (F.holds files.old) (λ d. PrintsCheckPrefix d (K.held out.old) (K.held out.new)) }
     ensures check_same { command ≡ commands.Check → F.holds files.new ≡ F.holds files.old }
     ensures check_crash { command ≡ commands.Check → LeavesAsBefore F.holds F.moment F.left_since F.images files.old files.new }
-    ensures check_asks { command ≡ commands.Check → Asks front_calls (F.asked files.old) (F.asked files.new) }
+    ensures check_asks { command ≡ commands.Check → Asks prefix_calls (F.asked files.old) (F.asked files.new) }
     ensures files { result ≡ Status.Files
         → Rose (F.faults files.old) (F.faults files.new) × Gains (K.held out.old) (K.held out.new) files_fault_text }
     ensures output { result ≡ Status.Output → Rose (K.faults out.old) (K.faults out.new) }
     ensures no_input { result ≢ Status.Input }
     ensures steady { is_answer result ≡ true → (F.faults files.new ≡ F.faults files.old) × (K.faults out.new ≡ K.faults out.old) }
     ensures output_steady { result ≡ Status.Files → K.faults out.new ≡ K.faults out.old }
-    ensures sure { StaysSure K.sure K.faults out.old out.new }
+    ensures infallible { StaysInfallible K.infallible K.faults out.old out.new }
 {
     match command {
         Command::Check => run_check(alloc, files, out),
@@ -119,7 +119,7 @@ fn run_command<F: Files, K: Sink>(
 fn run_fresh<F: Files, K: Sink>(alloc: Global, files: &mut F, out: &mut K, json: bool) -> Status
     ensures built { is_answer result ≡ true
         → IfSome (F.holds files.old) (λ d. HasBuilt d json (F.holds files.new) (K.held out.old) (K.held out.new) result) }
-    ensures front { IfSome (F.holds files.old) (λ d. PrintsFront d json (F.holds files.new) (K.held out.old) (K.held out.new)) }
+    ensures front { IfSome (F.holds files.old) (λ d. PrintsPrefix d json (F.holds files.new) (K.held out.old) (K.held out.new)) }
     ensures rest { KeepsRest (F.holds files.old) (F.holds files.new) }
     ensures crash { Withstands F.holds F.moment F.left_since F.images Leaves files.old files.new }
     ensures durable { is_answer result ≡ true → StaysAtRest F.holds F.images files.old files.new }
@@ -129,7 +129,7 @@ fn run_fresh<F: Files, K: Sink>(alloc: Global, files: &mut F, out: &mut K, json:
     ensures no_input { result ≢ Status.Input }
     ensures steady { is_answer result ≡ true → (F.faults files.new ≡ F.faults files.old) × (K.faults out.new ≡ K.faults out.old) }
     ensures output_steady { result ≡ Status.Files → K.faults out.new ≡ K.faults out.old }
-    ensures sure { StaysSure K.sure K.faults out.old out.new }
+    ensures infallible { StaysInfallible K.infallible K.faults out.old out.new }
 {
     match fresh(alloc, files, json) {
         Ok(told) => show_told(out, told),
@@ -141,17 +141,17 @@ fn run_fresh<F: Files, K: Sink>(alloc: Global, files: &mut F, out: &mut K, json:
 // A check, with its report.
 fn run_check<F: Files, K: Sink>(alloc: Global, files: &mut F, out: &mut K) -> Status
     ensures checked { is_answer result ≡ true → IfSome (F.holds files.old) (λ d. HasChecked d (K.held out.old) (K.held out.new) result) }
-    ensures front { IfSome (F.holds files.old) (λ d. PrintsCheckFront d (K.held out.old) (K.held out.new)) }
+    ensures front { IfSome (F.holds files.old) (λ d. PrintsCheckPrefix d (K.held out.old) (K.held out.new)) }
     ensures same { F.holds files.new ≡ F.holds files.old }
     ensures crash { LeavesAsBefore F.holds F.moment F.left_since F.images files.old files.new }
-    ensures asks { Asks front_calls (F.asked files.old) (F.asked files.new) }
+    ensures asks { Asks prefix_calls (F.asked files.old) (F.asked files.new) }
     ensures files { result ≡ Status.Files
         → Rose (F.faults files.old) (F.faults files.new) × Gains (K.held out.old) (K.held out.new) files_fault_text }
     ensures output { result ≡ Status.Output → Rose (K.faults out.old) (K.faults out.new) }
     ensures no_input { result ≢ Status.Input }
     ensures steady { is_answer result ≡ true → (F.faults files.new ≡ F.faults files.old) × (K.faults out.new ≡ K.faults out.old) }
     ensures output_steady { result ≡ Status.Files → K.faults out.new ≡ K.faults out.old }
-    ensures sure { StaysSure K.sure K.faults out.old out.new }
+    ensures infallible { StaysInfallible K.infallible K.faults out.old out.new }
 {
     match check(alloc, files) {
         Ok(told) => show_told(out, told),
@@ -160,13 +160,13 @@ fn run_check<F: Files, K: Sink>(alloc: Global, files: &mut F, out: &mut K) -> St
     }
 }
 
-fn show_told<K: Sink>(out: &mut K, told: Told) -> Status
+fn show_told<K: Sink>(out: &mut K, told: CommandResult) -> Status
     requires { is_answer told.status ≡ true }
     ensures shown { Shows (K.held out.old) (K.held out.new) (string_bytes told.text) told.status result }
-    ensures front { GainsFront (K.held out.old) (K.held out.new) (string_bytes told.text) }
+    ensures front { GainsPrefix (K.held out.old) (K.held out.new) (string_bytes told.text) }
     ensures output { result ≡ Status.Output → Rose (K.faults out.old) (K.faults out.new) }
     ensures steady { is_told result ≡ true → K.faults out.new ≡ K.faults out.old }
-    ensures sure { StaysSure K.sure K.faults out.old out.new }
+    ensures infallible { StaysInfallible K.infallible K.faults out.old out.new }
 {
     show(out, told.text.as_str(), told.status)
 }
@@ -175,10 +175,10 @@ fn show_told<K: Sink>(out: &mut K, told: Told) -> Status
 fn show<K: Sink>(out: &mut K, text: &str, status: Status) -> Status
     requires { is_told status ≡ true }
     ensures shown { Shows (K.held out.old) (K.held out.new) text.now status result }
-    ensures front { GainsFront (K.held out.old) (K.held out.new) text.now }
+    ensures front { GainsPrefix (K.held out.old) (K.held out.new) text.now }
     ensures output { result ≡ Status.Output → Rose (K.faults out.old) (K.faults out.new) }
     ensures steady { is_told result ≡ true → K.faults out.new ≡ K.faults out.old }
-    ensures sure { StaysSure K.sure K.faults out.old out.new }
+    ensures infallible { StaysInfallible K.infallible K.faults out.old out.new }
 {
     match print_text(out, text.as_bytes()) {
         Ok(()) => status,

@@ -1,4 +1,4 @@
--- At most one refusal is due, and none where code is accepted: so the answer of verify is exact, but for want of memory.
+-- At most one refusal is due, and none where code is accepted: so the answer of verify is exact, except when out of memory.
 use Rattle.std.proofs.Common.{◌≡◌, ◌≢◌, ℕ, inl, inr, refl, sym, ap, subst, arith}
 use Rattle.std.proofs.lemmas.Bool.{cases_lt}
 use Rattle.pie_code.specs.declared.code.Code.{Code}
@@ -6,7 +6,7 @@ use Rattle.pie_code.specs.declared.error.CodeError.{CodeError}
 use Rattle.pie_code.specs.declared.error.CodeError.TheVariants.{Jump, Height, Slot, NoEnd, OutOfMemory}
 use Rattle.pie_code.specs.Checked.{JumpsWell, HeightsFit, IsSound, IsSoundBefore, IsAccepted, IsRefusal}
 
--- accepted code is refused for want of memory alone
+-- accepted code is refused only when out of memory
 pub only_memory : (code : Code) (e : CodeError) → IsAccepted code → IsRefusal code e → e ≡ OutOfMemory
 only_memory code (Jump at) accepted refused = absurd (refused.1 (accepted.sound at).jumps)
 only_memory code (Height at) accepted refused = absurd (refused.2 (accepted.sound at).heights)

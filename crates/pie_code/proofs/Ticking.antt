@@ -16,7 +16,7 @@ use Rattle.pie_operators.specs.declared.asking.Question.TheVariants.{Observe, Wr
 use Rattle.pie_operators.specs.Domain.{Outcome, done, fails, wants, State, Act, fault, by_answer, holds, with_path}
 use Rattle.pie_operators.specs.Effects.{asked_with, asked, taken, noted, is_content, may_observe, observe, write, write_bytes, require, fail}
 
--- where it comes to a value, it has counted no ticks
+-- where it evaluates to a value, it has counted no ticks
 abbrev pub Keeps : Act Tree → Type 0
 Keeps m = (s t : State) (v : Tree) → m s ≡ (done v, t) → t.ticks ≡ s.ticks
 

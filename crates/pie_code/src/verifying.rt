@@ -11,7 +11,7 @@ use crate::{Checked, Code, CodeError, Instr};
 use pie_base::OutOfMemory;
 use std::alloc::Global;
 
-/// Tests code; a refusal names the least place at which something is wrong. Want of memory is also answered where
+/// Tests code; a refusal names the least place at which something is wrong. Out of memory is also answered where
 /// code that is wrong has more than 1,000,000 heights of the stack besides one for each instruction.
 /// Rule: docs/LANGUAGE.md, "Bytecode".
 pub fn verify(alloc: Global, code: Code) -> Result<Checked, CodeError>

@@ -26,8 +26,8 @@ use Rattle.pie_parser.specs.declared.tree.EffectKind.TheVariants as effects
 use Rattle.pie_parser.specs.Plain.{Tree, TLiteral, TName, TNull, TEmpty, TChain, TCompare, TPrefix, TProject, TTuple, TList, TEach, TIf, TCall}
 use Rattle.pie_parser.specs.Plain.{TEffect, TWrite, TFail, Trees, Nil, Cons, Steps, NoStep, AStep, BlockTree, TBlock, LineTrees, NoLine}
 use Rattle.pie_parser.specs.Plain.{ValLine, ExprLine, LastTree, NoLast, ALast, ElseTree, NoElse, AnElse}
-use Rattle.pie_meaning.specs.Words.{Logic, Either, Both, Neither, by_logic, logic_of, logic_by, infix_of, comparison_of, prefix_of, Callee, ABuiltin, ReadBytes}
-use Rattle.pie_meaning.specs.Words.{NoCallee, callee_of, callee_arity}
+use Rattle.pie_semantics.specs.Words.{Logic, Either, Both, Neither, by_logic, logic_of, logic_by, infix_of, comparison_of, prefix_of, Callee, ABuiltin, ReadBytes}
+use Rattle.pie_semantics.specs.Words.{NoCallee, callee_of, callee_arity}
 use Rattle.pie_codegen.specs.declared.spot.Spot.{Spot}
 use Rattle.pie_codegen.specs.Spots.{next, after, after_either, after_both, after_steps, after_items, after_args, after_block, after_lines, after_last}
 use Rattle.pie_codegen.specs.Spots.{after_else, after_indices, after_call, after_literal, loop_at}
@@ -37,7 +37,7 @@ use Rattle.pie_codegen.specs.Compiled.{Scope, slot_of, code_of, either_code, bot
 use Rattle.pie_codegen.specs.Compiled.{else_code, indices_code, index_code, literal_code, call_code, callee_code, effect_code, each_code}
 use Rattle.pie_codegen.specs.Formed.{is_bound, Counts, AllCount, IsThere, CallFits, Formed, StepsFormed, TreesFormed, BlockFormed, LinesFormed, LastFormed}
 use Rattle.pie_codegen.specs.Formed.{ElseFormed}
-use Rattle.pie_codegen.proofs.Base.{HasAt, has_front}
+use Rattle.pie_codegen.proofs.Base.{HasAt, has_prefix}
 use Rattle.pie_codegen.proofs.Places.{Sized, none, more, both, behind, ends_at, texts_end, either_end, either_text, both_end, both_text, steps_end, else_end}
 use Rattle.pie_codegen.proofs.Places.{args_end, args_text, block_end, block_text, lines_text}
 use Rattle.pie_codegen.proofs.Heights.{heights, index_heights, either_heights, both_heights, steps_heights, item_heights, arg_heights, block_heights}
@@ -204,7 +204,7 @@ module _ (code : Code) (all : List ℕ) where
 
   args_start : (es : Trees) (h : ℕ) (s : Spot) (rest : List ℕ) → HasAt all s.at (arg_heights es h ++ ((h + count es) ∷ rest)) → slice_get all s.at ≡ Some h
   args_start Nil h s rest g = g.0 ∙ ap (λ n. Some n) (omega arith)
-  args_start (Cons e es) h s rest g = first_height all e h s.at (has_front all s.at (heights e h) _ (has_front all s.at (arg_heights (Cons e es) h) _ g))
+  args_start (Cons e es) h s rest g = first_height all e h s.at (has_prefix all s.at (heights e h) _ (has_prefix all s.at (arg_heights (Cons e es) h) _ g))
 
   args_end_height : (es : Trees) (h : ℕ) (s : Spot) → HasAt all s.at (arg_heights es h) → slice_get all (after_args es s).at ≡ Some (h + count es)
       → slice_get all s.at ≡ Some h
@@ -242,7 +242,7 @@ module _ (code : Code) (all : List ℕ) where
   lines_start (ExprLine e ls) l h a g = front_height all e h a _ g
 
   pub block_start : (b : BlockTree) (h a : ℕ) (rest : List ℕ) → HasAt all a (block_heights b h ++ rest) → slice_get all a ≡ Some h
-  block_start (TBlock i j ls l) h a rest g = lines_start ls l h a (has_front all a (line_heights ls h (last_heights l h)) rest g)
+  block_start (TBlock i j ls l) h a rest g = lines_start ls l h a (has_prefix all a (line_heights ls h (last_heights l h)) rest g)
 
   else_start : (e : ElseTree) (h a : ℕ) → HasAt all a (else_heights e h) → slice_get all a ≡ Some h
   else_start NoElse h a g = g.0
@@ -308,7 +308,7 @@ module _ (code : Code) (all : List ℕ) where
       let to = (after_either (AStep y e ss) s).at in
       let i2 = behind _ _ i' (either_end (AStep y e ss) s to m sc) in
       let k2 = behind _ _ k' (either_places (AStep y e ss) h s) in
-      let E = ef (has_front _ _ (either_code (AStep y e ss) s to m sc) _ i', x, has_front _ _ (either_heights (AStep y e ss) h) _ k') k2.0 k2.1.0 in
+      let E = ef (has_prefix _ _ (either_code (AStep y e ss) s to m sc) _ i', x, has_prefix _ _ (either_heights (AStep y e ss) h) _ k') k2.0 k2.1.0 in
       let u = hop code all (to + 1 + 1) to (h + 1) i2.0 k2.0 o' (omega arith) E.0.out in
       let v = plain code all _ (to + 1) h (h + 1) refl refl tt tt i2.1.0 k2.1.0 o' (omega arith) (omega arith) (E.1 tt) in
       record { right = right_both code all _ _ _ _ E.0.right (either_end (AStep y e ss) s to m sc) (u.0, (v.0, tt)); out = u.1 })
@@ -316,7 +316,7 @@ module _ (code : Code) (all : List ℕ) where
       let to = (after_both (AStep y e ss) s).at in
       let i2 = behind _ _ i' (both_end (AStep y e ss) s to m sc) in
       let k2 = behind _ _ k' (both_places (AStep y e ss) h s) in
-      let E = bf (has_front _ _ (both_code (AStep y e ss) s to m sc) _ i', x, has_front _ _ (both_heights (AStep y e ss) h) _ k') k2.0 k2.1.0 in
+      let E = bf (has_prefix _ _ (both_code (AStep y e ss) s to m sc) _ i', x, has_prefix _ _ (both_heights (AStep y e ss) h) _ k') k2.0 k2.1.0 in
       let u = hop code all (to + 1 + 1) to (h + 1) i2.0 k2.0 o' (omega arith) E.0.out in
       let v = plain code all _ (to + 1) h (h + 1) refl refl tt tt i2.1.0 k2.1.0 o' (omega arith) (omega arith) (E.1 tt) in
       record { right = right_both code all _ _ _ _ E.0.right (both_end (AStep y e ss) s to m sc) (u.0, (v.0, tt)); out = u.1 })
@@ -347,21 +347,21 @@ module _ (code : Code) (all : List ℕ) where
         let i2 = behind _ _ g.0.1 (ends_at a (next s) m sc) in
         let h2 = behind _ _ g.2.1 (places a h (next s)) in
         let t = ticks s.at h g.0.0 g.2.0 (front_height all a h (s.at + 1) _ g.2.1) r in
-        let A = right_at a m sc ns f (next s) h w z (has_front _ _ (code_of a (next s) m sc) _ g.0.1, g.1, has_front _ _ (heights a h) _ g.2.1) h2.0 t.1 in
+        let A = right_at a m sc ns f (next s) h w z (has_prefix _ _ (code_of a (next s) m sc) _ g.0.1, g.1, has_prefix _ _ (heights a h) _ g.2.1) h2.0 t.1 in
         let u = plain code all (Unary (prefix_of p)) (after a (next s)).at (h + 1) (h + 1) refl refl tt tt i2.0 h2.0 o (omega arith) (omega arith) A.out in
         record { right = (t.0, right_both code all _ _ _ _ A.right (ends_at a (next s) m sc) (u.0, tt)); out = u.1 }
     right_at (TEffect i j c a) m sc ns f s h w z g o r =
         let i2 = behind _ _ g.0.1 (ends_at a (next s) m sc) in
         let h2 = behind _ _ g.2.1 (places a h (next s)) in
         let t = ticks s.at h g.0.0 g.2.0 (front_height all a h (s.at + 1) _ g.2.1) r in
-        let A = right_at a m sc ns f (next s) h w z (has_front _ _ (code_of a (next s) m sc) _ g.0.1, g.1, has_front _ _ (heights a h) _ g.2.1) h2.0 t.1 in
+        let A = right_at a m sc ns f (next s) h w z (has_prefix _ _ (code_of a (next s) m sc) _ g.0.1, g.1, has_prefix _ _ (heights a h) _ g.2.1) h2.0 t.1 in
         let u = effect_right c (after a (next s)).at h i2.0 h2.0 o A.out in
         record { right = (t.0, right_both code all _ _ _ _ A.right (ends_at a (next s) m sc) (u.0, tt)); out = u.1 }
     right_at (TProject i j a ks) m sc ns f s h w z g o r =
         let i2 = behind _ _ g.0.1 (ends_at a (next s) m sc) in
         let h2 = behind _ _ g.2.1 (places a h (next s)) in
         let t = ticks s.at h g.0.0 g.2.0 (front_height all a h (s.at + 1) _ g.2.1) r in
-        let A = right_at a m sc ns f (next s) h w.0 z (has_front _ _ (code_of a (next s) m sc) _ g.0.1, g.1, has_front _ _ (heights a h) _ g.2.1)
+        let A = right_at a m sc ns f (next s) h w.0 z (has_prefix _ _ (code_of a (next s) m sc) _ g.0.1, g.1, has_prefix _ _ (heights a h) _ g.2.1)
         (index_start ks (after a (next s)) h h2 o) t.1 in
         let u = indices_right ks (after a (next s)) h w.1 i2 h2 o A.out in
         record { right = (t.0, right_both code all _ _ _ _ A.right (ends_at a (next s) m sc) u.right); out = u.out }
@@ -369,7 +369,7 @@ module _ (code : Code) (all : List ℕ) where
         let i2 = behind _ _ g.0.1 (ends_at a (next s) m sc) in
         let h2 = behind _ _ g.2.1 (places a h (next s)) in
         let t = ticks s.at h g.0.0 g.2.0 (front_height all a h (s.at + 1) _ g.2.1) r in
-        let A = right_at a m sc ns f (next s) h w z (has_front _ _ (code_of a (next s) m sc) _ g.0.1, g.1, has_front _ _ (heights a h) _ g.2.1) h2.0 t.1 in
+        let A = right_at a m sc ns f (next s) h w z (has_prefix _ _ (code_of a (next s) m sc) _ g.0.1, g.1, has_prefix _ _ (heights a h) _ g.2.1) h2.0 t.1 in
         let u = plain code all (Push (constants.Bool true)) (after a (next s)).at (h + 1) (h + 1 + 1) refl refl tt tt i2.0 h2.0 h2.1.0 (omega arith)
         (omega arith) A.out in
         let v = fork code all _ ((after a (next s)).at + 1) (h + 1) i2.1.0 h2.1.0 h2.1.1.0 o (omega arith) u.1 in
@@ -382,14 +382,14 @@ module _ (code : Code) (all : List ℕ) where
         let h3 = behind _ _ h2 (places b (h + 1) (after a (next s))) in
         let t = ticks s.at h g.0.0 g.2.0 (front_height all a h (s.at + 1) _ g.2.1) r in
         let A = right_at a m sc ns f (next s) h w.0 (omega (arith, z)) (
-          has_front _ _ (code_of a (next s) m sc) _ g.0.1,
-          has_front _ _ (texts_in a) _ g.1,
-          has_front _ _ (heights a h) _ g.2.1,
+          has_prefix _ _ (code_of a (next s) m sc) _ g.0.1,
+          has_prefix _ _ (texts_in a) _ g.1,
+          has_prefix _ _ (heights a h) _ g.2.1,
         ) (front_height all b (h + 1) (after a (next s)).at _ h2) t.1 in
         let B = right_at b m sc ns f (after a (next s)) (h + 1) w.1 (omega (arith, z)) (
-          has_front _ _ (code_of b (after a (next s)) m sc) _ i2,
+          has_prefix _ _ (code_of b (after a (next s)) m sc) _ i2,
           behind _ _ g.1 (texts_end a (next s)),
-          has_front _ _ (heights b (h + 1)) _ h2,
+          has_prefix _ _ (heights b (h + 1)) _ h2,
         ) h3.0 A.out in
         let u = plain code all _ (after b (after a (next s))).at (h + 1 + 1) (h + 1) refl refl tt tt i3.0 h3.0 o (omega arith) (omega arith) B.out in
         record {
@@ -407,14 +407,14 @@ module _ (code : Code) (all : List ℕ) where
         let h3 = behind _ _ h2 (places b (h + 1) (after a (next s))) in
         let t = ticks s.at h g.0.0 g.2.0 (front_height all a h (s.at + 1) _ g.2.1) r in
         let A = right_at a m sc ns f (next s) h w.0 (omega (arith, z)) (
-          has_front _ _ (code_of a (next s) m sc) _ g.0.1,
-          has_front _ _ (texts_in a) _ g.1,
-          has_front _ _ (heights a h) _ g.2.1,
+          has_prefix _ _ (code_of a (next s) m sc) _ g.0.1,
+          has_prefix _ _ (texts_in a) _ g.1,
+          has_prefix _ _ (heights a h) _ g.2.1,
         ) (front_height all b (h + 1) (after a (next s)).at _ h2) t.1 in
         let B = right_at b m sc ns f (after a (next s)) (h + 1) w.1 (omega (arith, z)) (
-          has_front _ _ (code_of b (after a (next s)) m sc) _ i2,
+          has_prefix _ _ (code_of b (after a (next s)) m sc) _ i2,
           behind _ _ g.1 (texts_end a (next s)),
-          has_front _ _ (heights b (h + 1)) _ h2,
+          has_prefix _ _ (heights b (h + 1)) _ h2,
         ) h3.0 A.out in
         let u = plain code all _ (after b (after a (next s))).at (h + 1 + 1) (h + 1) refl refl tt tt i3.0 h3.0 o (omega arith) (omega arith) B.out in
         record {
@@ -442,9 +442,9 @@ module _ (code : Code) (all : List ℕ) where
         let h2 = behind _ _ g.2.1 (arg_places es h (next s)) in
         let t = ticks s.at h g.0.0 g.2.0 (args_start es h (next s) [] g.2.1) r in
         let A = args_right es m sc ns f (next s) h w.0 z (
-          has_front _ _ (args_code es (next s) m sc) _ g.0.1,
-          has_front _ _ (trees_texts es) _ g.1,
-          has_front _ _ (arg_heights es h) _ g.2.1,
+          has_prefix _ _ (args_code es (next s) m sc) _ g.0.1,
+          has_prefix _ _ (trees_texts es) _ g.1,
+          has_prefix _ _ (arg_heights es h) _ g.2.1,
         ) h2.0 t.1 in
         let u = call_right c n.text (count es) (after_args es (next s)) h w.1 i2.0 (behind _ _ g.1 (args_text es (next s))) h2.0 o A.out in
         record { right = (t.0, right_both code all _ _ _ _ A.right (args_end es (next s) m sc) u.right); out = u.out }
@@ -459,16 +459,16 @@ module _ (code : Code) (all : List ℕ) where
         let x2 = behind _ _ g.1 (texts_end a (next s)) in
         let t = ticks s.at h g.0.0 g.2.0 (front_height all a h (s.at + 1) _ g.2.1) r in
         let A = right_at a m sc ns f (next s) h w.0 (omega (arith, z)) (
-          has_front _ _ (code_of a (next s) m sc) _ g.0.1,
-          has_front _ _ (texts_in a) _ g.1,
-          has_front _ _ (heights a h) _ g.2.1,
+          has_prefix _ _ (code_of a (next s) m sc) _ g.0.1,
+          has_prefix _ _ (texts_in a) _ g.1,
+          has_prefix _ _ (heights a h) _ g.2.1,
         ) h2.0 t.1 in
         let u = fork code all (t3.at + 1) t1.at h i2.0 h2.0 (block_start b h t2.at _ h2.1) (else_start e h (t3.at + 1) h3.1)
         (omega (arith, (block_end b t2 m sc).is)) A.out in
         let B = block_right b m sc ns f t2 h w.1 (omega (arith, z)) (
-          has_front _ _ (block_code b t2 m sc) _ i2.1,
-          has_front _ _ (block_texts b) _ x2,
-          has_front _ _ (block_heights b h) _ h2.1,
+          has_prefix _ _ (block_code b t2 m sc) _ i2.1,
+          has_prefix _ _ (block_texts b) _ x2,
+          has_prefix _ _ (block_heights b h) _ h2.1,
         ) h3.0 u.1 in
         let v = hop code all (after_else e (next t3)).at t3.at (h + 1) i3.0 h3.0 o (omega (arith, (else_end e (next t3) m sc).is)) B.out in
         let C = else_right e m sc ns f (next t3) h w.2 (omega (arith, z)) (i3.1, behind _ _ x2 (block_text b t2), h3.1) o u.2 in
@@ -487,9 +487,9 @@ module _ (code : Code) (all : List ℕ) where
         let h2 = behind _ _ g.2.1 (places a h (next s)) in
         let t = ticks s.at h g.0.0 g.2.0 (front_height all a h (s.at + 1) _ g.2.1) r in
         let A = right_at a m sc ns f (next s) h w.0 (omega (arith, z)) (
-          has_front _ _ (code_of a (next s) m sc) _ g.0.1,
-          has_front _ _ (texts_in a) _ g.1,
-          has_front _ _ (heights a h) _ g.2.1,
+          has_prefix _ _ (code_of a (next s) m sc) _ g.0.1,
+          has_prefix _ _ (texts_in a) _ g.1,
+          has_prefix _ _ (heights a h) _ g.2.1,
         ) (chain_start ss h t1 h2 o) t.1 in
         let B = chain_right ss m sc t1 h i2 x2 h2 o A.out
         (λ g' o' p'. either_right ss m sc ns f t1 (after_either ss t1).at h refl w.1 (omega (arith, z)) g' o' p' A.out)
@@ -509,9 +509,9 @@ module _ (code : Code) (all : List ℕ) where
         let long = (ends_at a (next l) (m + 3) ((x.text, m + 2) ∷ sc)).is in
         let t = ticks s.at h g.0.0 g.2.0 (front_height all b h (s.at + 1) _ g.2.1) r in
         let B = right_at b m sc ns f (next s) h w.0 (omega (arith, z)) (
-          has_front _ _ (code_of b (next s) m sc) _ g.0.1,
-          has_front _ _ (texts_in b) _ g.1,
-          has_front _ _ (heights b h) _ g.2.1,
+          has_prefix _ _ (code_of b (next s) m sc) _ g.0.1,
+          has_prefix _ _ (texts_in b) _ g.1,
+          has_prefix _ _ (heights b h) _ g.2.1,
         ) h2.0 t.1 in
         let p1 = plain code all (Store m) t1.at (h + 1) h refl refl (omega (arith, z), tt) tt i2.0 h2.0 h2.1.0 (omega arith) (omega arith) B.out in
         let p2 = plain code all _ (t1.at + 1) h (h + 1) refl refl tt tt i2.1.0 h2.1.0 h2.1.1.0 (omega arith) (omega arith) p1.1 in
@@ -523,9 +523,9 @@ module _ (code : Code) (all : List ℕ) where
         (first_tick code.instrs.items a (next l) (m + 3) ((x.text, m + 2) ∷ sc) (l.at + 1) _ i3)
         (omega (arith, z), (omega (arith, z), (omega (arith, z), tt))) p4.1 in
         let A = right_at a (m + 3) ((x.text, m + 2) ∷ sc) (x.text ∷ ns) (refl, omega (arith, z), f) (next l) (h + 1) w.1 (omega (arith, z)) (
-          has_front _ _ (code_of a (next l) (m + 3) ((x.text, m + 2) ∷ sc)) _ i3,
+          has_prefix _ _ (code_of a (next l) (m + 3) ((x.text, m + 2) ∷ sc)) _ i3,
           behind _ _ g.1 (texts_end b (next s)),
-          has_front _ _ (heights a (h + 1)) _ h3,
+          has_prefix _ _ (heights a (h + 1)) _ h3,
         ) h4.0 q.1 in
         let y = plain code all ListPush t2.at (h + 1 + 1) (h + 1) refl refl tt tt i4.0 h4.0 h4.1.0 (omega arith) (omega arith) A.out in
         let v = turn code all l.at (t2.at + 1) (h + 1)
@@ -568,7 +568,7 @@ module _ (code : Code) (all : List ℕ) where
         let u = plain code all (Unary Not) s.at (h + 1) (h + 1) refl refl tt tt g.0.0 g.2.0 g.2.1.0 (omega arith) (omega arith) r in
         let v = fork code all (to + 1) (s.at + 1) h g.0.1.0 g.2.1.0 (front_height all e h (s.at + 1 + 1) _ g.2.1.1) p (omega (arith, far, q)) u.1 in
         let A = right_at e m sc ns f t1 h w.0 (omega (arith, z))
-        (has_front _ _ (code_of e t1 m sc) _ g.0.1.1, has_front _ _ (texts_in e) _ g.1, has_front _ _ (heights e h) _ g.2.1.1)
+        (has_prefix _ _ (code_of e t1 m sc) _ g.0.1.1, has_prefix _ _ (texts_in e) _ g.1, has_prefix _ _ (heights e h) _ g.2.1.1)
         (either_next ss h t2 to q k2 o) v.1 in
         let B = either_right ss m sc ns f t2 to h q w.1 (omega (arith, z)) (i2, behind _ _ g.1 (texts_end e t1), k2) o p A.out in
         (record { right = (u.0, (v.0, right_both code all _ _ _ _ A.right (ends_at e t1 m sc) B.0.right)); out = B.0.out }, λ x. v.2)
@@ -587,7 +587,7 @@ module _ (code : Code) (all : List ℕ) where
         let far = (both_end (AStep y e ss) s to m sc).is in
         let v = fork code all (to + 1) s.at h g.0.0 g.2.0 (front_height all e h (s.at + 1) _ g.2.1) p (omega (arith, far, q)) r in
         let A = right_at e m sc ns f t1 h w.0 (omega (arith, z))
-        (has_front _ _ (code_of e t1 m sc) _ g.0.1, has_front _ _ (texts_in e) _ g.1, has_front _ _ (heights e h) _ g.2.1)
+        (has_prefix _ _ (code_of e t1 m sc) _ g.0.1, has_prefix _ _ (texts_in e) _ g.1, has_prefix _ _ (heights e h) _ g.2.1)
         (both_next ss h t2 to q k2 o) v.1 in
         let B = both_right ss m sc ns f t2 to h q w.1 (omega (arith, z)) (i2, behind _ _ g.1 (texts_end e t1), k2) o p A.out in
         (record { right = (v.0, right_both code all _ _ _ _ A.right (ends_at e t1 m sc) B.0.right); out = B.0.out }, λ x. v.2)
@@ -603,7 +603,7 @@ module _ (code : Code) (all : List ℕ) where
         let i2 = behind _ _ g.0 (ends_at e s m sc) in
         let k2 = behind _ _ g.2 (places e (h + 1) s) in
         let A = right_at e m sc ns f s (h + 1) w.0 (omega (arith, z))
-        (has_front _ _ (code_of e s m sc) _ g.0, has_front _ _ (texts_in e) _ g.1, has_front _ _ (heights e (h + 1)) _ g.2) k2.0 r in
+        (has_prefix _ _ (code_of e s m sc) _ g.0, has_prefix _ _ (texts_in e) _ g.1, has_prefix _ _ (heights e (h + 1)) _ g.2) k2.0 r in
         let u = plain code all _ t1.at (h + 1 + 1) (h + 1) refl refl tt tt i2.0 k2.0 (steps_start ss h (next t1) k2.1 o) (omega arith) (omega arith) A.out in
         let B = steps_right ss m sc ns f (next t1) h w.1 (omega (arith, z)) (i2.1, behind _ _ g.1 (texts_end e s), k2.1) o u.1 in
         record { right = right_both code all _ _ _ _ A.right (ends_at e s m sc) (u.0, B.right); out = B.out }
@@ -621,7 +621,7 @@ module _ (code : Code) (all : List ℕ) where
         let i2 = behind _ _ g.0 (ends_at e s m sc) in
         let k2 = behind _ _ g.2 (places e (h + 1) s) in
         let A = right_at e m sc ns f s (h + 1) w.0 (omega (arith, z))
-        (has_front _ _ (code_of e s m sc) _ g.0, has_front _ _ (texts_in e) _ g.1, has_front _ _ (heights e (h + 1)) _ g.2) k2.0 r in
+        (has_prefix _ _ (code_of e s m sc) _ g.0, has_prefix _ _ (texts_in e) _ g.1, has_prefix _ _ (heights e (h + 1)) _ g.2) k2.0 r in
         let u = plain code all grow t1.at (h + 1 + 1) (h + 1) a b c d i2.0 k2.0 (items_start es h (next t1) k2.1 o) (omega (arith, x, y))
         (omega (arith, x)) A.out in
         let B = items_right es grow a b c d x y m sc ns f (next t1) h w.1 (omega (arith, z)) (i2.1, behind _ _ g.1 (texts_end e s), k2.1) o u.1 in
@@ -638,7 +638,7 @@ module _ (code : Code) (all : List ℕ) where
         let k2 = behind _ _ g.2 (places e h s) in
         let o2 : slice_get all (after_args es t1).at ≡ Some (h + 1 + count es) = o ∙ ap (λ n. Some n) (omega arith) in
         let A = right_at e m sc ns f s h w.0 (omega (arith, z))
-        (has_front _ _ (code_of e s m sc) _ g.0, has_front _ _ (texts_in e) _ g.1, has_front _ _ (heights e h) _ g.2)
+        (has_prefix _ _ (code_of e s m sc) _ g.0, has_prefix _ _ (texts_in e) _ g.1, has_prefix _ _ (heights e h) _ g.2)
         (args_end_height es (h + 1) t1 k2 o2) r in
         let B = args_right es m sc ns f t1 (h + 1) w.1 (omega (arith, z)) (behind _ _ g.0 (ends_at e s m sc), behind _ _ g.1 (texts_end e s), k2) o2 A.out in
         same_height _ _ _ (h + 1 + count es) (h + count (Cons e es))
@@ -667,7 +667,7 @@ module _ (code : Code) (all : List ℕ) where
         let i2 = behind _ _ g.0 (ends_at e s m sc) in
         let k2 = behind _ _ g.2 (places e h s) in
         let A = right_at e m sc ns f s h w.0 (omega (arith, z))
-        (has_front _ _ (code_of e s m sc) _ g.0, has_front _ _ (texts_in e) _ x, has_front _ _ (heights e h) _ g.2) k2.0 r in
+        (has_prefix _ _ (code_of e s m sc) _ g.0, has_prefix _ _ (texts_in e) _ x, has_prefix _ _ (heights e h) _ g.2) k2.0 r in
         let u = plain code all Drop t1.at (h + 1) h refl refl tt tt i2.0 k2.0 (lines_start ls l h (t1.at + 1) k2.1) (omega arith) (omega arith) A.out in
         let B = lines_right ls l c m sc ns f (next t1) h w.1 (omega (arith, z)) (i2.1, behind _ _ x (texts_end e s), k2.1) o u.1 in
         record { right = right_both code all _ _ _ _ A.right (ends_at e s m sc) (u.0, B.right); out = B.out }
@@ -677,7 +677,7 @@ module _ (code : Code) (all : List ℕ) where
         let i2 = behind _ _ g.0 (ends_at e s m sc) in
         let k2 = behind _ _ g.2 (places e h s) in
         let A = right_at e m sc ns f s h w.0 (omega (arith, z))
-        (has_front _ _ (code_of e s m sc) _ g.0, has_front _ _ (texts_in e) _ x, has_front _ _ (heights e h) _ g.2) k2.0 r in
+        (has_prefix _ _ (code_of e s m sc) _ g.0, has_prefix _ _ (texts_in e) _ x, has_prefix _ _ (heights e h) _ g.2) k2.0 r in
         let u = plain code all (Store m) t1.at (h + 1) h refl refl (omega (arith, z), tt) tt i2.0 k2.0 (lines_start ls l h (t1.at + 1) k2.1) (omega arith)
         (omega arith) A.out in
         let B = lines_right ls l c (m + 1) ((n.text, m) ∷ sc) (n.text ∷ ns) (refl, omega (arith, z), f) (next t1) h w.1 (omega (arith, z))

@@ -12,7 +12,7 @@ use Rattle.pie_code.specs.declared.instr.Instr.TheVariants.{Tick, Load}
 use Rattle.pie_code.specs.declared.code.Code.{Code}
 use Rattle.pie_code.specs.Running.{Config, Turn, goes, ends, run, run_on, step, act, act_found, settle, push, push_found}
 use Rattle.pie_code.specs.Coming.{Ends}
-use Rattle.pie_meaning.specs.Words.{Env, look_up, found}
+use Rattle.pie_semantics.specs.Words.{Env, look_up, found}
 use Rattle.pie_codegen.specs.Compiled.{Scope, slot_of}
 
 -- these stand in a list from a place on
@@ -20,9 +20,9 @@ abbrev pub HasAt : {X : Type 0} → List X → ℕ → List X → Type 0
 HasAt xs a [] = Unit {0}
 HasAt xs a (y ∷ ys) = (slice_get xs a ≡ Some y) × HasAt xs (a + 1) ys
 
-pub has_front : {X : Type 0} (xs : List X) (a : ℕ) (ys zs : List X) → HasAt xs a (ys ++ zs) → HasAt xs a ys
-has_front xs a [] zs h = tt
-has_front xs a (y ∷ ys) zs h = (h.0, has_front xs (a + 1) ys zs h.1)
+pub has_prefix : {X : Type 0} (xs : List X) (a : ℕ) (ys zs : List X) → HasAt xs a (ys ++ zs) → HasAt xs a ys
+has_prefix xs a [] zs h = tt
+has_prefix xs a (y ∷ ys) zs h = (h.0, has_prefix xs (a + 1) ys zs h.1)
 
 pub has_back : {X : Type 0} (xs : List X) (a : ℕ) (ys zs : List X) → HasAt xs a (ys ++ zs) → HasAt xs (a + length ys) zs
 has_back xs a [] zs h = subst (λ n. HasAt xs n zs) (omega arith) h
@@ -67,11 +67,11 @@ pub record Fits (m : ℕ) (sc : Scope) (low : List Val) (env : Env) (room : ℕ)
   pub small : m + room ≤ 65535
 
 module _ (code : Code) (ev : Outcome Val × State) where
-  -- running comes to the event from here
+  -- running evaluates to the event from here
   abbrev pub Comes : ℕ → List Val → List Val → State → Type 0
   Comes a k l s = Ends code (at a k l s) ev
 
-  -- what is done goes on so that running comes to the event, or is the event
+  -- what is done goes on so that running evaluates to the event, or is the event
   abbrev pub Then : {A : Type 0} → (A → State → Type 0) → Outcome A × State → Type 0
   Then K (done v, s) = K v s
   Then K (fails f, s) = (fails f, s) ≡ ev
@@ -102,7 +102,7 @@ module _ (code : Code) (ev : Outcome Val × State) where
       → Comes a k l s
   one i a k l s e h = by_turn (at a k l s) (act code.texts.items i (at a k l s)) (ap (λ o. act_found code.texts.items o (at a k l s)) e) h
 
-  -- what an operator came to
+  -- what an operator evaluated to
   pub into : (o : Outcome Val × State) (c : Config) → Then (λ v s. Comes (c.at + 1) (v ∷ c.stack) c.slots s) o → Leads (settle o c)
   into (done v, s) c h = h
   into (fails f, s) c h = h

@@ -30,9 +30,9 @@ use Rattle.pie_parser.specs.declared.tree.CallKind.{CallKind}
 use Rattle.pie_parser.specs.declared.tree.CallKind.TheVariants as calls
 use Rattle.pie_parser.specs.declared.tree.EffectKind.{EffectKind}
 use Rattle.pie_parser.specs.declared.tree.EffectKind.TheVariants as effects
-use Rattle.pie_meaning.specs.Words.{literal_value, item_numbered, projected, over, Callee, ABuiltin, ReadBytes, NoCallee, callee_of, callee_arity}
-use Rattle.pie_meaning.specs.Words.{callee_answer, bytes_read, called_plainly, called, effect_of}
-use Rattle.pie_meaning.specs.Meaning.{turns}
+use Rattle.pie_semantics.specs.Words.{literal_value, item_numbered, projected, over, Callee, ABuiltin, ReadBytes, NoCallee, callee_of, callee_arity}
+use Rattle.pie_semantics.specs.Words.{callee_answer, bytes_read, called_plainly, called, effect_of}
+use Rattle.pie_semantics.specs.Meaning.{turns}
 use Rattle.pie_codegen.specs.declared.spot.Spot.{Spot}
 use Rattle.pie_codegen.specs.Spots.{next, after_literal, after_indices, after_call}
 use Rattle.pie_codegen.specs.Texts.{literal_texts, call_texts}

@@ -6,7 +6,7 @@ use Rattle.pie_lexer.specs.declared.token.TokenKind.{TokenKind}
 use Rattle.pie_lexer.specs.declared.token.TokenKind.TheVariants as tokens
 use Rattle.pie_parser.specs.declared.kind.Kind.{Kind}
 use Rattle.pie_parser.specs.declared.kind.Kind.TheVariants as kinds
-use Rattle.pie_parser.specs.declared.error.Fault.TheVariants.{Expected}
+use Rattle.pie_parser.specs.declared.error.ParseFault.TheVariants.{Expected}
 use Rattle.pie_parser.specs.declared.chain.Level.{Level}
 use Rattle.pie_parser.specs.declared.chain.Level.TheVariants as levels
 use Rattle.pie_parser.specs.declared.type_tree.PlainType.{PlainType}

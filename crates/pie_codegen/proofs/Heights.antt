@@ -9,11 +9,11 @@ use Rattle.pie_parser.specs.Plain.{Tree, TLiteral, TName, TNull, TEmpty, TChain,
 use Rattle.pie_parser.specs.Plain.{TEffect, TWrite, TFail, Trees, Nil, Cons, Steps, NoStep, AStep, BlockTree, TBlock, LineTrees, NoLine}
 use Rattle.pie_parser.specs.Plain.{ValLine, ExprLine, LastTree, NoLast, ALast, ElseTree, NoElse, AnElse}
 use Rattle.pie_types.specs.Checking.{count}
-use Rattle.pie_meaning.specs.Words.{Logic, Either, Both, Neither, by_logic, logic_of}
+use Rattle.pie_semantics.specs.Words.{Logic, Either, Both, Neither, by_logic, logic_of}
 use Rattle.pie_codegen.specs.declared.spot.Spot.{Spot}
 use Rattle.pie_codegen.specs.Spots.{next, next_text, after, after_either, after_both, after_steps, after_items, after_args, after_block, after_lines}
 use Rattle.pie_codegen.specs.Spots.{after_last, after_else, after_indices, after_call, after_literal, loop_at}
-use Rattle.pie_codegen.proofs.Base.{HasAt, has_front}
+use Rattle.pie_codegen.proofs.Base.{HasAt, has_prefix}
 use Rattle.pie_codegen.proofs.Places.{Sized, none, more, both}
 
 abbrev pub index_heights : List Index → ℕ → List ℕ
@@ -181,4 +181,4 @@ first_height all (TWrite i j x y) h a g = g.0
 first_height all (TFail i j t x) h a g = g.0
 
 pub front_height : (all : List ℕ) (e : Tree) (h a : ℕ) (rest : List ℕ) → HasAt all a (heights e h ++ rest) → slice_get all a ≡ Some h
-front_height all e h a rest g = first_height all e h a (has_front all a (heights e h) rest g)
+front_height all e h a rest g = first_height all e h a (has_prefix all a (heights e h) rest g)

@@ -12,8 +12,8 @@ use Rattle.pie_code.specs.declared.instr.Each.{Each as EachLoop}
 use Rattle.pie_code.specs.declared.instr.Instr.TheVariants.{Each, ListPush, Jump}
 use Rattle.pie_code.specs.declared.code.Code.{Code}
 use Rattle.pie_code.specs.Running.{Config, Turn, act, act_on, settle, number_in, item_found, next_item, each_turn, each_from, onward, misfit as misfit_turn}
-use Rattle.pie_meaning.specs.Words.{over}
-use Rattle.pie_meaning.specs.Meaning.{turns}
+use Rattle.pie_semantics.specs.Words.{over}
+use Rattle.pie_semantics.specs.Meaning.{turns}
 use Rattle.pie_codegen.specs.Compiled.{each_code}
 use Rattle.pie_codegen.proofs.Base.{at, Comes, Then, Leads, one, into, seq, mono}
 use Rattle.pie_codegen.proofs.Steps.{at_low, set_low}

@@ -14,9 +14,9 @@ use Rattle.pie_parser.specs.FunctionTrees.{FunctionTree}
 use Rattle.pie_types.specs.Headings.{Heading}
 use Rattle.pie_types.specs.Whole.{number_from}
 use Rattle.pie_types.specs.WholeRules.{AreDeclared, AreTyped, IsTyped, nothing, one_more, typed}
-use Rattle.pie_meaning.specs.Meaning.{next_of}
-use Rattle.pie_sound.specs.NeverStuck.{RunsWell}
-use Rattle.pie_sound.proofs.Whole.{never_stuck}
+use Rattle.pie_semantics.specs.Meaning.{next_of}
+use Rattle.pie_type_laws.specs.NeverStuck.{RunsWell}
+use Rattle.pie_type_laws.proofs.Whole.{never_stuck}
 use Rattle.pie_codegen.specs.Functions.{IsCodeOf, Means}
 use Rattle.pie_codegen.specs.Formed.{BlockFormed}
 use Rattle.pie_codegen.specs.Names.{names_of}
@@ -38,7 +38,7 @@ formed_at [] i f a l e = absurd (omega arith)
 formed_at (g ∷ fs) zero f a l e = subst (λ (x : FunctionTree). BlockFormed (names_of x.params) x.body) (sym e) a.0
 formed_at (g ∷ fs) (suc i) f a l e = formed_at fs i f a.1 (omega arith) e
 
--- the code of a function whose body is formed is refused for want of memory alone
+-- the code of a function whose body is formed is refused only when out of memory
 pub no_refusal : (f : FunctionTree) (code : Code) (e : CodeError) → IsCodeOf f code → BlockFormed (names_of f.params) f.body → IsRefusal code e
     → e ≡ OutOfMemory
 no_refusal f code e is b r = only_memory code e (verified f code is b) r

@@ -1,4 +1,4 @@
--- Compiled code means what the tree means: if what comes behind a form's code comes to the event with the form's value, so does its code.
+-- Compiled code means what the tree means: if what comes behind a form's code evaluates to the event with the form's value, so does its code.
 use Rattle.std.proofs.Common.{◌≡◌, ℕ, zero, suc, ◌+◌, ◌-◌, ◌<◌, ◌≤◌, max, Bool, true, false, cond, List, [], ◌∷◌, ◌++◌, length, reverse, slice_get, Option}
 use Rattle.std.proofs.Common.{Some, None, Ok, Err, refl, sym, subst, ap, ◌∙◌, arith, append_assoc, ℤ, pos, negsuc}
 use Rattle.std.proofs.lemmas.List.{length-append}
@@ -18,10 +18,10 @@ use Rattle.pie_types.specs.Checking.{count}
 use Rattle.pie_parser.specs.Plain.{Tree, TLiteral, TName, TNull as NullOf, TEmpty, TChain, TCompare, TPrefix, TProject, TTuple as TupleOf, TList as ListOf}
 use Rattle.pie_parser.specs.Plain.{TEach, TIf, TCall, TEffect, TWrite, TFail, Trees, Nil, Cons, Steps, NoStep, AStep, BlockTree, TBlock}
 use Rattle.pie_parser.specs.Plain.{LineTrees, NoLine, ValLine, ExprLine, LastTree, NoLast, ALast, ElseTree, NoElse, AnElse}
-use Rattle.pie_meaning.specs.Words.{Env, look_up, found, literal_value, branch, Logic, Either, Both, Neither, by_logic, logic_of, infix_of}
-use Rattle.pie_meaning.specs.Words.{comparison_of, prefix_of, projected, over, called, effect_of}
-use Rattle.pie_meaning.specs.Meaning.{turns, value_of, either_value, both_value, steps_value, items_onto, values_of, block_value, lines_value, last_value}
-use Rattle.pie_meaning.specs.Meaning.{else_value}
+use Rattle.pie_semantics.specs.Words.{Env, look_up, found, literal_value, branch, Logic, Either, Both, Neither, by_logic, logic_of, infix_of}
+use Rattle.pie_semantics.specs.Words.{comparison_of, prefix_of, projected, over, called, effect_of}
+use Rattle.pie_semantics.specs.Meaning.{turns, value_of, either_value, both_value, steps_value, items_onto, values_of, block_value, lines_value, last_value}
+use Rattle.pie_semantics.specs.Meaning.{else_value}
 use Rattle.pie_codegen.specs.declared.spot.Spot.{Spot}
 use Rattle.pie_codegen.specs.Spots.{next, after, after_either, after_both, after_steps, after_items, after_args, after_block, after_lines, after_last}
 use Rattle.pie_codegen.specs.Spots.{after_else, loop_at}
@@ -29,7 +29,7 @@ use Rattle.pie_codegen.specs.Rooms.{room_of, steps_room, trees_room, block_room,
 use Rattle.pie_codegen.specs.Texts.{texts_of, steps_texts, trees_texts, block_texts, lines_texts, last_texts, else_texts, call_texts}
 use Rattle.pie_codegen.specs.Compiled.{Scope, code_of, either_code, both_code, steps_code, items_code, args_code, block_code, lines_code, last_code, else_code}
 use Rattle.pie_codegen.specs.Compiled.{indices_code, call_code, effect_code, each_code}
-use Rattle.pie_codegen.proofs.Base.{HasAt, has_front, at, Agree, agree_front, Fits, Comes, Then, Leads, one, into, seq, mono, tick_run, name_run}
+use Rattle.pie_codegen.proofs.Base.{HasAt, has_prefix, at, Agree, agree_front, Fits, Comes, Then, Leads, one, into, seq, mono, tick_run, name_run}
 use Rattle.pie_codegen.proofs.Places.{Sized, behind, ends_at, texts_end, either_end, either_text, both_end, both_text, steps_end, args_end, args_text}
 use Rattle.pie_codegen.proofs.Places.{block_end, block_text, lines_text}
 use Rattle.pie_codegen.proofs.Steps.{at_low, store_run, branch_run, not_run}
@@ -121,11 +121,11 @@ module _ (code : Code) (ev : Outcome Val × State) where
         tick_run code ev (then_do (value_of a env) (λ v. then_do (value_of b env) (λ w. by_answer (binary_answer (comparison_of c) v w))))
         (Lands code ev (after (TCompare i j c a b) s).at k low room) s.at k (low ++ junk) t g.0.0 h
         (λ u y. runs a m sc low env room f (next s) k junk u (omega (arith, r)) e
-        (has_front _ _ (code_of a (next s) m sc) _ g.0.1, has_front _ _ (texts_of a) _ g.1)
+        (has_prefix _ _ (code_of a (next s) m sc) _ g.0.1, has_prefix _ _ (texts_of a) _ g.1)
         (seq code ev _ (Lands code ev (after (TCompare i j c a b) s).at k low room) (Lands code ev (after a (next s)).at k low room)
         (λ v w z js d. let g2 = behind _ _ g.0.1 (ends_at a (next s) m sc) in
         runs b m sc low env room f (after a (next s)) (v ∷ k) js w (omega (arith, r)) d
-        (has_front _ _ (code_of b (after a (next s)) m sc) _ g2, behind _ _ g.1 (texts_end a (next s)))
+        (has_prefix _ _ (code_of b (after a (next s)) m sc) _ g2, behind _ _ g.1 (texts_end a (next s)))
         (seq code ev _ (Lands code ev (after (TCompare i j c a b) s).at k low room) (Lands code ev (after b (after a (next s))).at (v ∷ k) low room)
         (λ x w' z' is d'. let g3 = behind _ _ g2 (ends_at b (after a (next s)) m sc) in
         one code ev _ (after b (after a (next s))).at (x ∷ v ∷ k) (low ++ is) w' g3.0
@@ -136,7 +136,7 @@ module _ (code : Code) (ev : Outcome Val × State) where
     runs (TPrefix i j p a) m sc low env room f s k junk t r e g h =
         tick_run code ev (then_do (value_of a env) (λ v. by_answer (unary_answer (prefix_of p) v)))
         (Lands code ev (after (TPrefix i j p a) s).at k low room) s.at k (low ++ junk) t g.0.0 h
-        (λ u y. runs a m sc low env room f (next s) k junk u r e (has_front _ _ (code_of a (next s) m sc) _ g.0.1, g.1)
+        (λ u y. runs a m sc low env room f (next s) k junk u r e (has_prefix _ _ (code_of a (next s) m sc) _ g.0.1, g.1)
         (seq code ev _ (Lands code ev (after (TPrefix i j p a) s).at k low room) (Lands code ev (after a (next s)).at k low room)
         (λ v w z js d. let g2 = behind _ _ g.0.1 (ends_at a (next s) m sc) in
         one code ev _ (after a (next s)).at (v ∷ k) (low ++ js) w g2.0
@@ -144,14 +144,14 @@ module _ (code : Code) (ev : Outcome Val × State) where
         (value_of a env u) y))
     runs (TProject i j a ns) m sc low env room f s k junk t r e g h =
         tick_run code ev (then_do (value_of a env) (projected ns)) (Lands code ev (after (TProject i j a ns) s).at k low room) s.at k (low ++ junk) t g.0.0 h
-        (λ u y. runs a m sc low env room f (next s) k junk u r e (has_front _ _ (code_of a (next s) m sc) _ g.0.1, g.1)
+        (λ u y. runs a m sc low env room f (next s) k junk u r e (has_prefix _ _ (code_of a (next s) m sc) _ g.0.1, g.1)
         (seq code ev _ (Lands code ev (after (TProject i j a ns) s).at k low room) (Lands code ev (after a (next s)).at k low room)
         (λ v w z js d. indices_run code ev ns v (after a (next s)) k (low ++ js) w (behind _ _ g.0.1 (ends_at a (next s) m sc))
         (few m sc low env room f js d) (landed code ev (after (TProject i j a ns) s).at k low js room d _ z))
         (value_of a env u) y))
     runs (TEffect i j c a) m sc low env room f s k junk t r e g h =
         tick_run code ev (then_do (value_of a env) (effect_of c)) (Lands code ev (after (TEffect i j c a) s).at k low room) s.at k (low ++ junk) t g.0.0 h
-        (λ u y. runs a m sc low env room f (next s) k junk u r e (has_front _ _ (code_of a (next s) m sc) _ g.0.1, g.1)
+        (λ u y. runs a m sc low env room f (next s) k junk u r e (has_prefix _ _ (code_of a (next s) m sc) _ g.0.1, g.1)
         (seq code ev _ (Lands code ev (after (TEffect i j c a) s).at k low room) (Lands code ev (after a (next s)).at k low room)
         (λ v w z js d. let g2 = behind _ _ g.0.1 (ends_at a (next s) m sc) in
         effect_run code ev c v (after a (next s)).at k (low ++ js) w g2.0 (landed code ev (after (TEffect i j c a) s).at k low js room d _ z))
@@ -160,11 +160,11 @@ module _ (code : Code) (ev : Outcome Val × State) where
         tick_run code ev (then_do (value_of a env) (λ v. then_do (value_of b env) (write v))) (Lands code ev (after (TWrite i j a b) s).at k low room) s.at k
         (low ++ junk) t g.0.0 h
         (λ u y. runs a m sc low env room f (next s) k junk u (omega (arith, r)) e
-        (has_front _ _ (code_of a (next s) m sc) _ g.0.1, has_front _ _ (texts_of a) _ g.1)
+        (has_prefix _ _ (code_of a (next s) m sc) _ g.0.1, has_prefix _ _ (texts_of a) _ g.1)
         (seq code ev _ (Lands code ev (after (TWrite i j a b) s).at k low room) (Lands code ev (after a (next s)).at k low room)
         (λ v w z js d. let g2 = behind _ _ g.0.1 (ends_at a (next s) m sc) in
         runs b m sc low env room f (after a (next s)) (v ∷ k) js w (omega (arith, r)) d
-        (has_front _ _ (code_of b (after a (next s)) m sc) _ g2, behind _ _ g.1 (texts_end a (next s)))
+        (has_prefix _ _ (code_of b (after a (next s)) m sc) _ g2, behind _ _ g.1 (texts_end a (next s)))
         (seq code ev _ (Lands code ev (after (TWrite i j a b) s).at k low room) (Lands code ev (after b (after a (next s))).at (v ∷ k) low room)
         (λ x w' z' is d'. let g3 = behind _ _ g2 (ends_at b (after a (next s)) m sc) in
         one code ev _ (after b (after a (next s))).at (x ∷ v ∷ k) (low ++ is) w' g3.0
@@ -173,7 +173,7 @@ module _ (code : Code) (ev : Outcome Val × State) where
         (value_of a env u) y))
     runs (TFail i j w a) m sc low env room f s k junk t r e g h =
         tick_run code ev (then_do (value_of a env) fail) (Lands code ev (after (TFail i j w a) s).at k low room) s.at k (low ++ junk) t g.0.0 h
-        (λ u y. runs a m sc low env room f (next s) k junk u r e (has_front _ _ (code_of a (next s) m sc) _ g.0.1, g.1)
+        (λ u y. runs a m sc low env room f (next s) k junk u r e (has_prefix _ _ (code_of a (next s) m sc) _ g.0.1, g.1)
         (seq code ev _ (Lands code ev (after (TFail i j w a) s).at k low room) (Lands code ev (after a (next s)).at k low room)
         (λ v x z js d. let g2 = behind _ _ g.0.1 (ends_at a (next s) m sc) in
         one code ev _ (after a (next s)).at (v ∷ k) (low ++ js) x g2.0
@@ -193,7 +193,7 @@ module _ (code : Code) (ev : Outcome Val × State) where
         tick_run code ev (then_do (values_of es env []) (λ vs. called c n.text (reverse vs)))
         (Lands code ev (after (TCall i j c n es) s).at k low room) s.at k (low ++ junk) t g.0.0 h
         (λ u y. args_run es m sc low env room f (next s) k [] (count es) junk u r e (omega arith)
-        (has_front _ _ (args_code es (next s) m sc) _ g.0.1, has_front _ _ (trees_texts es) _ g.1)
+        (has_prefix _ _ (args_code es (next s) m sc) _ g.0.1, has_prefix _ _ (trees_texts es) _ g.1)
         (seq code ev _ (Lands code ev (after (TCall i j c n es) s).at k low room)
         (λ vs w. length vs ≡ count es → (js : List Val) → length js ≡ room → Comes code ev (after_args es (next s)).at (vs ++ k) (low ++ js) w)
         (λ vs w z q js d. let g2 = behind _ _ g.0.1 (args_end es (next s) m sc) in
@@ -205,7 +205,7 @@ module _ (code : Code) (ev : Outcome Val × State) where
         (Lands code ev (after (TIf i j a b o) s).at k low room)
         s.at k (low ++ junk) t g.0.0 h
         (λ u y. runs a m sc low env room f (next s) k junk u (omega (arith, r)) e
-        (has_front _ _ (code_of a (next s) m sc) _ g.0.1, has_front _ _ (texts_of a) _ g.1)
+        (has_prefix _ _ (code_of a (next s) m sc) _ g.0.1, has_prefix _ _ (texts_of a) _ g.1)
         (seq code ev _ (Lands code ev (after (TIf i j a b o) s).at k low room) (Lands code ev (after a (next s)).at k low room)
         (λ v w z js d.
         let g2 = behind _ _ g.0.1 (ends_at a (next s) m sc) in
@@ -214,7 +214,7 @@ module _ (code : Code) (ev : Outcome Val × State) where
         branch_run code ev v (block_value b env) (else_value o env) (Lands code ev (after (TIf i j a b o) s).at k low room)
         ((after_block b (next (after a (next s)))).at + 1) (after a (next s)).at k (low ++ js) w g2.0 z
         (λ z1. block_run b m sc low env room f (next (after a (next s))) k js w (omega (arith, r)) d
-        (has_front _ _ (block_code b (next (after a (next s))) m sc) _ g2.1, has_front _ _ (block_texts b) _ x2)
+        (has_prefix _ _ (block_code b (next (after a (next s))) m sc) _ g2.1, has_prefix _ _ (block_texts b) _ x2)
         (mono code ev (Lands code ev (after (TIf i j a b o) s).at k low room) (Lands code ev (after_block b (next (after a (next s)))).at k low room)
         (λ v' s' q is d'. one code ev _ (after_block b (next (after a (next s)))).at (v' ∷ k) (low ++ is) s' g3.0 (q is d')) (block_value b env w) z1))
         (λ z2. else_run o m sc low env room f (next (after_block b (next (after a (next s))))) k js w (omega (arith, r)) d
@@ -224,7 +224,7 @@ module _ (code : Code) (ev : Outcome Val × State) where
         tick_run code ev (then_do (value_of a env) (by_logic (logic_of ss) (either_value ss env) (both_value ss env) (steps_value ss env)))
         (Lands code ev (after (TChain i j a ss) s).at k low room) s.at k (low ++ junk) t g.0.0 h
         (λ u y. runs a m sc low env room f (next s) k junk u (omega (arith, r)) e
-        (has_front _ _ (code_of a (next s) m sc) _ g.0.1, has_front _ _ (texts_of a) _ g.1)
+        (has_prefix _ _ (code_of a (next s) m sc) _ g.0.1, has_prefix _ _ (texts_of a) _ g.1)
         (seq code ev (by_logic (logic_of ss) (either_value ss env) (both_value ss env) (steps_value ss env))
         (Lands code ev (after (TChain i j a ss) s).at k low room)
         (Lands code ev (after a (next s)).at k low room)
@@ -234,17 +234,17 @@ module _ (code : Code) (ev : Outcome Val × State) where
         (Comes code ev (after a (next s)).at (v ∷ k) (low ++ js) w) (behind _ _ g.0.1 (ends_at a (next s) m sc)) z
         (λ g' z'. let g3 = behind _ _ g' (either_end ss (after a (next s)) (after_either ss (after a (next s))).at m sc) in
         either_run ss m sc low env room f (after a (next s)) (after_either ss (after a (next s))).at refl v k js w (omega (arith, r)) d
-        (has_front _ _ (either_code ss (after a (next s)) (after_either ss (after a (next s))).at m sc) _ g', x2) g3.0 g3.1.0 z')
+        (has_prefix _ _ (either_code ss (after a (next s)) (after_either ss (after a (next s))).at m sc) _ g', x2) g3.0 g3.1.0 z')
         (λ g' z'. let g3 = behind _ _ g' (both_end ss (after a (next s)) (after_both ss (after a (next s))).at m sc) in
         both_run ss m sc low env room f (after a (next s)) (after_both ss (after a (next s))).at refl v k js w (omega (arith, r)) d
-        (has_front _ _ (both_code ss (after a (next s)) (after_both ss (after a (next s))).at m sc) _ g', x2) g3.0 g3.1.0 z')
+        (has_prefix _ _ (both_code ss (after a (next s)) (after_both ss (after a (next s))).at m sc) _ g', x2) g3.0 g3.1.0 z')
         (λ g' z'. steps_run ss m sc low env room f (after a (next s)) v k js w (omega (arith, r)) d (g', x2) z'))
         (value_of a env u) y))
     runs (TEach i j a x b) m sc low env room f s k junk t r e g h =
         tick_run code ev (then_do (value_of b env) (λ v. over v (λ vs. turns (λ w. value_of a ((x.text, w) ∷ env)) vs (TList NoVal))))
         (Lands code ev (after (TEach i j a x b) s).at k low room) s.at k (low ++ junk) t g.0.0 h
         (λ u y. runs b m sc low env room f (next s) k junk u (omega (arith, r)) e
-        (has_front _ _ (code_of b (next s) m sc) _ g.0.1, has_front _ _ (texts_of b) _ g.1)
+        (has_prefix _ _ (code_of b (next s) m sc) _ g.0.1, has_prefix _ _ (texts_of b) _ g.1)
         (seq code ev (λ v. over v (λ vs. turns (λ w. value_of a ((x.text, w) ∷ env)) vs (TList NoVal)))
         (Lands code ev (after (TEach i j a x b) s).at k low room)
         (Lands code ev (after b (next s)).at k low room)
@@ -267,7 +267,7 @@ module _ (code : Code) (ev : Outcome Val × State) where
         (runs a (m + 3) ((x.text, m + 2) ∷ sc) (low ++ list ∷ TInt (pos n) ∷ y' ∷ []) ((x.text, y') ∷ env) (room - 3)
         (in_loop m sc low env room x.text list (TInt (pos n)) y' f (omega (arith, r))) (next (loop_at (after b (next s)))) (all ∷ k) is' t'
         (omega (arith, r)) (omega (arith, q')) (
-          has_front _ _ (code_of a (next (loop_at (after b (next s)))) (m + 3) ((x.text, m + 2) ∷ sc)) _ g3,
+          has_prefix _ _ (code_of a (next (loop_at (after b (next s)))) (m + 3) ((x.text, m + 2) ∷ sc)) _ g3,
           behind _ _ g.1 (texts_end b (next s)),
         )
         (mono code ev
@@ -294,7 +294,7 @@ module _ (code : Code) (ev : Outcome Val × State) where
         g.0.0 g.0.1.0 h
         (λ z. one code ev _ (to + 1) k (low ++ js) w last (z js d))
         (λ z. runs a m sc low env room f (next (next s)) k js w (omega (arith, r)) d
-        (has_front _ _ (code_of a (next (next s)) m sc) _ g.0.1.1, has_front _ _ (texts_of a) _ g.1)
+        (has_prefix _ _ (code_of a (next (next s)) m sc) _ g.0.1.1, has_prefix _ _ (texts_of a) _ g.1)
         (seq code ev (either_value ss env) (Lands code ev (to + 1 + 1) k low room) (Lands code ev (after a (next (next s))).at k low room)
         (λ x w' z' is d'. either_run ss m sc low env room f (after a (next (next s))) to q x k is w' (omega (arith, r)) d'
         (behind _ _ g.0.1.1 (ends_at a (next (next s)) m sc), behind _ _ g.1 (texts_end a (next (next s)))) out last z')
@@ -313,7 +313,7 @@ module _ (code : Code) (ev : Outcome Val × State) where
         (low ++ js) w
         g.0.0 h
         (λ z. runs a m sc low env room f (next s) k js w (omega (arith, r)) d
-        (has_front _ _ (code_of a (next s) m sc) _ g.0.1, has_front _ _ (texts_of a) _ g.1)
+        (has_prefix _ _ (code_of a (next s) m sc) _ g.0.1, has_prefix _ _ (texts_of a) _ g.1)
         (seq code ev (both_value ss env) (Lands code ev (to + 1 + 1) k low room) (Lands code ev (after a (next s)).at k low room)
         (λ x w' z' is d'. both_run ss m sc low env room f (after a (next s)) to q x k is w' (omega (arith, r)) d'
         (behind _ _ g.0.1 (ends_at a (next s) m sc), behind _ _ g.1 (texts_end a (next s))) out last z')
@@ -327,7 +327,7 @@ module _ (code : Code) (ev : Outcome Val × State) where
         → Then code ev (Lands code ev (after_steps ss s).at k low room) (steps_value ss env v w) → Comes code ev s.at (v ∷ k) (low ++ js) w
     steps_run NoStep m sc low env room f s v k js w r d g h = h js d
     steps_run (AStep o a ss) m sc low env room f s v k js w r d g h =
-        runs a m sc low env room f s (v ∷ k) js w (omega (arith, r)) d (has_front _ _ (code_of a s m sc) _ g.0, has_front _ _ (texts_of a) _ g.1)
+        runs a m sc low env room f s (v ∷ k) js w (omega (arith, r)) d (has_prefix _ _ (code_of a s m sc) _ g.0, has_prefix _ _ (texts_of a) _ g.1)
         (seq code ev (λ x. then_do (by_answer (binary_answer (infix_of o) v x)) (steps_value ss env))
         (Lands code ev (after_steps ss (next (after a s))).at k low room)
         (Lands code ev (after a s).at (v ∷ k) low room)
@@ -359,7 +359,7 @@ module _ (code : Code) (ev : Outcome Val × State) where
     lines_run NoLine rest to go ts n c m sc low env room f s k junk t r e g h = c m sc low env room f s k junk t r e g h
     lines_run (ExprLine a ls) rest to go ts n c m sc low env room f s k junk t r e g h =
         let x = assoc_here code.texts.items s.text (texts_of a) (lines_texts ls) ts g.1 in
-        runs a m sc low env room f s k junk t (omega (arith, r)) e (has_front _ _ (code_of a s m sc) _ g.0, has_front _ _ (texts_of a) _ x)
+        runs a m sc low env room f s k junk t (omega (arith, r)) e (has_prefix _ _ (code_of a s m sc) _ g.0, has_prefix _ _ (texts_of a) _ x)
         (seq code ev (λ v. lines_value ls env go) (Lands code ev (to (after_lines ls (next (after a s)))).at k low room)
         (Lands code ev (after a s).at k low room)
         (λ v w z js d. let g2 = behind _ _ g.0 (ends_at a s m sc) in
@@ -368,7 +368,7 @@ module _ (code : Code) (ev : Outcome Val × State) where
         (value_of a env t) h)
     lines_run (ValLine i j y a ls) rest to go ts n c m sc low env room f s k junk t r e g h =
         let x = assoc_here code.texts.items s.text (texts_of a) (lines_texts ls) ts g.1 in
-        runs a m sc low env room f s k junk t (omega (arith, r)) e (has_front _ _ (code_of a s m sc) _ g.0, has_front _ _ (texts_of a) _ x)
+        runs a m sc low env room f s k junk t (omega (arith, r)) e (has_prefix _ _ (code_of a s m sc) _ g.0, has_prefix _ _ (texts_of a) _ x)
         (seq code ev (λ v. lines_value ls ((y.text, v) ∷ env) go) (Lands code ev (to (after_lines ls (next (after a s)))).at k low room)
         (Lands code ev (after a s).at k low room)
         (λ v w z js d. let g2 = behind _ _ g.0 (ends_at a s m sc) in
@@ -403,7 +403,7 @@ module _ (code : Code) (ev : Outcome Val × State) where
         → Then code ev (Lands code ev (after_items es s).at k low room) (items_onto grow es env all t) → Comes code ev s.at (all ∷ k) (low ++ junk) t
     items_run Nil grow i q m sc low env room f s all k junk t r e g h = h junk e
     items_run (Cons a es) grow i q m sc low env room f s all k junk t r e g h =
-        runs a m sc low env room f s (all ∷ k) junk t (omega (arith, r)) e (has_front _ _ (code_of a s m sc) _ g.0, has_front _ _ (texts_of a) _ g.1)
+        runs a m sc low env room f s (all ∷ k) junk t (omega (arith, r)) e (has_prefix _ _ (code_of a s m sc) _ g.0, has_prefix _ _ (texts_of a) _ g.1)
         (seq code ev _ (Lands code ev (after_items es (next (after a s))).at k low room) (Lands code ev (after a s).at (all ∷ k) low room)
         (λ v w z js d. let g2 = behind _ _ g.0 (ends_at a s m sc) in
         one code ev i (after a s).at (v ∷ all ∷ k) (low ++ js) w g2.0
@@ -422,7 +422,7 @@ module _ (code : Code) (ev : Outcome Val × State) where
         → Comes code ev s.at (ws ++ k) (low ++ junk) t
     args_run Nil m sc low env room f s k ws n junk t r e q g h = h (omega (arith, q)) junk e
     args_run (Cons a es) m sc low env room f s k ws n junk t r e q g h =
-        runs a m sc low env room f s (ws ++ k) junk t (omega (arith, r)) e (has_front _ _ (code_of a s m sc) _ g.0, has_front _ _ (texts_of a) _ g.1)
+        runs a m sc low env room f s (ws ++ k) junk t (omega (arith, r)) e (has_prefix _ _ (code_of a s m sc) _ g.0, has_prefix _ _ (texts_of a) _ g.1)
         (seq code ev _ _ (Lands code ev (after a s).at (ws ++ k) low room)
         (λ v w z js d. args_run es m sc low env room f (after a s) k (v ∷ ws) n js w (omega (arith, r)) d (omega (arith, q))
         (behind _ _ g.0 (ends_at a s m sc), behind _ _ g.1 (texts_end a s)) z)

@@ -1,4 +1,4 @@
--- What single instructions of compiled code do, said backwards: if what follows comes to the event, so does this.
+-- What single instructions of compiled code do, said backwards: if what follows evaluates to the event, so does this.
 use Rattle.std.proofs.Common.{◌≡◌, ℕ, zero, suc, ◌+◌, ◌-◌, ◌<◌, ◌≤◌, Bool, true, false, cond, nat_lt, nat_le, List, [], ◌∷◌, ◌++◌, length, take, drop, reverse}
 use Rattle.std.proofs.Common.{slice_get, slice_set, Option, Some, None, Result, Ok, Err, refl, sym, subst, ap, ◌∙◌, arith, append_assoc, ℤ, pos, negsuc}
 use Rattle.std.proofs.lemmas.List.{length-append}
@@ -12,7 +12,7 @@ use Rattle.pie_code.specs.declared.instr.Instr.{Instr}
 use Rattle.pie_code.specs.declared.instr.Instr.TheVariants.{Store, Jump, JumpIfNot, Unary, Push, Drop}
 use Rattle.pie_code.specs.declared.code.Code.{Code}
 use Rattle.pie_code.specs.Running.{Config, Turn, pop_many, onward, misfit, goes}
-use Rattle.pie_meaning.specs.Words.{branch}
+use Rattle.pie_semantics.specs.Words.{branch}
 use Rattle.pie_codegen.proofs.Base.{at, Comes, Then, Leads, one, mono, slot_behind}
 
 -- what stands behind the first ones

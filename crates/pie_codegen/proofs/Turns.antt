@@ -9,7 +9,7 @@ use Rattle.pie_parser.specs.declared.tree.Step.{Step}
 use Rattle.pie_parser.specs.declared.tree.Line.{Line}
 use Rattle.pie_parser.specs.declared.tree.Line.TheVariants as lines
 use Rattle.pie_parser.specs.TreeView.{trees_of, steps_of, lines_of, line_before}
-use Rattle.pie_meaning.specs.Words.{infix_of}
+use Rattle.pie_semantics.specs.Words.{infix_of}
 use Rattle.pie_types.specs.Checking.{count}
 use Rattle.pie_types.proofs.Left.{list_left, trees_left, steps_left, lines_left, count_is}
 use Rattle.pie_codegen.specs.declared.spot.Spot.{Spot}

@@ -21,7 +21,7 @@ use Rattle.pie_types.specs.Rules.{Leads, HasType, StepsHave, AllHave, HaveTypes,
 use Rattle.pie_types.specs.Rules as rules_of
 use Rattle.pie_types.specs.WholeRules.{ParamsBring, Declares, IsTypedFunction}
 use Rattle.pie_types.specs.WholeRules as whole
-use Rattle.pie_meaning.specs.Words.{Callee, ABuiltin, ReadBytes, NoCallee, callee_of, callee_arity, callee_by}
+use Rattle.pie_semantics.specs.Words.{Callee, ABuiltin, ReadBytes, NoCallee, callee_of, callee_arity, callee_by}
 use Rattle.pie_codegen.specs.Formed.{is_bound, Counts, AllCount, IsThere, CallFits, Formed, StepsFormed, TreesFormed, BlockFormed, LinesFormed, LastFormed}
 use Rattle.pie_codegen.specs.Formed.{ElseFormed}
 use Rattle.pie_codegen.specs.Names.{names_onto, names_of}

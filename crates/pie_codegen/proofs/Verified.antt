@@ -19,7 +19,7 @@ use Rattle.pie_codegen.specs.Compiled.{Scope, block_code}
 use Rattle.pie_codegen.specs.Functions.{scope_onto, scope_of, origin, IsCodeOf}
 use Rattle.pie_codegen.specs.Formed.{BlockFormed}
 use Rattle.pie_codegen.specs.Names.{names_onto, names_of}
-use Rattle.pie_codegen.proofs.Base.{HasAt, has_front}
+use Rattle.pie_codegen.proofs.Base.{HasAt, has_prefix}
 use Rattle.pie_codegen.proofs.Places.{Sized, behind, block_end}
 use Rattle.pie_codegen.proofs.Heights.{block_heights, block_places}
 use Rattle.pie_codegen.proofs.Flow.{Right, AllRight, right_both, Goes}
@@ -124,9 +124,9 @@ verified f code is w =
     let h1 = behind _ _ h0 (block_places f.body 0 origin) in
     let B = block_right code all f.body (length f.params) (scope_of f.params) (names_of f.params)
     (params_fit code all f.params 0 [] [] (omega (arith, is.slots)) tt) origin 0 w (omega (arith, is.slots)) (
-      has_front _ _ whole _ i0,
+      has_prefix _ _ whole _ i0,
       subst (HasAt code.texts.items 0) is.texts (has_whole code.texts.items),
-      has_front _ _ (block_heights f.body 0) _ h0,
+      has_prefix _ _ (block_heights f.body 0) _ h0,
     ) h1.0 begin in
     accepted code all
     (subst (AllRight code all 0) (sym is.instrs)

@@ -11,14 +11,14 @@ use Rattle.pie_code.specs.Running.{Config, Turn, goes, ends, run, run_on, step, 
 use Rattle.pie_code.specs.Coming.{Ends, CodeNext}
 use Rattle.pie_parser.specs.declared.tree.Param.{Param}
 use Rattle.pie_parser.specs.FunctionTrees.{FunctionTree}
-use Rattle.pie_meaning.specs.Words.{Env}
-use Rattle.pie_meaning.specs.Meaning.{bound, block_value, next_of}
+use Rattle.pie_semantics.specs.Words.{Env}
+use Rattle.pie_semantics.specs.Meaning.{bound, block_value, next_of}
 use Rattle.pie_codegen.specs.Spots.{after_block}
 use Rattle.pie_codegen.specs.Rooms.{block_room}
 use Rattle.pie_codegen.specs.Texts.{block_texts}
 use Rattle.pie_codegen.specs.Compiled.{Scope, block_code}
 use Rattle.pie_codegen.specs.Functions.{scope_onto, scope_of, origin, IsCodeOf, Means}
-use Rattle.pie_codegen.proofs.Base.{HasAt, has_front, Agree, agree_front, Fits, Comes, Then, mono, one}
+use Rattle.pie_codegen.proofs.Base.{HasAt, has_prefix, Agree, agree_front, Fits, Comes, Then, mono, one}
 use Rattle.pie_codegen.proofs.Places.{behind, block_end}
 use Rattle.pie_codegen.proofs.Steps.{at_low}
 use Rattle.pie_codegen.proofs.Forms.{Lands}
@@ -73,7 +73,7 @@ compiled f code is = record {
         small = omega (arith, is.slots, is.params, is.few);
       })
       origin [] (units (code.slots - code.params)) (at_start answers) (omega (arith, is.slots, is.params)) (units_length (code.slots - code.params)) (
-        has_front _ _ (block_code f.body origin (length f.params) (scope_of f.params)) _ h,
+        has_prefix _ _ (block_code f.body origin (length f.params) (scope_of f.params)) _ h,
         subst (HasAt code.texts.items 0) is.texts (has_whole code.texts.items),
       )
       (mono code ev (λ v s. (done v, s) ≡ ev) (Lands code ev (after_block f.body origin).at [] args (code.slots - code.params))
@@ -83,7 +83,7 @@ compiled f code is = record {
       (itself code ev ev refl));
 }
 
--- code comes to one event alone
+-- code evaluates to one event alone
 one_run : (code : Code) (n m : ℕ) (c : Config) (o p : Outcome Val × State) → run code n c ≡ Some o → run code m c ≡ Some p → o ≡ p
 one_run code zero m c o p h k = absurd cc
 one_run code (suc n) zero c o p h k = absurd cc

@@ -23,7 +23,7 @@ use Rattle.pie_parser.specs.Plain.{Tree, TLiteral, TName, TNull, TEmpty, TChain,
 use Rattle.pie_parser.specs.Plain.{TEffect, TWrite, TFail, Trees, Nil, Cons, Steps, NoStep, AStep, BlockTree, TBlock, LineTrees, NoLine}
 use Rattle.pie_parser.specs.Plain.{ValLine, ExprLine, LastTree, NoLast, ALast, ElseTree, NoElse, AnElse}
 use Rattle.pie_types.specs.Checking.{count}
-use Rattle.pie_meaning.specs.Words.{by_logic, logic_of, infix_of, comparison_of, prefix_of, Callee, ABuiltin, ReadBytes, NoCallee, callee_of, callee_arity}
+use Rattle.pie_semantics.specs.Words.{by_logic, logic_of, infix_of, comparison_of, prefix_of, Callee, ABuiltin, ReadBytes, NoCallee, callee_of, callee_arity}
 use Rattle.pie_codegen.specs.declared.spot.Spot.{Spot}
 use Rattle.pie_codegen.specs.Spots.{next, after, after_either, after_both, after_block, after_else, after_args, after_lines, loop_at}
 

@@ -9,7 +9,7 @@ use Rattle.pie_parser.specs.Plain.{Tree, TLiteral, TName, TNull, TEmpty, TChain,
 use Rattle.pie_parser.specs.Plain.{TEffect, TWrite, TFail, Trees, Nil, Cons, Steps, NoStep, AStep, BlockTree, TBlock, LineTrees, NoLine}
 use Rattle.pie_parser.specs.Plain.{ValLine, ExprLine, LastTree, NoLast, ALast, ElseTree, NoElse, AnElse}
 use Rattle.pie_types.specs.Checking.{count}
-use Rattle.pie_meaning.specs.Words.{Callee, ABuiltin, ReadBytes, NoCallee, callee_of, callee_arity}
+use Rattle.pie_semantics.specs.Words.{Callee, ABuiltin, ReadBytes, NoCallee, callee_of, callee_arity}
 
 -- a name is among some
 abbrev pub is_bound : List ℕ → List (List ℕ) → Bool

@@ -7,7 +7,7 @@ use Rattle.pie_code.specs.declared.code.Code.{Code}
 use Rattle.pie_code.specs.Coming.{CodeNext}
 use Rattle.pie_parser.specs.declared.tree.Param.{Param}
 use Rattle.pie_parser.specs.FunctionTrees.{FunctionTree}
-use Rattle.pie_meaning.specs.Meaning.{next_of}
+use Rattle.pie_semantics.specs.Meaning.{next_of}
 use Rattle.pie_codegen.specs.declared.spot.Spot.{Spot}
 use Rattle.pie_codegen.specs.Rooms.{block_room}
 use Rattle.pie_codegen.specs.Texts.{block_texts}

@@ -11,7 +11,7 @@ use Rattle.pie_parser.specs.FunctionTrees.{FunctionTree}
 use Rattle.pie_types.specs.Headings.{Heading, function_in}
 use Rattle.pie_types.specs.Whole.{number_from}
 use Rattle.pie_types.specs.WholeRules.{AreDeclared}
-use Rattle.pie_sound.specs.NeverStuck.{AnswersFit, RunsWell}
+use Rattle.pie_type_laws.specs.NeverStuck.{AnswersFit, RunsWell}
 use Rattle.pie_codegen.specs.Functions.{IsCodeOf, Means}
 use Rattle.pie_codegen.specs.Formed.{BlockFormed}
 use Rattle.pie_codegen.specs.Names.{names_of}

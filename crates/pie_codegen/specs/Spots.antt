@@ -8,7 +8,7 @@ use Rattle.pie_parser.specs.declared.tree.CallKind.TheVariants as calls
 use Rattle.pie_parser.specs.Plain.{Tree, TLiteral, TName, TNull, TEmpty, TChain, TCompare, TPrefix, TProject, TTuple, TList, TEach, TIf, TCall}
 use Rattle.pie_parser.specs.Plain.{TEffect, TWrite, TFail, Trees, Nil, Cons, Steps, NoStep, AStep, BlockTree, TBlock, LineTrees, NoLine}
 use Rattle.pie_parser.specs.Plain.{ValLine, ExprLine, LastTree, NoLast, ALast, ElseTree, NoElse, AnElse}
-use Rattle.pie_meaning.specs.Words.{by_logic, logic_of}
+use Rattle.pie_semantics.specs.Words.{by_logic, logic_of}
 use Rattle.pie_codegen.specs.declared.spot.Spot.{Spot}
 
 -- behind one instruction

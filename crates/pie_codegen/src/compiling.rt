@@ -48,12 +48,12 @@ fn checked(alloc: Global, function: &Function) -> Result<Checked, OutOfMemory>
     let code = function_code(alloc, function)?;
     match verify(alloc, code) {
         Ok(checked) => Ok(checked),
-        Err(error) => Err(want_of_memory(&error)),
+        Err(error) => Err(out_of_memory(&error)),
     }
 }
 
 // The one way in which the code of a typed function is refused.
-fn want_of_memory(error: &CodeError) -> OutOfMemory
+fn out_of_memory(error: &CodeError) -> OutOfMemory
     requires { error.now ≡ NoMemory }
 {
     OutOfMemory

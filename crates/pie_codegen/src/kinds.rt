@@ -1,6 +1,6 @@
 //! The instructions of operators, effects and calls.
 ghost use Rattle.std.specs.Prelude.{◌≡◌, ◌==◌, cond, IfOk, None};
-ghost use Rattle.pie_meaning.specs.Words as words;
+ghost use Rattle.pie_semantics.specs.Words as words;
 ghost use Rattle.pie_codegen.specs.Compiled as spec;
 
 use crate::scope::NO_SLOT;

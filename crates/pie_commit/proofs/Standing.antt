@@ -95,7 +95,7 @@ module _ {S : Type 0} (moment : S → ℕ) (left_since : S → ℕ → Directory
     since = λ t c le left. ⊎_elim (λ past. inl past) (λ is. inr (implies c is)) (leaves.since t c le left);
   }
 
--- ---- where the directory is told
+-- ---- where the directory is observable
 
 -- where the one is told, the other is
 abbrev pub Told : Option Directory → Option Directory → Type 0

@@ -6,11 +6,11 @@ use Rattle.pie_files.specs.Images.{Only}
 use Rattle.pie_commit.specs.declared.plan.Plan.{Plan}
 use Rattle.pie_commit.specs.Plans.{Wanted, Meets, Brings, wanted_by, is_own}
 
--- where the directory is told, it is told still, and each path has what was wanted
+-- where the directory is observable, it is told still, and each path has what was wanted
 abbrev pub HasBrought : (List ℕ → Wanted) → Option Directory → Option Directory → Type 0
 HasBrought wants before after = IfSome before (λ d. (e : Directory) × (after ≡ Some e) × Brings wants d e)
 
--- where the directory is told, it is told still, and every path that isn't the plan's own is as it was
+-- where the directory is observable, it is told still, and every path that isn't the plan's own is as it was
 pub record KeepsOthers (p : Plan) (before after : Option Directory) : Type 0 where
   pub kept : IfSome before (λ d. (e : Directory) × (after ≡ Some e) × ((q : List ℕ) → is_own p q ≡ false → file_at e q ≡ file_at d q))
 

@@ -56,7 +56,7 @@ impl Disk {
         }
     }
 
-    /// What it comes to at a call that may have changed something: a fault, even where the system has no memory.
+    /// What it evaluates to at a call that may have changed something: a fault, even where the system has no memory.
     pub(crate) fn failed(&self, call: &str, place: &str, error: &io::Error) -> FilesError {
         explain_refusal(self.rt, call, place, error);
         FilesError::Failed
@@ -74,7 +74,7 @@ pub(crate) fn is_own(path: &Path) -> bool {
     path.under_out() || path.under_store() || path.as_str() == "out"
 }
 
-/// Whether nothing stands at a place. Where a name is too long, or links lead round in a circle, no file can stand.
+/// Whether nothing stands at a place. Where a name is too long, or links lead round in a cycle, no file can stand.
 pub(crate) fn is_absent(error: &io::Error) -> bool {
     matches!(
         error.kind(),

@@ -161,7 +161,7 @@ impl Disk {
         }
     }
 
-    // Whether a directory, reached by a link, stands above that link: so the listing would go round in a circle.
+    // Whether a directory, reached by a link, stands above that link: so the listing would go round in a cycle.
     fn leads_back(&self, place: &str, seen: &Seen) -> Result<bool, FilesError> {
         let entry = self.seen("list", place, false)?;
         if !entry.is_some_and(|e| e.is_link()) {

@@ -25,7 +25,7 @@ impl Source for StdSource {
 
     ghost faults = { λ s. s.faults };
 
-    ghost sure = { λ _. ⊥ };
+    ghost infallible = { λ _. ⊥ };
 
     fn take(&mut self, into: &mut [u8]) -> Result<usize, SourceError> {
         match self.rt.stdin().read(into) {
@@ -59,7 +59,7 @@ impl Sink for StdSink {
 
     ghost faults = { λ s. s.faults };
 
-    ghost sure = { λ _. ⊥ };
+    ghost infallible = { λ _. ⊥ };
 
     fn put(&mut self, piece: &[u8]) -> Result<usize, SinkError> {
         match self.rt.stdout().write(piece) {

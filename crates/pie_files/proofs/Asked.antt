@@ -19,10 +19,10 @@ asked_push (Removed path ∷ log) x = ap (λ cs. Remove path ∷ cs) (asked_push
 asked_push (Synced ∷ log) x = ap (λ cs. Sync ∷ cs) (asked_push log x)
 
 -- a call on files that never fail was noted
-pub sure_called : {T : Type 0} (kind : Call → Type 0) (call : Call) (old new : SureFiles) (value : T) → kind call
+pub infallible_called : {T : Type 0} (kind : Call → Type 0) (call : Call) (old new : SureFiles) (value : T) → kind call
     → asked_by new ≡ asked_by old ++ call ∷ []
     → Called {S = SureFiles} (λ s. Some (asked_by s)) (λ _. 0) kind old new (Ok value)
-sure_called kind call old new value is noted = record {
+infallible_called kind call old new value is noted = record {
   noted = (call, is, ap Some noted);
   later = omega arith;
   steady = refl;

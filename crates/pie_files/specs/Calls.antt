@@ -7,7 +7,7 @@ use Rattle.pie_files.specs.declared.files.FilesError.TheVariants.{Failed, OutOfM
 use Rattle.pie_files.specs.Directory.{Directory, with_file, without_file}
 use Rattle.pie_files.specs.Faults.{Rose}
 
--- where the list of calls is told, one call of this kind stands at its end now
+-- where the list of calls is observable, one call of this kind stands at its end now
 abbrev pub Notes : (Call → Type 0) → Option (List Call) → Option (List Call) → Type 0
 Notes kind before after = IfSome before (λ calls. (call : Call) × kind call × (after ≡ Some (calls ++ call ∷ [])))
 

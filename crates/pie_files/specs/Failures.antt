@@ -8,5 +8,5 @@ abbrev pub is_listed : ℕ → List ℕ → Bool
 is_listed number failing = list_any (λ n. n == number) failing
 
 -- no call to come is to fail
-abbrev pub IsSure : Failures → Type 0
-IsSure f = (number : ℕ) → f.calls < number → is_listed number f.failing.items ≡ false
+abbrev pub IsInfallible : Failures → Type 0
+IsInfallible f = (number : ℕ) → f.calls < number → is_listed number f.failing.items ≡ false

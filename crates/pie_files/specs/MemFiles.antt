@@ -4,7 +4,7 @@ use Rattle.pie_files.specs.declared.files.Call.{Call}
 use Rattle.pie_files.specs.declared.mem_files.MemFiles.{MemFiles}
 use Rattle.pie_files.specs.declared.sure_files.Logged.{Logged}
 use Rattle.pie_files.specs.Directory.{Directory}
-use Rattle.pie_files.specs.Failures.{IsSure}
+use Rattle.pie_files.specs.Failures.{IsInfallible}
 use Rattle.pie_files.specs.SureFiles.{held_by, began_by, story_by, asked_by, images_by, moment_by, left_since_by}
 
 -- the directory
@@ -28,8 +28,8 @@ abbrev pub faults_in : MemFiles → ℕ
 faults_in s = s.failures.faults
 
 -- no call to come is to fail
-abbrev pub SureMemory : MemFiles → Type 0
-SureMemory s = IsSure s.failures
+abbrev pub InfallibleMemory : MemFiles → Type 0
+InfallibleMemory s = IsInfallible s.failures
 
 -- what a crash now may leave
 abbrev pub images_in : MemFiles → Directory → Type 0

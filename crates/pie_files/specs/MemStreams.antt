@@ -2,7 +2,7 @@
 use Rattle.std.specs.Prelude.{List, ℕ, drop}
 use Rattle.pie_files.specs.declared.mem_streams.MemSource.{MemSource}
 use Rattle.pie_files.specs.declared.mem_streams.MemSink.{MemSink}
-use Rattle.pie_files.specs.Failures.{IsSure}
+use Rattle.pie_files.specs.Failures.{IsInfallible}
 
 -- the bytes that are left
 abbrev pub left_in : MemSource → List ℕ
@@ -13,8 +13,8 @@ abbrev pub source_faults : MemSource → ℕ
 source_faults s = s.failures.faults
 
 -- no call to come is to fail
-abbrev pub SureSource : MemSource → Type 0
-SureSource s = IsSure s.failures
+abbrev pub InfallibleSource : MemSource → Type 0
+InfallibleSource s = IsInfallible s.failures
 
 -- the bytes so far
 abbrev pub held_at : MemSink → List ℕ
@@ -25,5 +25,5 @@ abbrev pub sink_faults : MemSink → ℕ
 sink_faults s = s.failures.faults
 
 -- no call to come is to fail
-abbrev pub SureSink : MemSink → Type 0
-SureSink s = IsSure s.failures
+abbrev pub InfallibleSink : MemSink → Type 0
+InfallibleSink s = IsInfallible s.failures

@@ -16,5 +16,5 @@ pub record Takes (bytes into : List ℕ) (n : ℕ) (after : List ℕ) (rest : Op
   pub end : n ≡ 0 → 0 < length into → bytes ≡ []
 
 -- a call on an object that is sure leaves it sure and raises no count
-abbrev pub StaysSure : {S : Type 0} → (S → Type 0) → (S → ℕ) → S → S → Type 0
-StaysSure sure faults old new = sure old → sure new × (faults new ≡ faults old)
+abbrev pub StaysInfallible : {S : Type 0} → (S → Type 0) → (S → ℕ) → S → S → Type 0
+StaysInfallible infallible faults old new = infallible old → infallible new × (faults new ≡ faults old)

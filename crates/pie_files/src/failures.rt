@@ -14,11 +14,11 @@ pub(crate) struct Failures {
 }
 
 impl Failures {
-    ghost use Rattle.pie_files.specs.Failures.{IsSure};
+    ghost use Rattle.pie_files.specs.Failures.{IsInfallible};
 
     /// No call is to fail.
     pub(crate) fn new(alloc: Global) -> Failures
-        ensures sure { IsSure result }
+        ensures infallible { IsInfallible result }
         ensures faults { result.faults ≡ 0 }
     {
         Failures {
@@ -43,7 +43,7 @@ impl Failures {
         ensures rose { IsTrue result → Rose self.old.faults self.new.faults }
         ensures stayed { result ≡ false → self.new.faults ≡ self.old.faults }
         ensures later { self.old.faults ≤ self.new.faults }
-        ensures sure { IsSure self.old → IsSure self.new × (result ≡ false) }
+        ensures infallible { IsInfallible self.old → IsInfallible self.new × (result ≡ false) }
     {
         let Some(number) = self.calls.checked_add(1) else {
             return false;

@@ -80,7 +80,7 @@ pub enum Call {
     Sync,
 }
 
-/// The files of a project directory. After want of memory nothing has changed.
+/// The files of a project directory. After out of memory nothing has changed.
 /// Rule: docs/BUILDING.md, "The outside".
 pub trait Files {
     /// The directory, where the object tells it.
@@ -92,13 +92,13 @@ pub trait Files {
     /// How often the outside has failed. It never falls.
     ghost faults: { Self → ℕ };
 
-    /// What a crash now may leave, where the directory is told.
+    /// What a crash now may leave, where the directory is observable.
     ghost images: { Self → Directory → Type 0 };
 
     /// A count of moments. It never falls.
     ghost moment: { Self → ℕ };
 
-    /// What a crash at this moment or a later one may have left, where the directory is told.
+    /// What a crash at this moment or a later one may have left, where the directory is observable.
     ghost left_since: { Self → ℕ → Directory → Type 0 };
 
     /// The file at a path, or `None` where there is none.

@@ -19,14 +19,14 @@ pub struct MemFiles {
 }
 
 impl MemFiles {
-    ghost use Rattle.pie_files.specs.MemFiles.{held_in, began_in, story_in, asked_in, faults_in, SureMemory, images_in};
+    ghost use Rattle.pie_files.specs.MemFiles.{held_in, began_in, story_in, asked_in, faults_in, InfallibleMemory, images_in};
 
     /// No file, and no call that is to fail.
     pub fn new(alloc: Global) -> MemFiles
         ensures empty { held_in result ≡ fin.empty }
         ensures asked { asked_in result ≡ [] }
         ensures faults { faults_in result ≡ 0 }
-        ensures sure { SureMemory result }
+        ensures infallible { InfallibleMemory result }
         ensures rest { Only (held_in result) (images_in result) }
     {
         MemFiles {
@@ -65,7 +65,7 @@ impl MemFiles {
         ensures picked { IfOk result (λ left. held_in left ≡ picked_image pick (began_in self.now) (story_in self.now)) }
         ensures asked { IfOk result (λ left. asked_in left ≡ []) }
         ensures faults { IfOk result (λ left. faults_in left ≡ 0) }
-        ensures sure { IfOk result (λ left. SureMemory left) }
+        ensures infallible { IfOk result (λ left. InfallibleMemory left) }
         ensures rest { IfOk result (λ left. Only (held_in left) (images_in left)) }
     {
         let files = self.files.crash(pick)?;

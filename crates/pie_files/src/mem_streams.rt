@@ -16,13 +16,13 @@ pub struct MemSource {
 }
 
 impl MemSource {
-    ghost use Rattle.pie_files.specs.MemStreams.{left_in, source_faults, SureSource};
+    ghost use Rattle.pie_files.specs.MemStreams.{left_in, source_faults, InfallibleSource};
 
     /// An input of these bytes, no call of which is to fail.
     pub fn new(alloc: Global, bytes: Vec<u8>) -> MemSource
         ensures left { left_in result ≡ bytes.items }
         ensures faults { source_faults result ≡ 0 }
-        ensures sure { SureSource result }
+        ensures infallible { InfallibleSource result }
     {
         MemSource {
             bytes,
@@ -42,13 +42,13 @@ impl MemSource {
 
 impl Source for MemSource {
     ghost use Rattle.std.specs.Prelude.{Some};
-    ghost use Rattle.pie_files.specs.MemStreams.{left_in, source_faults, SureSource};
+    ghost use Rattle.pie_files.specs.MemStreams.{left_in, source_faults, InfallibleSource};
 
     ghost left = { λ s. Some (left_in s) };
 
     ghost faults = { source_faults };
 
-    ghost sure = { SureSource };
+    ghost infallible = { InfallibleSource };
 
     fn take(&mut self, into: &mut [u8]) -> Result<usize, SourceError> {
         if self.failures.next_fails() {
@@ -69,13 +69,13 @@ pub struct MemSink {
 }
 
 impl MemSink {
-    ghost use Rattle.pie_files.specs.MemStreams.{held_at, sink_faults, SureSink};
+    ghost use Rattle.pie_files.specs.MemStreams.{held_at, sink_faults, InfallibleSink};
 
     /// An empty output, no call of which is to fail.
     pub fn new(alloc: Global) -> MemSink
         ensures empty { held_at result ≡ [] }
         ensures faults { sink_faults result ≡ 0 }
-        ensures sure { SureSink result }
+        ensures infallible { InfallibleSink result }
     {
         MemSink {
             bytes: Vec::new(alloc),
@@ -101,13 +101,13 @@ impl MemSink {
 
 impl Sink for MemSink {
     ghost use Rattle.std.specs.Prelude.{Some};
-    ghost use Rattle.pie_files.specs.MemStreams.{held_at, sink_faults, SureSink};
+    ghost use Rattle.pie_files.specs.MemStreams.{held_at, sink_faults, InfallibleSink};
 
     ghost held = { λ s. Some (held_at s) };
 
     ghost faults = { sink_faults };
 
-    ghost sure = { SureSink };
+    ghost infallible = { InfallibleSink };
 
     fn put(&mut self, piece: &[u8]) -> Result<usize, SinkError> {
         if self.failures.next_fails() {

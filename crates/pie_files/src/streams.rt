@@ -1,6 +1,6 @@
 //! An input and an output, as traits.
 ghost use Rattle.std.specs.Prelude.{◌≡◌, ◌≤◌, ◌++◌, [], List, ℕ, Option, Some, IfSome, IfOk, OnErr, length, take};
-ghost use Rattle.pie_files.specs.Streams.{Counted, Takes, StaysSure};
+ghost use Rattle.pie_files.specs.Streams.{Counted, Takes, StaysInfallible};
 
 use pie_base::OutOfMemory;
 use std::alloc::{AllocError, AllocFailed};
@@ -60,7 +60,7 @@ pub trait Source {
     ghost faults: { Self → ℕ };
 
     /// No call to come will fail.
-    ghost sure: { Self → Type 0 };
+    ghost infallible: { Self → Type 0 };
 
     /// Fills the front of the slice, and answers how many bytes it took.
     /// 0 for a slice that isn't empty is the end of the input.
@@ -69,7 +69,7 @@ pub trait Source {
         ensures taken { IfSome (left self.old) (λ bytes. IfOk result (λ n. Takes bytes into.old n into.new (left self.new))) }
         ensures kept { OnErr result (left self.new ≡ left self.old) }
         ensures counted { Counted faults SourceError.Failed self.old self.new result }
-        ensures sure { StaysSure sure faults self.old self.new };
+        ensures infallible { StaysInfallible infallible faults self.old self.new };
 }
 
 /// An output of bytes. A call that answers an error puts nothing.
@@ -81,7 +81,7 @@ pub trait Sink {
     ghost faults: { Self → ℕ };
 
     /// No call to come will fail.
-    ghost sure: { Self → Type 0 };
+    ghost infallible: { Self → Type 0 };
 
     /// Puts bytes of the front of the piece, and answers how many: never 0 for a piece that isn't
     /// empty.
@@ -91,5 +91,5 @@ pub trait Sink {
         ensures gained { IfSome (held self.old) (λ bytes. IfOk result (λ n. held self.new ≡ Some (bytes ++ take n piece.now))) }
         ensures kept { OnErr result (held self.new ≡ held self.old) }
         ensures counted { Counted faults SinkError.Failed self.old self.new result }
-        ensures sure { StaysSure sure faults self.old self.new };
+        ensures infallible { StaysInfallible infallible faults self.old self.new };
 }

@@ -16,16 +16,16 @@ use Rattle.pie_files.specs.Directory.{Directory}
 use Rattle.pie_model.specs.Paths.{Path}
 use Rattle.pie_model.specs.Records.{Record}
 use Rattle.pie_model.specs.Seen.{first_write}
-use Rattle.pie_judge.proofs.Members.{into_map}
-use Rattle.pie_world.specs.Rows.{record_of}
-use Rattle.pie_world.specs.World.{world, project}
-use Rattle.pie_world.specs.Clean.{IsCleanBuild}
-use Rattle.pie_bridge.specs.Builds.{AreLive, AreOutputs, AreRows, Answers}
-use Rattle.pie_bridge.proofs.Ended.{accepted_is, checked_is}
-use Rattle.pie_bridge.proofs.Filed.{wrote_in}
-use Rattle.pie_bridge.proofs.Provided.{hashed_paths}
-use Rattle.pie_bridge.proofs.Shown.{path_wrote}
-use Rattle.pie_bridge.proofs.Tabled.{record_by_number}
+use Rattle.pie_check_laws.proofs.Members.{into_map}
+use Rattle.pie_model_pipeline.specs.Rows.{record_of}
+use Rattle.pie_model_pipeline.specs.World.{world, project}
+use Rattle.pie_model_pipeline.specs.Clean.{IsCleanBuild}
+use Rattle.pie_builder_laws.specs.Builds.{AreLive, AreOutputs, AreRows, Answers}
+use Rattle.pie_builder_laws.proofs.Ended.{accepted_is, checked_is}
+use Rattle.pie_builder_laws.proofs.Filed.{wrote_in}
+use Rattle.pie_builder_laws.proofs.Provided.{hashed_paths}
+use Rattle.pie_builder_laws.proofs.Shown.{path_wrote}
+use Rattle.pie_builder_laws.proofs.Tabled.{record_by_number}
 use Rattle.pie_fresh.specs.declared.ledger.Ledger.{Ledger}
 use Rattle.pie_fresh.specs.Builds.{IsEmptyWhereRefused, MakesNothing, NothingWhere}
 use Rattle.pie_fresh.specs.Cleans.{contents_in}

@@ -16,11 +16,11 @@ use Rattle.pie_files.specs.Directory.{Directory}
 use Rattle.pie_code.specs.declared.code.Code.{Code}
 use Rattle.pie_parser.specs.FunctionTrees.{FunctionTree}
 use Rattle.pie_types.specs.Headings.{Heading}
-use Rattle.pie_world.specs.Clean.{IsCleanBuild}
-use Rattle.pie_bridge.specs.Views.{RowIs}
-use Rattle.pie_bridge.specs.Builds.{AreDone}
-use Rattle.pie_bridge.proofs.Ended.{none_done, ended_done, failed_is, cycle_is, full_is}
-use Rattle.pie_bridge.proofs.Fitted.{headings_of}
+use Rattle.pie_model_pipeline.specs.Clean.{IsCleanBuild}
+use Rattle.pie_builder_laws.specs.Views.{RowIs}
+use Rattle.pie_builder_laws.specs.Builds.{AreDone}
+use Rattle.pie_builder_laws.proofs.Ended.{none_done, ended_done, failed_is, cycle_is, full_is}
+use Rattle.pie_builder_laws.proofs.Fitted.{headings_of}
 use Rattle.pie_fresh.specs.declared.ledger.Ledger.{Ledger}
 use Rattle.pie_fresh.specs.declared.builder.Builder.{Builder}
 use Rattle.pie_fresh.specs.Ledgers.{Starts}

@@ -11,7 +11,7 @@ use Rattle.pie_value.specs.declared.task.Task.{Task}
 use Rattle.pie_value.specs.Canonical.{IsEncodableTask}
 use Rattle.pie_vm.specs.Machines.{Belongs}
 use Rattle.pie_vm.specs.declared.machine.MachineState.TheVariants.{Ready}
-use Rattle.pie_fresh.specs.declared.frame.Frame.{Frame}
+use Rattle.pie_fresh.specs.declared.frame.RunningTask.{RunningTask}
 use Rattle.pie_fresh.specs.declared.frame.Caller.{Caller}
 use Rattle.pie_fresh.specs.declared.builder.Builder.{Builder}
 use Rattle.pie_fresh.specs.Noted.{Noted, begun, IsSound}
@@ -24,7 +24,7 @@ use Rattle.pie_fresh.proofs.Growing.{callers_grow, caller_grows}
 use Rattle.pie_fresh.proofs.Stepping.{left_more}
 
 -- a task that was entered and has done nothing yet
-pub begun_is : (b c : Builder) (f : Frame) (t : Task) (number : ℕ) → IsLedger c.ledger → Grows b.ledger c.ledger → c.ledger.names ≡ b.ledger.names ++ t ∷ []
+pub begun_is : (b c : Builder) (f : RunningTask) (t : Task) (number : ℕ) → IsLedger c.ledger → Grows b.ledger c.ledger → c.ledger.names ≡ b.ledger.names ++ t ∷ []
     → c.ledger.records ≡ b.ledger.records → c.ledger.ended ≡ b.ledger.ended → c.stack ≡ b.stack → c.typed ≡ b.typed
     → Contains (function_names b.typed.now) t.func → number ≡ length b.ledger.names → f.machine.phase ≡ Ready → Belongs f.code.now f.machine
     → f.notes ≡ begun t number 1000001 → IsEncodableTask t
@@ -62,17 +62,17 @@ begun_is b c f t number ledger grows names records ended stack typed known place
     }
 
 -- one task more
-begun_one : (b c : Builder) (t : Task) (f : Frame) → Begun b c t f → length c.ledger.names ≡ length b.ledger.names + 1
+begun_one : (b c : Builder) (t : Task) (f : RunningTask) → Begun b c t f → length c.ledger.names ≡ length b.ledger.names + 1
 begun_one b c t f e = ap length e.names ∙ length-append b.ledger.names (t ∷ [])
 
-begun_known : (b c : Builder) (t : Task) (f : Frame) → Begun b c t f → AreKnown b → AreKnown c
+begun_known : (b c : Builder) (t : Task) (f : RunningTask) → Begun b c t f → AreKnown b → AreKnown c
 begun_known b c t f e known =
     subst (λ k. All (λ (u : Task). Contains (function_names k.now) u.func) c.ledger.names) (sym e.typed)
     (subst (λ ts. All (λ (u : Task). Contains (function_names b.typed.now) u.func) ts) (sym e.names)
     (All-push (λ (u : Task). Contains (function_names b.typed.now) u.func) b.ledger.names t known e.known))
 
 -- a root that was entered runs
-pub begun_runs : (b c : Builder) (t : Task) (f : Frame) → IsIdle b → Begun b c t f → Running c f
+pub begun_runs : (b c : Builder) (t : Task) (f : RunningTask) → IsIdle b → Begun b c t f → Running c f
 begun_runs b c t f s e =
     let empty : c.stack.items ≡ [] = ap (λ cs. cs.items) e.stack ∙ s.alone in
     record {
@@ -94,7 +94,7 @@ begun_runs b c t f s e =
     }
 
 -- a required task that was entered runs, and the one that requires it waits
-pub descended : (b c d : Builder) (t : Task) (f : Frame) (w : Caller) → StandsAt w.waiting.notes.number b → Begun b c t f → d.ledger ≡ c.ledger
+pub descended : (b c d : Builder) (t : Task) (f : RunningTask) (w : Caller) → StandsAt w.waiting.notes.number b → Begun b c t f → d.ledger ≡ c.ledger
     → d.stack.items ≡ c.stack.items ++ w ∷ [] → d.typed ≡ c.typed → t ≡ w.required → IsCaller b.ledger w → Running d f
 descended b c d t f w s e same pushed typed asked is = record {
   stands = record {
@@ -130,7 +130,7 @@ one_less : (n : ℕ) → n < 50000 → still n ≡ still (n + 1) + 1000003
 unfolding still
 one_less n lt = let q : 50000 - n ≡ (50000 - (n + 1)) + 1 = omega (arith, lt) in ap (λ k. k * 1000003) q ∙ omega arith
 
-pub descended_nearer : (b c d : Builder) (t : Task) (f : Frame) (w : Caller) → Begun b c t f → d.ledger ≡ c.ledger → d.stack.items ≡ c.stack.items ++ w ∷ []
+pub descended_nearer : (b c d : Builder) (t : Task) (f : RunningTask) (w : Caller) → Begun b c t f → d.ledger ≡ c.ledger → d.stack.items ≡ c.stack.items ++ w ∷ []
     → below_left d + f.notes.left + 1 < below_left b + w.waiting.notes.left + 1
 descended_nearer b c d t f w e same pushed =
     let names : length d.ledger.names ≡ length b.ledger.names + 1 = ap (λ l. length l.names) same ∙ begun_one b c t f e in

@@ -14,8 +14,8 @@ use Rattle.pie_base.specs.Path.{is_out}
 use Rattle.pie_record.specs.declared.task_record.TaskRecord.{TaskRecord}
 use Rattle.pie_record.specs.Records.{record_of}
 use Rattle.pie_stage.specs.Content.{content}
-use Rattle.pie_judge.proofs.Members.{into_map, from_map}
-use Rattle.pie_bridge.specs.Builds.{WroteAt, IsFile}
+use Rattle.pie_check_laws.proofs.Members.{into_map, from_map}
+use Rattle.pie_builder_laws.specs.Builds.{WroteAt, IsFile}
 use Rattle.pie_fresh.specs.declared.ledger.Ledger.{Ledger}
 use Rattle.pie_fresh.specs.Builds.{OnlyOut, InPathOrder}
 use Rattle.pie_fresh.specs.Collected.{AreFilesOf, AreOfTasks, HasAllBelow, HasStaged, HasWritten, KeepsPaths, WritesAreStaged, file_at}

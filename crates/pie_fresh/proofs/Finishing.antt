@@ -8,7 +8,7 @@ use Rattle.pie_codegen.specs.Digests.{function_names}
 use Rattle.std.proofs.lemmas.List.{length-append}
 use Rattle.std.proofs.lemmas.List.Elements.{All-nil, All-pop}
 use Rattle.pie_value.specs.declared.task.Task.{Task}
-use Rattle.pie_fresh.specs.declared.frame.Frame.{Frame}
+use Rattle.pie_fresh.specs.declared.frame.RunningTask.{RunningTask}
 use Rattle.pie_fresh.specs.declared.frame.Caller.{Caller}
 use Rattle.pie_fresh.specs.declared.builder.Builder.{Builder}
 use Rattle.pie_fresh.specs.Noted.{Noted}
@@ -48,7 +48,7 @@ ended_stands_as b c v n same ledger grows names puts ended stack typed s =
     subst (λ (k : Noted). Stands [] k.number c) (sym same) (ended_stands b c n.number ledger grows names puts ended stack typed s)
 
 -- the one that waits for the task that has ended goes on
-pub resumed : (b c : Builder) (w : Caller) (number height : ℕ) (f : Frame) → Stands [] number b → b.stack.items ≡ c.stack.items ++ w ∷ []
+pub resumed : (b c : Builder) (w : Caller) (number height : ℕ) (f : RunningTask) → Stands [] number b → b.stack.items ≡ c.stack.items ++ w ∷ []
     → c.ledger ≡ b.ledger → c.typed ≡ b.typed → IsHigh b.ledger number height → height < b.ledger.ended → IsReady f
     → Given (Called w.required) number height w.waiting.notes f.notes → Running c f
 resumed b c w number height f s popped same typed high low ready given =
@@ -103,7 +103,7 @@ rested b c number s popped none same typed =
       alone = none;
     }
 
-pub resumed_nearer : (b c : Builder) (w : Caller) (number height : ℕ) (f : Frame) → b.stack.items ≡ c.stack.items ++ w ∷ [] → c.ledger ≡ b.ledger
+pub resumed_nearer : (b c : Builder) (w : Caller) (number height : ℕ) (f : RunningTask) → b.stack.items ≡ c.stack.items ++ w ∷ [] → c.ledger ≡ b.ledger
     → Given (Called w.required) number height w.waiting.notes f.notes → below_left c + f.notes.left + 1 < below_left b + 1
 resumed_nearer b c w number height f popped same given =
     let weight : waiting_left b.stack.items ≡ waiting_left c.stack.items + (w.waiting.notes.left + 1) = ap waiting_left popped ∙ left_more c.stack.items w in

@@ -1,4 +1,4 @@
--- A task that was told what a required task came to goes on as in the model.
+-- A task that was told what a required task evaluated to goes on as in the model.
 use Rattle.std.proofs.Common.{◌≡◌, ℕ, ◌-◌, ◌<◌, true, false, cond, Some, None, List, [], ◌∷◌, ◌++◌, map, refl, sym, ap, subst, ◌∙◌}
 use Rattle.std.specs.Prelude.{slice_get, IfSome}
 use Rattle.std.specs.Option.{option_map}
@@ -25,34 +25,34 @@ use Rattle.pie_model.specs.Trees.{Node}
 use Rattle.pie_model.specs.Evaluation.{required as model_required, output_answer, evaluation, round}
 use Rattle.pie_model.specs.Records.{Required, observed as observation, value_stamp}
 use Rattle.pie_model.specs.Stack.{Frame as ModelFrame, tasks_of}
-use Rattle.pie_suspend.specs.Frames.{gone_on, was_answered}
-use Rattle.pie_suspend.specs.UnderWay.{HasEnded}
-use Rattle.pie_suspend.proofs.StepLemmas.{map_end, require_answered}
-use Rattle.pie_suspend.proofs.EndLemmas.{ends_in_a_cycle}
-use Rattle.pie_world.specs.Words.{how_of}
-use Rattle.pie_world.specs.Answers.{answer_of}
-use Rattle.pie_world.specs.Rows.{observation_of, record_of, outcome_of}
-use Rattle.pie_world.specs.World.{world}
-use Rattle.pie_bridge.specs.Fits.{Fit}
-use Rattle.pie_bridge.specs.Names.{called_in}
-use Rattle.pie_bridge.specs.Requiring.{of_task, requiring_answer}
-use Rattle.pie_bridge.proofs.Required.{require_is, answer_is}
-use Rattle.pie_bridge.proofs.Naming.{among_at}
-use Rattle.pie_bridge.proofs.Tabled.{record_by_number}
-use Rattle.pie_fresh.specs.declared.frame.Frame.{Frame}
+use Rattle.pie_step_laws.specs.Frames.{gone_on, was_answered}
+use Rattle.pie_step_laws.specs.UnderWay.{HasEnded}
+use Rattle.pie_step_laws.proofs.StepLemmas.{map_end, require_answered}
+use Rattle.pie_step_laws.proofs.EndLemmas.{ends_in_a_cycle}
+use Rattle.pie_model_pipeline.specs.Words.{how_of}
+use Rattle.pie_model_pipeline.specs.Answers.{answer_of}
+use Rattle.pie_model_pipeline.specs.Rows.{observation_of, record_of, outcome_of}
+use Rattle.pie_model_pipeline.specs.World.{world}
+use Rattle.pie_builder_laws.specs.Fits.{Fit}
+use Rattle.pie_builder_laws.specs.Names.{called_in}
+use Rattle.pie_builder_laws.specs.Requiring.{of_task, requiring_answer}
+use Rattle.pie_builder_laws.proofs.Required.{require_is, answer_is}
+use Rattle.pie_builder_laws.proofs.Naming.{among_at}
+use Rattle.pie_builder_laws.proofs.Tabled.{record_by_number}
+use Rattle.pie_fresh.specs.declared.frame.RunningTask.{RunningTask}
 use Rattle.pie_fresh.specs.declared.frame.Waiting.{Waiting}
 use Rattle.pie_fresh.specs.declared.ledger.Ledger.{Ledger}
 use Rattle.pie_fresh.specs.declared.builder.Builder.{Builder}
 use Rattle.pie_fresh.specs.declared.ledger.Done.{Done}
 use Rattle.pie_fresh.specs.Noted.{Noted, required}
 use Rattle.pie_fresh.specs.Frames.{StandsAt}
-use Rattle.pie_fresh.specs.Circles.{tasks_from}
+use Rattle.pie_fresh.specs.Cycles.{tasks_from}
 use Rattle.pie_fresh.specs.Kept.{IsKeptAs}
 use Rattle.pie_fresh.specs.Told.{IsTold, fails_by}
 use Rattle.pie_fresh.specs.Means.{Site, project_of, table_of, names_of, IsKeptOutput, MeansFrame, MeansTable, Means, IsAsking, RefusesAs}
 use Rattle.pie_fresh.proofs.Fitting.{fits_output, output_kept}
 use Rattle.pie_fresh.proofs.Telling.{called_end, one_less, fails_turn}
-use Rattle.pie_fresh.proofs.Circling.{circle_round}
+use Rattle.pie_fresh.proofs.Cycling.{cycle_round}
 
 -- a task with one more required task and its answer is the frame of the model with these
 pub given_frame : (s : Site) (l : Ledger) (code : Code) (m m2 : Standing) (n : Noted) (left k : ℕ) (g : ModelFrame) (how : How) (t : Task) (v : Value)
@@ -92,7 +92,7 @@ pub output_canonical : (s : Site) (l : Ledger) (number : ℕ) (rec : TaskRecord)
 output_canonical s l number rec v T is done = subst IsKeptOutput done (subst (λ o. IfSome o (λ r. IsKeptOutput r.outcome)) is (T.outputs number))
 
 -- a require of a task that is done is answered
-pub answered_means : (s : Site) (b : Builder) (w : Waiting) (how : How) (t : Task) (v : Value) (number height : ℕ) (rec : TaskRecord) (f : Frame)
+pub answered_means : (s : Site) (b : Builder) (w : Waiting) (how : How) (t : Task) (v : Value) (number height : ℕ) (rec : TaskRecord) (f : RunningTask)
     → IsAsking s b w (events.Require t how) → 0 < w.notes.left → is_small_task t ≡ true → slice_get b.ledger.names number ≡ Some t
     → kept_of b.ledger.records number ≡ Some rec → rec.outcome ≡ ends.Done v
     → IsTold w f (required (of_task how t v) number height w.notes) (requiring_answer how v) → Means s b f.code.now f.machine f.notes
@@ -126,7 +126,7 @@ pub cycle_means : (s : Site) (b : Builder) (w : Waiting) (how : How) (t : Task) 
 cycle_means s b w how t number ts S A left small named none told =
     subst (λ xs. HasEnded world (project_of s) s.root s.base (names_of b.ledger) (Cycled xs))
     (ap (λ x. round (enc_task t) (x ∷ tasks_of A.means.waiting) []) A.means.top.task
-    ∙ circle_round s b.ledger A.means.table.tasks number t named A.means.waiting b.stack.items w.notes.number w.notes.task A.means.stack A.means.top.named
+    ∙ cycle_round s b.ledger A.means.table.tasks number t named A.means.waiting b.stack.items w.notes.number w.notes.task A.means.stack A.means.top.named
     S.unfinished none ∙ ap (map enc_task) (sym told))
     (ends_in_a_cycle world (project_of s) s.root s.base (table_of b.ledger) (names_of b.ledger) A.means.waiting A.means.running A.means.under
     (w.notes.left - 1) (how_of how) (enc_task t) (A.means.top.left ∙ one_less w.notes.left left)
@@ -134,7 +134,7 @@ cycle_means s b w how t number ts S A left small named none told =
     (record_by_number b.ledger.names b.ledger.records number t A.means.table.tasks named ∙ ap (option_map record_of) none))
 
 -- a require of a task that was entered: it is answered with the output in its record, or ends the root
-pub given_turn : (s : Site) (b : Builder) (w : Waiting) (how : How) (t : Task) (number : ℕ) (done : Done) (f : Frame) → IsAsking s b w (events.Require t how)
+pub given_turn : (s : Site) (b : Builder) (w : Waiting) (how : How) (t : Task) (number : ℕ) (done : Done) (f : RunningTask) → IsAsking s b w (events.Require t how)
     → 0 < w.notes.left → is_small_task t ≡ true → slice_get b.ledger.names number ≡ Some t → IsKeptAs b.ledger.records number (Some done)
     → IsTold w f (required (of_task how t done.output) done.no.0 done.height w.notes) (requiring_answer how done.output) → done.no.0 ≡ number
     → Means s b f.code.now f.machine f.notes

@@ -52,7 +52,7 @@ advanced_placed l old new a p = record {
   risen = subst (λ ts. Rises l ts 0 new.height) (sym a.tasks) (subst (λ h. Rises l (tasks_on old.deps) 0 h) (sym a.height) p.risen);
 }
 
--- so is one that was given what a task came to
+-- so is one that was given what a task evaluated to
 pub given_placed : (l : Ledger) (t : Task) (number height : ℕ) (old new : Noted) → slice_get l.names number ≡ Some t → IsHigh l number height → height < l.ended
     → Given (Called t) number height old new → IsPlaced l old → IsPlaced l new
 given_placed l t number height old new named is low a p = record {

@@ -27,19 +27,19 @@ use Rattle.pie_model.specs.Seen.{first_write}
 use Rattle.pie_model.specs.Evaluation.{evaluation}
 use Rattle.pie_model.specs.Steps.{ChangesAt}
 use Rattle.pie_model.specs.Stack.{Frame as ModelFrame}
-use Rattle.pie_suspend.specs.Frames.{record_left, was_answered}
-use Rattle.pie_suspend.specs.Table.{Rests as TableRests}
-use Rattle.pie_suspend.specs.UnderWay.{UnderWay, HasEnded}
-use Rattle.pie_suspend.proofs.EndLemmas.{failed, task_ends, frame_waits, own_writes, root_rests, root_ends}
-use Rattle.pie_world.specs.Rows.{record_of, observation_of}
-use Rattle.pie_world.specs.World.{world}
+use Rattle.pie_step_laws.specs.Frames.{record_left, was_answered}
+use Rattle.pie_step_laws.specs.Table.{Rests as TableRests}
+use Rattle.pie_step_laws.specs.UnderWay.{UnderWay, HasEnded}
+use Rattle.pie_step_laws.proofs.EndLemmas.{failed, task_ends, frame_waits, own_writes, root_rests, root_ends}
+use Rattle.pie_model_pipeline.specs.Rows.{record_of, observation_of}
+use Rattle.pie_model_pipeline.specs.World.{world}
 use Rattle.pie_types.specs.Headings.{function_in}
-use Rattle.pie_sound.specs.Fitting.{OutputFits}
-use Rattle.pie_bridge.specs.Names.{AreTasks}
-use Rattle.pie_bridge.specs.Tables.{recorded}
-use Rattle.pie_bridge.specs.Views.{IsGraphOf, IsStaged}
-use Rattle.pie_bridge.proofs.Tabled.{record_put}
-use Rattle.pie_bridge.proofs.Provided.{graph_changes}
+use Rattle.pie_type_laws.specs.Fitting.{OutputFits}
+use Rattle.pie_builder_laws.specs.Names.{AreTasks}
+use Rattle.pie_builder_laws.specs.Tables.{recorded}
+use Rattle.pie_builder_laws.specs.Views.{IsGraphOf, IsStaged}
+use Rattle.pie_builder_laws.proofs.Tabled.{record_put}
+use Rattle.pie_builder_laws.proofs.Provided.{graph_changes}
 use Rattle.pie_fresh.specs.declared.ledger.Ledger.{Ledger}
 use Rattle.pie_fresh.specs.declared.builder.Builder.{Builder}
 use Rattle.pie_fresh.specs.declared.turn.Turn.{Turn}

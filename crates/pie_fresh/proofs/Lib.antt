@@ -22,7 +22,7 @@ pub mod Fitting
 pub mod Telling
 pub mod Moving
 pub mod Writing
-pub mod Circling
+pub mod Cycling
 pub mod Giving
 pub mod Starting
 pub mod Leaving

@@ -11,9 +11,9 @@ use Rattle.pie_record.specs.Records.{record_of as kept_of}
 use Rattle.pie_model.specs.Paths.{among}
 use Rattle.pie_model.specs.Stack.{Frame as ModelFrame, tasks_of}
 use Rattle.pie_model.proofs.Basics.{among_here, among_there}
-use Rattle.pie_world.specs.Rows.{record_of}
-use Rattle.pie_bridge.specs.Views.{AreNumbersOf}
-use Rattle.pie_bridge.proofs.Tabled.{record_by_number}
+use Rattle.pie_model_pipeline.specs.Rows.{record_of}
+use Rattle.pie_builder_laws.specs.Views.{AreNumbersOf}
+use Rattle.pie_builder_laws.proofs.Tabled.{record_by_number}
 use Rattle.pie_fresh.specs.declared.frame.Caller.{Caller}
 use Rattle.pie_fresh.specs.declared.ledger.Ledger.{Ledger}
 use Rattle.pie_fresh.specs.declared.builder.Builder.{Builder}

@@ -14,15 +14,15 @@ use Rattle.pie_model.specs.declared.words.Event.TheVariants.{Fail}
 use Rattle.pie_model.specs.declared.words.FaultKind.TheVariants as model_faults
 use Rattle.pie_model.specs.declared.words.Outcome.TheVariants.{Failed}
 use Rattle.pie_model.specs.Evaluation.{present_answer}
-use Rattle.pie_suspend.specs.Frames.{saw_contents}
-use Rattle.pie_suspend.specs.UnderWay.{UnderWay, HasEnded}
-use Rattle.pie_suspend.proofs.StepLemmas.{map_end, present_look}
-use Rattle.pie_suspend.proofs.EndLemmas.{failed, ran_out}
-use Rattle.pie_world.specs.Words.{fault_of, look_by}
-use Rattle.pie_world.specs.Answers.{answer_of}
-use Rattle.pie_world.specs.World.{world, next}
-use Rattle.pie_bridge.proofs.Naming.{canonical_at}
-use Rattle.pie_bridge.proofs.Coded.{event_is}
+use Rattle.pie_step_laws.specs.Frames.{saw_contents}
+use Rattle.pie_step_laws.specs.UnderWay.{UnderWay, HasEnded}
+use Rattle.pie_step_laws.proofs.StepLemmas.{map_end, present_look}
+use Rattle.pie_step_laws.proofs.EndLemmas.{failed, ran_out}
+use Rattle.pie_model_pipeline.specs.Words.{fault_of, look_by}
+use Rattle.pie_model_pipeline.specs.Answers.{answer_of}
+use Rattle.pie_model_pipeline.specs.World.{world, next}
+use Rattle.pie_builder_laws.proofs.Naming.{canonical_at}
+use Rattle.pie_builder_laws.proofs.Coded.{event_is}
 use Rattle.pie_fresh.specs.declared.builder.Builder.{Builder}
 use Rattle.pie_fresh.specs.declared.frame.Waiting.{Waiting}
 use Rattle.pie_fresh.specs.declared.looking.Sight.{Sight}

@@ -9,16 +9,16 @@ use Rattle.pie_model.specs.declared.words.How.{How}
 use Rattle.pie_model.specs.declared.words.Event.TheVariants.{Require}
 use Rattle.pie_model.specs.Evaluation.{evaluation}
 use Rattle.pie_model.specs.Stack.{Frame as ModelFrame}
-use Rattle.pie_suspend.specs.Frames.{was_answered}
-use Rattle.pie_suspend.specs.Table.{Rests as TableRests}
-use Rattle.pie_suspend.specs.UnderWay.{UnderWay, HasEnded}
+use Rattle.pie_step_laws.specs.Frames.{was_answered}
+use Rattle.pie_step_laws.specs.Table.{Rests as TableRests}
+use Rattle.pie_step_laws.specs.UnderWay.{UnderWay, HasEnded}
 use Rattle.pie_model.specs.declared.words.Outcome.TheVariants.{Ended}
-use Rattle.pie_world.specs.Words.{how_of}
-use Rattle.pie_world.specs.World.{world}
-use Rattle.pie_world.proofs.Joining.{tasks_told}
-use Rattle.pie_bridge.specs.Requiring.{of_task, requiring_answer}
-use Rattle.pie_bridge.proofs.Naming.{canonical_at}
-use Rattle.pie_fresh.specs.declared.frame.Frame.{Frame}
+use Rattle.pie_model_pipeline.specs.Words.{how_of}
+use Rattle.pie_model_pipeline.specs.World.{world}
+use Rattle.pie_model_pipeline.proofs.Joining.{tasks_told}
+use Rattle.pie_builder_laws.specs.Requiring.{of_task, requiring_answer}
+use Rattle.pie_builder_laws.proofs.Naming.{canonical_at}
+use Rattle.pie_fresh.specs.declared.frame.RunningTask.{RunningTask}
 use Rattle.pie_fresh.specs.declared.frame.Caller.{Caller}
 use Rattle.pie_fresh.specs.declared.builder.Builder.{Builder}
 use Rattle.pie_fresh.specs.Noted.{required}
@@ -60,7 +60,7 @@ same_task : (h k : How) (t u : List ℕ) → Require h t ≡ Require k u → t �
 same_task h k t u e = cc
 
 -- the newest task that waits is told what the one that has ended came to
-pub resumed_means : (s : Site) (b c : Builder) (w : Caller) (number height : ℕ) (v : Value) (f : Frame) → HasFinished s b number v
+pub resumed_means : (s : Site) (b c : Builder) (w : Caller) (number height : ℕ) (v : Value) (f : RunningTask) → HasFinished s b number v
     → b.stack.items ≡ c.stack.items ++ w ∷ [] → c.ledger ≡ b.ledger → IsThere s c
     → IsTold w.waiting f (required (of_task w.how w.required v) number height w.waiting.notes) (requiring_answer w.how v)
     → Means s c f.code.now f.machine f.notes

@@ -9,11 +9,11 @@ use Rattle.pie_model.specs.Trees.{outcome_of, is_done}
 use Rattle.pie_model.specs.declared.words.Outcome.{Outcome}
 use Rattle.pie_model.specs.declared.words.Outcome.TheVariants.{Ended, Failed, Cycled, Many}
 use Rattle.pie_model.specs.Evaluation.{evaluation}
-use Rattle.pie_suspend.specs.UnderWay.{HasEnded}
-use Rattle.pie_suspend.proofs.EndLemmas.{known_done, known_adds_nothing}
-use Rattle.pie_world.specs.World.{world}
-use Rattle.pie_bridge.proofs.Naming.{among_at}
-use Rattle.pie_fresh.specs.declared.frame.Frame.{Frame}
+use Rattle.pie_step_laws.specs.UnderWay.{HasEnded}
+use Rattle.pie_step_laws.proofs.EndLemmas.{known_done, known_adds_nothing}
+use Rattle.pie_model_pipeline.specs.World.{world}
+use Rattle.pie_builder_laws.proofs.Naming.{among_at}
+use Rattle.pie_fresh.specs.declared.frame.RunningTask.{RunningTask}
 use Rattle.pie_fresh.specs.declared.builder.Builder.{Builder}
 use Rattle.pie_fresh.specs.declared.turn.Turn.{Turn}
 use Rattle.pie_fresh.specs.declared.turn.Turn.TheVariants.{Goes, Rests, Stops}
@@ -23,12 +23,12 @@ use Rattle.pie_fresh.proofs.Starting.{root_means, root_refused}
 
 -- ---- from one event of the running task to the next
 
-module _ (first held : Option Directory) (a b c : Builder) (began f : Frame) (same : held ≡ first) (so_far : RunsOn first a began b f) (t : Turn)
+module _ (first held : Option Directory) (a b c : Builder) (began f : RunningTask) (same : held ≡ first) (so_far : RunsOn first a began b f) (t : Turn)
     (turns : TurnsAs held b c f t) where
   came : (s : Site) → first ≡ Some s.directory → Means s a began.code.now began.machine began.notes → TurnMeans s c t
   came s h M = turns s (same ∙ h) (so_far s h M)
 
-  pub runs_on : (g : Frame) → t ≡ Goes g → RunsOn first a began c g
+  pub runs_on : (g : RunningTask) → t ≡ Goes g → RunsOn first a began c g
   runs_on g is s h M = subst (λ x. TurnMeans s c x) is (came s h M)
 
   pub runs_out : t ≡ Rests → RunsAs first a c began None
@@ -38,13 +38,13 @@ module _ (first held : Option Directory) (a b c : Builder) (began f : Frame) (sa
   runs_stop r is s h M = subst (λ x. TurnMeans s c x) is (came s h M)
 
 -- a root begins to run
-pub runs_first : (held : Option Directory) (b : Builder) (f : Frame) → RunsOn held b f b f
+pub runs_first : (held : Option Directory) (b : Builder) (f : RunningTask) → RunsOn held b f b f
 runs_first held b f s h M = M
 
 -- ---- from its first event to its answer
 
 -- a root that was entered runs to its answer
-pub begins_runs : (held : Option Directory) (b c new : Builder) (root : Task) (f : Frame) → NewAs b c root (Runs f) → (why : Option Refusal)
+pub begins_runs : (held : Option Directory) (b c new : Builder) (root : Task) (f : RunningTask) → NewAs b c root (Runs f) → (why : Option Refusal)
     → RunsAs held c new f why → BeginsAs held b new root why
 begins_runs held b c new root f enters why goes s n h R found same base =
     let E = enters s R.there R.table in goes s h (root_means s b c root R same base f E.0 E.1)

@@ -8,10 +8,10 @@ use Rattle.pie_record.specs.declared.task_record.TaskRecord.{TaskRecord}
 use Rattle.pie_record.specs.Names.{AreDistinct}
 use Rattle.pie_record.specs.Records.{record_of}
 use Rattle.pie_store.specs.Canonical.{tasks_in}
-use Rattle.pie_judge.proofs.Members.{from_map}
-use Rattle.pie_bridge.specs.Names.{AreTasks}
-use Rattle.pie_bridge.specs.Builds.{AreRows}
-use Rattle.pie_bridge.proofs.Naming.{one_place}
+use Rattle.pie_check_laws.proofs.Members.{from_map}
+use Rattle.pie_builder_laws.specs.Names.{AreTasks}
+use Rattle.pie_builder_laws.specs.Builds.{AreRows}
+use Rattle.pie_builder_laws.proofs.Naming.{one_place}
 use Rattle.pie_fresh.specs.declared.ledger.Ledger.{Ledger}
 use Rattle.pie_fresh.specs.Ledgers.{IsLedger}
 use Rattle.pie_fresh.specs.Ordered.{Place, IsPlace, ArePlaces, recorded, AreOrdered}

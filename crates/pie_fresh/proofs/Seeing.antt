@@ -19,12 +19,12 @@ use Rattle.pie_model.specs.declared.words.Seen.TheVariants.{Clashing}
 use Rattle.pie_model.specs.Seen.{first_write, provided, seen_file, visible_at}
 use Rattle.pie_model.specs.Records.{needs_of}
 use Rattle.pie_model.proofs.Basics.{clash}
-use Rattle.pie_world.specs.World.{world}
-use Rattle.pie_bridge.specs.Names.{called_in}
-use Rattle.pie_bridge.specs.Views.{found}
-use Rattle.pie_bridge.proofs.Tabled.{needs_called}
-use Rattle.pie_bridge.proofs.KindLemmas.{source_is_file, kept_is_empty, own_is_visible, others_are_visible}
-use Rattle.pie_bridge.proofs.Provided.{provided_is}
+use Rattle.pie_model_pipeline.specs.World.{world}
+use Rattle.pie_builder_laws.specs.Names.{called_in}
+use Rattle.pie_builder_laws.specs.Views.{found}
+use Rattle.pie_builder_laws.proofs.Tabled.{needs_called}
+use Rattle.pie_builder_laws.proofs.KindLemmas.{source_is_file, kept_is_empty, own_is_visible, others_are_visible}
+use Rattle.pie_builder_laws.proofs.Provided.{provided_is}
 use Rattle.pie_fresh.specs.declared.builder.Builder.{Builder}
 use Rattle.pie_fresh.specs.Noted.{Noted}
 use Rattle.pie_fresh.specs.declared.looking.Sight.{Sight}

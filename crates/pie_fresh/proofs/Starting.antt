@@ -27,22 +27,22 @@ use Rattle.pie_model.specs.declared.words.FaultKind.TheVariants as model_faults
 use Rattle.pie_model.specs.Trees.{entered}
 use Rattle.pie_model.specs.Evaluation.{evaluation}
 use Rattle.pie_model.specs.Stack.{Frame as ModelFrame, Begins}
-use Rattle.pie_suspend.specs.Frames.{begun as model_begun, set_aside}
-use Rattle.pie_suspend.specs.UnderWay.{UnderWay}
-use Rattle.pie_suspend.proofs.StepLemmas.{map_end, root_begins, require_descends}
-use Rattle.pie_suspend.proofs.EndLemmas.{enters_one_more, new_root_entered}
-use Rattle.pie_world.specs.Words.{how_of}
-use Rattle.pie_world.specs.World.{world}
-use Rattle.pie_bridge.specs.Names.{AreTasks}
-use Rattle.pie_bridge.specs.Tables.{recorded}
-use Rattle.pie_bridge.specs.Views.{IsGraphOf}
-use Rattle.pie_bridge.specs.Events.{AreCompiled}
-use Rattle.pie_bridge.proofs.Fitted.{no_answers}
-use Rattle.pie_bridge.proofs.Naming.{canonical_at, other_back}
-use Rattle.pie_bridge.proofs.Numbered.{code_found}
-use Rattle.pie_bridge.proofs.Tabled.{no_record_named}
-use Rattle.pie_bridge.proofs.Provided.{numbers_stay, graph_grows}
-use Rattle.pie_fresh.specs.declared.frame.Frame.{Frame}
+use Rattle.pie_step_laws.specs.Frames.{begun as model_begun, set_aside}
+use Rattle.pie_step_laws.specs.UnderWay.{UnderWay}
+use Rattle.pie_step_laws.proofs.StepLemmas.{map_end, root_begins, require_descends}
+use Rattle.pie_step_laws.proofs.EndLemmas.{enters_one_more, new_root_entered}
+use Rattle.pie_model_pipeline.specs.Words.{how_of}
+use Rattle.pie_model_pipeline.specs.World.{world}
+use Rattle.pie_builder_laws.specs.Names.{AreTasks}
+use Rattle.pie_builder_laws.specs.Tables.{recorded}
+use Rattle.pie_builder_laws.specs.Views.{IsGraphOf}
+use Rattle.pie_builder_laws.specs.Events.{AreCompiled}
+use Rattle.pie_builder_laws.proofs.Fitted.{no_answers}
+use Rattle.pie_builder_laws.proofs.Naming.{canonical_at, other_back}
+use Rattle.pie_builder_laws.proofs.Numbered.{code_found}
+use Rattle.pie_builder_laws.proofs.Tabled.{no_record_named}
+use Rattle.pie_builder_laws.proofs.Provided.{numbers_stay, graph_grows}
+use Rattle.pie_fresh.specs.declared.frame.RunningTask.{RunningTask}
 use Rattle.pie_fresh.specs.declared.frame.Caller.{Caller}
 use Rattle.pie_fresh.specs.declared.frame.Waiting.{Waiting}
 use Rattle.pie_fresh.specs.declared.ledger.Ledger.{Ledger}
@@ -163,7 +163,7 @@ added s old new t there T now names rows records stage tasks stack room absent =
 }
 
 -- a new task before its first event is the new frame of the model
-pub begun_frame : (s : Site) (old new : Builder) (t u : Task) (f : Frame) (number : ℕ) → AddsTask s old new t → MeansTable s old.ledger → u ≡ t
+pub begun_frame : (s : Site) (old new : Builder) (t u : Task) (f : RunningTask) (number : ℕ) → AddsTask s old new t → MeansTable s old.ledger → u ≡ t
     → number ≡ length old.ledger.names → HasFunction s.functions s.codes t f.code.now → f.machine.config ≡ start f.code.now t.args []
     → f.notes ≡ begun u number 1000001 → MeansFrame s new.ledger f.code.now f.machine f.notes f.notes.left (model_begun world (enc_task t))
 begun_frame s old new t u f number A T same place function started notes =
@@ -262,7 +262,7 @@ module _ (s : Site) (b c : Builder) (w : Waiting) (t : Task) (how : How) (A : Is
       (w.notes.left - 1) (how_of how) (enc_task t) some_left requires E.absent (room_left b.ledger.names E.room)))
 
   -- it runs first, above the one that requires it
-  pub descended_means : (d : Builder) (f : Frame) → AddsTask s b c t
+  pub descended_means : (d : Builder) (f : RunningTask) → AddsTask s b c t
       → MeansFrame s c.ledger f.code.now f.machine f.notes f.notes.left (model_begun world (enc_task t)) → d.ledger ≡ c.ledger
       → d.stack.items ≡ c.stack.items ++ record { waiting = w; required = t; how = how } ∷ [] → IsThere s d → Means s d f.code.now f.machine f.notes
   descended_means d f E top same pushed there =
@@ -326,7 +326,7 @@ module _ (s : Site) (b c : Builder) (t : Task) (R : IsResting s b) (root : s.roo
       (sym (names_one_more b c t E.names))
       (root_begins world (project_of s) (enc_task t) (table_of b.ledger) (names_of b.ledger) R.rests E.absent (room_left b.ledger.names E.room)))))
 
-  pub root_means : (f : Frame) → AddsTask s b c t → MeansFrame s c.ledger f.code.now f.machine f.notes f.notes.left (model_begun world (enc_task t))
+  pub root_means : (f : RunningTask) → AddsTask s b c t → MeansFrame s c.ledger f.code.now f.machine f.notes f.notes.left (model_begun world (enc_task t))
       → Means s c f.code.now f.machine f.notes
   root_means f E top = record {
     there = E.there;

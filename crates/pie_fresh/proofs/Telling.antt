@@ -30,29 +30,29 @@ use Rattle.pie_model.specs.declared.words.Outcome.TheVariants.{Failed}
 use Rattle.pie_model.specs.Seen.{seen_file, visible_at}
 use Rattle.pie_model.specs.Evaluation.{answered, absent_answer, present_answer}
 use Rattle.pie_model.specs.Records.{Observation, Absent, Hash, Looked, Listed, observed as observation, contents_stamp}
-use Rattle.pie_suspend.specs.Frames.{gone_on}
-use Rattle.pie_suspend.specs.UnderWay.{UnderWay, HasEnded}
-use Rattle.pie_suspend.proofs.StepLemmas.{map_end, absent_look, present_look, listing_made}
-use Rattle.pie_suspend.proofs.EndLemmas.{failed, clashes, lists_too_much}
-use Rattle.pie_world.specs.Words.{fault_of, look_by}
-use Rattle.pie_world.specs.Answers.{answer_of}
-use Rattle.pie_world.specs.Rows.{observation_of}
-use Rattle.pie_world.specs.World.{world}
-use Rattle.pie_sound.specs.Fitting.{AnswerFits}
-use Rattle.pie_bridge.specs.Fits.{Fit}
-use Rattle.pie_bridge.specs.Names.{called_on, called_in}
-use Rattle.pie_bridge.specs.Views.{AreNumbersOf}
-use Rattle.pie_bridge.specs.Looks.{IsLook, Sight}
-use Rattle.pie_bridge.proofs.Fitted.{builders_fit}
-use Rattle.pie_bridge.proofs.Lookings.{presence_is, reading_is, digest_is, listing_is, limit_is}
-use Rattle.pie_fresh.specs.declared.frame.Frame.{Frame}
+use Rattle.pie_step_laws.specs.Frames.{gone_on}
+use Rattle.pie_step_laws.specs.UnderWay.{UnderWay, HasEnded}
+use Rattle.pie_step_laws.proofs.StepLemmas.{map_end, absent_look, present_look, listing_made}
+use Rattle.pie_step_laws.proofs.EndLemmas.{failed, clashes, lists_too_much}
+use Rattle.pie_model_pipeline.specs.Words.{fault_of, look_by}
+use Rattle.pie_model_pipeline.specs.Answers.{answer_of}
+use Rattle.pie_model_pipeline.specs.Rows.{observation_of}
+use Rattle.pie_model_pipeline.specs.World.{world}
+use Rattle.pie_type_laws.specs.Fitting.{AnswerFits}
+use Rattle.pie_builder_laws.specs.Fits.{Fit}
+use Rattle.pie_builder_laws.specs.Names.{called_on, called_in}
+use Rattle.pie_builder_laws.specs.Views.{AreNumbersOf}
+use Rattle.pie_builder_laws.specs.Looks.{IsLook, Sight}
+use Rattle.pie_builder_laws.proofs.Fitted.{builders_fit}
+use Rattle.pie_builder_laws.proofs.Lookings.{presence_is, reading_is, digest_is, listing_is, limit_is}
+use Rattle.pie_fresh.specs.declared.frame.RunningTask.{RunningTask}
 use Rattle.pie_fresh.specs.declared.frame.Waiting.{Waiting}
 use Rattle.pie_fresh.specs.declared.builder.Builder.{Builder}
 use Rattle.pie_fresh.specs.declared.turn.Turn.{Turn}
 use Rattle.pie_fresh.specs.declared.turn.Turn.TheVariants.{Goes, Rests, Stops}
 use Rattle.pie_fresh.specs.Noted.{observed}
 use Rattle.pie_fresh.specs.Sights.{Sighted, hash_in, Sees, SeesDigest, SeesPresence, listing_in}
-use Rattle.pie_fresh.specs.Told.{CameTo, IsTold, IsToldOrFails, IsToldSmall, IsToldList, fails_by, told_flag, told_reading, told_hash}
+use Rattle.pie_fresh.specs.Told.{EvaluatedTo, IsTold, IsToldOrFails, IsToldSmall, IsToldList, fails_by, told_flag, told_reading, told_hash}
 use Rattle.pie_fresh.specs.Told.{paths_list}
 use Rattle.pie_fresh.specs.Means.{Site, project_of, table_of, names_of, Means, IsAsking, RefusesAs, TurnMeans}
 use Rattle.pie_fresh.proofs.Fitting.{fits_more}
@@ -74,8 +74,8 @@ module _ (s : Site) (b : Builder) (w : Waiting) (M : Means s b w.code.now w.mach
   some_left = M.top.left ∙ one_less w.notes.left left
 
   -- a task that observed something and was told what it is
-  pub told_means : (f : Frame) (d : Dep) (a : Answer) (x : ModelAnswer) (o : Observation) (e : Event)
-      → CameTo w.code.now w.notes.task.args (map answer_of M.running.progress.answers) (wants e) → AnswerFits s.headings e a
+  pub told_means : (f : RunningTask) (d : Dep) (a : Answer) (x : ModelAnswer) (o : Observation) (e : Event)
+      → EvaluatedTo w.code.now w.notes.task.args (map answer_of M.running.progress.answers) (wants e) → AnswerFits s.headings e a
       → IsTold w f (observed d w.notes) a → called_on d.what ≡ [] → a ≡ answer_of x → observation_of d ≡ o
       → UnderWay world (project_of s) s.root s.base (table_of b.ledger) (names_of b.ledger) M.waiting
       (gone_on M.running (answered M.running.progress x) (M.running.seen ++ o ∷ []) (w.notes.left - 1))
@@ -117,9 +117,9 @@ module _ (s : Site) (b : Builder) (w : Waiting) (M : Means s b w.code.now w.mach
       (fault_of k) some_left q)
 
   look_goes : (l : Look) (p : List ℕ) → (project_of s).next M.running.task M.running.progress.answers ≡ LookAt l p → (seen : Sight)
-      → visible_at (file_at s.directory) M.running.progress.own M.running.progress.kids p ≡ seen_file seen → (f : Frame) (x : Dep × Answer)
+      → visible_at (file_at s.directory) M.running.progress.own M.running.progress.kids p ≡ seen_file seen → (f : RunningTask) (x : Dep × Answer)
       → IsLook l p seen x.0 x.1 → called_on x.0.what ≡ [] → (e : Event)
-      → CameTo w.code.now w.notes.task.args (map answer_of M.running.progress.answers) (wants e)
+      → EvaluatedTo w.code.now w.notes.task.args (map answer_of M.running.progress.answers) (wants e)
       → AnswerFits s.headings e x.1 → IsTold w f (observed x.0 w.notes) x.1 → Means s b f.code.now f.machine f.notes
   look_goes l p q None v f x i none e came fits t =
       told_means f x.0 x.1 (absent_answer l) (observation (Looked l p) Absent) e came fits t none i.answer i.observation
@@ -133,7 +133,7 @@ module _ (s : Site) (b : Builder) (w : Waiting) (M : Means s b w.code.now w.mach
   look_turn : (l : Look) (p : List ℕ) → (project_of s).next M.running.task M.running.progress.answers ≡ LookAt l p → (o : Sighted)
       → visible_at (file_at s.directory) M.running.progress.own M.running.progress.kids p ≡ seen_by o → (told : Sight → Dep × Answer)
       → ((seen : Sight) → o ≡ Some seen → IsLook l p seen (told seen).0 (told seen).1) → ((seen : Sight) → called_on (told seen).0.what ≡ [])
-      → (e : Event) → CameTo w.code.now w.notes.task.args (map answer_of M.running.progress.answers) (wants e)
+      → (e : Event) → EvaluatedTo w.code.now w.notes.task.args (map answer_of M.running.progress.answers) (wants e)
       → ((seen : Sight) → AnswerFits s.headings e (told seen).1) → (t : Turn) → IsToldOrFails w (option_map told o) t → TurnMeans s b t
   look_turn l p q (Some seen) v told is none e came fits (Goes f) h =
       look_goes l p q seen v f (told seen) (is seen refl) (none seen) e came (fits seen) h
@@ -148,7 +148,7 @@ module _ (s : Site) (b : Builder) (w : Waiting) (M : Means s b w.code.now w.mach
 
   -- a listing: the task goes on with the entries, or fails where they are too many
   list_goes : (d : List ℕ) → (project_of s).next M.running.task M.running.progress.answers ≡ ListOf d
-      → CameTo w.code.now w.notes.task.args (map answer_of M.running.progress.answers) (wants (events.List d)) → (small : Bool)
+      → EvaluatedTo w.code.now w.notes.task.args (map answer_of M.running.progress.answers) (wants (events.List d)) → (small : Bool)
       → is_small (paths_list (entries_of s.directory d)) ≡ small → (t : Turn) → IsToldSmall small w d (entries_of s.directory d) t → TurnMeans s b t
   list_goes d q came true e (Goes f) h =
       let es : List (List ℕ) = entries_of s.directory d in

@@ -1,4 +1,4 @@
--- What a machine comes to is what the task does next in the model.
+-- What a machine evaluates to is what the task does next in the model.
 use Rattle.std.proofs.Common.{◌≡◌, inl, inr, ◌-◌, ◌<◌, Option, List, map, refl, sym, ap, subst, ◌∙◌}
 use Rattle.pie_base.specs.declared.fault.FaultKind.{FaultKind}
 use Rattle.pie_value.specs.declared.task.Task.{Task}
@@ -11,30 +11,30 @@ use Rattle.pie_value.specs.Values.{tree_of}
 use Rattle.pie_operators.specs.Domain.{Outcome, done, fails, wants}
 use Rattle.pie_vm.specs.Machines.{Standing, Follows}
 use Rattle.pie_model.specs.declared.words.Outcome.TheVariants.{Failed}
-use Rattle.pie_suspend.specs.UnderWay.{HasEnded}
-use Rattle.pie_suspend.proofs.EndLemmas.{failed, ran_out}
-use Rattle.pie_world.specs.Words.{event_of, fault_of}
-use Rattle.pie_world.specs.Answers.{answer_of}
-use Rattle.pie_world.specs.World.{world, next}
-use Rattle.pie_bridge.proofs.Naming.{canonical_at}
-use Rattle.pie_bridge.proofs.Coded.{event_is}
-use Rattle.pie_fresh.specs.declared.frame.Frame.{Frame}
+use Rattle.pie_step_laws.specs.UnderWay.{HasEnded}
+use Rattle.pie_step_laws.proofs.EndLemmas.{failed, ran_out}
+use Rattle.pie_model_pipeline.specs.Words.{event_of, fault_of}
+use Rattle.pie_model_pipeline.specs.Answers.{answer_of}
+use Rattle.pie_model_pipeline.specs.World.{world, next}
+use Rattle.pie_builder_laws.proofs.Naming.{canonical_at}
+use Rattle.pie_builder_laws.proofs.Coded.{event_is}
+use Rattle.pie_fresh.specs.declared.frame.RunningTask.{RunningTask}
 use Rattle.pie_fresh.specs.declared.frame.Waiting.{Waiting}
 use Rattle.pie_files.specs.Directory.{Directory}
-use Rattle.pie_fresh.specs.declared.frame.Came.{Came}
-use Rattle.pie_fresh.specs.declared.frame.Came.TheVariants.{Asks, Ends, Fails}
+use Rattle.pie_fresh.specs.declared.frame.Paused.{Paused}
+use Rattle.pie_fresh.specs.declared.frame.Paused.TheVariants.{Asks, Ends, Fails}
 use Rattle.pie_fresh.specs.declared.builder.Builder.{Builder}
 use Rattle.pie_fresh.specs.declared.turn.Turn.{Turn}
 use Rattle.pie_fresh.specs.declared.turn.Turn.TheVariants.{Stops}
 use Rattle.pie_fresh.specs.Noted.{Noted}
-use Rattle.pie_fresh.specs.Told.{CameTo, StopsFor, ComesAs}
+use Rattle.pie_fresh.specs.Told.{EvaluatedTo, StopsFor, ComesAs}
 use Rattle.pie_fresh.specs.Means.{Site, project_of, table_of, names_of, MeansFrame, Means, IsAsking, EndsWith, RefusesAs, TurnMeans, TreatsAs}
 use Rattle.pie_fresh.specs.Means.{TurnsAs, FinishesAs}
 use Rattle.pie_fresh.proofs.Telling.{one_less}
 
-module _ (s : Site) (b : Builder) (f : Frame) (M : Means s b f.code.now f.machine f.notes) where
-  -- what the code comes to is what the task does
-  does : (o : Outcome Tree) → CameTo f.code.now f.notes.task.args (map answer_of M.running.progress.answers) o
+module _ (s : Site) (b : Builder) (f : RunningTask) (M : Means s b f.code.now f.machine f.notes) where
+  -- what the code evaluates to is what the task does
+  does : (o : Outcome Tree) → EvaluatedTo f.code.now f.notes.task.args (map answer_of M.running.progress.answers) o
       → (project_of s).next M.running.task M.running.progress.answers ≡ event_of o
   does o h =
       ap (λ t. next s.functions t M.running.progress.answers) M.top.task
@@ -75,8 +75,8 @@ module _ (s : Site) (b : Builder) (f : Frame) (M : Means s b f.code.now f.machin
       under = M.under;
     };
     asks = does (wants e) h.2;
-    came = subst (λ c. CameTo c w.notes.task.args (map answer_of M.running.progress.answers) (wants e)) (sym h.0)
-        (subst (λ (n : Noted). CameTo f.code.now n.task.args (map answer_of M.running.progress.answers) (wants e)) (sym same) h.2);
+    came = subst (λ c. EvaluatedTo c w.notes.task.args (map answer_of M.running.progress.answers) (wants e)) (sym h.0)
+        (subst (λ (n : Noted). EvaluatedTo f.code.now n.task.args (map answer_of M.running.progress.answers) (wants e)) (sym same) h.2);
   }
 
   pub comes_ending : (n : Noted) (v : Value) → n ≡ f.notes → ComesAs f.code.now f.notes (map answer_of M.running.progress.answers) (Ends n v)
@@ -94,7 +94,7 @@ module _ (s : Site) (b : Builder) (f : Frame) (M : Means s b f.code.now f.machin
       under = M.under;
     };
     ends = does (done (tree_of v)) h.1;
-    came = subst (λ (x : Noted). CameTo f.code.now x.task.args (map answer_of M.running.progress.answers) (done (tree_of v))) (sym same) h.1;
+    came = subst (λ (x : Noted). EvaluatedTo f.code.now x.task.args (map answer_of M.running.progress.answers) (done (tree_of v))) (sym same) h.1;
     left = subst (λ (x : Noted). 0 < x.left) (sym same) h.0;
   }
 
@@ -113,22 +113,22 @@ module _ (s : Site) (b : Builder) (f : Frame) (M : Means s b f.code.now f.machin
       subst (TurnMeans s b) (sym e) (subst (λ x. RefusesAs s b.ledger (Fault (record { task = x; kind = k }))) (sym h.0)
       (subst (λ x. HasEnded world (project_of s) s.root s.base (names_of b.ledger) (Failed x (fault_of k))) M.top.task (fails_as k h.1)))
 
--- what a machine came to, with the answers so far
-abbrev pub ComesWith : Frame → Came → Type 0
+-- what a machine evaluated to, with the answers so far
+abbrev pub ComesWith : RunningTask → Paused → Type 0
 ComesWith f c = (answers : List Answer) → Follows f.code.now f.notes.task.args answers f.machine → ComesAs f.code.now f.notes answers c
 
 -- a step of a task that asks, ends or fails is that of the model
-pub turns_asking : (held : Option Directory) (b new : Builder) (f : Frame) (w : Waiting) (e : Event) → w.notes ≡ f.notes → ComesWith f (Asks w e) → (t : Turn)
+pub turns_asking : (held : Option Directory) (b new : Builder) (f : RunningTask) (w : Waiting) (e : Event) → w.notes ≡ f.notes → ComesWith f (Asks w e) → (t : Turn)
     → TreatsAs held b new w e t → TurnsAs held b new f t
 turns_asking held b new f w e same came t treats s h M =
     treats s h (comes_asking s b f M w e same (came (map answer_of M.running.progress.answers) M.top.follows))
 
-pub turns_ending : (held : Option Directory) (b new : Builder) (f : Frame) (n : Noted) (v : Value) → n ≡ f.notes → ComesWith f (Ends n v) → (t : Turn)
+pub turns_ending : (held : Option Directory) (b new : Builder) (f : RunningTask) (n : Noted) (v : Value) → n ≡ f.notes → ComesWith f (Ends n v) → (t : Turn)
     → FinishesAs b new n v t → TurnsAs held b new f t
 turns_ending held b new f n v same came t finishes s h M =
     finishes s (comes_ending s b f M n v same (came (map answer_of M.running.progress.answers) M.top.follows))
 
-pub turns_failing : (held : Option Directory) (b : Builder) (f : Frame) (task : Task) (k : FaultKind) → ComesWith f (Fails task k) → (t : Turn)
+pub turns_failing : (held : Option Directory) (b : Builder) (f : RunningTask) (task : Task) (k : FaultKind) → ComesWith f (Fails task k) → (t : Turn)
     → t ≡ Stops (Fault (record { task = task; kind = k })) → TurnsAs held b b f t
 turns_failing held b f task k came t e s h M =
     comes_failing s b f M task k t (came (map answer_of M.running.progress.answers) M.top.follows) e

@@ -30,16 +30,16 @@ use Rattle.pie_model.specs.Evaluation.{World}
 use Rattle.pie_model.specs.Records.{hashed}
 use Rattle.pie_model.specs.Stack.{tasks_of}
 use Rattle.pie_model.proofs.Basics.{same_bytes, bytes_same, clash}
-use Rattle.pie_suspend.specs.Frames.{has_written}
-use Rattle.pie_suspend.proofs.StepLemmas.{map_end, write_made}
-use Rattle.pie_world.specs.Answers.{answer_of}
-use Rattle.pie_world.specs.World.{world}
-use Rattle.pie_bridge.specs.Fits.{Fit}
-use Rattle.pie_fresh.specs.declared.frame.Frame.{Frame}
+use Rattle.pie_step_laws.specs.Frames.{has_written}
+use Rattle.pie_step_laws.proofs.StepLemmas.{map_end, write_made}
+use Rattle.pie_model_pipeline.specs.Answers.{answer_of}
+use Rattle.pie_model_pipeline.specs.World.{world}
+use Rattle.pie_builder_laws.specs.Fits.{Fit}
+use Rattle.pie_fresh.specs.declared.frame.RunningTask.{RunningTask}
 use Rattle.pie_fresh.specs.declared.frame.Waiting.{Waiting}
 use Rattle.pie_fresh.specs.declared.builder.Builder.{Builder}
 use Rattle.pie_fresh.specs.Noted.{wrote}
-use Rattle.pie_fresh.specs.Told.{CameTo, IsTold, StagesFirst, KeepsFirst, fails_by}
+use Rattle.pie_fresh.specs.Told.{EvaluatedTo, IsTold, StagesFirst, KeepsFirst, fails_by}
 use Rattle.pie_fresh.specs.Means.{Site, project_of, table_of, names_of, Means, IsAsking, RefusesAs}
 use Rattle.pie_fresh.proofs.Fitting.{fits_more}
 use Rattle.pie_fresh.proofs.Moving.{Extends, KeepsStaged, callers_move, top_unrecorded}
@@ -161,8 +161,8 @@ module _ (s : Site) (b : Builder) (w : Waiting) (M : Means s b w.code.now w.mach
       let inside : w.notes.number < length b.ledger.names = slice_get_within b.ledger.names w.notes.number w.notes.task M.top.named in
       omega (arith, h, i, inside)
 
-  wrote_means : (f : Frame) (hash : List ℕ) → hash ≡ sha256 bytes → IsTold w f (wrote path hash w.notes) answers.Wrote
-      → CameTo w.code.now w.notes.task.args (map answer_of M.running.progress.answers) (wants (events.Write path bytes))
+  wrote_means : (f : RunningTask) (hash : List ℕ) → hash ≡ sha256 bytes → IsTold w f (wrote path hash w.notes) answers.Wrote
+      → EvaluatedTo w.code.now w.notes.task.args (map answer_of M.running.progress.answers) (wants (events.Write path bytes))
       → (project_of s).next M.running.task M.running.progress.answers ≡ Write path bytes → Means s (with_stage b st) f.code.now f.machine f.notes
   wrote_means f hash sha t came q =
       subst (λ c. Means s (with_stage b st) c f.machine f.notes) (sym t.code)
@@ -206,7 +206,7 @@ module _ (s : Site) (b : Builder) (w : Waiting) (M : Means s b w.code.now w.mach
             (M.top.left ∙ one_less w.notes.left left) q;
       }))
 
-pub write_goes : (s : Site) (b : Builder) (w : Waiting) (path bytes : List ℕ) (st : Staged) (f : Frame) (hash : List ℕ)
+pub write_goes : (s : Site) (b : Builder) (w : Waiting) (path bytes : List ℕ) (st : Staged) (f : RunningTask) (hash : List ℕ)
     → IsAsking s b w (events.Write path bytes) → 0 < w.notes.left → is_out path ≡ true → KeepsFirst b.ledger.stage st w.notes.number path bytes
     → hash ≡ sha256 bytes → IsTold w f (wrote path hash w.notes) answers.Wrote → Means s (with_stage b st) f.code.now f.machine f.notes
 write_goes s b w path bytes st f hash A left e keeps sha t =

@@ -10,10 +10,10 @@ use Rattle.pie_types.specs.Whole.{number_from}
 use Rattle.pie_types.specs.WholeRules.{IsTyped}
 use Rattle.pie_code.specs.declared.code.Code.{Code}
 use Rattle.pie_checks.specs.declared.built.Built.{Built}
-use Rattle.pie_world.specs.Clean.{IsCleanBuild}
-use Rattle.pie_bridge.specs.Events.{AreCompiled}
-use Rattle.pie_bridge.specs.Fits.{HasHeadings}
-use Rattle.pie_bridge.specs.Builds.{AreDone}
+use Rattle.pie_model_pipeline.specs.Clean.{IsCleanBuild}
+use Rattle.pie_builder_laws.specs.Events.{AreCompiled}
+use Rattle.pie_builder_laws.specs.Fits.{HasHeadings}
+use Rattle.pie_builder_laws.specs.Builds.{AreDone}
 use Rattle.pie_fresh.specs.declared.builder.Builder.{Builder}
 use Rattle.pie_fresh.specs.Means.{Site, IsResting, BeginsAs}
 

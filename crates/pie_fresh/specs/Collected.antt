@@ -14,10 +14,10 @@ use Rattle.pie_stage.specs.Content.{content}
 use Rattle.pie_checks.specs.declared.built.Built.{Built}
 use Rattle.pie_parser.specs.FunctionTrees.{FunctionTree}
 use Rattle.pie_files.specs.Directory.{Directory}
-use Rattle.pie_world.specs.World.{world, project}
-use Rattle.pie_world.specs.Clean.{IsCleanBuild}
-use Rattle.pie_bridge.specs.Views.{IsStaged}
-use Rattle.pie_bridge.specs.Builds.{AreDone, AreLive, AreFiles, Answers, WroteAt, IsFile, IsOutput}
+use Rattle.pie_model_pipeline.specs.World.{world, project}
+use Rattle.pie_model_pipeline.specs.Clean.{IsCleanBuild}
+use Rattle.pie_builder_laws.specs.Views.{IsStaged}
+use Rattle.pie_builder_laws.specs.Builds.{AreDone, AreLive, AreFiles, Answers, WroteAt, IsFile, IsOutput}
 use Rattle.pie_fresh.specs.declared.ledger.Ledger.{Ledger}
 use Rattle.pie_fresh.specs.Cleans.{contents_in}
 

@@ -5,7 +5,7 @@ use Rattle.pie_value.specs.Canonical.{IsEncodableTask}
 use Rattle.pie_codegen.specs.Digests.{function_names}
 use Rattle.pie_vm.specs.Machines.{Belongs}
 use Rattle.pie_vm.specs.declared.machine.MachineState.TheVariants.{Ready, Waiting as Waits}
-use Rattle.pie_fresh.specs.declared.frame.Frame.{Frame}
+use Rattle.pie_fresh.specs.declared.frame.RunningTask.{RunningTask}
 use Rattle.pie_fresh.specs.declared.frame.Waiting.{Waiting}
 use Rattle.pie_fresh.specs.declared.frame.Caller.{Caller}
 use Rattle.pie_fresh.specs.declared.ledger.Ledger.{Ledger}
@@ -14,7 +14,7 @@ use Rattle.pie_fresh.specs.Noted.{IsSound}
 use Rattle.pie_fresh.specs.Ledgers.{IsLedger, IsPlaced, AreOpen}
 
 -- a task whose machine can go on with its code
-pub record IsReady (f : Frame) : Type 0 where
+pub record IsReady (f : RunningTask) : Type 0 where
   pub phase : f.machine.phase ≡ Ready
   pub belongs : Belongs f.code.now f.machine
   pub sound : IsSound f.notes
@@ -75,11 +75,11 @@ pub record IsIdle (b : Builder) : Type 0 where
   pub alone : b.stack.items ≡ []
 
 -- a task that runs in a build
-pub record IsTop (l : Ledger) (f : Frame) : Type 0 where
+pub record IsTop (l : Ledger) (f : RunningTask) : Type 0 where
   pub ready : IsReady f
   pub placed : IsPlaced l f.notes
 
 -- a build with the task that runs
-pub record Running (b : Builder) (f : Frame) : Type 0 where
+pub record Running (b : Builder) (f : RunningTask) : Type 0 where
   pub stands : StandsAt f.notes.number b
   pub top : IsTop b.ledger f

@@ -4,7 +4,7 @@ pub mod Ledgers
 pub mod Ordered
 pub mod Frames
 pub mod Turns
-pub mod Circles
+pub mod Cycles
 pub mod Sights
 pub mod Told
 pub mod Kept

@@ -20,7 +20,7 @@ use Rattle.pie_record.specs.declared.task_record.Outcome.TheVariants as ends
 use Rattle.pie_parser.specs.FunctionTrees.{FunctionTree}
 use Rattle.pie_types.specs.Headings.{Heading, function_in}
 use Rattle.pie_types.specs.Whole.{number_from}
-use Rattle.pie_sound.specs.Fitting.{OutputFits}
+use Rattle.pie_type_laws.specs.Fitting.{OutputFits}
 use Rattle.pie_model.specs.Paths.{among}
 use Rattle.pie_model.specs.declared.words.How.{How}
 use Rattle.pie_model.specs.declared.words.Event.TheVariants.{Require}
@@ -30,20 +30,20 @@ use Rattle.pie_model.specs.Seen.{first_write}
 use Rattle.pie_model.specs.Evaluation.{Project, evaluation}
 use Rattle.pie_model.specs.Records.{Record, hashed}
 use Rattle.pie_model.specs.Stack.{Frame as ModelFrame, Begins}
-use Rattle.pie_suspend.specs.Table.{Rests as TableRests}
-use Rattle.pie_suspend.specs.Frames.{begun, was_answered}
-use Rattle.pie_suspend.specs.UnderWay.{UnderWay, HasEnded}
-use Rattle.pie_suspend.specs.EndLaws.{Requires}
-use Rattle.pie_world.specs.Words.{fault_of, how_of, effect_of, output_or_big}
-use Rattle.pie_world.specs.Answers.{answer_of}
-use Rattle.pie_world.specs.Rows.{observation_of}
-use Rattle.pie_world.specs.World.{world, project}
-use Rattle.pie_bridge.specs.Names.{AreTasks, called_in}
-use Rattle.pie_bridge.specs.Tables.{recorded}
-use Rattle.pie_bridge.specs.Views.{AreNumbersOf, IsGraphOf, IsStaged}
-use Rattle.pie_bridge.specs.Events.{AreCompiled}
-use Rattle.pie_bridge.specs.Fits.{HasHeadings, Fit}
-use Rattle.pie_fresh.specs.declared.frame.Frame.{Frame}
+use Rattle.pie_step_laws.specs.Table.{Rests as TableRests}
+use Rattle.pie_step_laws.specs.Frames.{begun, was_answered}
+use Rattle.pie_step_laws.specs.UnderWay.{UnderWay, HasEnded}
+use Rattle.pie_step_laws.specs.EndLaws.{Requires}
+use Rattle.pie_model_pipeline.specs.Words.{fault_of, how_of, effect_of, output_or_big}
+use Rattle.pie_model_pipeline.specs.Answers.{answer_of}
+use Rattle.pie_model_pipeline.specs.Rows.{observation_of}
+use Rattle.pie_model_pipeline.specs.World.{world, project}
+use Rattle.pie_builder_laws.specs.Names.{AreTasks, called_in}
+use Rattle.pie_builder_laws.specs.Tables.{recorded}
+use Rattle.pie_builder_laws.specs.Views.{AreNumbersOf, IsGraphOf, IsStaged}
+use Rattle.pie_builder_laws.specs.Events.{AreCompiled}
+use Rattle.pie_builder_laws.specs.Fits.{HasHeadings, Fit}
+use Rattle.pie_fresh.specs.declared.frame.RunningTask.{RunningTask}
 use Rattle.pie_fresh.specs.declared.frame.Waiting.{Waiting}
 use Rattle.pie_fresh.specs.declared.frame.Caller.{Caller}
 use Rattle.pie_fresh.specs.declared.ledger.Ledger.{Ledger}
@@ -53,7 +53,7 @@ use Rattle.pie_fresh.specs.declared.builder.Entered.TheVariants.{Runs, Refused a
 use Rattle.pie_fresh.specs.declared.turn.Turn.{Turn}
 use Rattle.pie_fresh.specs.declared.turn.Turn.TheVariants.{Goes, Rests, Stops}
 use Rattle.pie_fresh.specs.Noted.{Noted}
-use Rattle.pie_fresh.specs.Told.{CameTo}
+use Rattle.pie_fresh.specs.Told.{EvaluatedTo}
 use Rattle.pie_fresh.specs.Kept.{HasOutput}
 
 -- where a root is under way: the functions with their headings and codes, the directory, the root, and the tasks that were entered before it,
@@ -131,7 +131,7 @@ pub record MeansCaller (s : Site) (l : Ledger) (g : ModelFrame) (c : Caller) : T
   pub frame : MeansFrame s l c.waiting.code.now c.waiting.machine c.waiting.notes left g
   pub waits : (project_of s).next g.task g.progress.answers ≡ Require (how_of c.how) (enc_task c.required)
   pub canonical : IsCanonicalTask c.required (enc_task c.required)
-  pub came : CameTo c.waiting.code.now c.waiting.notes.task.args (map answer_of g.progress.answers) (wants (events.Require c.required c.how))
+  pub came : EvaluatedTo c.waiting.code.now c.waiting.notes.task.args (map answer_of g.progress.answers) (wants (events.Require c.required c.how))
 
 -- and so for all, the newest first
 abbrev pub MeanCallers : Site → Ledger → List ModelFrame → List Caller → Type 0
@@ -161,7 +161,7 @@ pub record Means (s : Site) (b : Builder) (code : Code) (m : Standing) (n : Note
 pub record IsAsking (s : Site) (b : Builder) (w : Waiting) (e : Event) : Type 0 where
   pub means : Means s b w.code.now w.machine w.notes
   pub asks : (project_of s).next means.running.task means.running.progress.answers ≡ effect_of e
-  pub came : CameTo w.code.now w.notes.task.args (map answer_of means.running.progress.answers) (wants e)
+  pub came : EvaluatedTo w.code.now w.notes.task.args (map answer_of means.running.progress.answers) (wants e)
 
 -- ---- how a step ends
 
@@ -208,11 +208,11 @@ abbrev pub TreatsAs : Option Directory → Builder → Builder → Waiting → E
 TreatsAs held old new w e t = (s : Site) → held ≡ Some s.directory → IsAsking s old w e → TurnMeans s new t
 
 -- the running task goes on as in the model
-abbrev pub TurnsAs : Option Directory → Builder → Builder → Frame → Turn → Type 0
+abbrev pub TurnsAs : Option Directory → Builder → Builder → RunningTask → Turn → Type 0
 TurnsAs held old new f t = (s : Site) → held ≡ Some s.directory → Means s old f.code.now f.machine f.notes → TurnMeans s new t
 
 -- a root has gone on as in the model
-abbrev pub RunsOn : Option Directory → Builder → Frame → Builder → Frame → Type 0
+abbrev pub RunsOn : Option Directory → Builder → RunningTask → Builder → RunningTask → Type 0
 RunsOn held old f new g =
     (s : Site) → held ≡ Some s.directory → Means s old f.code.now f.machine f.notes → Means s new g.code.now g.machine g.notes
 
@@ -222,10 +222,10 @@ RootMeans s b None = RestsAs s b
 RootMeans s b (Some r) = RefusesAs s b.ledger r
 
 -- and so it does from here
-abbrev pub RunsAs : Option Directory → Builder → Builder → Frame → Option Refusal → Type 0
+abbrev pub RunsAs : Option Directory → Builder → Builder → RunningTask → Option Refusal → Type 0
 RunsAs held old new f why = (s : Site) → held ≡ Some s.directory → Means s old f.code.now f.machine f.notes → RootMeans s new why
 
--- a root that is a task of a function comes to an answer as in the model
+-- a root that is a task of a function evaluates to an answer as in the model
 abbrev pub BeginsAs : Option Directory → Builder → Builder → Task → Option Refusal → Type 0
 BeginsAs held old new root why =
     (s : Site) (function : ℕ) → held ≡ Some s.directory → IsResting s old → number_from 0 s.functions root ≡ Some function → s.root ≡ enc_task root
@@ -243,7 +243,7 @@ pub record EndsWith (s : Site) (b : Builder) (n : Noted) (v : Value) : Type 0 wh
   pub machine : Standing
   pub means : Means s b code machine n
   pub ends : (project_of s).next means.running.task means.running.progress.answers ≡ output_or_big (tree_of v)
-  pub came : CameTo code n.task.args (map answer_of means.running.progress.answers) (done (tree_of v))
+  pub came : EvaluatedTo code n.task.args (map answer_of means.running.progress.answers) (done (tree_of v))
   pub left : 0 < n.left
 
 -- how it goes on once a task has ended with a value: the newest that waits is answered, or the root ends

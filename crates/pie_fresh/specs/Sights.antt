@@ -12,7 +12,7 @@ use Rattle.pie_files.specs.declared.files.Within.TheVariants as within
 use Rattle.pie_view.specs.declared.seen.Seen.{Seen}
 use Rattle.pie_view.specs.declared.seen.Seen.TheVariants.{Absent, By, Clash}
 use Rattle.pie_view.specs.Seen.{Visible, IsOnly}
-use Rattle.pie_bridge.specs.Views.{unmarked}
+use Rattle.pie_builder_laws.specs.Views.{unmarked}
 use Rattle.pie_fresh.specs.declared.looking.Sight.{Sight}
 use Rattle.pie_fresh.specs.declared.looking.Sight.TheVariants.{File, Long, Clash as Clashes}
 use Rattle.pie_fresh.specs.declared.looking.Provided.{Provided}

@@ -1,4 +1,4 @@
--- What a machine comes to, and what a task is told.
+-- What a machine evaluates to, and what a task is told.
 use Rattle.std.specs.Prelude.{◌≡◌, ◌==◌, ◌⊎◌, ℕ, ◌<◌, Bool, true, false, cond, List, [], ◌∷◌, ◌++◌, map, Option, Some, None}
 use Rattle.sha2.specs.Sha256.{sha256}
 use Rattle.pie_base.specs.declared.fault.FaultKind.{FaultKind}
@@ -21,11 +21,11 @@ use Rattle.pie_vm.specs.Machines.{Follows}
 use Rattle.pie_record.specs.declared.dep.Dep.{Dep}
 use Rattle.pie_record.specs.declared.dep.DepKind.TheVariants as kinds
 use Rattle.pie_stage.specs.Content.{Staged, content, Puts}
-use Rattle.pie_bridge.specs.Looks.{reading_stamp, reading_answer}
-use Rattle.pie_fresh.specs.declared.frame.Frame.{Frame}
+use Rattle.pie_builder_laws.specs.Looks.{reading_stamp, reading_answer}
+use Rattle.pie_fresh.specs.declared.frame.RunningTask.{RunningTask}
 use Rattle.pie_fresh.specs.declared.frame.Waiting.{Waiting}
-use Rattle.pie_fresh.specs.declared.frame.Came.{Came}
-use Rattle.pie_fresh.specs.declared.frame.Came.TheVariants.{Asks, Ends, Fails}
+use Rattle.pie_fresh.specs.declared.frame.Paused.{Paused}
+use Rattle.pie_fresh.specs.declared.frame.Paused.TheVariants.{Asks, Ends, Fails}
 use Rattle.pie_fresh.specs.declared.looking.Sight.{Sight}
 use Rattle.pie_fresh.specs.declared.looking.Sight.TheVariants.{File, Long, Clash as Clashes}
 use Rattle.pie_fresh.specs.declared.turn.Turn.{Turn}
@@ -33,27 +33,27 @@ use Rattle.pie_fresh.specs.declared.turn.Turn.TheVariants.{Goes, Rests, Stops}
 use Rattle.pie_fresh.specs.Noted.{Noted, file_dep, read_kind, observed}
 use Rattle.pie_fresh.specs.Sights.{found_in}
 
--- ---- what a machine comes to
+-- ---- what a machine evaluates to
 
--- with these answers the code comes to this
-pub record CameTo (code : Code) (args : List Tree) (answers : List Answer) (o : Outcome Tree) : Type 0 where
+-- with these answers the code evaluates to this
+pub record EvaluatedTo (code : Code) (args : List Tree) (answers : List Answer) (o : Outcome Tree) : Type 0 where
   pub state : State
   pub is : CodeNext code args answers (o, state)
 
 -- a machine that was stopped had no answer left, or it came to a fault of its code
 abbrev pub StopsFor : Code → Noted → List Answer → FaultKind → Type 0
-StopsFor code old answers k = ((old.left ≡ 0) × (k ≡ faults.Budget)) ⊎ ((0 < old.left) × CameTo code old.task.args answers (fails k))
+StopsFor code old answers k = ((old.left ≡ 0) × (k ≡ faults.Budget)) ⊎ ((0 < old.left) × EvaluatedTo code old.task.args answers (fails k))
 
--- what a machine came to is what its code comes to, with the answers so far
-abbrev pub ComesAs : Code → Noted → List Answer → Came → Type 0
-ComesAs code old answers (Asks w e) = (w.code.now ≡ code) × Follows code old.task.args answers w.machine × CameTo code old.task.args answers (wants e)
-ComesAs code old answers (Ends n v) = (0 < old.left) × CameTo code old.task.args answers (done (tree_of v))
+-- what a machine evaluated to is what its code evaluates to, with the answers so far
+abbrev pub ComesAs : Code → Noted → List Answer → Paused → Type 0
+ComesAs code old answers (Asks w e) = (w.code.now ≡ code) × Follows code old.task.args answers w.machine × EvaluatedTo code old.task.args answers (wants e)
+ComesAs code old answers (Ends n v) = (0 < old.left) × EvaluatedTo code old.task.args answers (done (tree_of v))
 ComesAs code old answers (Fails t k) = (t ≡ old.task) × StopsFor code old answers k
 
 -- ---- what a task is told
 
 -- a task goes on with one more answer, and has these notes
-pub record IsTold (w : Waiting) (f : Frame) (n : Noted) (a : Answer) : Type 0 where
+pub record IsTold (w : Waiting) (f : RunningTask) (n : Noted) (a : Answer) : Type 0 where
   pub code : f.code.now ≡ w.code.now
   pub notes : f.notes ≡ n
   pub follows : (args : List Tree) (given : List Answer) → Follows w.code.now args given w.machine → Follows w.code.now args (given ++ a ∷ []) f.machine

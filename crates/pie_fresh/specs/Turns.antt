@@ -6,10 +6,10 @@ use Rattle.pie_store.specs.Canonical.{required_on}
 use Rattle.pie_codegen.specs.Digests.{function_names}
 use Rattle.pie_value.specs.declared.event.Event.{Event}
 use Rattle.pie_value.specs.declared.event.Event.TheVariants.{Exists, Read, Digest, List as Listing, Write, Require, Done, Fail}
-use Rattle.pie_fresh.specs.declared.frame.Frame.{Frame}
+use Rattle.pie_fresh.specs.declared.frame.RunningTask.{RunningTask}
 use Rattle.pie_fresh.specs.declared.frame.Caller.{Caller}
-use Rattle.pie_fresh.specs.declared.frame.Came.{Came}
-use Rattle.pie_fresh.specs.declared.frame.Came.TheVariants.{Asks, Ends, Fails}
+use Rattle.pie_fresh.specs.declared.frame.Paused.{Paused}
+use Rattle.pie_fresh.specs.declared.frame.Paused.TheVariants.{Asks, Ends, Fails}
 use Rattle.pie_fresh.specs.declared.turn.Turn.{Turn}
 use Rattle.pie_fresh.specs.declared.turn.Turn.TheVariants.{Goes, Rests, Stops}
 use Rattle.pie_fresh.specs.declared.builder.Builder.{Builder}
@@ -31,7 +31,7 @@ IsEffect (Done v) = ⊥
 IsEffect (Fail k) = ⊥
 
 -- a task waits for an answer, has ended, or fails
-abbrev pub Comes : Noted → Came → Type 0
+abbrev pub Comes : Noted → Paused → Type 0
 Comes old (Asks w e) = IsWaiting w × (w.notes ≡ old) × IsEffect e
 Comes old (Ends n v) = n ≡ old
 Comes old (Fails t k) = Unit {0}
@@ -67,7 +67,7 @@ GoesOn b Rests = IsIdle b
 GoesOn b (Stops r) = Unit {0}
 
 -- a task was entered and runs: one task more, of a function of the pipeline, beside the stack as it was
-pub record Begun (old new : Builder) (t : Task) (f : Frame) : Type 0 where
+pub record Begun (old new : Builder) (t : Task) (f : RunningTask) : Type 0 where
   pub top : IsTop new.ledger f
   pub task : f.notes.task ≡ t
   pub number : f.notes.number ≡ length old.ledger.names

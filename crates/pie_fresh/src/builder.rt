@@ -10,7 +10,7 @@ ghost use Rattle.pie_fresh.specs.Turns.{GoesOn, IsEffect, Nearer, below_left};
 ghost use Rattle.pie_fresh.specs.Means.{TreatsAs, TurnsAs, RunsAs, BeginsAs};
 ghost use Rattle.pie_fresh.specs.Cleans.{NoRootsDone, EvaluatesRoot};
 
-use crate::frame::{Caller, Came, Frame, Waiting, next};
+use crate::frame::{Caller, Paused, RunningTask, Waiting, next};
 use crate::ledger::{Done, Ledger};
 use crate::turn::{Turn, failed, fault};
 use pie_base::FaultKind;
@@ -35,7 +35,7 @@ pub(crate) struct Builder<'a> {
 /// What becomes of a task that is entered.
 #[derive(Drop)]
 pub(crate) enum Entered<'a> {
-    Runs(Frame<'a>),
+    Runs(RunningTask<'a>),
     /// It isn't started.
     Refused(Refusal),
 }
@@ -118,7 +118,7 @@ impl<'a> Builder<'a> {
     #[tactic(auto, using(crate::proofs::Walks::runs, pie_commit::proofs::Reading::reads))]
     fn run<F: Files>(
         &mut self,
-        frame: Frame<'a>,
+        frame: RunningTask<'a>,
         files: &mut F,
         runs: &mut Runs,
     ) -> Result<Option<Refusal>, FilesError>
@@ -146,7 +146,7 @@ impl<'a> Builder<'a> {
     #[tactic(auto, using(crate::proofs::Growing::enters_same, pie_commit::proofs::Reading::reads))]
     fn turn<F: Files>(
         &mut self,
-        frame: Frame<'a>,
+        frame: RunningTask<'a>,
         files: &mut F,
         runs: &mut Runs,
     ) -> Result<Turn<'a>, FilesError>
@@ -162,9 +162,9 @@ impl<'a> Builder<'a> {
         ensures means { IfOk result (λ t. TurnsAs (F.holds files.old) self.old self.new frame.entry t) }
     {
         match next(frame)? {
-            Came::Asks(waiting, event) => self.treat(waiting, event, files, runs),
-            Came::Ends(notes, output) => Ok(self.finish(notes, output)?),
-            Came::Fails(task, kind) => Ok(failed(task, kind)),
+            Paused::Asks(waiting, event) => self.treat(waiting, event, files, runs),
+            Paused::Ends(notes, output) => Ok(self.finish(notes, output)?),
+            Paused::Fails(task, kind) => Ok(failed(task, kind)),
         }
     }
 

@@ -10,7 +10,7 @@ ghost use Rattle.pie_fresh.specs.Kept.{IsCodeAt, IsCodeFor};
 ghost use Rattle.pie_fresh.specs.Means.{NewAs};
 
 use crate::builder::{Builder, Entered};
-use crate::frame::Frame;
+use crate::frame::RunningTask;
 use crate::notes::Notes;
 use crate::turn::fault;
 use pie_base::{FaultKind, MAX_TASKS, OutOfMemory};
@@ -41,7 +41,7 @@ impl<'a> Builder<'a> {
                 let no = self.ledger.add(task.copy()?)?;
                 let machine = Machine::start(self.alloc, code, task, runs)?;
                 let notes = Notes::new(self.alloc, task.copy()?, no);
-                Ok(Entered::Runs(Frame {
+                Ok(Entered::Runs(RunningTask {
                     code,
                     machine,
                     notes,

@@ -6,7 +6,7 @@ ghost use Rattle.pie_fresh.specs.Noted.{IsSound};
 ghost use Rattle.pie_vm.specs.Machines.{Asks, Belongs, Follows, phase_after};
 ghost use Rattle.pie_vm.specs.Steps.{outcome_of};
 ghost use Rattle.pie_fresh.specs.Turns.{Comes};
-ghost use Rattle.pie_fresh.specs.Told.{CameTo, ComesAs, IsTold};
+ghost use Rattle.pie_fresh.specs.Told.{EvaluatedTo, ComesAs, IsTold};
 ghost use Rattle.pie_vm.specs.declared.machine.MachineState.TheVariants.{Waiting as Waits};
 
 use crate::notes::Notes;
@@ -17,7 +17,7 @@ use pie_vm::Machine;
 
 /// A task that runs: its machine can go on.
 #[derive(Drop)]
-pub(crate) struct Frame<'a> {
+pub(crate) struct RunningTask<'a> {
     pub(crate) code: &'a Checked,
     pub(crate) machine: Machine,
     pub(crate) notes: Notes,
@@ -39,9 +39,9 @@ pub(crate) struct Caller<'a> {
     pub(crate) how: How,
 }
 
-/// What the machine of a running task came to.
+/// What the machine of a running task evaluated to.
 #[derive(Drop)]
-pub(crate) enum Came<'a> {
+pub(crate) enum Paused<'a> {
     /// An event that asks.
     Asks(Waiting<'a>, Event),
     /// The output.
@@ -50,19 +50,19 @@ pub(crate) enum Came<'a> {
 }
 
 /// Runs a task up to its next event. One that may have no more answers fails.
-pub(crate) fn next<'a>(frame: Frame<'a>) -> Result<Came<'a>, OutOfMemory>
+pub(crate) fn next<'a>(frame: RunningTask<'a>) -> Result<Paused<'a>, OutOfMemory>
     requires { IsReady frame }
     ensures comes { IfOk result (λ c. Comes frame.entry.notes c) }
     ensures means { IfOk result (λ c. (answers : List Given) → Follows frame.entry.code.now frame.entry.notes.task.args answers frame.entry.machine
         → ComesAs frame.entry.code.now frame.entry.notes answers c) }
 {
-    let Frame {
+    let RunningTask {
         code,
         mut machine,
         notes,
     } = frame;
     if notes.left == 0 {
-        return Ok(Came::Fails(notes.into_task(), FaultKind::Budget));
+        return Ok(Paused::Fails(notes.into_task(), FaultKind::Budget));
     }
     let event = machine.next(code)?;
     let waiting = Waiting {
@@ -75,25 +75,25 @@ pub(crate) fn next<'a>(frame: Frame<'a>) -> Result<Came<'a>, OutOfMemory>
 
 impl<'a> Waiting<'a> {
     // What the event says of the task.
-    fn came(self, event: Event) -> Came<'a>
+    fn came(self, event: Event) -> Paused<'a>
         requires phase { self.machine.phase ≡ phase_after (outcome_of event) }
         requires belongs { Asks (outcome_of event) (Belongs self.code.now self.machine) }
         requires sound { IsSound self.notes }
         requires left { 0 < self.notes.left }
         ensures comes { Comes self.entry.notes result }
-        ensures means { (answers : List Given) → CameTo self.entry.code.now self.entry.notes.task.args answers (outcome_of event)
+        ensures means { (answers : List Given) → EvaluatedTo self.entry.code.now self.entry.notes.task.args answers (outcome_of event)
             → Asks (outcome_of event) (Follows self.entry.code.now self.entry.notes.task.args answers self.entry.machine)
             → ComesAs self.entry.code.now self.entry.notes answers result }
     {
         match event {
-            Event::Exists(path) => Came::Asks(self, Event::Exists(path)),
-            Event::Read(path, by) => Came::Asks(self, Event::Read(path, by)),
-            Event::Digest(path) => Came::Asks(self, Event::Digest(path)),
-            Event::List(dir) => Came::Asks(self, Event::List(dir)),
-            Event::Write(path, bytes) => Came::Asks(self, Event::Write(path, bytes)),
-            Event::Require(task, how) => Came::Asks(self, Event::Require(task, how)),
-            Event::Done(output) => Came::Ends(self.into_notes(), output),
-            Event::Fail(kind) => Came::Fails(self.into_task(), kind),
+            Event::Exists(path) => Paused::Asks(self, Event::Exists(path)),
+            Event::Read(path, by) => Paused::Asks(self, Event::Read(path, by)),
+            Event::Digest(path) => Paused::Asks(self, Event::Digest(path)),
+            Event::List(dir) => Paused::Asks(self, Event::List(dir)),
+            Event::Write(path, bytes) => Paused::Asks(self, Event::Write(path, bytes)),
+            Event::Require(task, how) => Paused::Asks(self, Event::Require(task, how)),
+            Event::Done(output) => Paused::Ends(self.into_notes(), output),
+            Event::Fail(kind) => Paused::Fails(self.into_task(), kind),
         }
     }
 
@@ -109,7 +109,7 @@ impl<'a> Waiting<'a> {
     }
 
     /// The task with its answer, which was noted.
-    pub(crate) fn answered(self, answer: Answer) -> Frame<'a>
+    pub(crate) fn answered(self, answer: Answer) -> RunningTask<'a>
         requires phase { self.machine.phase ≡ Waits }
         requires belongs { Belongs self.code.now self.machine }
         requires sound { IsSound self.notes }
@@ -123,7 +123,7 @@ impl<'a> Waiting<'a> {
             notes,
         } = self;
         machine.answer(answer);
-        Frame {
+        RunningTask {
             code,
             machine,
             notes,

@@ -6,7 +6,7 @@ ghost use Rattle.pie_value.specs.Canonical.{IsEncodable, IsEncodableTask};
 ghost use Rattle.pie_value.specs.Values.{tree_of};
 ghost use Rattle.pie_graph.specs.Numbers.{AllBelow, numbers};
 ghost use Rattle.pie_graph.specs.Rows.{no_edges};
-ghost use Rattle.pie_bridge.specs.Names.{AreTasks};
+ghost use Rattle.pie_builder_laws.specs.Names.{AreTasks};
 ghost use Rattle.pie_fresh.specs.Kept.{IsKeptAs, ended_with, row_ended, row_with};
 ghost use Rattle.pie_fresh.specs.Noted.{IsSound};
 ghost use Rattle.pie_record.specs.Records.{record_of, Puts};
@@ -34,7 +34,7 @@ pub(crate) struct Ledger {
     pub(crate) ended: u32,
 }
 
-/// What a task came to that is done.
+/// What a task evaluated to that is done.
 #[derive(Drop)]
 pub(crate) struct Done {
     pub(crate) no: TaskNo,

@@ -6,7 +6,7 @@ ghost use Rattle.pie_graph.specs.Numbers.{AllBelow};
 ghost use Rattle.pie_stage.specs.Content.{content};
 ghost use Rattle.pie_commit.specs.Outcomes.{LeavesAsBefore};
 ghost use Rattle.pie_files.specs.Streams.{Counted};
-ghost use Rattle.pie_bridge.specs.Views.{unmarked};
+ghost use Rattle.pie_builder_laws.specs.Views.{unmarked};
 ghost use Rattle.pie_fresh.specs.Sights.{SeesHeldDigest, SeesHeldPresence, SeesHeldReading, SeesOut, SeesOthers, SightSays};
 ghost use Rattle.pie_fresh.specs.Sights.{hash_in, provided_sight, sight_by, sight_within};
 

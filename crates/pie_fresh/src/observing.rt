@@ -2,7 +2,7 @@
 ghost use Rattle.std.specs.Prelude.{◌≡◌, length, IfOk};
 ghost use Rattle.std.specs.Option.{option_map};
 ghost use Rattle.pie_value.specs.declared.event.Event.TheVariants as events;
-ghost use Rattle.pie_bridge.specs.Looks.{reading_stamp, reading_answer};
+ghost use Rattle.pie_builder_laws.specs.Looks.{reading_stamp, reading_answer};
 ghost use Rattle.pie_graph.specs.Numbers.{AllBelow};
 ghost use Rattle.pie_commit.specs.Outcomes.{LeavesAsBefore};
 ghost use Rattle.pie_files.specs.Streams.{Counted};
@@ -16,7 +16,7 @@ ghost use Rattle.pie_fresh.specs.declared.turn.Turn.TheVariants.{Stops};
 ghost use Rattle.pie_fresh.specs.Means.{LooksAs};
 
 use crate::builder::Builder;
-use crate::frame::{Frame, Waiting};
+use crate::frame::{RunningTask, Waiting};
 use crate::looking::Sight;
 use crate::turn::{Turn, failed};
 use pie_base::{FaultKind, OutOfMemory, Path};
@@ -263,7 +263,7 @@ pub(crate) fn told<'a>(
     kind: DepKind,
     path: Path,
     noted: Noted,
-) -> Result<Frame<'a>, OutOfMemory>
+) -> Result<RunningTask<'a>, OutOfMemory>
     requires waits { IsWaiting waiting }
     requires dep { IsStorableDep (file_dep kind path noted.stamp) }
     ensures ready { IfOk result (λ f. IsReady f × Advanced waiting.entry.notes f.notes) }

@@ -7,17 +7,17 @@ ghost use Rattle.pie_value.specs.Canonical.{IsEncodable, IsEncodableTask};
 ghost use Rattle.pie_value.specs.Values.{tree_of};
 ghost use Rattle.pie_record.specs.Canonical.{IsStorableDep};
 ghost use Rattle.pie_record.specs.declared.dep.DepOn.TheVariants.{Called};
-ghost use Rattle.pie_bridge.specs.Requiring.{of_task, requiring_answer};
+ghost use Rattle.pie_builder_laws.specs.Requiring.{of_task, requiring_answer};
 ghost use Rattle.pie_fresh.specs.Noted.{required as with_task};
 ghost use Rattle.pie_fresh.specs.Told.{IsTold};
 ghost use Rattle.pie_fresh.specs.Means.{GoesAs};
 ghost use Rattle.pie_fresh.specs.Ledgers.{Enters, IsPlaced, Starts};
 ghost use Rattle.pie_fresh.specs.Frames.{IsReady, IsWaiting, StandsAt};
 ghost use Rattle.pie_fresh.specs.Turns.{Given, GoesOn, Nearer, below_left};
-ghost use Rattle.pie_fresh.specs.Circles.{tasks_from};
+ghost use Rattle.pie_fresh.specs.Cycles.{tasks_from};
 
 use crate::builder::{Builder, Entered};
-use crate::frame::{Caller, Frame, Waiting};
+use crate::frame::{Caller, RunningTask, Waiting};
 use crate::ledger::Done;
 use crate::turn::{Turn, failed};
 use pie_base::{FaultKind, OutOfMemory};
@@ -82,7 +82,7 @@ impl<'a> Builder<'a> {
                 Ok(Turn::Goes(frame))
             }
             None => {
-                let tasks = self.circle(no, waiting.into_task())?;
+                let tasks = self.cycle(no, waiting.into_task())?;
                 Ok(Turn::Stops(Refusal::Cycle(tasks)))
             }
         }
@@ -124,7 +124,7 @@ impl<'a> Builder<'a> {
     }
 
     // The tasks on the stack from the one with this number on, and the one above them.
-    fn circle(&self, no: TaskNo, top: Task) -> Result<Tasks, OutOfMemory>
+    fn cycle(&self, no: TaskNo, top: Task) -> Result<Tasks, OutOfMemory>
         ensures { IfOk result (λ tasks. tasks ≡ tasks_from no.0 self.now.stack.items ++ top ∷ []) }
     {
         let mut tasks = Vec::new(self.alloc);
@@ -136,7 +136,7 @@ impl<'a> Builder<'a> {
     }
 }
 
-// A task that waits is in the circle where it has this number or a greater one.
+// A task that waits is in the cycle where it has this number or a greater one.
 fn note(tasks: &mut Vec<Task>, caller: &Caller, no: TaskNo) -> Result<(), OutOfMemory>
     ensures { OnOk result (tasks.new.items ≡ tasks.old.items ++ tasks_from no.0 (caller.now ∷ [])) }
 {
@@ -154,7 +154,7 @@ pub(crate) fn give<'a>(
     required: Task,
     how: How,
     done: Done,
-) -> Result<Frame<'a>, OutOfMemory>
+) -> Result<RunningTask<'a>, OutOfMemory>
     requires waits { IsWaiting waiting }
     requires required { IsEncodableTask required }
     requires output { IsEncodable (tree_of done.output) }
@@ -176,7 +176,7 @@ fn told_output<'a>(
     no: TaskNo,
     height: u32,
     answer: Answer,
-) -> Result<Frame<'a>, OutOfMemory>
+) -> Result<RunningTask<'a>, OutOfMemory>
     requires waits { IsWaiting waiting }
     requires dep { IsStorableDep dep }
     requires height { height < 2 ^ 32 - 1 }

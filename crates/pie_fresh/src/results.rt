@@ -5,7 +5,7 @@ ghost use Rattle.std.specs.Cmp.Lexicographic.{slice_cmp};
 ghost use Rattle.std.specs.Option.{option_to_list};
 ghost use Rattle.std.specs.Ordering.{nat_cmp};
 ghost use Rattle.pie_base.specs.Path.{is_out};
-ghost use Rattle.pie_bridge.specs.Builds.{AreLive, AreOutputs, AreRows, WroteAt};
+ghost use Rattle.pie_builder_laws.specs.Builds.{AreLive, AreOutputs, AreRows, WroteAt};
 ghost use Rattle.pie_graph.specs.Numbers.{AllBelow, numbers};
 ghost use Rattle.pie_record.specs.Canonical.{IsStorable, IsStorableWrite};
 ghost use Rattle.pie_record.specs.Records.{record_of};

@@ -2,7 +2,7 @@
 ghost use Rattle.std.specs.Prelude.{◌≡◌};
 ghost use Rattle.pie_fresh.specs.declared.turn.Turn.TheVariants.{Stops};
 
-use crate::frame::Frame;
+use crate::frame::RunningTask;
 use pie_base::FaultKind;
 use pie_value::{Fault, Refusal, Task};
 
@@ -10,7 +10,7 @@ use pie_value::{Fault, Refusal, Task};
 #[derive(Drop)]
 pub(crate) enum Turn<'a> {
     /// It goes on with this task.
-    Goes(Frame<'a>),
+    Goes(RunningTask<'a>),
     /// The root is done.
     Rests,
     /// The root fails.

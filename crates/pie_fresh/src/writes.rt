@@ -10,7 +10,7 @@ ghost use Rattle.pie_fresh.specs.Told.{IsTold, KeepsFirst};
 ghost use Rattle.pie_fresh.specs.Means.{GoesAs};
 
 use crate::builder::Builder;
-use crate::frame::{Frame, Waiting};
+use crate::frame::{RunningTask, Waiting};
 use crate::turn::{Turn, failed};
 use pie_base::{FaultKind, OutOfMemory, Path};
 use pie_graph::TaskNo;
@@ -85,7 +85,7 @@ fn told_write<'a>(
     waiting: Waiting<'a>,
     path: Path,
     hash: [u8; 32],
-) -> Result<Frame<'a>, OutOfMemory>
+) -> Result<RunningTask<'a>, OutOfMemory>
     requires waits { IsWaiting waiting }
     requires out { IsTrue (is_out path) }
     ensures ready { IfOk result (λ f. IsReady f × Advanced waiting.entry.notes f.notes) }

@@ -15,14 +15,14 @@ use Rattle.pie_lexer.proofs.Spelled.{sort_of, letter_sort, digit_sort, mark_sort
 use Rattle.pie_lexer.proofs.Quoting.{Stops, stops_at_quote, stops_open, stops_bad, inside_same}
 
 -- two fronts of one length are one
-same_front : (v w r q : List ℕ) → length v ≡ length w → v ++ r ≡ w ++ q → (v ≡ w) × (r ≡ q)
-same_front [] [] r q l e = (refl, e)
-same_front [] (b ∷ w) r q l e = absurd (omega arith)
-same_front (a ∷ v) [] r q l e = absurd (omega arith)
-same_front (a ∷ v) (b ∷ w) r q l e =
+same_prefix : (v w r q : List ℕ) → length v ≡ length w → v ++ r ≡ w ++ q → (v ≡ w) × (r ≡ q)
+same_prefix [] [] r q l e = (refl, e)
+same_prefix [] (b ∷ w) r q l e = absurd (omega arith)
+same_prefix (a ∷ v) [] r q l e = absurd (omega arith)
+same_prefix (a ∷ v) (b ∷ w) r q l e =
     let h : a ≡ b = cc in
     let t : v ++ r ≡ w ++ q = cc in
-    let z = same_front v w r q (omega arith) t in (cc (h, z.0), z.1)
+    let z = same_prefix v w r q (omega arith) t in (cc (h, z.0), z.1)
 
 -- what is spelled is one lexeme
 spelled_same : (w : List ℕ) (x y : Lexeme) → Spells w x → Spells w y → x ≡ y
@@ -43,7 +43,7 @@ longest_same : (text v r w q : List ℕ) (x y : Lexeme) → IsLongest text v r x
 longest_same text v r w q x y a b =
     let l : length w ≤ length v = a.longest w q y b.front b.spelled in
     let m : length v ≤ length w = b.longest v r x a.front a.spelled in
-    let z = same_front v w r q (omega arith) (sym a.front ∙ b.front) in
+    let z = same_prefix v w r q (omega arith) (sym a.front ∙ b.front) in
     (z.0, z.1, spelled_same w x y (subst (λ u. Spells u x) z.0 a.spelled) b.spelled)
 
 means_same : (x : Lexeme) (k j : TokenKind) → Means x k → Means x j → k ≡ j

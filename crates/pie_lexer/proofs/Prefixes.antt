@@ -1,4 +1,4 @@
--- Tests that go by cases, and the longest front that passes a test.
+-- Tests that go by cases, and the longest prefix that passes a test.
 use Rattle.std.proofs.Common.{◌≡◌, ◌⊎◌, inl, inr, ℕ, ◌+◌, ◌≤◌, suc, Bool, true, false, ◌&&◌, cond, List, [], ◌∷◌, ◌++◌, length, take, Option, Some, None, refl}
 use Rattle.std.proofs.Common.{arith}
 use Rattle.std.specs.List.{list_all, prefix_len}

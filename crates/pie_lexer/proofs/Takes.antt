@@ -52,9 +52,9 @@ record Digits (text : List ℕ) (n : ℕ) : Type 0 where
   length_is : n ≡ length (take n text)
   longest_is : IsLongest text (take n text) (drop n text) (Number (number_of (take n text)))
 
-digits_front : (text : List ℕ) (n : ℕ) → 0 < length text → is_digit (get_or text 0 0) ≡ true → n ≡ prefix_len is_digit text → Digits text n
-digits_front [] n l h e = absurd (omega arith)
-digits_front (b ∷ bs) n l h e =
+digits_prefix : (text : List ℕ) (n : ℕ) → 0 < length text → is_digit (get_or text 0 0) ≡ true → n ≡ prefix_len is_digit text → Digits text n
+digits_prefix [] n l h e = absurd (omega arith)
+digits_prefix (b ∷ bs) n l h e =
     let m = prefix_len is_digit bs in
     let s : n ≡ suc m = one_on is_digit b n bs h e in
     let d : Digits (b ∷ bs) (suc m) = record {
@@ -85,7 +85,7 @@ int_stored n v h =
 pub int_taken : (text : List ℕ) (n at : ℕ) (v z : ℤ) → z ≡ v → 0 < length text → is_digit (get_or text 0 0) ≡ true → n ≡ prefix_len is_digit text
     → Some v ≡ narrow (number_of (take n text)) → IsTokenAt at text (record { kind = kinds.Int z; at = at; end = at + n })
 int_taken text n at v z s l h e q =
-    let d = digits_front text n l h e in
+    let d = digits_prefix text n l h e in
     let x = narrow_some (number_of (take n text)) v q in (
       take n text,
       drop n text,
@@ -99,7 +99,7 @@ int_taken text n at v z s l h e q =
 pub int_refused : (text : List ℕ) (n at : ℕ) → 0 < length text → is_digit (get_or text 0 0) ≡ true → n ≡ prefix_len is_digit text
     → None ≡ narrow (number_of (take n text)) → Refused at text (WideInt at)
 int_refused text n at l h e q =
-    let d = digits_front text n l h e in
+    let d = digits_prefix text n l h e in
     wide (take n text) (drop n text) (number_of (take n text)) d.longest_is (narrow_none (number_of (take n text)) q)
 
 pub own_digits : IsNumeralModel (λ ds. list_all is_digit ds ≡ true) number_of

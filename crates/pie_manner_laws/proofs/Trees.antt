@@ -1,4 +1,4 @@
--- What an expression comes to, with more answers behind: form by form.
+-- What an expression evaluates to, with more answers behind: form by form.
 use Rattle.std.proofs.Common.{ℕ, true, false, cond, ◌==◌, List, [], ◌∷◌, length, reverse}
 use Rattle.std.specs.Prelude.{Option, Some, None}
 use Rattle.pie_base.specs.declared.fault.FaultKind.TheVariants.{Unknown}
@@ -20,11 +20,11 @@ use Rattle.pie_parser.specs.declared.tree.Index.{Index}
 use Rattle.pie_parser.specs.Plain.{Tree, TLiteral, TName, TNull as NullOf, TEmpty, TChain, TCompare, TPrefix, TProject, TTuple as TupleOf, TList as ListOf}
 use Rattle.pie_parser.specs.Plain.{TEach, TIf, TCall, TEffect, TWrite, TFail, Trees, Nil, Cons, Steps, NoStep, AStep, BlockTree, TBlock}
 use Rattle.pie_parser.specs.Plain.{LineTrees, NoLine, ValLine, ExprLine, LastTree, NoLast, ALast, ElseTree, NoElse, AnElse}
-use Rattle.pie_meaning.specs.Words.{Env, look_up, found, literal_value, branch, Logic, Either, Both, Neither, by_logic, logic_of, infix_of}
-use Rattle.pie_meaning.specs.Words.{comparison_of, prefix_of, item_numbered, projected, over, Callee, ABuiltin, ReadBytes, NoCallee, callee_of, callee_arity}
-use Rattle.pie_meaning.specs.Words.{bytes_read, callee_answer, called, effect_of}
-use Rattle.pie_meaning.specs.Meaning.{turns, value_of, either_value, both_value, steps_value, items_onto, values_of, block_value, lines_value, last_value}
-use Rattle.pie_meaning.specs.Meaning.{else_value}
+use Rattle.pie_semantics.specs.Words.{Env, look_up, found, literal_value, branch, Logic, Either, Both, Neither, by_logic, logic_of, infix_of}
+use Rattle.pie_semantics.specs.Words.{comparison_of, prefix_of, item_numbered, projected, over, Callee, ABuiltin, ReadBytes, NoCallee, callee_of, callee_arity}
+use Rattle.pie_semantics.specs.Words.{bytes_read, callee_answer, called, effect_of}
+use Rattle.pie_semantics.specs.Meaning.{turns, value_of, either_value, both_value, steps_value, items_onto, values_of, block_value, lines_value, last_value}
+use Rattle.pie_semantics.specs.Meaning.{else_value}
 use Rattle.pie_manner_laws.proofs.Forms.{Polite, give_polite, fault_polite, then_polite, ticked_polite, ticked_then, answer_polite, cond_polite}
 use Rattle.pie_manner_laws.proofs.Asking.{observe_polite, require_polite, write_polite, fail_polite}
 

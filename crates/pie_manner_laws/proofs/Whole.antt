@@ -11,11 +11,11 @@ use Rattle.pie_value.specs.declared.task.Task.{Task}
 use Rattle.pie_value.specs.Tree.{Tree as Val}
 use Rattle.pie_value.specs.Limits.{is_small, is_small_task}
 use Rattle.pie_value.specs.Canonical.{enc, enc_task}
-use Rattle.pie_value.specs.Reading.{Parsed, task_front}
+use Rattle.pie_value.specs.Reading.{Parsed, task_prefix}
 use Rattle.pie_operators.specs.Domain.{Outcome, done, fails, wants, State, at_start, Act, holds}
 use Rattle.pie_parser.specs.FunctionTrees.{FunctionTree}
 use Rattle.pie_types.specs.Whole.{number_from}
-use Rattle.pie_meaning.specs.Meaning.{bound, block_value}
+use Rattle.pie_semantics.specs.Meaning.{bound, block_value}
 use Rattle.pie_model.specs.Paths.{among}
 use Rattle.pie_model.specs.declared.words.Answer.{Answer as ModelAnswer}
 use Rattle.pie_model.specs.declared.words.Event.{Event as ModelEvent}
@@ -24,9 +24,9 @@ use Rattle.pie_model.specs.declared.words.FaultKind.TheVariants as faults
 use Rattle.pie_model.specs.declared.words.Look.TheVariants as looks
 use Rattle.pie_model.specs.Separate.{path_looked, looked_paths, NeverWritesWhatItSaw}
 use Rattle.pie_model.proofs.Basics.{among_split, among_either, clash}
-use Rattle.pie_world.specs.Words.{fault_of, look_by, how_of, event_of, effect_of}
-use Rattle.pie_world.specs.Answers.{answer_of}
-use Rattle.pie_world.specs.World.{function_at, outcome_by, next_if_read, next}
+use Rattle.pie_model_pipeline.specs.Words.{fault_of, look_by, how_of, event_of, effect_of}
+use Rattle.pie_model_pipeline.specs.Answers.{answer_of}
+use Rattle.pie_model_pipeline.specs.World.{function_at, outcome_by, next_if_read, next}
 use Rattle.pie_manner_laws.proofs.Forms.{with_more, Looks, Unwritten, Saw, Stays, Polite}
 use Rattle.pie_manner_laws.proofs.Trees.{block_polite}
 
@@ -149,4 +149,4 @@ by_read fs (Err f) given p b e h = no_path p (model.Fail faults.Unknown) (model.
 
 pub has_manners : (fs : List FunctionTree) (t : List ℕ) → NeverWritesWhatItSaw (next fs t)
 unfolding next
-has_manners fs t given p b e h = by_read fs (task_front t) given p b e h
+has_manners fs t given p b e h = by_read fs (task_prefix t) given p b e h

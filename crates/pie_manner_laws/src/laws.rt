@@ -1,6 +1,6 @@
 //! The manners of tasks, and listings that tell directories apart.
 ghost use Rattle.pie_model.specs.Separate.{ListingsDiffer};
-ghost use Rattle.pie_world.specs.World.{world};
+ghost use Rattle.pie_model_pipeline.specs.World.{world};
 ghost use Rattle.pie_manner_laws.specs.Manners.{TasksHaveManners};
 
 /// Listings that keep the limit and have the same canonical bytes are equal. Rule: docs/MODEL.md.

@@ -5,7 +5,7 @@ use Rattle.pie_model.specs.Tasks.{Task, Look}
 use Rattle.pie_model.specs.Seen.{first_write}
 use Rattle.pie_model.specs.Evaluation.{World, Project}
 use Rattle.pie_model.specs.Records.{Record, Observation, Query, Looked, Listed, Required, task_asked, needs_of}
-use Rattle.pie_model.specs.StampNow.{Told, Teller, by_evaluation, by_records, recorded_outcome, told_stamp, own_told, look_now, outcome_now, stamp_now, Agrees}
+use Rattle.pie_model.specs.StampNow.{Told, Teller, by_evaluation, by_records, recorded_outcome, told_stamp, own_told, look_now, outcome_now, stamp_now, StampsAgree}
 use Rattle.pie_model.specs.StampNow.{asked_before}
 use Rattle.pie_model.specs.Present.{Reaches, WroteByRecords, IsTold}
 use Rattle.pie_model.specs.Consistent.{IsRecorded}
@@ -25,7 +25,7 @@ module _ (w : World) (P : Project) (one two : Teller) (own : List (Path × List 
     → stamp_now w P one own before q ≡ stamp_now w P two own before q) where
   pub agrees_along : (os : List Observation) (before : List Task) → ((u : Task) → among u before ≡ true → K u)
       → ((u : Task) → among u (needs_of os) ≡ true → K u)
-      → Agrees w P one own before os → Agrees w P two own before os
+      → StampsAgree w P one own before os → StampsAgree w P two own before os
   agrees_along [] before b n h = tt
   agrees_along (o ∷ os) before b n h = (
     sym (f before o.query b (λ u i. n u (among_left u (task_asked o.query) (needs_of os) i))) ∙ h.0,
@@ -65,10 +65,10 @@ module _ (w : World) (P Q : Project) (R : Task → Option Record) (told : List T
 
   pub agrees_by_evaluation : (os : List Observation) (before : List Task) → ((u : Task) → among u before ≡ true → IsKnown w P R u)
       → ((u : Task) → among u (needs_of os) ≡ true → IsKnown w P R u)
-      → Agrees w Q (by_records R told) own before os → Agrees w Q (by_evaluation w P) own before os
+      → StampsAgree w Q (by_records R told) own before os → StampsAgree w Q (by_evaluation w P) own before os
   agrees_by_evaluation = agrees_along w Q (by_records R told) (by_evaluation w P) own (IsKnown w P R) stamp_same
 
   pub agrees_by_records : (os : List Observation) (before : List Task) → ((u : Task) → among u before ≡ true → IsKnown w P R u)
       → ((u : Task) → among u (needs_of os) ≡ true → IsKnown w P R u)
-      → Agrees w Q (by_evaluation w P) own before os → Agrees w Q (by_records R told) own before os
+      → StampsAgree w Q (by_evaluation w P) own before os → StampsAgree w Q (by_records R told) own before os
   agrees_by_records = agrees_along w Q (by_evaluation w P) (by_records R told) own (IsKnown w P R) (λ before q b n. sym (stamp_same before q b n))

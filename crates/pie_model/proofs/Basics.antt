@@ -44,8 +44,8 @@ apart_rest x y ys h = go (among x ys) refl
     go true e = clash (among x (y ∷ ys)) (among_there x y ys e) h
     go false e = e
 
-pub apart_front : {A : Type 0} (x y : List ℕ) (ys : List (List ℕ)) → among x (y ∷ ys) ≡ false → x ≡ y → A
-apart_front x y ys h e = clash (among x (y ∷ ys)) (subst (λ z. among x (z ∷ ys) ≡ true) e (among_here x ys)) h
+pub apart_prefix : {A : Type 0} (x y : List ℕ) (ys : List (List ℕ)) → among x (y ∷ ys) ≡ false → x ≡ y → A
+apart_prefix x y ys h e = clash (among x (y ∷ ys)) (subst (λ z. among x (z ∷ ys) ≡ true) e (among_here x ys)) h
 
 abbrev pub front_or : (x y : List ℕ) (ys : List (List ℕ)) → (x ≡ y) ⊎ (among x ys ≡ true) → among x (y ∷ ys) ≡ true
 front_or x y ys (inl e) = subst (λ z. among x (z ∷ ys) ≡ true) e (among_here x ys)

@@ -5,7 +5,7 @@ use Rattle.pie_model.specs.Tasks.{Task, Look}
 use Rattle.pie_model.specs.Trees.{Node, node, Trace, ends, looks, lists, writes, needs, outcome_of, is_plain, trace_of, levels, levels_below, required_by}
 use Rattle.pie_model.specs.Evaluation.{World, Project, evaluation}
 use Rattle.pie_model.specs.Records.{Record, Observation, Query, Looked, Listed, Required, needs_of, look_stamp}
-use Rattle.pie_model.specs.StampNow.{Told, Teller, by_evaluation, look_now, stamp_now, Agrees, RecordAgrees, asked_before}
+use Rattle.pie_model.specs.StampNow.{Told, Teller, by_evaluation, look_now, stamp_now, StampsAgree, RecordAgrees, asked_before}
 use Rattle.pie_model.specs.Separate.{NeverWritesWhatItSaw}
 use Rattle.pie_model.specs.Present.{Reaches, WroteByRecords, IsTold}
 use Rattle.pie_model.specs.Present.Way.{here, along}
@@ -34,8 +34,8 @@ module _ (w : World) (old now : Project) (by : Teller) (own : List (Path × List
   stamp_moves before o (Listed d) s h = s
   stamp_moves before o (Required r u) s h = h
 
-  pub agrees_moves : (os : List Observation) (before : List Task) → SourcesStill w now os → Agrees w old by own before os
-      → Agrees w now by own before os
+  pub agrees_moves : (os : List Observation) (before : List Task) → SourcesStill w now os → StampsAgree w old by own before os
+      → StampsAgree w now by own before os
   agrees_moves [] before s h = tt
   agrees_moves (o ∷ os) before s h = (stamp_moves before o o.query s.0 h.0, agrees_moves os (asked_before before o.query) s.1 h.1)
 

@@ -9,10 +9,10 @@ use Rattle.pie_model.specs.Seen.{first_write, provided, visible_at}
 use Rattle.pie_model.specs.Evaluation.{World, Project, Progress, start, answered, wrote, required, absent_answer, present_answer, output_answer, listing}
 use Rattle.pie_model.specs.Evaluation.{on_seen, on_listing, on_outcome, on_event, follow, evaluation_with, evaluation}
 use Rattle.pie_model.specs.Records.{observations_of, outcome_stamp, hashed, record_of}
-use Rattle.pie_model.specs.StampNow.{by_evaluation, told_of, look_now, listing_now, outcome_now, Agrees, RecordAgrees}
+use Rattle.pie_model.specs.StampNow.{by_evaluation, told_of, look_now, listing_now, outcome_now, StampsAgree, RecordAgrees}
 use Rattle.pie_model.specs.Separate.{NeverWritesWhatItSaw, looked_paths}
 use Rattle.pie_model.proofs.Basics.{clash}
-use Rattle.pie_model.proofs.LooksLemmas.{first_write_front, first_write-hashed, hashed-append, looked_now, unwritten_later, seen_stamp, look_now_is}
+use Rattle.pie_model.proofs.LooksLemmas.{first_write_prefix, first_write-hashed, hashed-append, looked_now, unwritten_later, seen_stamp, look_now_is}
 use Rattle.pie_model.proofs.SecondLemmas.{map-end}
 use Rattle.pie_model.proofs.Rooms.{alone}
 
@@ -20,7 +20,7 @@ module _ (w : World) (P : Project) (t : Task) (child : Task → Node) (polite : 
     (own_kid : (u : Task) → is_plain (outcome_of (child u)) ≡ true → child u ≡ evaluation w P u) where
   abbrev Itself : Progress → List Task → Trace → Type 0
   Itself g before T = is_done (end_of T) ≡ true → own_all ≡ hashed w g.own ++ hashed w (writes_of T) → g.kids ≡ map (evaluation w P) before
-      → Agrees w P (by_evaluation w P) own_all before (observations_of w T)
+      → StampsAgree w P (by_evaluation w P) own_all before (observations_of w T)
 
   module _ (go : Progress → Trace) (G : (g : Progress) (before : List Task) → Itself g before (go g))
       (unwritten : (p : Path) (g : Progress) → among p (looked_paths (P.next t) [] g.answers) ≡ true → first_write p (writes_of (go g)) ≡ None) where
@@ -29,7 +29,7 @@ module _ (w : World) (P : Project) (t : Task) (child : Task → Node) (polite : 
         → first_write p own_all ≡ option_map w.hash (first_write p g.own)
     own_so_far l p g a i own =
         ap (first_write p) own
-        ∙ first_write_front p (hashed w g.own) (hashed w (writes_of (go (answered g a))))
+        ∙ first_write_prefix p (hashed w g.own) (hashed w (writes_of (go (answered g a))))
         (first_write-hashed w p (writes_of (go (answered g a)))
         ∙ ap (option_map w.hash) (unwritten p (answered g a) (looked_now (P.next t) l p g.answers a i)))
         ∙ first_write-hashed w p g.own

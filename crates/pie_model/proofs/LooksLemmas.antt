@@ -15,9 +15,9 @@ use Rattle.pie_model.proofs.Basics.{among_left, among_right, among_here, same_by
 
 -- ---- first writes
 
-pub first_write_front : (p : Path) (xs ys : List (Path × List ℕ)) → first_write p ys ≡ None → first_write p (xs ++ ys) ≡ first_write p xs
-first_write_front p [] ys h = h
-first_write_front p (x ∷ xs) ys h = ap (λ o. cond (bytes_eq p x.0) (Some x.1) o) (first_write_front p xs ys h)
+pub first_write_prefix : (p : Path) (xs ys : List (Path × List ℕ)) → first_write p ys ≡ None → first_write p (xs ++ ys) ≡ first_write p xs
+first_write_prefix p [] ys h = h
+first_write_prefix p (x ∷ xs) ys h = ap (λ o. cond (bytes_eq p x.0) (Some x.1) o) (first_write_prefix p xs ys h)
 
 pub first_write-hashed : (w : World) (p : Path) (xs : List (Path × List ℕ)) → first_write p (hashed w xs) ≡ option_map w.hash (first_write p xs)
 first_write-hashed w p [] = refl

@@ -9,7 +9,7 @@ use Rattle.pie_model.specs.Seen.{visible_at}
 use Rattle.pie_model.specs.Evaluation.{World, Project, Progress, start, listing, on_seen, on_listing, on_outcome, on_event, follow, round, evaluation_with}
 use Rattle.pie_model.specs.Moved.{Moved}
 use Rattle.pie_model.specs.Moved.Moved.{same as same_tree, no_room as no_room_tree, through as through_tree}
-use Rattle.pie_model.proofs.Basics.{clash, cases, among_split, apart_rest, apart_front}
+use Rattle.pie_model.proofs.Basics.{clash, cases, among_split, apart_rest, apart_prefix}
 
 -- as `Moved`, of traces; the task of the cycle does not stand above the old one
 pub data MovedTrace (m : ℕ) (new_above old_above : List Task) (new old : Trace) : Type 0 where
@@ -107,7 +107,7 @@ lifted m t na oa x y (no_room e f) = no_room_node e (λ k. f (omega arith))
 lifted m t na oa x y (through a ts e i o h) = through_node a ts e (later (among_split a t na i)) (apart_rest a t oa o) (inr h)
   where
     later : (a ≡ t) ⊎ (among a na ≡ true) → among a na ≡ true
-    later (inl q) = apart_front a t oa o q
+    later (inl q) = apart_prefix a t oa o q
     later (inr q) = q
 
 -- the trace of an evaluation, after the test of what is above

@@ -6,7 +6,7 @@ use Rattle.pie_model.specs.Tasks.{Task}
 use Rattle.pie_model.specs.Trees.{Node, node, Trace, ends, looks, lists, writes, needs, Outcome, Ended, Failed, Cycled, Many, outcome_of, task_of, trace_of}
 use Rattle.pie_model.specs.Trees.{is_plain, HasTask, HasBelow, StandsIn, StandsBelow, levels, entered, entered_below, enter}
 use Rattle.pie_model.specs.Evaluation.{World, Project, start, evaluation_with, evaluation}
-use Rattle.pie_model.proofs.Basics.{clash, cases, among_split, among_here, among_left, among_right, among_there, apart_rest, apart_front, front_or, same_bytes}
+use Rattle.pie_model.proofs.Basics.{clash, cases, among_split, among_here, among_left, among_right, among_there, apart_rest, apart_prefix, front_or, same_bytes}
 use Rattle.pie_model.proofs.MovedLemmas.{opened_apart, opened_among, plain_apart, MovedNode, same_node, no_room_node, through_node, moved_with}
 use Rattle.pie_model.proofs.Kids.{Kids, evaluation_kids, kids_map, kids_both, kids_have, task_below, node_below, levels_kids, follow_many, levels_stop, StopsBy}
 
@@ -106,7 +106,7 @@ few_levels (suc n) w P above t h xs f =
     (kids_have whole whole (λ x i. i))
     (evaluation_kids n w P above t (λ u m. ((x : Task) → HasTask x m → HasBelow x whole) → levels m ≤ length (without t xs)) not_round (λ v. refl)
     (λ u q inside. few_levels n w P (t ∷ above) u q (without t xs)
-    (λ x i. among_without x t xs (f x (inr (inside x i))) (apart_front x t above (tasks_apart n w P (t ∷ above) u q x i))))
+    (λ x i. among_without x t xs (f x (inr (inside x i))) (apart_prefix x t above (tasks_apart n w P (t ∷ above) u q x i))))
     h))))
     (without_less t xs (f t (inl refl)))
   where

@@ -9,10 +9,10 @@ use Rattle.pie_model.specs.Seen.{first_write, provided, seen_file, visible_by, v
 use Rattle.pie_model.specs.Evaluation.{World, Project, Progress, answered, wrote, required, output_answer, listing, on_seen, on_listing, on_outcome, on_event}
 use Rattle.pie_model.specs.Evaluation.{follow, evaluation}
 use Rattle.pie_model.specs.Records.{Stamp, Looked, Listed, Required, observed, observations_of, look_stamp, value_stamp, outcome_stamp, hashed, needs_of}
-use Rattle.pie_model.specs.StampNow.{by_evaluation, told_of, look_now, listing_now, outcome_now, Agrees}
+use Rattle.pie_model.specs.StampNow.{by_evaluation, told_of, look_now, listing_now, outcome_now, StampsAgree}
 use Rattle.pie_model.specs.Separate.{StampsSeparate, ListingsDiffer, AllMet, MetOutcome, NeverWritesWhatItSaw, looked_paths}
 use Rattle.pie_model.proofs.Basics.{clash, among_here, among_there}
-use Rattle.pie_model.proofs.LooksLemmas.{first_write_front, first_write-hashed, hashed-append, looked_now, unwritten_later, seen_stamp, look_now_is, some_same}
+use Rattle.pie_model.proofs.LooksLemmas.{first_write_prefix, first_write-hashed, hashed-append, looked_now, unwritten_later, seen_stamp, look_now_is, some_same}
 use Rattle.pie_model.proofs.LooksLemmas.{seen_answer, looks_alike, listings_alike, outputs_alike}
 
 pub map-end : {A B : Type 0} (f : A → B) (xs : List A) (x : A) → map f (xs ++ x ∷ []) ≡ map f xs ++ f x ∷ []
@@ -39,7 +39,7 @@ pub record Rest (w : World) (now : Project) (Met : List ℕ → Type 0) (room : 
   pub met : AllMet w Met T
   pub met0 : AllMet w Met T0
   pub own : own_all ≡ hashed w g.own ++ hashed w (writes_of T0)
-  pub agrees : Agrees w now (by_evaluation w now) own_all before (observations_of w T0)
+  pub agrees : StampsAgree w now (by_evaluation w now) own_all before (observations_of w T0)
   pub shallow : (u : Task) → among u (needs_of (observations_of w T0)) ≡ true → is_done (outcome_of (evaluation w now u)) ≡ true
       → (levels (evaluation w now u) ≤ room → ⊥) → E ≡ Many → ⊥
   pub ends : end_of T ≡ E
@@ -85,7 +85,7 @@ module _ (w : World) (old now : Project) (Met : List ℕ → Type 0) (sep : Stam
         → first_write p own_all ≡ option_map w.hash (first_write p g.own)
     own_so_far l p g g0 a0 i own =
         ap (first_write p) own
-        ∙ first_write_front p (hashed w g.own) (hashed w (writes_of (go0 (answered g0 a0))))
+        ∙ first_write_prefix p (hashed w g.own) (hashed w (writes_of (go0 (answered g0 a0))))
         (first_write-hashed w p (writes_of (go0 (answered g0 a0)))
         ∙ ap (option_map w.hash) (unwritten p (answered g0 a0) (looked_now (old.next t) l p g0.answers a0 i)))
         ∙ first_write-hashed w p g.own

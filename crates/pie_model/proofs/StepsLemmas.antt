@@ -6,7 +6,7 @@ use Rattle.pie_model.specs.Trees.{is_plain, trace_of}
 use Rattle.pie_model.specs.Seen.{first_write}
 use Rattle.pie_model.specs.Evaluation.{World, Project, evaluation}
 use Rattle.pie_model.specs.Records.{Record, record_of, Stamp, Observation, Query, Looked, Listed, Required, task_asked, needs_of}
-use Rattle.pie_model.specs.StampNow.{Told, by_records, recorded_outcome, told_stamp, own_told, look_now, outcome_now, stamp_now, Agrees, asked_before}
+use Rattle.pie_model.specs.StampNow.{Told, by_records, recorded_outcome, told_stamp, own_told, look_now, outcome_now, stamp_now, StampsAgree, asked_before}
 use Rattle.pie_model.specs.Separate.{AllMet}
 use Rattle.pie_model.specs.Present.{Reaches, WroteByRecords, IsTold}
 use Rattle.pie_model.specs.Present.Way.{here, along}
@@ -166,7 +166,7 @@ module _ (R S : Task → Option Record) (t : Task) (new : Record) (change : Chan
       -- the first kind: nothing that is required reaches the task
       far_agrees : (os : List Observation) (us : List Task) → ((u : Task) → among u us ≡ true → IsRecorded R u × (Reaches R u t → ⊥))
           → ((u : Task) → among u (needs_of os) ≡ true → IsRecorded R u × (Reaches R u t → ⊥))
-          → Agrees w now (by_records R told) own us os → Agrees w now (by_records S retold) own us os
+          → StampsAgree w now (by_records R told) own us os → StampsAgree w now (by_records S retold) own us os
       far_agrees [] us b n h = tt
       far_agrees (o ∷ os) us b n h = (
         by_query o.query o.stamp (λ u i. n u (among_left u (task_asked o.query) (needs_of os) i)) h.0,
@@ -192,7 +192,7 @@ module _ (R S : Task → Option Record) (t : Task) (new : Record) (change : Chan
       called_agrees : (os : List Observation) (us : List Task) → ((u : Task) → among u us ≡ true → IsRecorded R u)
           → ((u : Task) → among u (needs_of os) ≡ true → IsRecorded R u)
           → Each (StampStill w S t) os → ((before : Record) × (R t ≡ Some before) × SameShape before new) ⊎ Each LooksElsewhere os
-          → Agrees w now (by_records R told) own us os → Agrees w now (by_records S retold) own us os
+          → StampsAgree w now (by_records R told) own us os → StampsAgree w now (by_records S retold) own us os
       called_agrees [] us b n c f h = tt
       called_agrees (o ∷ os) us b n c f h = (
         by_query o.query o.stamp c.0 (front f) h.0,
@@ -235,7 +235,7 @@ module _ (R S : Task → Option Record) (t : Task) (new : Record) (change : Chan
 
     -- an untouched record agrees after the finish as it did before
     untouched_agrees : (r : Record) → ((u : Task) → among u (needs_of r.observations) ≡ true → IsRecorded R u) → IsUntouched w R S t new r
-        → Agrees w now (by_records R told) r.writes [] r.observations → Agrees w now (by_records S retold) r.writes [] r.observations
+        → StampsAgree w now (by_records R told) r.writes [] r.observations → StampsAgree w now (by_records S retold) r.writes [] r.observations
     untouched_agrees r n (inl f) h = far_agrees r.writes r.observations [] (λ u i. clash false i refl) (λ u i. (n u i, f u i)) h
     untouched_agrees r n (inr f) h = called_agrees r.writes r.observations [] (λ u i. clash false i refl) n f.0 f.1 h
 

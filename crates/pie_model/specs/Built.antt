@@ -60,7 +60,7 @@ pending_path = codes ".pie/pending"
 abbrev pub provided_at : List Node → Path → Option (List ℕ)
 provided_at live p = first_write p (flat_map (λ n. writes_of (trace_of n)) live)
 
--- what stands at a kept path after an accepted build whose store has this text
+-- what stands at a reserved path after an accepted build whose store has this text
 abbrev pub kept_after : List ℕ → Directory → Path → Option (List ℕ)
 kept_after text d p =
     cond (bytes_eq p store_path) (Some text) (cond (among p (open_path ∷ pending_path ∷ [])) None (bytes_at d p))

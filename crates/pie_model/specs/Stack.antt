@@ -30,7 +30,7 @@ pub data IsWaiting (w : World) (P : Project) (root : Task) : List Frame → Task
       → IsRunning w P room (tasks_of fs) f.task (suc f.left) f.progress f.seen → P.next f.task f.progress.answers ≡ Require h u
       → IsWaiting w P root fs f.task → IsWaiting w P root (f ∷ fs) u
 
--- one list is the front of another
+-- one list is a prefix of another
 pub record Begins (front whole : List Task) : Type 0 where
   pub rest : List Task
   pub is : whole ≡ front ++ rest

@@ -89,11 +89,11 @@ asked_before before (Listed d) = before
 asked_before before (Required h u) = before ++ u ∷ []
 
 -- every stamp is the one that its query would get now
-abbrev pub Agrees : World → Project → Teller → List (Path × List ℕ) → List Task → List Observation → Type 0
-Agrees w P by own before [] = Unit {0}
-Agrees w P by own before (o ∷ os) =
-    (stamp_now w P by own before o.query ≡ Some o.stamp) × Agrees w P by own (asked_before before o.query) os
+abbrev pub StampsAgree : World → Project → Teller → List (Path × List ℕ) → List Task → List Observation → Type 0
+StampsAgree w P by own before [] = Unit {0}
+StampsAgree w P by own before (o ∷ os) =
+    (stamp_now w P by own before o.query ≡ Some o.stamp) × StampsAgree w P by own (asked_before before o.query) os
 
 -- every stamp of a record is the one that its query would get now
 abbrev pub RecordAgrees : World → Project → Teller → Record → Type 0
-RecordAgrees w P by r = Agrees w P by r.writes [] r.observations
+RecordAgrees w P by r = StampsAgree w P by r.writes [] r.observations

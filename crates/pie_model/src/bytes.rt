@@ -99,7 +99,7 @@ impl Names {
         self.names.as_slice()
     }
 
-    /// Puts one at the end. Want of memory changes nothing.
+    /// Puts one at the end. Out of memory changes nothing.
     pub fn push(&mut self, name: Bytes) -> Result<(), AllocError>
         ensures pushed { OnOk result (self.new ≡ self.old ++ name ∷ []) }
         ensures unchanged { OnErr result (self.new ≡ self.old) }

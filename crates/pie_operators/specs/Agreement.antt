@@ -6,8 +6,8 @@ use Rattle.pie_value.specs.BuiltinForms.{Answered}
 use Rattle.pie_operators.specs.declared.fault.OperatorFault.{OperatorFault}
 use Rattle.pie_operators.specs.declared.fault.OperatorFault.TheVariants.{Fault, OutOfMemory}
 
--- a value exactly where the definition gives its tree, a fault exactly where it gives that fault; want of memory says nothing
-abbrev pub Agrees : Result Value OperatorFault → Answered → Type 0
-Agrees (Ok v) answer = answer ≡ Ok (tree_of v)
-Agrees (Err (Fault kind)) answer = answer ≡ Err kind
-Agrees (Err OutOfMemory) answer = Unit {0}
+-- a value exactly where the definition gives its tree, a fault exactly where it gives that fault; out of memory says nothing
+abbrev pub ResultAgrees : Result Value OperatorFault → Answered → Type 0
+ResultAgrees (Ok v) answer = answer ≡ Ok (tree_of v)
+ResultAgrees (Err (Fault kind)) answer = answer ≡ Err kind
+ResultAgrees (Err OutOfMemory) answer = Unit {0}

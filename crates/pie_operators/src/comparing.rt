@@ -3,7 +3,7 @@ ghost use Rattle.std.specs.Prelude.{◌≡◌};
 ghost use Rattle.std.specs.Ordering.{is_ge, is_gt, is_le, is_lt};
 ghost use Rattle.pie_value.specs.Values.{tree_of};
 ghost use Rattle.pie_operators.specs.Operators.{compared, order_of};
-ghost use Rattle.pie_operators.specs.Agreement.{Agrees};
+ghost use Rattle.pie_operators.specs.Agreement.{ResultAgrees};
 
 use crate::OperatorFault;
 use crate::fault::refused;
@@ -24,7 +24,7 @@ pub fn order(a: &Value, b: &Value) -> Option<Ordering>
 }
 
 pub fn less(a: &Value, b: &Value) -> Result<Value, OperatorFault>
-    ensures { Agrees result (compared is_lt (tree_of a.now) (tree_of b.now)) }
+    ensures { ResultAgrees result (compared is_lt (tree_of a.now) (tree_of b.now)) }
 {
     match order(a, b) {
         Some(order) => Ok(Value::Bool(order.is_lt())),
@@ -33,7 +33,7 @@ pub fn less(a: &Value, b: &Value) -> Result<Value, OperatorFault>
 }
 
 pub fn less_equal(a: &Value, b: &Value) -> Result<Value, OperatorFault>
-    ensures { Agrees result (compared is_le (tree_of a.now) (tree_of b.now)) }
+    ensures { ResultAgrees result (compared is_le (tree_of a.now) (tree_of b.now)) }
 {
     match order(a, b) {
         Some(order) => Ok(Value::Bool(order.is_le())),
@@ -42,7 +42,7 @@ pub fn less_equal(a: &Value, b: &Value) -> Result<Value, OperatorFault>
 }
 
 pub fn greater(a: &Value, b: &Value) -> Result<Value, OperatorFault>
-    ensures { Agrees result (compared is_gt (tree_of a.now) (tree_of b.now)) }
+    ensures { ResultAgrees result (compared is_gt (tree_of a.now) (tree_of b.now)) }
 {
     match order(a, b) {
         Some(order) => Ok(Value::Bool(order.is_gt())),
@@ -51,7 +51,7 @@ pub fn greater(a: &Value, b: &Value) -> Result<Value, OperatorFault>
 }
 
 pub fn greater_equal(a: &Value, b: &Value) -> Result<Value, OperatorFault>
-    ensures { Agrees result (compared is_ge (tree_of a.now) (tree_of b.now)) }
+    ensures { ResultAgrees result (compared is_ge (tree_of a.now) (tree_of b.now)) }
 {
     match order(a, b) {
         Some(order) => Ok(Value::Bool(order.is_ge())),

@@ -2,7 +2,7 @@
 ghost use Rattle.std.specs.Prelude.{◌≡◌, Err};
 ghost use Rattle.pie_value.specs.Values.{tree_of};
 ghost use Rattle.pie_value.specs.BuiltinForms.{made as spec_made};
-ghost use Rattle.pie_operators.specs.Agreement.{Agrees};
+ghost use Rattle.pie_operators.specs.Agreement.{ResultAgrees};
 
 use pie_base::{FaultKind, OutOfMemory};
 use pie_value::Value;
@@ -55,7 +55,7 @@ pub fn refused(kind: FaultKind) -> Result<Value, OperatorFault>
 
 /// A new value, or the fault Big where it passes the limits.
 pub fn made(value: Value) -> Result<Value, OperatorFault>
-    ensures { Agrees result (spec_made (tree_of value)) }
+    ensures { ResultAgrees result (spec_made (tree_of value)) }
 {
     if value.is_small() {
         Ok(value)

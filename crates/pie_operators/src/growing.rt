@@ -4,7 +4,7 @@ ghost use Rattle.pie_value.specs.Tree.{TList, TTuple, Nil, Cons, items_of, list_
 ghost use Rattle.pie_value.specs.Values.{tree_of, trees_of};
 ghost use Rattle.pie_value.specs.BuiltinItems.{joined};
 ghost use Rattle.pie_operators.specs.Operators.{item_at, item_or_unknown, list_with, tuple_with};
-ghost use Rattle.pie_operators.specs.Agreement.{Agrees};
+ghost use Rattle.pie_operators.specs.Agreement.{ResultAgrees};
 
 use crate::OperatorFault;
 use crate::fault::{made, refused};
@@ -14,7 +14,7 @@ use std::alloc::Global;
 
 /// A list with one more item, which has to keep the limits. A list with no other owner grows in place.
 pub fn push_to_list(alloc: Global, list: Value, item: Value) -> Result<Value, OperatorFault>
-    ensures { Agrees result (list_with (tree_of list) (tree_of item)) }
+    ensures { ResultAgrees result (list_with (tree_of list) (tree_of item)) }
 {
     match list {
         Value::List(items) => made(Value::List(pushed(alloc, items, item)?)),
@@ -24,7 +24,7 @@ pub fn push_to_list(alloc: Global, list: Value, item: Value) -> Result<Value, Op
 
 /// A tuple with one more item, which has to keep the limits.
 pub fn push_to_tuple(alloc: Global, tuple: Value, item: Value) -> Result<Value, OperatorFault>
-    ensures { Agrees result (tuple_with (tree_of tuple) (tree_of item)) }
+    ensures { ResultAgrees result (tuple_with (tree_of tuple) (tree_of item)) }
 {
     match tuple {
         Value::Tuple(items) => made(Value::Tuple(pushed(alloc, items, item)?)),
@@ -34,7 +34,7 @@ pub fn push_to_tuple(alloc: Global, tuple: Value, item: Value) -> Result<Value, 
 
 /// An item of a tuple, counted from 0.
 pub fn item_of(tuple: &Value, number: u32) -> Result<Value, OperatorFault>
-    ensures { Agrees result (item_at number (tree_of tuple.now)) }
+    ensures { ResultAgrees result (item_at number (tree_of tuple.now)) }
 {
     match tuple {
         Value::Tuple(items) => item_there(items, number as usize),
@@ -53,14 +53,14 @@ fn pushed(alloc: Global, items: Items, item: Value) -> Result<Items, OutOfMemory
 
 #[tactic(auto, using(pie_value::proofs::Elements::list_of_items))]
 fn item_there(items: &Items, place: usize) -> Result<Value, OperatorFault>
-    ensures { Agrees result (item_or_unknown (slice_get (list_of (items_of items.now)) place)) }
+    ensures { ResultAgrees result (item_or_unknown (slice_get (list_of (items_of items.now)) place)) }
 {
     item_among(items.as_slice(), place)
 }
 
 // The same of values in a slice.
 fn item_among(items: &[Value], place: usize) -> Result<Value, OperatorFault>
-    ensures { Agrees result (item_or_unknown (slice_get (trees_of items.now) place)) }
+    ensures { ResultAgrees result (item_or_unknown (slice_get (trees_of items.now) place)) }
 {
     match items.get(place) {
         Some(item) => Ok(item.copy()?),

@@ -3,7 +3,7 @@
 ghost use Rattle.std.specs.Prelude.{◌≡◌, ◌≢◌, ◌-ℤ◌, ◌*ℤ◌, int_div};
 ghost use Rattle.pie_value.specs.Values.{tree_of};
 ghost use Rattle.pie_operators.specs.Operators.{binary_answer, of_ints, checked, divided, remainder, same_tree};
-ghost use Rattle.pie_operators.specs.Agreement.{Agrees};
+ghost use Rattle.pie_operators.specs.Agreement.{ResultAgrees};
 ghost use Rattle.pie_operators.specs.declared.operator.Binary.TheVariants.{Add};
 
 use crate::fault::refused;
@@ -15,7 +15,7 @@ use std::alloc::Global;
 /// What an operator answers to its operands. Both are given up, so that a list can grow in place.
 /// Rule: docs/LANGUAGE.md, "Operators".
 pub fn binary(alloc: Global, operator: Binary, a: Value, b: Value) -> Result<Value, OperatorFault>
-    ensures { Agrees result (binary_answer operator (tree_of a) (tree_of b)) }
+    ensures { ResultAgrees result (binary_answer operator (tree_of a) (tree_of b)) }
 {
     match operator {
         Binary::Add => sums::sum(alloc, a, b),
@@ -26,7 +26,7 @@ pub fn binary(alloc: Global, operator: Binary, a: Value, b: Value) -> Result<Val
 // What an operator that only looks at its operands answers.
 fn answered(operator: Binary, a: &Value, b: &Value) -> Result<Value, OperatorFault>
     requires { operator ≢ Add }
-    ensures { Agrees result (binary_answer operator (tree_of a.now) (tree_of b.now)) }
+    ensures { ResultAgrees result (binary_answer operator (tree_of a.now) (tree_of b.now)) }
 {
     match operator {
         Binary::Add => unreachable!(),
@@ -44,7 +44,7 @@ fn answered(operator: Binary, a: &Value, b: &Value) -> Result<Value, OperatorFau
 }
 
 fn subtracted(a: &Value, b: &Value) -> Result<Value, OperatorFault>
-    ensures { Agrees result (of_ints (λ n m. checked (n -ℤ m)) (tree_of a.now) (tree_of b.now)) }
+    ensures { ResultAgrees result (of_ints (λ n m. checked (n -ℤ m)) (tree_of a.now) (tree_of b.now)) }
 {
     match (a, b) {
         (Value::Int(a), Value::Int(b)) => numbers::difference(*a, *b),
@@ -53,7 +53,7 @@ fn subtracted(a: &Value, b: &Value) -> Result<Value, OperatorFault>
 }
 
 fn multiplied(a: &Value, b: &Value) -> Result<Value, OperatorFault>
-    ensures { Agrees result (of_ints (λ n m. checked (n *ℤ m)) (tree_of a.now) (tree_of b.now)) }
+    ensures { ResultAgrees result (of_ints (λ n m. checked (n *ℤ m)) (tree_of a.now) (tree_of b.now)) }
 {
     match (a, b) {
         (Value::Int(a), Value::Int(b)) => numbers::product(*a, *b),
@@ -62,7 +62,7 @@ fn multiplied(a: &Value, b: &Value) -> Result<Value, OperatorFault>
 }
 
 fn divided(a: &Value, b: &Value) -> Result<Value, OperatorFault>
-    ensures { Agrees result (of_ints (divided int_div) (tree_of a.now) (tree_of b.now)) }
+    ensures { ResultAgrees result (of_ints (divided int_div) (tree_of a.now) (tree_of b.now)) }
 {
     match (a, b) {
         (Value::Int(a), Value::Int(b)) => numbers::quotient(*a, *b),
@@ -71,7 +71,7 @@ fn divided(a: &Value, b: &Value) -> Result<Value, OperatorFault>
 }
 
 fn left_over(a: &Value, b: &Value) -> Result<Value, OperatorFault>
-    ensures { Agrees result (of_ints remainder (tree_of a.now) (tree_of b.now)) }
+    ensures { ResultAgrees result (of_ints remainder (tree_of a.now) (tree_of b.now)) }
 {
     match (a, b) {
         (Value::Int(a), Value::Int(b)) => numbers::remainder(*a, *b),

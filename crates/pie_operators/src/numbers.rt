@@ -1,7 +1,7 @@
 //! The operators on integers.
 ghost use Rattle.std.specs.Prelude.{◌+ℤ◌, ◌-ℤ◌, ◌*ℤ◌, neg_ℤ, int_div};
 ghost use Rattle.pie_operators.specs.Operators.{checked, divided, remainder as spec_remainder};
-ghost use Rattle.pie_operators.specs.Agreement.{Agrees};
+ghost use Rattle.pie_operators.specs.Agreement.{ResultAgrees};
 
 use crate::OperatorFault;
 use crate::fault::refused;
@@ -9,7 +9,7 @@ use pie_base::FaultKind;
 use pie_value::Value;
 
 pub fn negated(n: i64) -> Result<Value, OperatorFault>
-    ensures { Agrees result (checked (neg_ℤ n)) }
+    ensures { ResultAgrees result (checked (neg_ℤ n)) }
 {
     match n.checked_neg() {
         Some(n) => Ok(Value::Int(n)),
@@ -18,7 +18,7 @@ pub fn negated(n: i64) -> Result<Value, OperatorFault>
 }
 
 pub fn sum(a: i64, b: i64) -> Result<Value, OperatorFault>
-    ensures { Agrees result (checked (a +ℤ b)) }
+    ensures { ResultAgrees result (checked (a +ℤ b)) }
 {
     match a.checked_add(b) {
         Some(n) => Ok(Value::Int(n)),
@@ -27,7 +27,7 @@ pub fn sum(a: i64, b: i64) -> Result<Value, OperatorFault>
 }
 
 pub fn difference(a: i64, b: i64) -> Result<Value, OperatorFault>
-    ensures { Agrees result (checked (a -ℤ b)) }
+    ensures { ResultAgrees result (checked (a -ℤ b)) }
 {
     match a.checked_sub(b) {
         Some(n) => Ok(Value::Int(n)),
@@ -36,7 +36,7 @@ pub fn difference(a: i64, b: i64) -> Result<Value, OperatorFault>
 }
 
 pub fn product(a: i64, b: i64) -> Result<Value, OperatorFault>
-    ensures { Agrees result (checked (a *ℤ b)) }
+    ensures { ResultAgrees result (checked (a *ℤ b)) }
 {
     match a.checked_mul(b) {
         Some(n) => Ok(Value::Int(n)),
@@ -46,7 +46,7 @@ pub fn product(a: i64, b: i64) -> Result<Value, OperatorFault>
 
 /// The quotient, towards 0.
 pub fn quotient(a: i64, b: i64) -> Result<Value, OperatorFault>
-    ensures { Agrees result (divided int_div a b) }
+    ensures { ResultAgrees result (divided int_div a b) }
 {
     if b == 0 {
         return refused(FaultKind::Zero);
@@ -59,7 +59,7 @@ pub fn quotient(a: i64, b: i64) -> Result<Value, OperatorFault>
 
 /// The remainder, with the sign of the dividend.
 pub fn remainder(a: i64, b: i64) -> Result<Value, OperatorFault>
-    ensures { Agrees result (spec_remainder a b) }
+    ensures { ResultAgrees result (spec_remainder a b) }
 {
     if b == 0 {
         return refused(FaultKind::Zero);

@@ -1,7 +1,7 @@
 //! The operators before one operand.
 ghost use Rattle.pie_value.specs.Values.{tree_of};
 ghost use Rattle.pie_operators.specs.Operators.{unary_answer};
-ghost use Rattle.pie_operators.specs.Agreement.{Agrees};
+ghost use Rattle.pie_operators.specs.Agreement.{ResultAgrees};
 
 use crate::fault::refused;
 use crate::{OperatorFault, Unary, numbers};
@@ -11,7 +11,7 @@ use pie_value::Value;
 /// What an operator answers to its operand.
 /// Rule: docs/LANGUAGE.md, "Operators".
 pub fn unary(operator: Unary, operand: &Value) -> Result<Value, OperatorFault>
-    ensures { Agrees result (unary_answer operator (tree_of operand.now)) }
+    ensures { ResultAgrees result (unary_answer operator (tree_of operand.now)) }
 {
     match (operator, operand) {
         (Unary::Neg, Value::Int(n)) => numbers::negated(*n),

@@ -5,7 +5,7 @@ ghost use Rattle.pie_value.specs.Values.{tree_of, trees_of};
 ghost use Rattle.pie_value.specs.BuiltinForms.{made as spec_made};
 ghost use Rattle.pie_value.specs.BuiltinItems.{joined};
 ghost use Rattle.pie_operators.specs.Operators.{sum_of};
-ghost use Rattle.pie_operators.specs.Agreement.{Agrees};
+ghost use Rattle.pie_operators.specs.Agreement.{ResultAgrees};
 
 use crate::fault::{made, refused};
 use crate::{OperatorFault, numbers};
@@ -15,7 +15,7 @@ use std::alloc::Global;
 
 /// Integers, texts, bytes or lists, one after another. A list with no other owner grows in place.
 pub fn sum(alloc: Global, a: Value, b: Value) -> Result<Value, OperatorFault>
-    ensures { Agrees result (sum_of (tree_of a) (tree_of b)) }
+    ensures { ResultAgrees result (sum_of (tree_of a) (tree_of b)) }
 {
     match a {
         Value::Int(a) => to_int(a, &b),
@@ -27,7 +27,7 @@ pub fn sum(alloc: Global, a: Value, b: Value) -> Result<Value, OperatorFault>
 }
 
 fn to_int(a: i64, b: &Value) -> Result<Value, OperatorFault>
-    ensures { Agrees result (sum_of (TInt a) (tree_of b.now)) }
+    ensures { ResultAgrees result (sum_of (TInt a) (tree_of b.now)) }
 {
     match b {
         Value::Int(b) => numbers::sum(a, *b),
@@ -36,7 +36,7 @@ fn to_int(a: i64, b: &Value) -> Result<Value, OperatorFault>
 }
 
 fn to_text(alloc: Global, a: &str, b: &Value) -> Result<Value, OperatorFault>
-    ensures { Agrees result (sum_of (TText a.now) (tree_of b.now)) }
+    ensures { ResultAgrees result (sum_of (TText a.now) (tree_of b.now)) }
 {
     match b {
         Value::Text(b) => texts(alloc, a, b.as_str()),
@@ -45,7 +45,7 @@ fn to_text(alloc: Global, a: &str, b: &Value) -> Result<Value, OperatorFault>
 }
 
 fn to_bytes(alloc: Global, a: &[u8], b: &Value) -> Result<Value, OperatorFault>
-    ensures { Agrees result (sum_of (TBytes a.now) (tree_of b.now)) }
+    ensures { ResultAgrees result (sum_of (TBytes a.now) (tree_of b.now)) }
 {
     match b {
         Value::Bytes(b) => blobs(alloc, a, b.as_slice()),
@@ -54,7 +54,7 @@ fn to_bytes(alloc: Global, a: &[u8], b: &Value) -> Result<Value, OperatorFault>
 }
 
 fn to_list(alloc: Global, a: Items, b: &Value) -> Result<Value, OperatorFault>
-    ensures { Agrees result (sum_of (TList (items_of a)) (tree_of b.now)) }
+    ensures { ResultAgrees result (sum_of (TList (items_of a)) (tree_of b.now)) }
 {
     match b {
         Value::List(b) => lists(alloc, a, b),
@@ -63,7 +63,7 @@ fn to_list(alloc: Global, a: Items, b: &Value) -> Result<Value, OperatorFault>
 }
 
 fn texts(alloc: Global, a: &str, b: &str) -> Result<Value, OperatorFault>
-    ensures { Agrees result (spec_made (TText (a.now ++ b.now))) }
+    ensures { ResultAgrees result (spec_made (TText (a.now ++ b.now))) }
 {
     let mut text = String::from_str(alloc, a)?;
     text.push_str(b)?;
@@ -71,7 +71,7 @@ fn texts(alloc: Global, a: &str, b: &str) -> Result<Value, OperatorFault>
 }
 
 fn blobs(alloc: Global, a: &[u8], b: &[u8]) -> Result<Value, OperatorFault>
-    ensures { Agrees result (spec_made (TBytes (a.now ++ b.now))) }
+    ensures { ResultAgrees result (spec_made (TBytes (a.now ++ b.now))) }
 {
     let mut bytes = Vec::from_slice(alloc, a)?;
     bytes.extend_from_slice(b)?;
@@ -80,7 +80,7 @@ fn blobs(alloc: Global, a: &[u8], b: &[u8]) -> Result<Value, OperatorFault>
 
 #[tactic(auto, using(crate::proofs::Grown::joined_items))]
 fn lists(alloc: Global, a: Items, b: &Items) -> Result<Value, OperatorFault>
-    ensures { Agrees result (spec_made (TList (joined (items_of a) (items_of b.now)))) }
+    ensures { ResultAgrees result (spec_made (TList (joined (items_of a) (items_of b.now)))) }
 {
     let mut items = a;
     push_all(&mut items, alloc, b.as_slice())?;

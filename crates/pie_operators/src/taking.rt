@@ -1,7 +1,7 @@
 //! What the answers of the outside give.
 ghost use Rattle.pie_operators.specs.Effects.{content, content_or_null, digits_or_null, is_content as spec_is_content, may_observe as spec_may_observe};
 ghost use Rattle.pie_operators.specs.Effects.{observed as spec_observed, required as spec_required, taken as spec_taken, text_read, written as spec_written};
-ghost use Rattle.pie_operators.specs.Agreement.{Agrees};
+ghost use Rattle.pie_operators.specs.Agreement.{ResultAgrees};
 ghost use Rattle.std.specs.Prelude.{◌≡◌, cond, Ok, Err};
 ghost use Rattle.std.specs.Str.{is_utf8};
 ghost use Rattle.pie_base.specs.declared.fault.FaultKind.TheVariants.{NotText};
@@ -16,7 +16,7 @@ use std::alloc::Global;
 /// What an answer to a question gives.
 /// Rule: docs/LANGUAGE.md, "Effects".
 pub fn taken(alloc: Global, question: &Question, answer: Answer) -> Result<Value, OperatorFault>
-    ensures { Agrees result (spec_taken question.now answer) }
+    ensures { ResultAgrees result (spec_taken question.now answer) }
 {
     match question {
         Question::Observe(what, _) => observed(alloc, *what, answer),
@@ -47,7 +47,7 @@ pub fn is_content(what: Observation) -> bool
 
 // What the answer to an observation gives.
 fn observed(alloc: Global, what: Observation, answer: Answer) -> Result<Value, OperatorFault>
-    ensures { Agrees result (spec_observed what answer) }
+    ensures { ResultAgrees result (spec_observed what answer) }
 {
     match (what, answer) {
         (Observation::Exists, Answer::Flag(flag)) => Ok(Value::Bool(flag)),
@@ -63,7 +63,7 @@ fn observed(alloc: Global, what: Observation, answer: Answer) -> Result<Value, O
 
 // What the answer to a write gives.
 fn written(answer: &Answer) -> Result<Value, OperatorFault>
-    ensures { Agrees result (spec_written answer.now) }
+    ensures { ResultAgrees result (spec_written answer.now) }
 {
     match answer {
         Answer::Wrote => Ok(Value::Unit),
@@ -73,7 +73,7 @@ fn written(answer: &Answer) -> Result<Value, OperatorFault>
 
 // What the answer to a required task gives.
 fn required(how: How, answer: Answer) -> Result<Value, OperatorFault>
-    ensures { Agrees result (spec_required how answer) }
+    ensures { ResultAgrees result (spec_required how answer) }
 {
     match (how, answer) {
         (How::Whole, Answer::Output(value)) => Ok(value),
@@ -84,7 +84,7 @@ fn required(how: How, answer: Answer) -> Result<Value, OperatorFault>
 }
 
 fn content_found(alloc: Global, by: By, found: Option<Blob>) -> Result<Value, OperatorFault>
-    ensures { Agrees result (content_or_null by found) }
+    ensures { ResultAgrees result (content_or_null by found) }
 {
     match found {
         None => Ok(Value::Null),
@@ -93,7 +93,7 @@ fn content_found(alloc: Global, by: By, found: Option<Blob>) -> Result<Value, Op
 }
 
 fn content_of(alloc: Global, by: By, bytes: Blob) -> Result<Value, OperatorFault>
-    ensures { Agrees result (content by bytes) }
+    ensures { ResultAgrees result (content by bytes) }
 {
     match by {
         By::Raw => made(Value::Bytes(bytes)),
@@ -104,7 +104,7 @@ fn content_of(alloc: Global, by: By, bytes: Blob) -> Result<Value, OperatorFault
 
 // The bytes as a text: first the limit, and then UTF-8.
 fn text_of(alloc: Global, bytes: &[u8]) -> Result<Value, OperatorFault>
-    ensures { Agrees result (text_read bytes.now) }
+    ensures { ResultAgrees result (text_read bytes.now) }
 {
     if (bytes.len() as u64).saturating_add(5) > MAX_VALUE_BYTES {
         refused(FaultKind::Big)
@@ -115,7 +115,7 @@ fn text_of(alloc: Global, bytes: &[u8]) -> Result<Value, OperatorFault>
 
 #[tactic(auto, using(pie_value::proofs::TextTests::utf8, pie_value::proofs::TextTests::not_utf8))]
 fn text_spelt(alloc: Global, bytes: &[u8]) -> Result<Value, OperatorFault>
-    ensures { Agrees result (cond (is_utf8 bytes.now) (Ok (TText bytes.now)) (Err NotText)) }
+    ensures { ResultAgrees result (cond (is_utf8 bytes.now) (Ok (TText bytes.now)) (Err NotText)) }
 {
     match std::str::from_utf8(bytes) {
         Ok(text) => Ok(Value::Text(Text::new(alloc, text)?)),
@@ -124,7 +124,7 @@ fn text_spelt(alloc: Global, bytes: &[u8]) -> Result<Value, OperatorFault>
 }
 
 fn digits_found(alloc: Global, found: Option<[u8; 32]>) -> Result<Value, OperatorFault>
-    ensures { Agrees result (digits_or_null found) }
+    ensures { ResultAgrees result (digits_or_null found) }
 {
     match found {
         None => Ok(Value::Null),

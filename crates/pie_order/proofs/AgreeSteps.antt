@@ -9,7 +9,7 @@ use Rattle.pie_graph.specs.declared.edges.TaskNo.{TaskNo}
 use Rattle.pie_graph.specs.Numbers.{numbers}
 use Rattle.pie_graph.specs.Rows.{Row, Calls}
 use Rattle.pie_reach.proofs.WalkSteps.{caller_below}
-use Rattle.pie_order.specs.Places.{Agrees, StandsBefore}
+use Rattle.pie_order.specs.Places.{PlacesAgree, StandsBefore}
 
 pub one_more : (tasks : List TaskNo) (places : List ℕ) (caller i : ℕ) (d : TaskNo) → i < length tasks → StandsBefore places (get_or tasks i d).0 caller
     → ((j : ℕ) → j < i → StandsBefore places (slice_index (numbers tasks) j) caller) → (j : ℕ) → j < i + 1
@@ -48,5 +48,5 @@ caller_more rows places needs caller one all a b l calls = elim (cases_lt a call
 ]
 
 pub agree : (rows : List Row) (places : List ℕ) (count : ℕ) → length places ≡ length rows → length rows ≤ count
-    → ((a b : ℕ) → a < count → Calls rows a b → StandsBefore places b a) → Agrees rows places
+    → ((a b : ℕ) → a < count → Calls rows a b → StandsBefore places b a) → PlacesAgree rows places
 agree rows places count sized l all = record { as_many = sized; each = λ a b calls. all a b (omega (arith, caller_below rows a b calls, l)) calls }

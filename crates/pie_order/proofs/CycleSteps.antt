@@ -14,7 +14,7 @@ use Rattle.pie_reach.specs.Reaches.Leads.{itself, step}
 use Rattle.pie_reach.specs.Walks.{IsClosure}
 use Rattle.pie_reach.proofs.Meets.{alone}
 use Rattle.pie_reach.proofs.WalkSteps.{turned}
-use Rattle.pie_order.specs.Places.{Agrees}
+use Rattle.pie_order.specs.Places.{PlacesAgree}
 use Rattle.pie_order.specs.Cycles.{IsTrail, IsLeading}
 
 -- nothing stands before the first task
@@ -34,7 +34,7 @@ push_last : (ns : List ℕ) (n i : ℕ) → i ≡ length ns → slice_index (ns 
 push_last ns n i e = ap (slice_index (ns ++ n ∷ [])) e ∙ get_or-append_seam ns n [] 0
 
 -- a step is taken to a task that stands earlier
-pub leading_steps : (rows : List Row) (places : List ℕ) (start : ℕ) (ns : List ℕ) (at next : ℕ) → Agrees rows places → IsLeading rows places start ns at
+pub leading_steps : (rows : List Row) (places : List ℕ) (start : ℕ) (ns : List ℕ) (at next : ℕ) → PlacesAgree rows places → IsLeading rows places start ns at
     → Calls rows at next → IsLeading rows places start (ns ++ at ∷ []) next
 leading_steps rows places start ns at next agrees so calls =
     let longer = length_push ns at in

@@ -5,7 +5,7 @@ use Rattle.std.proofs.lemmas.List.Elements.{All-contains}
 use Rattle.pie_graph.specs.Rows.{Row, row_at, Calls, NeedsBelow}
 use Rattle.pie_graph.proofs.RowLemmas.{needs_below_at}
 use Rattle.pie_reach.proofs.WalkSteps.{caller_below}
-use Rattle.pie_order.specs.Places.{StandsBefore, Agrees}
+use Rattle.pie_order.specs.Places.{StandsBefore, PlacesAgree}
 use Rattle.pie_order.specs.Runs.{AreParted, GoFirst, GoLast}
 use Rattle.pie_order.specs.Sides.{IsSide}
 use Rattle.pie_order.proofs.StandingSteps.{held}
@@ -13,7 +13,7 @@ use Rattle.pie_order.proofs.StandingSteps.{held}
 -- where the front holds all that its tasks require, the parted tasks agree
 parted_agree : (front back : ℕ → Type 0) (rows : List Row) (old new : List ℕ) → NeedsBelow rows → ((n : ℕ) → front n ⊎ back n)
     → ((x y : ℕ) → Calls rows x y → front x → front y)
-    → Agrees rows old → AreParted front back old new → Agrees rows new
+    → PlacesAgree rows old → AreParted front back old new → PlacesAgree rows new
 parted_agree front back rows old new needs either closed agrees parted = record {
   as_many = parted.sized ∙ agrees.as_many;
   each = λ x y calls.
@@ -35,7 +35,7 @@ parted_agree front back rows old new needs either closed agrees parted = record 
 
 pub sunk_agrees : (rows : List Row) (from to : ℕ) (tasks old new : List ℕ) → NeedsBelow rows → from < length old → to < length old
     → IsSide (length rows) (Calls rows) to from tasks
-    → Agrees rows old → GoFirst tasks old new → Agrees rows new × StandsBefore new to from
+    → PlacesAgree rows old → GoFirst tasks old new → PlacesAgree rows new × StandsBefore new to from
 sunk_agrees rows from to tasks old new needs from_in to_in side agrees parted = (
   parted_agree (Contains tasks) (λ n. Contains tasks n → ⊥) rows old new needs (held tasks) (λ x y calls h. side.closed x y h calls) agrees parted,
   parted.parted to from to_in from_in side.started side.apart,
@@ -46,7 +46,7 @@ turned tasks n = elim (held tasks n) [ inl h ↦ inr h | inr none ↦ inl none ]
 
 pub lifted_agrees : (rows : List Row) (from to : ℕ) (tasks old new : List ℕ) → NeedsBelow rows → from < length old → to < length old
     → IsSide (length rows) (λ a b. Calls rows b a) from to tasks
-    → Agrees rows old → GoLast tasks old new → Agrees rows new × StandsBefore new to from
+    → PlacesAgree rows old → GoLast tasks old new → PlacesAgree rows new × StandsBefore new to from
 lifted_agrees rows from to tasks old new needs from_in to_in side agrees parted = (
   parted_agree (λ n. Contains tasks n → ⊥) (Contains tasks) rows old new needs (turned tasks)
       (λ x y calls none h. none (side.closed y x h calls)) agrees parted,

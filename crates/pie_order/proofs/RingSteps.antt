@@ -7,11 +7,11 @@ use Rattle.std.proofs.lemmas.List.{get_or-append-add, get_or_append_left}
 use Rattle.pie_graph.specs.declared.edges.TaskNo.{TaskNo}
 use Rattle.pie_graph.specs.Numbers.{numbers}
 use Rattle.pie_graph.specs.Rows.{Row}
-use Rattle.pie_order.specs.Places.{Agrees}
+use Rattle.pie_order.specs.Places.{PlacesAgree}
 use Rattle.pie_order.specs.Cycles.{WouldCall, IsRing, IsLeastAt, IsCycle, IsTrail}
 
 -- so many steps on, a way stands so many places earlier
-trail_falls : (rows : List Row) (places : List ℕ) (start end : ℕ) (ns : List ℕ) → Agrees rows places → IsTrail rows start end ns → (d i : ℕ)
+trail_falls : (rows : List Row) (places : List ℕ) (start end : ℕ) (ns : List ℕ) → PlacesAgree rows places → IsTrail rows start end ns → (d i : ℕ)
     → d + i < length ns → slice_index places (slice_index ns (d + i)) + d ≤ slice_index places (slice_index ns i)
 trail_falls rows places start end ns agrees trail zero i l =
     let same : 0 + i ≡ i = omega arith in
@@ -24,7 +24,7 @@ trail_falls rows places start end ns agrees trail (suc d) i l =
     (slice_index ns (d + i + 1)) (trail.each (d + i) (omega (arith, l))) in
     omega (arith, e, falls, trail_falls rows places start end ns agrees trail d i (omega (arith, l)))
 
-apart : (rows : List Row) (places : List ℕ) (start end : ℕ) (ns : List ℕ) → Agrees rows places → IsTrail rows start end ns → (i j : ℕ) → i < j → j < length ns
+apart : (rows : List Row) (places : List ℕ) (start end : ℕ) (ns : List ℕ) → PlacesAgree rows places → IsTrail rows start end ns → (i j : ℕ) → i < j → j < length ns
     → slice_index ns i ≡ slice_index ns j → i ≡ j
 apart rows places start end ns agrees trail i j l m e =
     let same : j - i + i ≡ j = omega arith in
@@ -32,7 +32,7 @@ apart rows places start end ns agrees trail i j l m e =
     (λ k. slice_index places (slice_index ns k)) same in
     absurd (omega (arith, trail_falls rows places start end ns agrees trail (j - i) i (omega (arith, m)), there, ap (slice_index places) e, l))
 
-pub trail_ring : (rows : List Row) (places : List ℕ) (from to : ℕ) (ns : List ℕ) → Agrees rows places → IsTrail rows to from ns
+pub trail_ring : (rows : List Row) (places : List ℕ) (from to : ℕ) (ns : List ℕ) → PlacesAgree rows places → IsTrail rows to from ns
     → IsRing (WouldCall rows from to) ns
 trail_ring rows places from to ns agrees trail = record {
   some = trail.some;
@@ -170,7 +170,7 @@ turned_cycle goes ns at l ring least =
     }
 
 -- a way that is turned to its least task is the cycle that the edge closes
-pub cycle_made : (rows : List Row) (places : List ℕ) (from to : ℕ) (trail first second turned : List TaskNo) (at : ℕ) → Agrees rows places
+pub cycle_made : (rows : List Row) (places : List ℕ) (from to : ℕ) (trail first second turned : List TaskNo) (at : ℕ) → PlacesAgree rows places
     → IsTrail rows to from (numbers trail) → first ≡ trail → second ≡ trail → at < length first → IsLeastAt (numbers first) at
     → turned ≡ drop at second ++ take at second → IsCycle (WouldCall rows from to) (numbers turned)
 cycle_made rows places from to trail first second turned at agrees is e f l least g =

@@ -11,7 +11,7 @@ abbrev pub AreApart : List ℕ → Type 0
 AreApart places = (a b : ℕ) → a < length places → b < length places → slice_index places a ≡ slice_index places b → a ≡ b
 
 -- each required task stands before those that require it
-pub record Agrees (rows : List Row) (places : List ℕ) : Type 0 where
+pub record PlacesAgree (rows : List Row) (places : List ℕ) : Type 0 where
   pub as_many : length places ≡ length rows
   pub each : (caller callee : ℕ) → Calls rows caller callee → StandsBefore places callee caller
 

@@ -2,7 +2,7 @@
 ghost use Rattle.std.specs.Prelude.{◌≡◌, ℕ, ◌↔◌, IsTrue, length};
 ghost use Rattle.std.specs.List.{Contains};
 ghost use Rattle.pie_graph.specs.Numbers.{numbers};
-ghost use Rattle.pie_order.specs.Places.{Agrees, StandsBefore};
+ghost use Rattle.pie_order.specs.Places.{PlacesAgree, StandsBefore};
 
 use crate::within::place_in;
 use pie_graph::{TaskNo, TaskRows};
@@ -10,7 +10,7 @@ use pie_graph::{TaskNo, TaskRows};
 // Whether each required task stands before those that require it.
 pub(crate) fn all_agree<R: TaskRows>(rows: &R, places: &[u32]) -> bool
     requires { length places.now ≡ length (R.rows rows.now) }
-    ensures { IsTrue result ↔ Agrees (R.rows rows.now) places.now }
+    ensures { IsTrue result ↔ PlacesAgree (R.rows rows.now) places.now }
 {
     for caller in 0..rows.count() {
         let no = TaskNo(caller);

@@ -5,7 +5,7 @@ ghost use Rattle.pie_graph.specs.Numbers.{numbers, IsMarked};
 ghost use Rattle.pie_graph.specs.Rows.{Calls};
 ghost use Rattle.pie_reach.specs.Reaches.{Reaches};
 ghost use Rattle.pie_reach.specs.Walks.{IsClosure};
-ghost use Rattle.pie_order.specs.Places.{Agrees};
+ghost use Rattle.pie_order.specs.Places.{PlacesAgree};
 ghost use Rattle.pie_order.specs.Cycles.{WouldCall, IsCycle, IsLeastAt, IsTrail};
 
 use crate::within::place_in;
@@ -22,7 +22,7 @@ pub(crate) fn cycle_of<R: TaskRows>(
     from: TaskNo,
     to: TaskNo,
 ) -> Result<Vec<TaskNo>, OutOfMemory>
-    requires agrees { Agrees (R.rows rows.now) places.now }
+    requires agrees { PlacesAgree (R.rows rows.now) places.now }
     requires from { from.0 < length (R.rows rows.now) }
     requires to { to.0 < length (R.rows rows.now) }
     requires reaches { Reaches (R.rows rows.now) to.0 from.0 }
@@ -46,7 +46,7 @@ fn trail<R: TaskRows>(
     end: TaskNo,
     start: TaskNo,
 ) -> Result<Vec<TaskNo>, OutOfMemory>
-    requires agrees { Agrees (R.rows rows.now) places.now }
+    requires agrees { PlacesAgree (R.rows rows.now) places.now }
     requires start { start.0 < length (R.rows rows.now) }
     requires marks { IsClosure (length (R.rows rows.now)) (λ a b. Calls (R.rows rows.now) b a) (end.0 ∷ []) marks.now }
     requires marked { IsMarked marks.now start.0 }

@@ -3,7 +3,7 @@ ghost use Rattle.std.specs.Prelude.{◌≡◌, ◌+◌, ◌<◌, ◌≤◌, ◌+
 ghost use Rattle.pie_graph.specs.Numbers.{numbers};
 ghost use Rattle.pie_reach.specs.Reaches.{Reaches};
 ghost use Rattle.pie_order.specs.Cycles.{IsCycle, WouldCall};
-ghost use Rattle.pie_order.specs.Places.{StandsBefore, AreApart, Agrees, numbers_below};
+ghost use Rattle.pie_order.specs.Places.{StandsBefore, AreApart, PlacesAgree, numbers_below};
 
 use crate::agreeing::all_agree;
 use crate::cycle::cycle_of;
@@ -68,7 +68,7 @@ impl Order {
 
     /// Whether there are as many tasks as rows, and each required task stands before those that require it.
     pub fn agrees<R: TaskRows>(&self, rows: &R) -> bool
-        ensures { IsTrue result ↔ Agrees (R.rows rows.now) self.now }
+        ensures { IsTrue result ↔ PlacesAgree (R.rows rows.now) self.now }
     {
         if self.placed.places.len() != rows.count() as usize {
             return false;
@@ -96,10 +96,10 @@ impl Order {
         from: TaskNo,
         to: TaskNo,
     ) -> Result<Option<Vec<TaskNo>>, OutOfMemory>
-        requires agrees { Agrees (R.rows rows.now) self.old }
+        requires agrees { PlacesAgree (R.rows rows.now) self.old }
         requires from { from.0 < length self.old }
         requires to { to.0 < length self.old }
-        ensures inserted { IfOk result (λ found. MatchOption found (Agrees (R.rows rows.now) self.new × StandsBefore self.new to.0 from.0)
+        ensures inserted { IfOk result (λ found. MatchOption found (PlacesAgree (R.rows rows.now) self.new × StandsBefore self.new to.0 from.0)
             (λ cycle. (self.new ≡ self.old) × Reaches (R.rows rows.now) to.0 from.0)) }
         ensures cycle { IfOk result (λ found. IfSome found (λ cycle. IsCycle (WouldCall (R.rows rows.now) from.0 to.0) (numbers cycle.items))) }
         ensures unchanged { OnErr result (self.new ≡ self.old) }

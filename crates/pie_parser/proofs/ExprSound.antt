@@ -5,7 +5,7 @@ use Rattle.pie_parser.specs.declared.kind.Kind.{Kind}
 use Rattle.pie_parser.specs.declared.kind.Kind.TheVariants as kinds
 use Rattle.pie_parser.specs.declared.chain.Level.{Level}
 use Rattle.pie_parser.specs.declared.chain.Level.TheVariants as levels
-use Rattle.pie_parser.specs.declared.error.Fault.TheVariants.{Expected, OutOfMemory}
+use Rattle.pie_parser.specs.declared.error.ParseFault.TheVariants.{Expected, OutOfMemory}
 use Rattle.pie_parser.specs.declared.tree.Name.{Name}
 use Rattle.pie_parser.specs.declared.tree.Index.{Index}
 use Rattle.pie_parser.specs.declared.tree.Step.{Step}

@@ -1,12 +1,12 @@
 -- The loop over the pieces of a block, a turn at a time.
 use Rattle.std.proofs.Common.{◌≡◌, ℕ, ◌+◌, ◌-◌, ◌<◌, ◌≤◌, zero, suc, List, [], ◌∷◌, ◌++◌, Option, Some, None, refl, sym, ap, ◌∙◌, append_assoc, Err, arith}
 use Rattle.std.proofs.lemmas.List.{append-nil}
-use Rattle.pie_parser.specs.declared.error.Fault.{Fault}
-use Rattle.pie_parser.specs.declared.error.Fault.TheVariants.{Expected, TooDeep, OutOfMemory}
+use Rattle.pie_parser.specs.declared.error.ParseFault.{ParseFault}
+use Rattle.pie_parser.specs.declared.error.ParseFault.TheVariants.{Expected, TooDeep, OutOfMemory}
 use Rattle.pie_parser.specs.declared.tree.Line.{Line}
 use Rattle.pie_parser.specs.Plain.{Tree}
 use Rattle.pie_parser.specs.At.{At}
-use Rattle.pie_parser.specs.Places.{Parsed, Got, Miss, then_on, Agrees}
+use Rattle.pie_parser.specs.Places.{Parsed, Got, Miss, then_on, ParseAgrees}
 use Rattle.pie_parser.specs.Turns.{Turn, Stop, Part}
 use Rattle.pie_parser.specs.Pieces.{Piece, ALine, TheLast, PieceTurns, pieces_of, on_piece, onto_lines}
 use Rattle.pie_parser.specs.ExprReading.{Around, piece, pieces}
@@ -40,7 +40,7 @@ pub stops : (e : Around) (n i : ℕ) (s : At) (ls : List Line) (p : Parsed (List
     → onto_lines ls (pieces e (n - i) s) ≡ p → p ≡ Got (ls, None) s
 stops e n i s ls p h t q = sym q ∙ at_turn e n i s ls Stop h t ∙ ap (λ xs. Got (xs, None) s) (append-nil ls)
 
-pub fails : (e : Around) (n i : ℕ) (s m : At) (ls : List Line) (f : Fault) (p : Parsed (List Line × Option Tree)) → i < n → piece e s ≡ Part (Miss f m)
+pub fails : (e : Around) (n i : ℕ) (s m : At) (ls : List Line) (f : ParseFault) (p : Parsed (List Line × Option Tree)) → i < n → piece e s ≡ Part (Miss f m)
     → onto_lines ls (pieces e (n - i) s) ≡ p → p ≡ Miss f m
 fails e n i s m ls f p h t q = sym q ∙ at_turn e n i s ls (Part (Miss f m)) h t
 
@@ -51,9 +51,9 @@ runs_out e n i s ls p h q =
     sym q ∙ ap (λ k. onto_lines ls (pieces e k s)) z ∙ ap (λ xs. Got (xs, None) s) (append-nil ls)
 
 -- where a turn fails in the code, so does the loop
-pub piece_fails_so : (e : Around) (n i : ℕ) (s m : At) (ls : List Line) (f : Fault) (p : Parsed (List Line × Option Tree)) → i < n
+pub piece_fails_so : (e : Around) (n i : ℕ) (s m : At) (ls : List Line) (f : ParseFault) (p : Parsed (List Line × Option Tree)) → i < n
     → PieceTurns (Err f) s m (piece e s)
-    → onto_lines ls (pieces e (n - i) s) ≡ p → Agrees pieces_of (Err f) m p
+    → onto_lines ls (pieces e (n - i) s) ≡ p → ParseAgrees pieces_of (Err f) m p
 piece_fails_so e n i s m ls Expected p h t q = fails e n i s m ls Expected p h t q
 piece_fails_so e n i s m ls TooDeep p h t q = fails e n i s m ls TooDeep p h t q
 piece_fails_so e n i s m ls OutOfMemory p h t q = tt

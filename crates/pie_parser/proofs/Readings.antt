@@ -4,8 +4,8 @@ use Rattle.std.proofs.Common.{subst, ap, ◌∙◌, rules}
 use denote.Enum.Bare.{same_true, same_false}
 use Rattle.pie_parser.specs.contracts.kind.Kind.{the_type}
 use Rattle.pie_parser.specs.declared.kind.Kind.{Kind}
-use Rattle.pie_parser.specs.declared.error.Fault.{Fault}
-use Rattle.pie_parser.specs.declared.error.Fault.TheVariants.{Expected, TooDeep}
+use Rattle.pie_parser.specs.declared.error.ParseFault.{ParseFault}
+use Rattle.pie_parser.specs.declared.error.ParseFault.TheVariants.{Expected, TooDeep}
 use Rattle.pie_parser.specs.Kinds.{is}
 use Rattle.pie_parser.specs.At.{At}
 use Rattle.pie_parser.specs.Places.{Parsed, Got, Miss, Parser, then_on, Passed, done, next, passed, want, open_bracket}
@@ -29,7 +29,7 @@ got_same h = (cc, cc)
 pub as_got : {A : Type 0} (R : At → A → Type 0) {x y : A} {a m : At} → Got x a ≡ Got y m → R a x → R m y
 as_got R {x = x} {m = m} h r = let e = got_same h in subst (R m) e.0 (subst (λ k. R k x) e.1 r)
 
-pub missed : {A : Type 0} {B : Type 0} {f : Fault} {s m : At} {y : A} → Miss f s ≡ Got y m → B
+pub missed : {A : Type 0} {B : Type 0} {f : ParseFault} {s m : At} {y : A} → Miss f s ≡ Got y m → B
 missed h = absurd cc
 
 pub bound : {A B : Type 0} (p : Parsed A) (f : A → At → Parsed B) (y : B) (m : At) → then_on p f ≡ Got y m → (x : A) × (a : At) × (p ≡ Got x a)

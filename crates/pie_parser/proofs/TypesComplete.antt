@@ -6,7 +6,7 @@ use Rattle.pie_lexer.specs.declared.token.TokenKind.{TokenKind}
 use Rattle.pie_lexer.specs.declared.token.TokenKind.TheVariants as tokens
 use Rattle.pie_parser.specs.declared.kind.Kind.{Kind}
 use Rattle.pie_parser.specs.declared.kind.Kind.TheVariants as kinds
-use Rattle.pie_parser.specs.declared.error.Fault.TheVariants.{Expected, OutOfMemory}
+use Rattle.pie_parser.specs.declared.error.ParseFault.TheVariants.{Expected, OutOfMemory}
 use Rattle.pie_parser.specs.declared.type_tree.PlainType.{PlainType}
 use Rattle.pie_parser.specs.declared.tree.Name.{Name}
 use Rattle.pie_parser.specs.Kinds.{is, kind_of_token}

@@ -3,7 +3,7 @@ use Rattle.std.specs.Prelude.{◌≡◌, ℕ, ◌-◌, Bool, true, false, cond, 
 use Rattle.pie_lexer.specs.declared.token.Token.{Token}
 use Rattle.pie_parser.specs.declared.kind.Kind.{Kind}
 use Rattle.pie_parser.specs.declared.kind.Kind.TheVariants as kinds
-use Rattle.pie_parser.specs.declared.error.Fault.TheVariants as faults
+use Rattle.pie_parser.specs.declared.error.ParseFault.TheVariants as faults
 use Rattle.pie_parser.specs.declared.error.ParseError.{ParseError}
 use Rattle.pie_parser.specs.declared.error.ParseError.TheVariants.{Expected, TooDeep, OutOfMemory}
 use Rattle.pie_parser.specs.declared.tree.Name.{Name}
@@ -70,7 +70,7 @@ last_end n (t ∷ ts) = last_end t.end ts
 abbrev pub offset : List Token → At → ℕ
 offset ts m = start_of (last_end 0 ts) m.rest
 
--- the answer is what reading these tokens gives, unless memory ran out
+-- the answer is what reading these tokens gives, unless out of memory
 abbrev pub Reads : Result (List FunctionTree) ParseError → List Token → Type 0
 Reads (Ok fs) ts = (m : At) × (read_all ts ≡ Got fs m)
 Reads (Err (Expected i)) ts = (m : At) × (read_all ts ≡ Miss faults.Expected m) × (i ≡ offset ts m)

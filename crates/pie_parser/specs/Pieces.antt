@@ -1,7 +1,7 @@
 -- The pieces of a block: its lines, and the expression that ends it.
 use Rattle.std.specs.Prelude.{◌≡◌, List, [], ◌∷◌, ◌++◌, Option, Some, None, Result, Ok, Err}
-use Rattle.pie_parser.specs.declared.error.Fault.{Fault}
-use Rattle.pie_parser.specs.declared.error.Fault.TheVariants.{Expected, TooDeep, OutOfMemory}
+use Rattle.pie_parser.specs.declared.error.ParseFault.{ParseFault}
+use Rattle.pie_parser.specs.declared.error.ParseFault.TheVariants.{Expected, TooDeep, OutOfMemory}
 use Rattle.pie_parser.specs.declared.tree.Line.{Line}
 use Rattle.pie_parser.specs.declared.block.Piece.{Piece as CodePiece}
 use Rattle.pie_parser.specs.declared.block.Piece.TheVariants as code
@@ -25,8 +25,8 @@ piece_of (code.Last t) = TheLast t
 abbrev pub pieces_of : Pieces → List Line × Option Tree
 pieces_of p = (p.lines.items, p.last)
 
--- an answer of the code is that of the turn, unless memory ran out
-abbrev pub PieceTurns : Result (Option CodePiece) Fault → At → At → Turn Piece → Type 0
+-- an answer of the code is that of the turn, unless out of memory
+abbrev pub PieceTurns : Result (Option CodePiece) ParseFault → At → At → Turn Piece → Type 0
 PieceTurns (Ok None) old new t = (t ≡ Stop) × (new ≡ old)
 PieceTurns (Ok (Some x)) old new t = t ≡ Part (Got (piece_of x) new)
 PieceTurns (Err OutOfMemory) old new t = Unit {0}

@@ -5,8 +5,8 @@ use Rattle.pie_lexer.specs.declared.token.TokenKind.{TokenKind}
 use Rattle.pie_lexer.specs.declared.token.TokenKind.TheVariants as tokens
 use Rattle.pie_parser.specs.declared.kind.Kind.{Kind}
 use Rattle.pie_parser.specs.declared.kind.Kind.TheVariants as kinds
-use Rattle.pie_parser.specs.declared.error.Fault.{Fault}
-use Rattle.pie_parser.specs.declared.error.Fault.TheVariants.{Expected, TooDeep, OutOfMemory}
+use Rattle.pie_parser.specs.declared.error.ParseFault.{ParseFault}
+use Rattle.pie_parser.specs.declared.error.ParseFault.TheVariants.{Expected, TooDeep, OutOfMemory}
 use Rattle.pie_parser.specs.declared.tree.Name.{Name}
 use Rattle.pie_parser.specs.declared.tree.Index.{Index}
 use Rattle.pie_parser.specs.Kinds.{kind_of_token, is}
@@ -15,7 +15,7 @@ use Rattle.pie_parser.specs.At.{At}
 -- what reading answers: a value and the place behind it, or why nothing was read, and where
 pub data Parsed (A : Type 0) : Type 0 where
   Got : A → At → Parsed A
-  Miss : Fault → At → Parsed A
+  Miss : ParseFault → At → Parsed A
 
 -- a reading from a place
 abbrev pub Parser : Type 0 → Type 0
@@ -26,11 +26,11 @@ abbrev pub then_on : {A B : Type 0} → Parsed A → (A → At → Parsed B) →
 then_on (Got a m) f = f a m
 then_on (Miss e m) f = Miss e m
 
--- an answer of the code is that of the reading, unless memory ran out
-abbrev pub Agrees : {A B : Type 0} → (A → B) → Result A Fault → At → Parsed B → Type 0
-Agrees view (Ok a) m p = p ≡ Got (view a) m
-Agrees view (Err OutOfMemory) m p = Unit {0}
-Agrees view (Err e) m p = p ≡ Miss e m
+-- an answer of the code is that of the reading, unless out of memory
+abbrev pub ParseAgrees : {A B : Type 0} → (A → B) → Result A ParseFault → At → Parsed B → Type 0
+ParseAgrees view (Ok a) m p = p ≡ Got (view a) m
+ParseAgrees view (Err OutOfMemory) m p = Unit {0}
+ParseAgrees view (Err e) m p = p ≡ Miss e m
 
 -- that a token was passed
 pub data Passed : Type 0 where

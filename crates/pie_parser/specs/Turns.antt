@@ -1,7 +1,7 @@
 -- A part as often as it comes.
 use Rattle.std.specs.Prelude.{◌≡◌, ℕ, zero, suc, List, [], ◌∷◌, ◌++◌, length, Option, Some, None, Result, Ok, Err}
-use Rattle.pie_parser.specs.declared.error.Fault.{Fault}
-use Rattle.pie_parser.specs.declared.error.Fault.TheVariants.{Expected, TooDeep, OutOfMemory}
+use Rattle.pie_parser.specs.declared.error.ParseFault.{ParseFault}
+use Rattle.pie_parser.specs.declared.error.ParseFault.TheVariants.{Expected, TooDeep, OutOfMemory}
 use Rattle.pie_parser.specs.At.{At}
 use Rattle.pie_parser.specs.Places.{Parsed, Got, Miss, Parser, then_on}
 
@@ -10,8 +10,8 @@ pub data Turn (A : Type 0) : Type 0 where
   Stop : Turn A
   Part : Parsed A → Turn A
 
--- an answer of the code is that of the turn, unless memory ran out
-abbrev pub Turns : {A : Type 0} → Result (Option A) Fault → At → At → Turn A → Type 0
+-- an answer of the code is that of the turn, unless out of memory
+abbrev pub Turns : {A : Type 0} → Result (Option A) ParseFault → At → At → Turn A → Type 0
 Turns (Ok None) old new t = (t ≡ Stop) × (new ≡ old)
 Turns (Ok (Some x)) old new t = t ≡ Part (Got x new)
 Turns (Err OutOfMemory) old new t = Unit {0}

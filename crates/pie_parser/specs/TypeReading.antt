@@ -2,7 +2,7 @@
 use Rattle.std.specs.Prelude.{ℕ, zero, suc, Bool, true, false, cond, List, [], ◌∷◌, Option, Some, None}
 use Rattle.pie_parser.specs.declared.kind.Kind.{Kind}
 use Rattle.pie_parser.specs.declared.kind.Kind.TheVariants as kinds
-use Rattle.pie_parser.specs.declared.error.Fault.TheVariants.{Expected, OutOfMemory}
+use Rattle.pie_parser.specs.declared.error.ParseFault.TheVariants.{Expected, OutOfMemory}
 use Rattle.pie_parser.specs.declared.type_tree.PlainType.{PlainType}
 use Rattle.pie_parser.specs.declared.type_tree.PlainType.TheVariants as plains
 use Rattle.pie_parser.specs.declared.tree.Name.{Name}

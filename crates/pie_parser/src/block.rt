@@ -1,12 +1,12 @@
 //! Reading blocks.
 ghost use Rattle.std.specs.Prelude.{◌≡◌, ◌<◌, [], ◌∷◌};
-ghost use Rattle.pie_parser.specs.Places.{Agrees};
+ghost use Rattle.pie_parser.specs.Places.{ParseAgrees};
 ghost use Rattle.pie_parser.specs.ExprReading as reads;
 ghost use Rattle.pie_parser.specs.ExprReading.{around};
 ghost use Rattle.pie_parser.specs.TreeView.{block_of};
 ghost use Rattle.pie_parser.specs.Pieces.{PieceTurns, pieces_of};
 
-use crate::error::Fault;
+use crate::error::ParseFault;
 use crate::kind::{Kind, is};
 use crate::reader::{Reader, Room};
 use crate::{Block, Expr, Line};
@@ -29,8 +29,8 @@ pub struct Pieces {
 impl<'a> Reader<'a> {
     // block = "{" { "val" name "=" expr ";" | expr ";" } [ expr ] "}"
     #[cycle(expr)]
-    pub fn block(&mut self, alloc: Global, room: Room) -> Result<Block, Fault>
-        ensures { Agrees block_of result self.new (reads.block (around room) self.old) }
+    pub fn block(&mut self, alloc: Global, room: Room) -> Result<Block, ParseFault>
+        ensures { ParseAgrees block_of result self.new (reads.block (around room) self.old) }
     {
         let at = self.start();
         self.open(Kind::OpenBrace, room.brackets)?;
@@ -51,9 +51,9 @@ impl<'a> Reader<'a> {
     // { "val" name "=" expr ";" | expr ";" } [ expr ]
     #[cycle(expr)]
     #[tactic(auto, using(crate::proofs::Walks::lines_walk))]
-    fn pieces(&mut self, alloc: Global, room: Room) -> Result<Pieces, Fault>
+    fn pieces(&mut self, alloc: Global, room: Room) -> Result<Pieces, ParseFault>
         requires { 0 < room.brackets }
-        ensures { Agrees pieces_of result self.new (reads.all_pieces (around room) self.old) }
+        ensures { ParseAgrees pieces_of result self.new (reads.all_pieces (around room) self.old) }
     {
         let mut lines = Vec::new(alloc);
         for _ in 0..self.left() {
@@ -75,7 +75,7 @@ impl<'a> Reader<'a> {
 
     // A line of a block, or the expression that ends it; nothing at its closing brace.
     #[cycle(expr)]
-    fn piece(&mut self, alloc: Global, room: Room) -> Result<Option<Piece>, Fault>
+    fn piece(&mut self, alloc: Global, room: Room) -> Result<Option<Piece>, ParseFault>
         requires { 0 < room.brackets }
         ensures { PieceTurns result self.old self.new (reads.piece (around room) self.old) }
     {
@@ -98,9 +98,9 @@ impl<'a> Reader<'a> {
 
     // "val" name "=" expr ";"
     #[cycle(expr)]
-    fn val(&mut self, alloc: Global, room: Room) -> Result<Line, Fault>
+    fn val(&mut self, alloc: Global, room: Room) -> Result<Line, ParseFault>
         requires { 0 < room.brackets }
-        ensures { Agrees (λ l. l) result self.new (reads.val (around room) self.old) }
+        ensures { ParseAgrees (λ l. l) result self.new (reads.val (around room) self.old) }
     {
         let at = self.start();
         self.want(Kind::Val)?;

@@ -1,11 +1,11 @@
 //! Reading calls and effects.
 ghost use Rattle.std.specs.Prelude.{◌≡◌, ◌<◌, [], ◌∷◌};
-ghost use Rattle.pie_parser.specs.Places.{Agrees};
+ghost use Rattle.pie_parser.specs.Places.{ParseAgrees};
 ghost use Rattle.pie_parser.specs.ExprReading as reads;
 ghost use Rattle.pie_parser.specs.ExprReading.{around};
 ghost use Rattle.pie_parser.specs.Tests.{effect_at};
 
-use crate::error::Fault;
+use crate::error::ParseFault;
 use crate::kind::{Kind, is};
 use crate::reader::{Reader, Room};
 use crate::{CallKind, EffectKind, Expr, Form, Name};
@@ -14,8 +14,8 @@ use std::alloc::Global;
 impl<'a> Reader<'a> {
     // name | name "(" [ args ] ")"
     #[cycle(expr)]
-    pub fn name_or_call(&mut self, alloc: Global, room: Room) -> Result<Expr, Fault>
-        ensures { Agrees (λ t. t) result self.new (reads.name_or_call (around room) self.old) }
+    pub fn name_or_call(&mut self, alloc: Global, room: Room) -> Result<Expr, ParseFault>
+        ensures { ParseAgrees (λ t. t) result self.new (reads.name_or_call (around room) self.old) }
     {
         let name = self.name()?;
         let at = name.at;
@@ -36,8 +36,8 @@ impl<'a> Reader<'a> {
         at: usize,
         kind: CallKind,
         name: Name,
-    ) -> Result<Expr, Fault>
-        ensures { Agrees (λ t. t) result self.new (reads.call (around room) at kind name self.old) }
+    ) -> Result<Expr, ParseFault>
+        ensures { ParseAgrees (λ t. t) result self.new (reads.call (around room) at kind name self.old) }
     {
         let args = self.arguments(alloc, room)?;
         let end = self.past();
@@ -47,8 +47,8 @@ impl<'a> Reader<'a> {
 
     // "(" [ expr { "," expr } ] ")"
     #[cycle(expr)]
-    fn arguments(&mut self, alloc: Global, room: Room) -> Result<Vec<Expr>, Fault>
-        ensures { Agrees (λ v. v.items) result self.new (reads.arguments (around room) self.old) }
+    fn arguments(&mut self, alloc: Global, room: Room) -> Result<Vec<Expr>, ParseFault>
+        ensures { ParseAgrees (λ v. v.items) result self.new (reads.arguments (around room) self.old) }
     {
         self.open(Kind::OpenRound, room.brackets)?;
         if is(self.peek(), Kind::CloseRound) {
@@ -63,12 +63,12 @@ impl<'a> Reader<'a> {
 
     // ("path" | "exists" | "digest" | "list") "(" expr ")"
     #[cycle(expr)]
-    pub fn effect(&mut self, alloc: Global, room: Room) -> Result<Expr, Fault>
-        ensures { Agrees (λ t. t) result self.new (reads.effect (around room) self.old) }
+    pub fn effect(&mut self, alloc: Global, room: Room) -> Result<Expr, ParseFault>
+        ensures { ParseAgrees (λ t. t) result self.new (reads.effect (around room) self.old) }
     {
         let at = self.start();
         let Some(kind) = effect_of(self.peek()) else {
-            return Err(Fault::Expected);
+            return Err(ParseFault::Expected);
         };
         self.pass();
         self.open(Kind::OpenRound, room.brackets)?;
@@ -81,8 +81,8 @@ impl<'a> Reader<'a> {
 
     // "read" "(" expr [ "by" ("hash" | "mark") ] ")"
     #[cycle(expr)]
-    pub fn read(&mut self, alloc: Global, room: Room) -> Result<Expr, Fault>
-        ensures { Agrees (λ t. t) result self.new (reads.read (around room) self.old) }
+    pub fn read(&mut self, alloc: Global, room: Room) -> Result<Expr, ParseFault>
+        ensures { ParseAgrees (λ t. t) result self.new (reads.read (around room) self.old) }
     {
         let at = self.start();
         self.want(Kind::Read)?;
@@ -96,8 +96,8 @@ impl<'a> Reader<'a> {
     }
 
     // [ "by" ("hash" | "mark") ], where a `require` in front may have passed a `by mark`
-    fn by_of_read(&mut self) -> Result<EffectKind, Fault>
-        ensures { Agrees (λ k. k) result self.new (reads.by_of_read self.old) }
+    fn by_of_read(&mut self) -> Result<EffectKind, ParseFault>
+        ensures { ParseAgrees (λ k. k) result self.new (reads.by_of_read self.old) }
     {
         if self.marked {
             self.marked = false;
@@ -110,7 +110,7 @@ impl<'a> Reader<'a> {
         let kind = match self.peek() {
             Kind::Hash => EffectKind::ReadByHash,
             Kind::Mark => EffectKind::ReadByMark,
-            _ => return Err(Fault::Expected),
+            _ => return Err(ParseFault::Expected),
         };
         self.pass();
         Ok(kind)
@@ -118,8 +118,8 @@ impl<'a> Reader<'a> {
 
     // "write" "(" expr "," expr ")"
     #[cycle(expr)]
-    pub fn write(&mut self, alloc: Global, room: Room) -> Result<Expr, Fault>
-        ensures { Agrees (λ t. t) result self.new (reads.write (around room) self.old) }
+    pub fn write(&mut self, alloc: Global, room: Room) -> Result<Expr, ParseFault>
+        ensures { ParseAgrees (λ t. t) result self.new (reads.write (around room) self.old) }
     {
         let at = self.start();
         self.want(Kind::Write)?;
@@ -135,8 +135,8 @@ impl<'a> Reader<'a> {
 
     // "fail" type "(" expr ")"
     #[cycle(expr)]
-    pub fn fail(&mut self, alloc: Global, room: Room) -> Result<Expr, Fault>
-        ensures { Agrees (λ t. t) result self.new (reads.fail (around room) self.old) }
+    pub fn fail(&mut self, alloc: Global, room: Room) -> Result<Expr, ParseFault>
+        ensures { ParseAgrees (λ t. t) result self.new (reads.fail (around room) self.old) }
     {
         let at = self.start();
         self.want(Kind::Fail)?;
@@ -151,8 +151,8 @@ impl<'a> Reader<'a> {
 
     // "require" name "(" [ args ] ")" [ "by" "hash" ]
     #[cycle(expr)]
-    pub fn require(&mut self, alloc: Global, room: Room) -> Result<Expr, Fault>
-        ensures { Agrees (λ t. t) result self.new (reads.require (around room) self.old) }
+    pub fn require(&mut self, alloc: Global, room: Room) -> Result<Expr, ParseFault>
+        ensures { ParseAgrees (λ t. t) result self.new (reads.require (around room) self.old) }
     {
         let at = self.start();
         self.want(Kind::Require)?;
@@ -165,8 +165,8 @@ impl<'a> Reader<'a> {
     }
 
     // [ "by" "hash" ]; a `by mark` is passed where it belongs to the `read` around
-    fn by_of_require(&mut self, in_read: bool) -> Result<CallKind, Fault>
-        ensures { Agrees (λ k. k) result self.new (reads.by_of_require in_read self.old) }
+    fn by_of_require(&mut self, in_read: bool) -> Result<CallKind, ParseFault>
+        ensures { ParseAgrees (λ k. k) result self.new (reads.by_of_require in_read self.old) }
     {
         if !is(self.peek(), Kind::By) {
             return Ok(CallKind::Require);
@@ -178,7 +178,7 @@ impl<'a> Reader<'a> {
             return Ok(CallKind::RequireByHash);
         }
         if !in_read {
-            return Err(Fault::Expected);
+            return Err(ParseFault::Expected);
         }
         self.want(Kind::Mark)?;
         self.past = past;
@@ -188,8 +188,8 @@ impl<'a> Reader<'a> {
 
     // "run" name "(" [ args ] ")"
     #[cycle(expr)]
-    pub fn run(&mut self, alloc: Global, room: Room) -> Result<Expr, Fault>
-        ensures { Agrees (λ t. t) result self.new (reads.run (around room) self.old) }
+    pub fn run(&mut self, alloc: Global, room: Room) -> Result<Expr, ParseFault>
+        ensures { ParseAgrees (λ t. t) result self.new (reads.run (around room) self.old) }
     {
         let at = self.start();
         self.want(Kind::Run)?;

@@ -1,12 +1,12 @@
 //! Reading chains of operators, comparisons, prefixes and projections.
 ghost use Rattle.std.specs.Prelude.{◌≡◌, ◌<◌, [], ◌∷◌};
-ghost use Rattle.pie_parser.specs.Places.{Agrees};
+ghost use Rattle.pie_parser.specs.Places.{ParseAgrees};
 ghost use Rattle.pie_parser.specs.ExprReading as reads;
 ghost use Rattle.pie_parser.specs.ExprReading.{around};
 ghost use Rattle.pie_parser.specs.Tests.{operator_at, comparison_at, prefix_at};
 ghost use Rattle.pie_parser.specs.Turns.{Turns, all_behind};
 
-use crate::error::Fault;
+use crate::error::ParseFault;
 use crate::kind::{Kind, is};
 use crate::reader::{Reader, Room};
 use crate::{Comparison, Expr, Form, Index, Operator, Prefix, Step};
@@ -24,17 +24,17 @@ pub enum Level {
 impl<'a> Reader<'a> {
     // expr = and { "||" and }
     #[cycle(expr)]
-    pub fn expr(&mut self, alloc: Global, room: Room) -> Result<Expr, Fault>
-        ensures { Agrees (λ t. t) result self.new (reads.expr (around room) self.old) }
+    pub fn expr(&mut self, alloc: Global, room: Room) -> Result<Expr, ParseFault>
+        ensures { ParseAgrees (λ t. t) result self.new (reads.expr (around room) self.old) }
     {
         self.chain(alloc, room, Level::Or)
     }
 
     // An expression inside a bracket; a `read` may stand around it.
     #[cycle(expr)]
-    pub fn inner(&mut self, alloc: Global, room: Room, in_read: bool) -> Result<Expr, Fault>
+    pub fn inner(&mut self, alloc: Global, room: Room, in_read: bool) -> Result<Expr, ParseFault>
         requires { 0 < room.brackets }
-        ensures { Agrees (λ t. t) result self.new (reads.inner_at room.brackets room.conditions in_read self.old) }
+        ensures { ParseAgrees (λ t. t) result self.new (reads.inner_at room.brackets room.conditions in_read self.old) }
     {
         let brackets = room.brackets - 1;
         let conditions = room.conditions;
@@ -50,9 +50,9 @@ impl<'a> Reader<'a> {
 
     // The test of a condition.
     #[cycle(expr)]
-    pub fn test(&mut self, alloc: Global, room: Room) -> Result<Expr, Fault>
+    pub fn test(&mut self, alloc: Global, room: Room) -> Result<Expr, ParseFault>
         requires { 0 < room.conditions }
-        ensures { Agrees (λ t. t) result self.new (reads.test_at room.brackets room.conditions self.old) }
+        ensures { ParseAgrees (λ t. t) result self.new (reads.test_at room.brackets room.conditions self.old) }
     {
         let brackets = room.brackets;
         let conditions = room.conditions - 1;
@@ -68,8 +68,8 @@ impl<'a> Reader<'a> {
 
     // operand { operator operand }
     #[cycle(expr)]
-    fn chain(&mut self, alloc: Global, room: Room, level: Level) -> Result<Expr, Fault>
-        ensures { Agrees (λ t. t) result self.new (reads.chain_of (reads.operand (around room) level) level self.old) }
+    fn chain(&mut self, alloc: Global, room: Room, level: Level) -> Result<Expr, ParseFault>
+        ensures { ParseAgrees (λ t. t) result self.new (reads.chain_of (reads.operand (around room) level) level self.old) }
     {
         let at = self.start();
         let first = Box::new(alloc, self.operand(alloc, room, level)?)?;
@@ -85,8 +85,8 @@ impl<'a> Reader<'a> {
     // { operator operand }
     #[cycle(expr)]
     #[tactic(auto, using(crate::proofs::Turning::goes_on, crate::proofs::Turning::stops, crate::proofs::Turning::fails, crate::proofs::Turning::runs_out))]
-    fn steps(&mut self, alloc: Global, room: Room, level: Level) -> Result<Vec<Step>, Fault>
-        ensures { Agrees (λ v. v.items) result self.new (all_behind [] (reads.another_step (reads.operand (around room) level) level) self.old) }
+    fn steps(&mut self, alloc: Global, room: Room, level: Level) -> Result<Vec<Step>, ParseFault>
+        ensures { ParseAgrees (λ v. v.items) result self.new (all_behind [] (reads.another_step (reads.operand (around room) level) level) self.old) }
     {
         let mut steps = Vec::new(alloc);
         for _ in 0..self.left() {
@@ -105,7 +105,7 @@ impl<'a> Reader<'a> {
         alloc: Global,
         room: Room,
         level: Level,
-    ) -> Result<Option<Step>, Fault>
+    ) -> Result<Option<Step>, ParseFault>
         ensures { Turns result self.old self.new (reads.another_step (reads.operand (around room) level) level self.old) }
     {
         let Some(operator) = operator_of(level, self.peek()) else {
@@ -118,8 +118,8 @@ impl<'a> Reader<'a> {
 
     // What the operators of a level stand between.
     #[cycle(expr)]
-    fn operand(&mut self, alloc: Global, room: Room, level: Level) -> Result<Expr, Fault>
-        ensures { Agrees (λ t. t) result self.new (reads.operand (around room) level self.old) }
+    fn operand(&mut self, alloc: Global, room: Room, level: Level) -> Result<Expr, ParseFault>
+        ensures { ParseAgrees (λ t. t) result self.new (reads.operand (around room) level self.old) }
     {
         match level {
             Level::Or => self.chain(alloc, room, Level::And),
@@ -131,8 +131,8 @@ impl<'a> Reader<'a> {
 
     // cmp = add [ ("==" | "!=" | "<" | "<=" | ">" | ">=") add ]
     #[cycle(expr)]
-    fn comparison(&mut self, alloc: Global, room: Room) -> Result<Expr, Fault>
-        ensures { Agrees (λ t. t) result self.new (reads.comparison (around room) self.old) }
+    fn comparison(&mut self, alloc: Global, room: Room) -> Result<Expr, ParseFault>
+        ensures { ParseAgrees (λ t. t) result self.new (reads.comparison (around room) self.old) }
     {
         let at = self.start();
         let left = Box::new(alloc, self.chain(alloc, room, Level::Sum)?)?;
@@ -148,8 +148,8 @@ impl<'a> Reader<'a> {
 
     // prefix = [ "!" | "-" ] proj
     #[cycle(expr)]
-    fn prefixed(&mut self, alloc: Global, room: Room) -> Result<Expr, Fault>
-        ensures { Agrees (λ t. t) result self.new (reads.prefixed (around room) self.old) }
+    fn prefixed(&mut self, alloc: Global, room: Room) -> Result<Expr, ParseFault>
+        ensures { ParseAgrees (λ t. t) result self.new (reads.prefixed (around room) self.old) }
     {
         let Some(prefix) = prefix_of(self.peek()) else {
             return self.projected(alloc, room);
@@ -164,8 +164,8 @@ impl<'a> Reader<'a> {
 
     // proj = prim { "." int }
     #[cycle(expr)]
-    fn projected(&mut self, alloc: Global, room: Room) -> Result<Expr, Fault>
-        ensures { Agrees (λ t. t) result self.new (reads.projected (around room) self.old) }
+    fn projected(&mut self, alloc: Global, room: Room) -> Result<Expr, ParseFault>
+        ensures { ParseAgrees (λ t. t) result self.new (reads.projected (around room) self.old) }
     {
         let at = self.start();
         let tuple = Box::new(alloc, self.primary(alloc, room)?)?;
@@ -180,8 +180,8 @@ impl<'a> Reader<'a> {
 
     // { "." int }
     #[tactic(auto, using(crate::proofs::Turning::goes_on, crate::proofs::Turning::stops, crate::proofs::Turning::fails, crate::proofs::Turning::runs_out))]
-    fn indices(&mut self, alloc: Global) -> Result<Vec<Index>, Fault>
-        ensures { Agrees (λ v. v.items) result self.new (reads.indices self.old) }
+    fn indices(&mut self, alloc: Global) -> Result<Vec<Index>, ParseFault>
+        ensures { ParseAgrees (λ v. v.items) result self.new (reads.indices self.old) }
     {
         let mut indices = Vec::new(alloc);
         for _ in 0..self.left() {
@@ -194,7 +194,7 @@ impl<'a> Reader<'a> {
     }
 
     // "." int
-    fn another_index(&mut self) -> Result<Option<Index>, Fault>
+    fn another_index(&mut self) -> Result<Option<Index>, ParseFault>
         ensures { Turns result self.old self.new (reads.another_index self.old) }
     {
         if !is(self.peek(), Kind::Dot) {

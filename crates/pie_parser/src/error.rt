@@ -19,38 +19,38 @@ pub enum ParseError {
 
 // Why a part of the grammar can't be read at a reader's place.
 #[derive(Clone, Copy, Debug, PartialEq, Eq)]
-pub enum Fault {
+pub enum ParseFault {
     Expected,
     TooDeep,
     OutOfMemory,
 }
 
-impl From<OutOfMemory> for Fault {
-    ghost use Rattle.pie_parser.specs.declared.error.Fault.TheVariants.{OutOfMemory};
+impl From<OutOfMemory> for ParseFault {
+    ghost use Rattle.pie_parser.specs.declared.error.ParseFault.TheVariants.{OutOfMemory};
 
     ghost from_gives = { λ _ e. e ≡ OutOfMemory };
 
     fn from(_: OutOfMemory) -> Self {
-        Fault::OutOfMemory
+        ParseFault::OutOfMemory
     }
 }
 
-impl From<AllocError> for Fault {
-    ghost use Rattle.pie_parser.specs.declared.error.Fault.TheVariants.{OutOfMemory};
+impl From<AllocError> for ParseFault {
+    ghost use Rattle.pie_parser.specs.declared.error.ParseFault.TheVariants.{OutOfMemory};
 
     ghost from_gives = { λ _ e. e ≡ OutOfMemory };
 
     fn from(_: AllocError) -> Self {
-        Fault::OutOfMemory
+        ParseFault::OutOfMemory
     }
 }
 
-impl<T: Drop> From<AllocFailed<T>> for Fault {
-    ghost use Rattle.pie_parser.specs.declared.error.Fault.TheVariants.{OutOfMemory};
+impl<T: Drop> From<AllocFailed<T>> for ParseFault {
+    ghost use Rattle.pie_parser.specs.declared.error.ParseFault.TheVariants.{OutOfMemory};
 
     ghost from_gives = { λ _ e. e ≡ OutOfMemory };
 
     fn from(_: AllocFailed<T>) -> Self {
-        Fault::OutOfMemory
+        ParseFault::OutOfMemory
     }
 }

@@ -1,11 +1,11 @@
 //! Reading functions and whole pipelines.
 ghost use Rattle.std.specs.Prelude.{◌≡◌, ◌<◌};
-ghost use Rattle.pie_parser.specs.Places.{Agrees};
+ghost use Rattle.pie_parser.specs.Places.{ParseAgrees};
 ghost use Rattle.pie_parser.specs.Turns.{Turns};
 ghost use Rattle.pie_parser.specs.TreeView.{block_of};
 ghost use Rattle.pie_parser.specs.FunctionReading as reads;
 
-use crate::error::Fault;
+use crate::error::ParseFault;
 use crate::kind::{Kind, is};
 use crate::reader::{Reader, Room};
 use crate::{Function, Param};
@@ -13,20 +13,20 @@ use std::alloc::Global;
 
 impl<'a> Reader<'a> {
     // pipeline = { func }, and nothing behind it
-    pub fn pipeline(&mut self, alloc: Global, room: Room) -> Result<Vec<Function>, Fault>
-        ensures { Agrees (λ v. v.items) result self.new (reads.pipeline room self.old) }
+    pub fn pipeline(&mut self, alloc: Global, room: Room) -> Result<Vec<Function>, ParseFault>
+        ensures { ParseAgrees (λ v. v.items) result self.new (reads.pipeline room self.old) }
     {
         let functions = self.functions(alloc, room)?;
         if !is(self.peek(), Kind::End) {
-            return Err(Fault::Expected);
+            return Err(ParseFault::Expected);
         }
         Ok(functions)
     }
 
     // { func }
     #[tactic(auto, using(crate::proofs::Turning::goes_on, crate::proofs::Turning::stops, crate::proofs::Turning::fails, crate::proofs::Turning::runs_out))]
-    fn functions(&mut self, alloc: Global, room: Room) -> Result<Vec<Function>, Fault>
-        ensures { Agrees (λ v. v.items) result self.new (reads.functions room self.old) }
+    fn functions(&mut self, alloc: Global, room: Room) -> Result<Vec<Function>, ParseFault>
+        ensures { ParseAgrees (λ v. v.items) result self.new (reads.functions room self.old) }
     {
         let mut functions = Vec::new(alloc);
         for _ in 0..self.left() {
@@ -39,7 +39,11 @@ impl<'a> Reader<'a> {
     }
 
     // A function, unless the tokens end.
-    fn another_function(&mut self, alloc: Global, room: Room) -> Result<Option<Function>, Fault>
+    fn another_function(
+        &mut self,
+        alloc: Global,
+        room: Room,
+    ) -> Result<Option<Function>, ParseFault>
         ensures { Turns result self.old self.new (reads.another_function room self.old) }
     {
         if is(self.peek(), Kind::End) {
@@ -50,8 +54,8 @@ impl<'a> Reader<'a> {
     }
 
     // func = "func" name "(" [ param { "," param } ] ")" "->" type block
-    fn function(&mut self, alloc: Global, room: Room) -> Result<Function, Fault>
-        ensures { Agrees (λ f. f) result self.new (reads.function room self.old) }
+    fn function(&mut self, alloc: Global, room: Room) -> Result<Function, ParseFault>
+        ensures { ParseAgrees (λ f. f) result self.new (reads.function room self.old) }
     {
         let at = self.start();
         self.want(Kind::Func)?;
@@ -72,8 +76,8 @@ impl<'a> Reader<'a> {
     }
 
     // "(" [ param { "," param } ] ")"
-    fn params(&mut self, alloc: Global, room: u32) -> Result<Vec<Param>, Fault>
-        ensures { Agrees (λ v. v.items) result self.new (reads.params room self.old) }
+    fn params(&mut self, alloc: Global, room: u32) -> Result<Vec<Param>, ParseFault>
+        ensures { ParseAgrees (λ v. v.items) result self.new (reads.params room self.old) }
     {
         self.open(Kind::OpenRound, room)?;
         if is(self.peek(), Kind::CloseRound) {
@@ -88,8 +92,13 @@ impl<'a> Reader<'a> {
 
     // { "," param }, behind a first
     #[tactic(auto, using(crate::proofs::Turning::goes_on, crate::proofs::Turning::stops, crate::proofs::Turning::fails, crate::proofs::Turning::runs_out))]
-    fn more_params(&mut self, alloc: Global, room: u32, first: Param) -> Result<Vec<Param>, Fault>
-        ensures { Agrees (λ v. v.items) result self.new (reads.more_params room first self.old) }
+    fn more_params(
+        &mut self,
+        alloc: Global,
+        room: u32,
+        first: Param,
+    ) -> Result<Vec<Param>, ParseFault>
+        ensures { ParseAgrees (λ v. v.items) result self.new (reads.more_params room first self.old) }
     {
         let mut params = Vec::new(alloc);
         params.push(first)?;
@@ -103,7 +112,7 @@ impl<'a> Reader<'a> {
     }
 
     // "," param
-    fn another_param(&mut self, alloc: Global, room: u32) -> Result<Option<Param>, Fault>
+    fn another_param(&mut self, alloc: Global, room: u32) -> Result<Option<Param>, ParseFault>
         ensures { Turns result self.old self.new (reads.another_param room self.old) }
     {
         if !is(self.peek(), Kind::Comma) {
@@ -115,8 +124,8 @@ impl<'a> Reader<'a> {
     }
 
     // param = name ":" type
-    fn param(&mut self, alloc: Global, room: u32) -> Result<Param, Fault>
-        ensures { Agrees (λ p. p) result self.new (reads.param room self.old) }
+    fn param(&mut self, alloc: Global, room: u32) -> Result<Param, ParseFault>
+        ensures { ParseAgrees (λ p. p) result self.new (reads.param room self.old) }
     {
         let name = self.name()?;
         let at = name.at;

@@ -4,7 +4,7 @@ ghost use Rattle.pie_parser.specs.FunctionReading.{Reads, offset, last_end};
 ghost use Rattle.pie_parser.specs.FunctionGrammar.{IsPipeline};
 ghost use Rattle.pie_parser.specs.Whole.{functions_of, FindsAll};
 
-use crate::error::Fault;
+use crate::error::ParseFault;
 use crate::reader::{Reader, Room};
 use crate::{ParseError, Pipeline};
 use pie_base::MAX_BRACKETS;
@@ -12,7 +12,7 @@ use pie_lexer::Token;
 use std::alloc::Global;
 
 /// How many conditions of `if` may stand open around a token, as in `if if a {..} {..}`: they nest
-/// without brackets. More is answered as want of memory.
+/// without brackets. More is answered as out of memory.
 pub const MAX_CONDITIONS: u32 = 100;
 
 /// The syntax tree of these tokens.
@@ -41,9 +41,9 @@ fn read(alloc: Global, tokens: &[Token]) -> Result<Pipeline, ParseError>
     };
     match reader.pipeline(alloc, room) {
         Ok(functions) => Ok(Pipeline { functions }),
-        Err(Fault::Expected) => Err(ParseError::Expected(offset_of(&reader, tokens))),
-        Err(Fault::TooDeep) => Err(ParseError::TooDeep(offset_of(&reader, tokens))),
-        Err(Fault::OutOfMemory) => Err(ParseError::OutOfMemory),
+        Err(ParseFault::Expected) => Err(ParseError::Expected(offset_of(&reader, tokens))),
+        Err(ParseFault::TooDeep) => Err(ParseError::TooDeep(offset_of(&reader, tokens))),
+        Err(ParseFault::OutOfMemory) => Err(ParseError::OutOfMemory),
     }
 }
 

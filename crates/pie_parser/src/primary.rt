@@ -1,11 +1,11 @@
 //! Reading what operators stand on: literals, names, brackets and conditions.
 ghost use Rattle.std.specs.Prelude.{◌≡◌, ◌<◌, [], ◌∷◌};
-ghost use Rattle.pie_parser.specs.Places.{Agrees};
+ghost use Rattle.pie_parser.specs.Places.{ParseAgrees};
 ghost use Rattle.pie_parser.specs.ExprReading as reads;
 ghost use Rattle.pie_parser.specs.ExprReading.{around};
 ghost use Rattle.pie_parser.specs.Turns.{Turns};
 
-use crate::error::Fault;
+use crate::error::ParseFault;
 use crate::kind::{Kind, is};
 use crate::reader::{Reader, Room};
 use crate::{Expr, Form, Literal};
@@ -15,8 +15,8 @@ use std::alloc::Global;
 impl<'a> Reader<'a> {
     // prim
     #[cycle(expr)]
-    pub fn primary(&mut self, alloc: Global, room: Room) -> Result<Expr, Fault>
-        ensures { Agrees (λ t. t) result self.new (reads.primary (around room) self.old) }
+    pub fn primary(&mut self, alloc: Global, room: Room) -> Result<Expr, ParseFault>
+        ensures { ParseAgrees (λ t. t) result self.new (reads.primary (around room) self.old) }
     {
         match self.peek() {
             Kind::Name => self.name_or_call(alloc, room),
@@ -36,8 +36,8 @@ impl<'a> Reader<'a> {
     }
 
     // int | text | "true" | "false" | "unit"
-    fn literal(&mut self) -> Result<Expr, Fault>
-        ensures { Agrees (λ t. t) result self.new (reads.literal self.old) }
+    fn literal(&mut self) -> Result<Expr, ParseFault>
+        ensures { ParseAgrees (λ t. t) result self.new (reads.literal self.old) }
     {
         let at = self.start();
         let literal = self.literal_here()?;
@@ -48,14 +48,14 @@ impl<'a> Reader<'a> {
     }
 
     // The literal that is the next token.
-    fn literal_here(&self) -> Result<Literal, Fault>
-        ensures { Agrees (λ l. l) result self.now (reads.literal_here self.now) }
+    fn literal_here(&self) -> Result<Literal, ParseFault>
+        ensures { ParseAgrees (λ l. l) result self.now (reads.literal_here self.now) }
     {
         if self.marked {
-            return Err(Fault::Expected);
+            return Err(ParseFault::Expected);
         }
         let [token, ..] = self.rest else {
-            return Err(Fault::Expected);
+            return Err(ParseFault::Expected);
         };
         match &token.kind {
             TokenKind::Int(n) => Ok(Literal::Int(*n)),
@@ -63,13 +63,13 @@ impl<'a> Reader<'a> {
             TokenKind::True => Ok(Literal::Bool(true)),
             TokenKind::False => Ok(Literal::Bool(false)),
             TokenKind::UnitWord => Ok(Literal::Unit),
-            _ => Err(Fault::Expected),
+            _ => Err(ParseFault::Expected),
         }
     }
 
     // "null" plain
-    fn null(&mut self, alloc: Global, room: Room) -> Result<Expr, Fault>
-        ensures { Agrees (λ t. t) result self.new (reads.null (around room) self.old) }
+    fn null(&mut self, alloc: Global, room: Room) -> Result<Expr, ParseFault>
+        ensures { ParseAgrees (λ t. t) result self.new (reads.null (around room) self.old) }
     {
         let at = self.start();
         self.want(Kind::Null)?;
@@ -80,8 +80,8 @@ impl<'a> Reader<'a> {
     }
 
     // "empty" type
-    fn empty(&mut self, alloc: Global, room: Room) -> Result<Expr, Fault>
-        ensures { Agrees (λ t. t) result self.new (reads.empty (around room) self.old) }
+    fn empty(&mut self, alloc: Global, room: Room) -> Result<Expr, ParseFault>
+        ensures { ParseAgrees (λ t. t) result self.new (reads.empty (around room) self.old) }
     {
         let at = self.start();
         self.want(Kind::Empty)?;
@@ -93,8 +93,8 @@ impl<'a> Reader<'a> {
 
     // "(" expr ")" | "(" expr "," expr { "," expr } ")"
     #[cycle(expr)]
-    fn rounds(&mut self, alloc: Global, room: Room) -> Result<Expr, Fault>
-        ensures { Agrees (λ t. t) result self.new (reads.rounds (around room) self.old) }
+    fn rounds(&mut self, alloc: Global, room: Room) -> Result<Expr, ParseFault>
+        ensures { ParseAgrees (λ t. t) result self.new (reads.rounds (around room) self.old) }
     {
         let at = self.start();
         self.open(Kind::OpenRound, room.brackets)?;
@@ -113,9 +113,14 @@ impl<'a> Reader<'a> {
     // { "," expr }, behind a first
     #[cycle(expr)]
     #[tactic(auto, using(crate::proofs::Turning::goes_on, crate::proofs::Turning::stops, crate::proofs::Turning::fails, crate::proofs::Turning::runs_out))]
-    pub fn listed(&mut self, alloc: Global, room: Room, first: Expr) -> Result<Vec<Expr>, Fault>
+    pub fn listed(
+        &mut self,
+        alloc: Global,
+        room: Room,
+        first: Expr,
+    ) -> Result<Vec<Expr>, ParseFault>
         requires { 0 < room.brackets }
-        ensures { Agrees (λ v. v.items) result self.new (reads.listed (around room) first self.old) }
+        ensures { ParseAgrees (λ v. v.items) result self.new (reads.listed (around room) first self.old) }
     {
         let mut items = Vec::new(alloc);
         items.push(first)?;
@@ -130,7 +135,7 @@ impl<'a> Reader<'a> {
 
     // "," expr
     #[cycle(expr)]
-    fn another(&mut self, alloc: Global, room: Room) -> Result<Option<Expr>, Fault>
+    fn another(&mut self, alloc: Global, room: Room) -> Result<Option<Expr>, ParseFault>
         requires { 0 < room.brackets }
         ensures { Turns result self.old self.new (reads.another (around room) self.old) }
     {
@@ -144,8 +149,8 @@ impl<'a> Reader<'a> {
 
     // "[" expr { "," expr } "]" | "[" expr "for" name "in" expr "]"
     #[cycle(expr)]
-    fn squares(&mut self, alloc: Global, room: Room) -> Result<Expr, Fault>
-        ensures { Agrees (λ t. t) result self.new (reads.squares (around room) self.old) }
+    fn squares(&mut self, alloc: Global, room: Room) -> Result<Expr, ParseFault>
+        ensures { ParseAgrees (λ t. t) result self.new (reads.squares (around room) self.old) }
     {
         let at = self.start();
         self.open(Kind::OpenSquare, room.brackets)?;
@@ -162,9 +167,9 @@ impl<'a> Reader<'a> {
 
     // "for" name "in" expr "]", behind the item of a comprehension
     #[cycle(expr)]
-    fn each(&mut self, alloc: Global, room: Room, at: usize, item: Expr) -> Result<Expr, Fault>
+    fn each(&mut self, alloc: Global, room: Room, at: usize, item: Expr) -> Result<Expr, ParseFault>
         requires { 0 < room.brackets }
-        ensures { Agrees (λ t. t) result self.new (reads.each (around room) at item self.old) }
+        ensures { ParseAgrees (λ t. t) result self.new (reads.each (around room) at item self.old) }
     {
         let item = Box::new(alloc, item)?;
         self.want(Kind::For)?;
@@ -179,12 +184,12 @@ impl<'a> Reader<'a> {
 
     // "if" expr block [ "else" block ]
     #[cycle(expr)]
-    fn condition(&mut self, alloc: Global, room: Room) -> Result<Expr, Fault>
-        ensures { Agrees (λ t. t) result self.new (reads.condition (around room) self.old) }
+    fn condition(&mut self, alloc: Global, room: Room) -> Result<Expr, ParseFault>
+        ensures { ParseAgrees (λ t. t) result self.new (reads.condition (around room) self.old) }
     {
         let at = self.start();
         if room.conditions == 0 {
-            return Err(Fault::OutOfMemory);
+            return Err(ParseFault::OutOfMemory);
         }
         self.want(Kind::If)?;
         let test = self.test(alloc, room)?;
@@ -193,8 +198,14 @@ impl<'a> Reader<'a> {
 
     // block [ "else" block ], behind the test of a condition
     #[cycle(expr)]
-    fn branches(&mut self, alloc: Global, room: Room, at: usize, test: Expr) -> Result<Expr, Fault>
-        ensures { Agrees (λ t. t) result self.new (reads.branches (around room) at test self.old) }
+    fn branches(
+        &mut self,
+        alloc: Global,
+        room: Room,
+        at: usize,
+        test: Expr,
+    ) -> Result<Expr, ParseFault>
+        ensures { ParseAgrees (λ t. t) result self.new (reads.branches (around room) at test self.old) }
     {
         let test = Box::new(alloc, test)?;
         let then = self.block(alloc, room)?;

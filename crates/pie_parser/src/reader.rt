@@ -1,9 +1,9 @@
 //! A reader over the tokens that are left.
 ghost use Rattle.std.specs.Prelude.{◌≡◌, ◌<◌, length, OnOk};
 ghost use Rattle.pie_parser.specs.Places as places;
-ghost use Rattle.pie_parser.specs.Places.{Agrees};
+ghost use Rattle.pie_parser.specs.Places.{ParseAgrees};
 
-use crate::error::Fault;
+use crate::error::ParseFault;
 use crate::kind::{Kind, is, kind_of};
 use crate::{Index, Name};
 use pie_lexer::{Token, TokenKind};
@@ -83,43 +83,43 @@ impl<'a> Reader<'a> {
     }
 
     // Goes past a token of this kind.
-    pub fn want(&mut self, kind: Kind) -> Result<(), Fault>
-        ensures { Agrees (λ _. places.done) result self.new (places.want kind self.old) }
+    pub fn want(&mut self, kind: Kind) -> Result<(), ParseFault>
+        ensures { ParseAgrees (λ _. places.done) result self.new (places.want kind self.old) }
     {
         if !is(self.peek(), kind) {
-            return Err(Fault::Expected);
+            return Err(ParseFault::Expected);
         }
         self.pass();
         Ok(())
     }
 
     // Goes past an opening bracket of this kind, inside which there is less room.
-    pub fn open(&mut self, kind: Kind, room: u32) -> Result<(), Fault>
-        ensures opened { Agrees (λ _. places.done) result self.new (places.open_bracket kind room self.old) }
+    pub fn open(&mut self, kind: Kind, room: u32) -> Result<(), ParseFault>
+        ensures opened { ParseAgrees (λ _. places.done) result self.new (places.open_bracket kind room self.old) }
         ensures room { OnOk result (0 < room) }
     {
         if !is(self.peek(), kind) {
-            return Err(Fault::Expected);
+            return Err(ParseFault::Expected);
         }
         if room == 0 {
-            return Err(Fault::TooDeep);
+            return Err(ParseFault::TooDeep);
         }
         self.pass();
         Ok(())
     }
 
     // A name.
-    pub fn name(&mut self) -> Result<Name, Fault>
-        ensures { Agrees (λ n. n) result self.new (places.name self.old) }
+    pub fn name(&mut self) -> Result<Name, ParseFault>
+        ensures { ParseAgrees (λ n. n) result self.new (places.name self.old) }
     {
         if self.marked {
-            return Err(Fault::Expected);
+            return Err(ParseFault::Expected);
         }
         let [token, rest @ ..] = self.rest else {
-            return Err(Fault::Expected);
+            return Err(ParseFault::Expected);
         };
         let TokenKind::Name(text) = &token.kind else {
-            return Err(Fault::Expected);
+            return Err(ParseFault::Expected);
         };
         let text = text.copy()?;
         self.past = token.end;
@@ -132,17 +132,17 @@ impl<'a> Reader<'a> {
     }
 
     // The number of a projection.
-    pub fn index(&mut self) -> Result<Index, Fault>
-        ensures { Agrees (λ n. n) result self.new (places.index self.old) }
+    pub fn index(&mut self) -> Result<Index, ParseFault>
+        ensures { ParseAgrees (λ n. n) result self.new (places.index self.old) }
     {
         if self.marked {
-            return Err(Fault::Expected);
+            return Err(ParseFault::Expected);
         }
         let [token, rest @ ..] = self.rest else {
-            return Err(Fault::Expected);
+            return Err(ParseFault::Expected);
         };
         let TokenKind::Int(number) = &token.kind else {
-            return Err(Fault::Expected);
+            return Err(ParseFault::Expected);
         };
         self.past = token.end;
         self.rest = rest;

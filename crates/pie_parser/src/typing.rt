@@ -1,10 +1,10 @@
 //! Reading types.
 ghost use Rattle.std.specs.Prelude.{◌≡◌, ◌<◌, [], ◌∷◌};
-ghost use Rattle.pie_parser.specs.Places.{Agrees};
+ghost use Rattle.pie_parser.specs.Places.{ParseAgrees};
 ghost use Rattle.pie_parser.specs.Turns.{Turns, all_behind};
 ghost use Rattle.pie_parser.specs.TypeReading as reads;
 
-use crate::error::Fault;
+use crate::error::ParseFault;
 use crate::kind::{Kind, is};
 use crate::reader::Reader;
 use crate::{PlainType, Type, TypeForm};
@@ -13,8 +13,8 @@ use std::alloc::Global;
 impl<'a> Reader<'a> {
     // type = plain [ "?" ], where so many brackets may be opened still
     #[cycle(typing)]
-    pub fn written_type(&mut self, alloc: Global, room: u32) -> Result<Type, Fault>
-        ensures { Agrees (λ t. t) result self.new (reads.written_type room (reads.inner_type room) self.old) }
+    pub fn written_type(&mut self, alloc: Global, room: u32) -> Result<Type, ParseFault>
+        ensures { ParseAgrees (λ t. t) result self.new (reads.written_type room (reads.inner_type room) self.old) }
     {
         let at = self.start();
         let plain = self.plain_type(alloc, room)?;
@@ -29,8 +29,8 @@ impl<'a> Reader<'a> {
 
     // plain = "unit" | "bool" | "int" | "text" | "path" | name | "[" type "]" | "(" type "," type { "," type } ")"
     #[cycle(typing)]
-    pub fn plain_type(&mut self, alloc: Global, room: u32) -> Result<Type, Fault>
-        ensures { Agrees (λ t. t) result self.new (reads.plain_type room (reads.inner_type room) self.old) }
+    pub fn plain_type(&mut self, alloc: Global, room: u32) -> Result<Type, ParseFault>
+        ensures { ParseAgrees (λ t. t) result self.new (reads.plain_type room (reads.inner_type room) self.old) }
     {
         match self.peek() {
             Kind::OpenSquare => self.list_type(alloc, room),
@@ -41,8 +41,8 @@ impl<'a> Reader<'a> {
     }
 
     // name
-    fn named_type(&mut self) -> Result<Type, Fault>
-        ensures { Agrees (λ t. t) result self.new (reads.named_type self.old) }
+    fn named_type(&mut self) -> Result<Type, ParseFault>
+        ensures { ParseAgrees (λ t. t) result self.new (reads.named_type self.old) }
     {
         let name = self.name()?;
         let form = TypeForm::Named(name.text);
@@ -54,11 +54,11 @@ impl<'a> Reader<'a> {
     }
 
     // "unit" | "bool" | "int" | "text" | "path"
-    fn keyword_type(&mut self) -> Result<Type, Fault>
-        ensures { Agrees (λ t. t) result self.new (reads.keyword_type self.old) }
+    fn keyword_type(&mut self) -> Result<Type, ParseFault>
+        ensures { ParseAgrees (λ t. t) result self.new (reads.keyword_type self.old) }
     {
         let Some(plain) = plain_of(self.peek()) else {
-            return Err(Fault::Expected);
+            return Err(ParseFault::Expected);
         };
         let at = self.start();
         self.pass();
@@ -69,17 +69,17 @@ impl<'a> Reader<'a> {
 
     // A type inside a bracket.
     #[cycle(typing)]
-    fn inner_type(&mut self, alloc: Global, room: u32) -> Result<Type, Fault>
+    fn inner_type(&mut self, alloc: Global, room: u32) -> Result<Type, ParseFault>
         requires { 0 < room }
-        ensures { Agrees (λ t. t) result self.new (reads.inner_type room self.old) }
+        ensures { ParseAgrees (λ t. t) result self.new (reads.inner_type room self.old) }
     {
         self.written_type(alloc, room - 1)
     }
 
     // "[" type "]"
     #[cycle(typing)]
-    fn list_type(&mut self, alloc: Global, room: u32) -> Result<Type, Fault>
-        ensures { Agrees (λ t. t) result self.new (reads.list_type room (reads.inner_type room) self.old) }
+    fn list_type(&mut self, alloc: Global, room: u32) -> Result<Type, ParseFault>
+        ensures { ParseAgrees (λ t. t) result self.new (reads.list_type room (reads.inner_type room) self.old) }
     {
         let at = self.start();
         self.open(Kind::OpenSquare, room)?;
@@ -92,8 +92,8 @@ impl<'a> Reader<'a> {
 
     // "(" type "," type { "," type } ")"
     #[cycle(typing)]
-    fn tuple_type(&mut self, alloc: Global, room: u32) -> Result<Type, Fault>
-        ensures { Agrees (λ t. t) result self.new (reads.tuple_type room (reads.inner_type room) self.old) }
+    fn tuple_type(&mut self, alloc: Global, room: u32) -> Result<Type, ParseFault>
+        ensures { ParseAgrees (λ t. t) result self.new (reads.tuple_type room (reads.inner_type room) self.old) }
     {
         let at = self.start();
         self.open(Kind::OpenRound, room)?;
@@ -116,9 +116,9 @@ impl<'a> Reader<'a> {
         room: u32,
         first: Type,
         second: Type,
-    ) -> Result<Vec<Type>, Fault>
+    ) -> Result<Vec<Type>, ParseFault>
         requires { 0 < room }
-        ensures { Agrees (λ v. v.items) result self.new (all_behind (first ∷ second ∷ []) (reads.another_type room (reads.inner_type room)) self.old) }
+        ensures { ParseAgrees (λ v. v.items) result self.new (all_behind (first ∷ second ∷ []) (reads.another_type room (reads.inner_type room)) self.old) }
     {
         let mut items = Vec::new(alloc);
         items.push(first)?;
@@ -134,7 +134,7 @@ impl<'a> Reader<'a> {
 
     // "," type
     #[cycle(typing)]
-    fn another_type(&mut self, alloc: Global, room: u32) -> Result<Option<Type>, Fault>
+    fn another_type(&mut self, alloc: Global, room: u32) -> Result<Option<Type>, ParseFault>
         requires { 0 < room }
         ensures { Turns result self.old self.new (reads.another_type room (reads.inner_type room) self.old) }
     {

@@ -20,7 +20,7 @@ noted : (call : Call) (before after : Option (List Call)) → Notes (λ c. c ≡
 noted call None after h = tt
 noted call (Some calls) after h = h.2 ∙ ap (λ c. Some (calls ++ c ∷ [])) h.1
 
--- a front of one call more
+-- a prefix of one call more
 front_of_all : (call : Call) (more : List Call) (before after : Option (List Call)) → AsksAll (call ∷ []) before after → Asks (call ∷ more) before after
 front_of_all call more None after h = tt
 front_of_all call more (Some calls) after h = (1, h)

@@ -6,8 +6,8 @@ use Rattle.pie_lexer.specs.declared.token.Token.{Token}
 use Rattle.pie_lexer.specs.declared.error.LexError.{LexError}
 use Rattle.pie_lexer.specs.Tokens.{Lexes}
 use Rattle.pie_lexer.proofs.OneAnswer.{one_answer}
-use Rattle.pie_parser.specs.declared.error.Fault.{Fault}
-use Rattle.pie_parser.specs.declared.error.Fault.TheVariants as faults
+use Rattle.pie_parser.specs.declared.error.ParseFault.{ParseFault}
+use Rattle.pie_parser.specs.declared.error.ParseFault.TheVariants as faults
 use Rattle.pie_parser.specs.declared.error.ParseError.TheVariants as parse
 use Rattle.pie_parser.specs.FunctionReading as parsing
 use Rattle.pie_parser.specs.At.{At}
@@ -33,10 +33,10 @@ use Rattle.pie_project.proofs.Told.{told}
 same_trees : (p : Parsed (List FunctionTree)) (fs gs : List FunctionTree) (m n : At) → p ≡ Got fs m → p ≡ Got gs n → fs ≡ gs
 same_trees p fs gs m n e f = let q = sym e ∙ f in cc
 
-not_both : (P : Type 0) (p : Parsed (List FunctionTree)) (fs : List FunctionTree) (e : Fault) (m n : At) → p ≡ Got fs m → p ≡ Miss e n → P
+not_both : (P : Type 0) (p : Parsed (List FunctionTree)) (fs : List FunctionTree) (e : ParseFault) (m n : At) → p ≡ Got fs m → p ≡ Miss e n → P
 not_both P p fs e m n x y = let q = sym x ∙ y in absurd (cc)
 
-same_places : (p : Parsed (List FunctionTree)) (e : Fault) (m n : At) → p ≡ Miss e m → p ≡ Miss e n → m ≡ n
+same_places : (p : Parsed (List FunctionTree)) (e : ParseFault) (m n : At) → p ≡ Miss e m → p ≡ Miss e n → m ≡ n
 same_places p e m n x y = let q = sym x ∙ y in cc
 
 other_faults : (P : Type 0) (p : Parsed (List FunctionTree)) (m n : At) → p ≡ Miss faults.Expected m → p ≡ Miss faults.TooDeep n → P

@@ -7,8 +7,8 @@ use Rattle.pie_lexer.specs.Tokens.{Lexes}
 use Rattle.pie_parser.specs.declared.error.ParseError.{ParseError}
 use Rattle.pie_parser.specs.declared.error.ParseError.TheVariants.{Expected, TooDeep}
 use Rattle.pie_parser.specs.FunctionTrees.{FunctionTree}
-use Rattle.pie_syntax.proofs.Stops.{expected_is, too_deep_is}
-use Rattle.pie_types.specs.Faults.{Outcome}
+use Rattle.pie_grammar.proofs.Stops.{expected_is, too_deep_is}
+use Rattle.pie_types.specs.Faults.{TypingResult}
 use Rattle.pie_types.specs.Whole.{checked}
 use Rattle.pie_value.specs.declared.task.Task.{Task}
 use Rattle.pie_project.specs.declared.fault.BuildError.{BuildError}
@@ -22,7 +22,7 @@ use Rattle.pie_project.proofs.Finding.{says_more}
 use Rattle.pie_project.proofs.Told.{told}
 
 -- the type checker refuses no tokens
-typed_stops : (P : ParseError → Type 0) (o : Outcome (List FunctionTree)) → OnParse P (typed_or o)
+typed_stops : (P : ParseError → Type 0) (o : TypingResult (List FunctionTree)) → OnParse P (typed_or o)
 typed_stops P (Ok fs) = tt
 typed_stops P (Err e) = tt
 

@@ -12,7 +12,7 @@ use Rattle.pie_project.specs.declared.fault.BuildError.TheVariants.{Pipeline, Ro
 use Rattle.pie_project.specs.declared.fault.PipelineFault.TheVariants as faults
 use Rattle.pie_project.specs.declared.fault.RootsReason.TheVariants as reasons
 
--- a fault of the files stays one, and so does want of memory
+-- a fault of the files stays one, and so does out of memory
 abbrev pub files_error : FilesError → BuildError
 files_error files.Failed = Files
 files_error files.OutOfMemory = OutOfMemory

@@ -9,7 +9,7 @@ use Rattle.pie_parser.specs.declared.error.ParseError.TheVariants.{Expected, Too
 use Rattle.pie_parser.specs.FunctionTrees.{FunctionTree}
 use Rattle.pie_parser.specs.FunctionGrammar.{IsPipeline}
 use Rattle.pie_parser.specs.FunctionReading as parser
-use Rattle.pie_types.specs.Faults.{Outcome}
+use Rattle.pie_types.specs.Faults.{TypingResult}
 use Rattle.pie_types.specs.Whole.{checked, number_from}
 use Rattle.pie_value.specs.declared.task.Task.{Task}
 use Rattle.pie_roots.specs.declared.roots_fault.RootsFault.TheVariants as roots
@@ -27,7 +27,7 @@ abbrev pub Checked : Type 0
 Checked = Result (List FunctionTree) Refusal
 
 -- functions have types, or are refused at the first place that has none
-abbrev pub typed_or : Outcome (List FunctionTree) → Checked
+abbrev pub typed_or : TypingResult (List FunctionTree) → Checked
 typed_or (Ok fs) = Ok fs
 typed_or (Err e) = Err (OfPipeline (Types e))
 

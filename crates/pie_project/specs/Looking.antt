@@ -22,14 +22,14 @@ abbrev pub roots_path : List ℕ
 roots_path = codes "pie.roots"
 
 -- the calls that read a project: first its pipeline, then its roots
-abbrev pub front_calls : List Call
-front_calls = Read pipeline_path ∷ Read roots_path ∷ []
+abbrev pub prefix_calls : List Call
+prefix_calls = Read pipeline_path ∷ Read roots_path ∷ []
 
--- where the list of calls is told, it has gained a front of these
+-- where the list of calls is observable, it has gained a prefix of these
 abbrev pub Asks : List Call → Option (List Call) → Option (List Call) → Type 0
 Asks calls before after = IfSome before (λ asked. (n : ℕ) × (after ≡ Some (asked ++ take n calls)))
 
--- where the list of calls is told, it has gained these
+-- where the list of calls is observable, it has gained these
 abbrev pub AsksAll : List Call → Option (List Call) → Option (List Call) → Type 0
 AsksAll calls before after = IfSome before (λ asked. after ≡ Some (asked ++ calls))
 

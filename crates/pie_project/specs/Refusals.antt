@@ -32,7 +32,7 @@ plain (faults.Lex e) = Lex e
 plain (faults.Parse e) = Parse e
 plain (faults.Types f) = Types (refused_of f)
 
--- an answer of the code says this of an answer or a refusal; a fault of the files and want of memory say nothing
+-- an answer of the code says this of an answer or a refusal; a fault of the files and out of memory say nothing
 abbrev pub Says : {A B : Type 0} → (A → B) → (Result B Refusal → Type 0) → Result A BuildError → Type 0
 Says view P (Ok a) = P (Ok (view a))
 Says view P (Err (errors.Pipeline f)) = P (Err (OfPipeline (plain f)))
@@ -40,7 +40,7 @@ Says view P (Err (errors.Roots r)) = P (Err (OfRoots r))
 Says view P (Err errors.Files) = Unit {0}
 Says view P (Err errors.OutOfMemory) = Unit {0}
 
--- an answer or a refusal: neither a fault of the files nor want of memory
+-- an answer or a refusal: neither a fault of the files nor out of memory
 abbrev pub IsVerdict : {A : Type 0} → Result A BuildError → Type 0
 IsVerdict (Ok a) = Unit {0}
 IsVerdict (Err (errors.Pipeline f)) = Unit {0}

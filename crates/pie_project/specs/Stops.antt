@@ -5,11 +5,11 @@ use Rattle.pie_lexer.specs.declared.token.Token.{Token}
 use Rattle.pie_lexer.specs.Tokens.{Lexes}
 use Rattle.pie_parser.specs.declared.error.ParseError.{ParseError}
 use Rattle.pie_parser.specs.declared.error.ParseError.TheVariants.{Expected, TooDeep, OutOfMemory}
-use Rattle.pie_syntax.specs.Refusals.{StopsAt, NestsTooDeepAt}
+use Rattle.pie_grammar.specs.Refusals.{StopsAt, NestsTooDeepAt}
 use Rattle.pie_project.specs.Looking.{file_bytes, pipeline_path}
 use Rattle.pie_project.specs.Refusals.{Refusal, OfPipeline, Parse}
 
--- the place of this refusal is where the tokens stop to begin a pipeline, or nest a bracket too deep; it is never want of memory
+-- the place of this refusal is where the tokens stop to begin a pipeline, or nest a bracket too deep; it is never out of memory
 abbrev pub StopsThere : List Token → ParseError → Type 0
 StopsThere ts (Expected i) = StopsAt ts i
 StopsThere ts (TooDeep i) = NestsTooDeepAt ts i

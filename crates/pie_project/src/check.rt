@@ -2,7 +2,7 @@
 ghost use Rattle.std.specs.Prelude.{◌≡◌, Ok, IfSome, IsErrOf};
 ghost use Rattle.pie_commit.specs.Outcomes.{LeavesAsBefore};
 ghost use Rattle.pie_project.specs.Fronts.{CheckSays, counts_of};
-ghost use Rattle.pie_project.specs.Looking.{Looks, front_calls};
+ghost use Rattle.pie_project.specs.Looking.{Looks, prefix_calls};
 ghost use Rattle.pie_project.specs.Projects.{front_of};
 ghost use Rattle.pie_project.specs.Refusals.{Only, Says};
 ghost use Rattle.pie_project.specs.Stops.{OnParse, PipelineStops};
@@ -17,7 +17,7 @@ pub fn check_project<F: Files>(alloc: Global, files: &mut F) -> Result<(u32, u32
     ensures found { IfSome (F.holds files.old) (λ d. Says (λ p. p) (CheckSays d) result) }
     ensures only { IfSome (F.holds files.old) (λ d. Only (λ p. p) (CheckSays d) result) }
     ensures stops { IfSome (F.holds files.old) (λ d. Says (λ p. p) (OnParse (PipelineStops d)) result) }
-    ensures looks { Looks F.holds F.asked F.faults front_calls files.old files.new result }
+    ensures looks { Looks F.holds F.asked F.faults prefix_calls files.old files.new result }
     ensures crash { LeavesAsBefore F.holds F.moment F.left_since F.images files.old files.new }
 {
     counts_in(alloc, files)
@@ -26,7 +26,7 @@ pub fn check_project<F: Files>(alloc: Global, files: &mut F) -> Result<(u32, u32
 // The counts of the project of a directory.
 fn counts_in<F: Files>(alloc: Global, files: &mut F) -> Result<(u32, u32), BuildError>
     ensures found { IfSome (F.holds files.old) (λ d. Says (λ p. p) (CheckSays d) result) }
-    ensures looks { Looks F.holds F.asked F.faults front_calls files.old files.new result }
+    ensures looks { Looks F.holds F.asked F.faults prefix_calls files.old files.new result }
     ensures crash { LeavesAsBefore F.holds F.moment F.left_since F.images files.old files.new }
 {
     match read_project(alloc, files) {
@@ -35,7 +35,7 @@ fn counts_in<F: Files>(alloc: Global, files: &mut F) -> Result<(u32, u32), Build
     }
 }
 
-// The counts of a project; want of memory where one has more than 32 bits.
+// The counts of a project; out of memory where one has more than 32 bits.
 fn counts(project: Project) -> Result<(u32, u32), BuildError>
     ensures found { Says (λ p. p) (λ r. r ≡ counts_of (Ok (front_of project))) result }
     ensures no_fault { IsErrOf result BuildError.Files → ⊥ }

@@ -25,9 +25,9 @@ pub enum PipelineFault {
     TooLong,
     /// Its bytes aren't UTF-8.
     NotText,
-    /// It has no tokens; this is never want of memory.
+    /// It has no tokens; this is never out of memory.
     Lex(LexError),
-    /// Its tokens are no pipeline; this is never want of memory.
+    /// Its tokens are no pipeline; this is never out of memory.
     Parse(ParseError),
     /// It has no types.
     Types(TypeFault),

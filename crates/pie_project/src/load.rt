@@ -27,7 +27,7 @@ pub(crate) fn load<F: Files>(alloc: Global, files: &mut F, name: &str) -> Result
     files.read_within(&path, MAX_PIPELINE_BYTES)
 }
 
-/// A fault of the files, or want of memory.
+/// A fault of the files, or out of memory.
 pub(crate) fn files_error(error: FilesError) -> BuildError
     ensures { result ≡ spec_files_error error }
 {

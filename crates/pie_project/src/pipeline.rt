@@ -50,7 +50,7 @@ fn of_text(alloc: Global, text: &str) -> Result<Digested, BuildError>
     }
 }
 
-// A refusal of the lexer, or want of memory.
+// A refusal of the lexer, or out of memory.
 fn lex_error(error: LexError) -> BuildError
     ensures { result ≡ lexer_error error }
 {
@@ -94,7 +94,7 @@ fn with_digests(
     }
 }
 
-// A refusal of the parser, or want of memory.
+// A refusal of the parser, or out of memory.
 fn parse_error(error: ParseError) -> BuildError
     ensures { result ≡ parser_error error }
 {

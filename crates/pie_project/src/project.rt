@@ -5,7 +5,7 @@ ghost use Rattle.pie_commit.specs.Outcomes.{LeavesAsBefore};
 ghost use Rattle.pie_files.specs.declared.files.Call.TheVariants as calls;
 ghost use Rattle.pie_project.specs.Digested.{HasDigests, IsDigested};
 ghost use Rattle.pie_project.specs.Fronts.{ProjectSays, TypedSays, PipelineSays};
-ghost use Rattle.pie_project.specs.Looking.{Looks, front_calls, roots_path};
+ghost use Rattle.pie_project.specs.Looking.{Looks, prefix_calls, roots_path};
 ghost use Rattle.pie_project.specs.Projects.{front_of};
 ghost use Rattle.pie_project.specs.Refusals.{Only, Says};
 ghost use Rattle.pie_project.specs.Stops.{OnParse, PipelineStops};
@@ -40,7 +40,7 @@ pub fn read_project<F: Files>(alloc: Global, files: &mut F) -> Result<Project, B
     ensures digests { IfSome (F.holds files.old) (λ d. IfOk result (λ p. HasDigests d p.digests.items)) }
     ensures names { IfOk result (λ p. HasNames p.typed p.digests.items) }
     ensures funcs { IfOk result (λ p. AreFuncs p.digests.items) }
-    ensures looks { Looks F.holds F.asked F.faults front_calls files.old files.new result }
+    ensures looks { Looks F.holds F.asked F.faults prefix_calls files.old files.new result }
     ensures crash { LeavesAsBefore F.holds F.moment F.left_since F.images files.old files.new }
 {
     project_in(alloc, files)
@@ -53,7 +53,7 @@ fn project_in<F: Files>(alloc: Global, files: &mut F) -> Result<Project, BuildEr
     ensures digests { IfSome (F.holds files.old) (λ d. IfOk result (λ p. HasDigests d p.digests.items)) }
     ensures names { IfOk result (λ p. HasNames p.typed p.digests.items) }
     ensures funcs { IfOk result (λ p. AreFuncs p.digests.items) }
-    ensures looks { Looks F.holds F.asked F.faults front_calls files.old files.new result }
+    ensures looks { Looks F.holds F.asked F.faults prefix_calls files.old files.new result }
     ensures crash { LeavesAsBefore F.holds F.moment F.left_since F.images files.old files.new }
 {
     match load(alloc, files, "pie.pipeline") {

@@ -32,7 +32,7 @@ pub(crate) fn with_roots(
     }
 }
 
-// A refusal of the roots, or want of memory.
+// A refusal of the roots, or out of memory.
 fn roots_error(fault: RootsFault) -> BuildError
     ensures { result ≡ reader_error fault }
 {

@@ -21,7 +21,7 @@ use Rattle.pie_reach.specs.Walks.{IsClosure}
 use Rattle.pie_reach.specs.LeastKey.{IsBest}
 use Rattle.pie_reach.proofs.Meets.{alone}
 use Rattle.pie_reach.proofs.HeightFacts.{leads_trans}
-use Rattle.pie_order.specs.Places.{Agrees}
+use Rattle.pie_order.specs.Places.{PlacesAgree}
 use Rattle.pie_queue.specs.Candidates.{Joins, Leaves, StandsFirst}
 
 equal : (o : Ordering) → is_eq o ≡ true → o ≡ Equal
@@ -84,11 +84,11 @@ leaves old new task up = record {
 }
 
 -- below on the way down, the places fall
-place_le : (rows : List Row) (places : List ℕ) → Agrees rows places → (a b : ℕ) → Reaches rows a b → slice_index places b ≤ slice_index places a
+place_le : (rows : List Row) (places : List ℕ) → PlacesAgree rows places → (a b : ℕ) → Reaches rows a b → slice_index places b ≤ slice_index places a
 place_le rows places agrees a b (itself {a = c}) = omega arith
 place_le rows places agrees a b (step {a = x} {b = y} {c = z} first rest) = omega (arith, agrees.each a y first, place_le rows places agrees y b rest)
 
-place_falls : (rows : List Row) (places : List ℕ) → Agrees rows places → (a b : ℕ) → Reaches rows a b → (b ≡ a) ⊎ (slice_index places b < slice_index places a)
+place_falls : (rows : List Row) (places : List ℕ) → PlacesAgree rows places → (a b : ℕ) → Reaches rows a b → (b ≡ a) ⊎ (slice_index places b < slice_index places a)
 place_falls rows places agrees a b (itself {a = c}) = inl refl
 place_falls rows places agrees a b (step {a = x} {b = y} {c = z} first rest) = inr (omega (arith, agrees.each a y first, place_le rows places agrees y b rest))
 
@@ -96,7 +96,7 @@ pub none_reached : (rows : List Row) (members keys : List ℕ) (root : ℕ) (mar
     → IsBest members marks keys None → ReachesNone rows members root
 none_reached rows members keys root marks closed none = λ n member reached. none n member (closed.each n (root, contains_here root [], reached))
 
-pub first_reached : (rows : List Row) (places members : List ℕ) (root : ℕ) (marks : List Bool) (first : TaskNo) → Agrees rows places
+pub first_reached : (rows : List Row) (places members : List ℕ) (root : ℕ) (marks : List Bool) (first : TaskNo) → PlacesAgree rows places
     → IsClosure (length rows) (Calls rows) (root ∷ []) marks → IsBest members marks places (Some first) → StandsFirst rows places members root first.0
 first_reached rows places members root marks first agrees closed best =
     let led = closed.only first.0 best.1 in

@@ -3,7 +3,7 @@ ghost use Rattle.std.specs.Prelude.{◌≡◌, ◌<◌, ◌↔◌, [], length, I
 ghost use Rattle.std.specs.List.{Contains};
 ghost use Rattle.pie_graph.specs.Numbers.{numbers, AllBelow};
 ghost use Rattle.pie_reach.specs.Reaches.{ReachesNone};
-ghost use Rattle.pie_order.specs.Places.{Agrees};
+ghost use Rattle.pie_order.specs.Places.{PlacesAgree};
 ghost use Rattle.pie_queue.specs.Candidates.{Joins, Leaves, StandsFirst};
 
 use pie_base::OutOfMemory;
@@ -62,7 +62,7 @@ impl Candidates {
         order: &Order,
         root: TaskNo,
     ) -> Result<Option<TaskNo>, OutOfMemory>
-        requires agrees { Agrees (R.rows rows.now) order.now }
+        requires agrees { PlacesAgree (R.rows rows.now) order.now }
         requires members { AllBelow (length (R.rows rows.now)) self.old }
         requires root { root.0 < length (R.rows rows.now) }
         ensures first { IfOk result (λ found. MatchOption found (ReachesNone (R.rows rows.now) self.old root.0)

@@ -9,7 +9,7 @@ use Rattle.pie_graph.specs.Rows.{Row, row_at, Calls}
 use Rattle.pie_graph.proofs.Among.{contains_here, contains_later, contains_cases}
 use Rattle.pie_reach.specs.declared.descent.State.{State}
 use Rattle.pie_reach.specs.declared.descent.State.TheVariants.{New, Open, Done}
-use Rattle.pie_reach.specs.declared.descent.Frame.{Frame}
+use Rattle.pie_reach.specs.declared.descent.Visit.{Visit}
 use Rattle.pie_reach.specs.Reaches.{Reaches, height_over}
 use Rattle.pie_reach.specs.Reaches.Leads.{itself}
 use Rattle.pie_reach.specs.Descents.{state_of, height_of, height_at, IsDone, needs_of, IsFrame, IsAwaited, AreFrames, Holds, HasCycle, KeepsMet}
@@ -45,7 +45,7 @@ same_heights states n s needs fresh done =
     get_or-map (height_at (set states n s)) needs i 0 0 within ∙ same_height states n (get_or needs i 0) s fresh (done i within)
     ∙ sym (get_or-map (height_at states) needs i 0 0 within))
 
-frame_kept : (rows : List Row) (states : List State) (n : ℕ) (s : State) (f : Frame) → f.no.0 ≢ n → IsNotDone states n → IsFrame rows states f
+frame_kept : (rows : List Row) (states : List State) (n : ℕ) (s : State) (f : Visit) → f.no.0 ≢ n → IsNotDone states n → IsFrame rows states f
     → IsFrame rows (set states n s) f
 frame_kept rows states n s f apart fresh is = record {
   inside = is.inside;
@@ -54,7 +54,7 @@ frame_kept rows states n s f apart fresh is = record {
   before = λ i l. still_done states n (slice_index (needs_of rows f) i) s fresh (is.before i l);
 }
 
-frames_kept : (rows : List Row) (states : List State) (n : ℕ) (s : State) (fs : List Frame) → ((g : Frame) → Contains fs g → g.no.0 ≢ n) → IsNotDone states n
+frames_kept : (rows : List Row) (states : List State) (n : ℕ) (s : State) (fs : List Visit) → ((g : Visit) → Contains fs g → g.no.0 ≢ n) → IsNotDone states n
     → AreFrames rows states fs → AreFrames rows (set states n s) fs
 frames_kept rows states n s [] apart fresh are = tt
 frames_kept rows states n s (f ∷ fs) apart fresh are = (
@@ -64,12 +64,12 @@ frames_kept rows states n s (f ∷ fs) apart fresh are = (
   frames_kept rows states n s fs (λ g h. apart g (contains_later f g fs h)) fresh are.3,
 )
 
-frame_in : (rows : List Row) (states : List State) (fs : List Frame) (g : Frame) → AreFrames rows states fs → Contains fs g → IsFrame rows states g
+frame_in : (rows : List Row) (states : List State) (fs : List Visit) (g : Visit) → AreFrames rows states fs → Contains fs g → IsFrame rows states g
 frame_in rows states [] g are h = absurd (omega (arith, h.1))
 frame_in rows states (f ∷ fs) g are h =
     elim (contains_cases f g fs h) [ inl e ↦ subst (IsFrame rows states) e are.0 | inr later ↦ frame_in rows states fs g are.3 later ]
 
-awaited_same : (rows : List Row) (f g : Frame) (fs : List Frame) → f.no.0 ≡ g.no.0 → IsAwaited rows f fs → IsAwaited rows g fs
+awaited_same : (rows : List Row) (f g : Visit) (fs : List Visit) → f.no.0 ≡ g.no.0 → IsAwaited rows f fs → IsAwaited rows g fs
 awaited_same rows f g [] e h = tt
 awaited_same rows f g (x ∷ fs) e h = (h.0, h.1 ∙ e)
 
@@ -80,7 +80,7 @@ new_is_not_done : (states : List State) (n : ℕ) → state_of states n ≡ New 
 new_is_not_done states n e = λ h d. let clash : New ≡ Done h = sym e ∙ d in absurd (cc)
 
 -- the top of the stack is done
-pub finish : (rows : List Row) (states : List State) (f : Frame) (fs : List Frame) (h : ℕ) → Holds rows states (f ∷ fs) → length (needs_of rows f) ≤ f.next
+pub finish : (rows : List Row) (states : List State) (f : Visit) (fs : List Visit) (h : ℕ) → Holds rows states (f ∷ fs) → length (needs_of rows f) ≤ f.next
     → h ≡ height_over (map (height_at states) (needs_of rows f)) → Holds rows (set states f.no.0 (Done h)) fs
 finish rows states f fs h holds all over =
     let n = f.no.0 in
@@ -95,7 +95,7 @@ finish rows states f fs h holds all over =
         | inl e ↦ absurd (open_is_not_done (set states n (Done h)) k is h (ap (state_of (set states n (Done h))) e.1 ∙ now))
         | inr e ↦
             let g = holds.stands k (sym (other_state states n k (Done h) e.1) ∙ is) in
-            elim (contains_cases f g.0 fs g.1) [ inl same ↦ absurd (e.1 (sym (ap (λ (x : Frame). x.no.0) same ∙ g.2))) | inr later ↦ (g.0, later, g.2) ]
+            elim (contains_cases f g.0 fs g.1) [ inl same ↦ absurd (e.1 (sym (ap (λ (x : Visit). x.no.0) same ∙ g.2))) | inr later ↦ (g.0, later, g.2) ]
       ];
       height = λ k high is. elim (eqb_tells k n) [
         | inl e ↦
@@ -118,7 +118,7 @@ finish rows states f fs h holds all over =
     }
 
 -- the top of the stack goes on to its next required task
-pub advance : (rows : List Row) (states : List State) (f g : Frame) (fs : List Frame) → g.no.0 ≡ f.no.0 → g.next ≡ f.next + 1 → Holds rows states (f ∷ fs)
+pub advance : (rows : List Row) (states : List State) (f g : Visit) (fs : List Visit) → g.no.0 ≡ f.no.0 → g.next ≡ f.next + 1 → Holds rows states (f ∷ fs)
     → f.next < length (needs_of rows f) → IsDone states (slice_index (needs_of rows f) f.next) → Holds rows states (g ∷ fs)
 advance rows states f g fs same next holds l is =
     let top = holds.frames.0 in
@@ -144,7 +144,7 @@ advance rows states f g fs same next holds l is =
       stands = λ k o.
           let x = holds.stands k o in
           elim (contains_cases f x.0 fs x.1) [
-            | inl e ↦ (g, contains_here g fs, same ∙ ap (λ (y : Frame). y.no.0) e ∙ x.2)
+            | inl e ↦ (g, contains_here g fs, same ∙ ap (λ (y : Visit). y.no.0) e ∙ x.2)
             | inr later ↦
                 (x.0, contains_later g x.0 fs later, x.2)
           ];
@@ -153,14 +153,14 @@ advance rows states f g fs same next holds l is =
     }
 
 -- a new task goes on top
-pub enter : (rows : List Row) (states : List State) (f : Frame) (fs : List Frame) → f.next ≡ 0 → f.no.0 < length rows → state_of states f.no.0 ≡ New
+pub enter : (rows : List Row) (states : List State) (f : Visit) (fs : List Visit) → f.next ≡ 0 → f.no.0 < length rows → state_of states f.no.0 ≡ New
     → IsAwaited rows f fs → Holds rows states fs → Holds rows (set states f.no.0 Open) (f ∷ fs)
 enter rows states f fs start l new awaited holds =
     let n = f.no.0 in
     let fresh = new_is_not_done states n new in
     let inside : n < length states = omega (arith, holds.sized) in
     let now : state_of (set states n Open) n ≡ Open = get_or-set_same states n Open New inside in
-    let apart : (g : Frame) → Contains fs g → g.no.0 ≢ n =
+    let apart : (g : Visit) → Contains fs g → g.no.0 ≢ n =
     λ g h e. let clash : New ≡ Open = sym new ∙ ap (state_of states) (sym e) ∙ (frame_in rows states fs g holds.frames h).stacked in cc in
     record {
       sized = length-set states n Open ∙ holds.sized;
@@ -190,18 +190,18 @@ pub calls_at : (rows : List Row) (caller callee i : ℕ) → i < length (row_at 
     → Calls rows caller callee
 calls_at rows caller callee i l e = (i, l, get_or_default (row_at rows caller).needs i callee 0 l ∙ e)
 
-chain : (rows : List Row) (states : List State) (f : Frame) (fs : List Frame) (g : Frame) → AreFrames rows states (f ∷ fs) → Contains (f ∷ fs) g
+chain : (rows : List Row) (states : List State) (f : Visit) (fs : List Visit) (g : Visit) → AreFrames rows states (f ∷ fs) → Contains (f ∷ fs) g
     → Reaches rows g.no.0 f.no.0
 chain rows states f [] g are h =
-    elim (contains_cases f g [] h) [ inl e ↦ subst (λ (x : Frame). Reaches rows x.no.0 f.no.0) e itself | inr later ↦ absurd (omega (arith, later.1)) ]
+    elim (contains_cases f g [] h) [ inl e ↦ subst (λ (x : Visit). Reaches rows x.no.0 f.no.0) e itself | inr later ↦ absurd (omega (arith, later.1)) ]
 chain rows states f (x ∷ fs) g are h =
     elim (contains_cases f g (x ∷ fs) h) [
-      | inl e ↦ subst (λ (y : Frame). Reaches rows y.no.0 f.no.0) e itself
+      | inl e ↦ subst (λ (y : Visit). Reaches rows y.no.0 f.no.0) e itself
       | inr later ↦ leads_on (Calls rows) g.no.0 x.no.0 f.no.0 (chain rows states x fs g are.3 later) (calls_at rows x.no.0 f.no.0 x.next are.1.0 are.1.1)
     ]
 
 -- the next required task stands on the stack
-pub cycle : (rows : List Row) (states : List State) (f : Frame) (fs : List Frame) → Holds rows states (f ∷ fs) → f.next < length (needs_of rows f)
+pub cycle : (rows : List Row) (states : List State) (f : Visit) (fs : List Visit) → Holds rows states (f ∷ fs) → f.next < length (needs_of rows f)
     → state_of states (slice_index (needs_of rows f) f.next) ≡ Open → HasCycle rows
 cycle rows states f fs holds l o =
     let callee = slice_index (needs_of rows f) f.next in

@@ -7,13 +7,13 @@ use Rattle.pie_graph.specs.Numbers.{numbers}
 use Rattle.pie_graph.specs.Rows.{Row, row_at}
 use Rattle.pie_reach.specs.declared.descent.State.{State}
 use Rattle.pie_reach.specs.declared.descent.State.TheVariants.{New, Open, Done}
-use Rattle.pie_reach.specs.declared.descent.Frame.{Frame}
+use Rattle.pie_reach.specs.declared.descent.Visit.{Visit}
 use Rattle.pie_reach.specs.Reaches.{height_over}
 use Rattle.pie_reach.specs.Descents.{state_of, height_at, needs_of, Holds, HasCycle, KeepsMet, left_new, left_open}
 use Rattle.pie_reach.proofs.DescentSteps.{finish, advance, enter, cycle, met_stays}
 
 -- the work that is left, of states and of a stack with its top last
-abbrev pub left_at : List Row → List State → List Frame → ℕ
+abbrev pub left_at : List Row → List State → List Visit → ℕ
 left_at rows states items = left_new rows states + left_open rows (reverse items)
 
 left_new_done : (rows : List Row) (states : List State) (n h : ℕ) → state_of states n ≡ Open → left_new rows (set states n (Done h)) ≡ left_new rows states
@@ -37,10 +37,10 @@ left_new_open (r ∷ rs) (New ∷ ss) (suc n) l m e = omega (arith, left_new_ope
 left_new_open (r ∷ rs) (Open ∷ ss) (suc n) l m e = left_new_open rs ss n (omega arith) (omega arith) e
 left_new_open (r ∷ rs) (Done k ∷ ss) (suc n) l m e = left_new_open rs ss n (omega arith) (omega arith) e
 
-top_first : (items rest : List Frame) (f : Frame) → items ≡ rest ++ f ∷ [] → reverse items ≡ f ∷ reverse rest
+top_first : (items rest : List Visit) (f : Visit) → items ≡ rest ++ f ∷ [] → reverse items ≡ f ∷ reverse rest
 top_first items rest f split = ap reverse split ∙ reverse-append rest (f ∷ [])
 
-popped : (rows : List Row) (states : List State) (items rest : List Frame) (f : Frame) → items ≡ rest ++ f ∷ [] → Holds rows states (reverse items)
+popped : (rows : List Row) (states : List State) (items rest : List Visit) (f : Visit) → items ≡ rest ++ f ∷ [] → Holds rows states (reverse items)
     → Holds rows states (f ∷ reverse rest)
 popped rows states items rest f split holds = subst (Holds rows states) (top_first items rest f split) holds
 
@@ -51,11 +51,11 @@ callee_is callees needs i d e l = ap (λ (ns : List ℕ). get_or ns i 0) (sym e)
 as_many : (callees : List TaskNo) (needs : List ℕ) → numbers callees ≡ needs → length callees ≡ length needs
 as_many callees needs e = sym (length-map callees (λ (t : TaskNo). t.0)) ∙ ap length e
 
-pub frame_number : (rows : List Row) (states : List State) (items rest : List Frame) (f : Frame) → items ≡ rest ++ f ∷ [] → Holds rows states (reverse items)
+pub frame_number : (rows : List Row) (states : List State) (items rest : List Visit) (f : Visit) → items ≡ rest ++ f ∷ [] → Holds rows states (reverse items)
     → f.no.0 < length rows
 frame_number rows states items rest f split holds = (popped rows states items rest f split holds).frames.0.inside
 
-pub turn_finish : (rows : List Row) (states : List State) (items rest : List Frame) (f : Frame) (callees : List TaskNo) (h : ℕ)
+pub turn_finish : (rows : List Row) (states : List State) (items rest : List Visit) (f : Visit) (callees : List TaskNo) (h : ℕ)
     → Holds rows states (reverse items) → items ≡ rest ++ f ∷ [] → numbers callees ≡ needs_of rows f → length callees ≤ f.next
     → h ≡ height_over (map (height_at states) (numbers callees))
     → Holds rows (set states f.no.0 (Done h)) (reverse rest) × (left_at rows (set states f.no.0 (Done h)) rest < left_at rows states items)
@@ -68,7 +68,7 @@ turn_finish rows states items rest f callees h holds split needs all over =
       met_stays states f.no.0 (Done h) (λ e. absurd (cc)) (omega (arith, at.sized, at.frames.0.inside)),
     )
 
-pub turn_advance : (rows : List Row) (states : List State) (items rest now : List Frame) (f g : Frame) (callees : List TaskNo) (d : TaskNo) (h : ℕ)
+pub turn_advance : (rows : List Row) (states : List State) (items rest now : List Visit) (f g : Visit) (callees : List TaskNo) (d : TaskNo) (h : ℕ)
     → Holds rows states (reverse items) → items ≡ rest ++ f ∷ [] → now ≡ rest ++ g ∷ [] → g.no.0 ≡ f.no.0 → g.next ≡ f.next + 1
     → numbers callees ≡ needs_of rows f → f.next < length callees → state_of states (get_or callees f.next d).0 ≡ Done h
     → Holds rows states (reverse now) × (left_at rows states now < left_at rows states items) × KeepsMet states states
@@ -83,7 +83,7 @@ turn_advance rows states items rest now f g callees d h holds split pushed same 
       λ n e. e,
     )
 
-pub turn_enter : (rows : List Row) (states after : List State) (items rest between now : List Frame) (f g : Frame) (callees : List TaskNo) (d : TaskNo)
+pub turn_enter : (rows : List Row) (states after : List State) (items rest between now : List Visit) (f g : Visit) (callees : List TaskNo) (d : TaskNo)
     → Holds rows states (reverse items) → items ≡ rest ++ f ∷ [] → between ≡ rest ++ f ∷ [] → now ≡ between ++ g ∷ [] → g.no ≡ get_or callees f.next d
     → g.next ≡ 0 → after ≡ set states g.no.0 Open → numbers callees ≡ needs_of rows f → f.next < length callees → g.no.0 < length rows
     → state_of states g.no.0 ≡ New
@@ -92,7 +92,7 @@ turn_enter rows states after items rest between now f g callees d holds split ba
     let at = popped rows states items rest f split holds in
     let many = as_many callees (needs_of rows f) needs in
     let less : f.next < length (needs_of rows f) = omega arith in
-    let stack : reverse now ≡ g ∷ (f ∷ reverse rest) = top_first now between g pushed ∙ ap (λ (fs : List Frame). g ∷ fs) (top_first between rest f back) in
+    let stack : reverse now ≡ g ∷ (f ∷ reverse rest) = top_first now between g pushed ∙ ap (λ (fs : List Visit). g ∷ fs) (top_first between rest f back) in
     let within : g.no.0 < length states = omega (arith, at.sized, inside) in (
       subst (λ (ss : List State). Holds rows ss (reverse now)) (sym set_now) (subst (Holds rows (set states g.no.0 Open)) (sym stack)
           (enter rows states g (f ∷ reverse rest) start inside new
@@ -108,7 +108,7 @@ turn_enter rows states after items rest between now f g callees d holds split ba
       subst (KeepsMet states) (sym set_now) (met_stays states g.no.0 Open (λ e. absurd (cc)) within),
     )
 
-pub turn_cycle : (rows : List Row) (states : List State) (items rest : List Frame) (f : Frame) (callees : List TaskNo) (d : TaskNo)
+pub turn_cycle : (rows : List Row) (states : List State) (items rest : List Visit) (f : Visit) (callees : List TaskNo) (d : TaskNo)
     → Holds rows states (reverse items) → items ≡ rest ++ f ∷ [] → numbers callees ≡ needs_of rows f → f.next < length callees
     → state_of states (get_or callees f.next d).0 ≡ Open → HasCycle rows
 turn_cycle rows states items rest f callees d holds split needs l o =
@@ -116,17 +116,17 @@ turn_cycle rows states items rest f callees d holds split needs l o =
     cycle rows states f (reverse rest) (popped rows states items rest f split holds) (omega arith)
     (ap (state_of states) (callee_is callees (needs_of rows f) f.next d needs l) ∙ o)
 
-pub ended : (rows : List Row) (states : List State) (items : List Frame) → items ≡ [] → Holds rows states (reverse items) → Holds rows states []
-ended rows states items e holds = subst (λ (fs : List Frame). Holds rows states (reverse fs)) e holds
+pub ended : (rows : List Row) (states : List State) (items : List Visit) → items ≡ [] → Holds rows states (reverse items) → Holds rows states []
+ended rows states items e holds = subst (λ (fs : List Visit). Holds rows states (reverse fs)) e holds
 
 pub state_read : (states : List State) (n : ℕ) (s : State) → n < length states → s ≡ get_or states n s → state_of states n ≡ s
 state_read states n s l e = get_or_default states n New s l ∙ sym e
 
-pub visit_starts : (rows : List Row) (states after : List State) (items now : List Frame) (f : Frame) → Holds rows states (reverse items) → items ≡ []
+pub visit_starts : (rows : List Row) (states after : List State) (items now : List Visit) (f : Visit) → Holds rows states (reverse items) → items ≡ []
     → now ≡ items ++ f ∷ [] → f.next ≡ 0 → after ≡ set states f.no.0 Open → f.no.0 < length rows → state_of states f.no.0 ≡ New → Holds rows after (reverse now)
 visit_starts rows states after items now f holds none pushed start set_now inside new =
     let empty = ended rows states items none holds in
-    let stack : reverse now ≡ f ∷ [] = top_first now items f pushed ∙ ap (λ (fs : List Frame). f ∷ reverse fs) none in
+    let stack : reverse now ≡ f ∷ [] = top_first now items f pushed ∙ ap (λ (fs : List Visit). f ∷ reverse fs) none in
     subst (λ (ss : List State). Holds rows ss (reverse now)) (sym set_now)
     (subst (Holds rows (set states f.no.0 Open)) (sym stack) (enter rows states f [] start inside new tt empty))
 

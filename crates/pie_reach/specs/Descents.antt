@@ -4,7 +4,7 @@ use Rattle.std.specs.List.{Contains}
 use Rattle.pie_graph.specs.Rows.{Row, row_at, Calls}
 use Rattle.pie_reach.specs.declared.descent.State.{State}
 use Rattle.pie_reach.specs.declared.descent.State.TheVariants.{New, Open, Done}
-use Rattle.pie_reach.specs.declared.descent.Frame.{Frame}
+use Rattle.pie_reach.specs.declared.descent.Visit.{Visit}
 use Rattle.pie_reach.specs.declared.descent.Turn.{Turn}
 use Rattle.pie_reach.specs.declared.descent.Turn.TheVariants.{Went, Ended, Cycle}
 use Rattle.pie_reach.specs.declared.descent.Descent.{Descent}
@@ -29,32 +29,32 @@ abbrev pub IsDone : List State → ℕ → Type 0
 IsDone states n = (height : ℕ) × (state_of states n ≡ Done height)
 
 -- the tasks that a task on the stack requires
-abbrev pub needs_of : List Row → Frame → List ℕ
+abbrev pub needs_of : List Row → Visit → List ℕ
 needs_of rows f = (row_at rows f.no.0).needs
 
 -- a task on the stack: what it requires is done up to the place where it stands
-pub record IsFrame (rows : List Row) (states : List State) (f : Frame) : Type 0 where
+pub record IsFrame (rows : List Row) (states : List State) (f : Visit) : Type 0 where
   pub inside : f.no.0 < length rows
   pub stacked : state_of states f.no.0 ≡ Open
   pub within : f.next ≤ length (needs_of rows f)
   pub before : (i : ℕ) → i < f.next → IsDone states (slice_index (needs_of rows f) i)
 
 -- the one below on the stack waits for this one
-abbrev pub IsAwaited : List Row → Frame → List Frame → Type 0
+abbrev pub IsAwaited : List Row → Visit → List Visit → Type 0
 IsAwaited rows f [] = Unit {0}
 IsAwaited rows f (g ∷ fs) = (g.next < length (needs_of rows g)) × (slice_index (needs_of rows g) g.next ≡ f.no.0)
 
 -- a stack, its top first
-abbrev pub AreFrames : List Row → List State → List Frame → Type 0
+abbrev pub AreFrames : List Row → List State → List Visit → Type 0
 AreFrames rows states [] = Unit {0}
 AreFrames rows states (f ∷ fs) =
-    IsFrame rows states f × IsAwaited rows f fs × ((g : Frame) → Contains fs g → g.no.0 ≢ f.no.0) × AreFrames rows states fs
+    IsFrame rows states f × IsAwaited rows f fs × ((g : Visit) → Contains fs g → g.no.0 ≢ f.no.0) × AreFrames rows states fs
 
 -- what holds between two turns, of the states and of the stack with its top first
-pub record Holds (rows : List Row) (states : List State) (stack : List Frame) : Type 0 where
+pub record Holds (rows : List Row) (states : List State) (stack : List Visit) : Type 0 where
   pub sized : length states ≡ length rows
   pub frames : AreFrames rows states stack
-  pub stands : (n : ℕ) → state_of states n ≡ Open → (f : Frame) × Contains stack f × (f.no.0 ≡ n)
+  pub stands : (n : ℕ) → state_of states n ≡ Open → (f : Visit) × Contains stack f × (f.no.0 ≡ n)
   pub height : (n h : ℕ) → state_of states n ≡ Done h → h ≡ height_over (map (height_at states) (row_at rows n).needs)
   pub done : (n : ℕ) → IsDone states n → (i : ℕ) → i < length (row_at rows n).needs → IsDone states (slice_index (row_at rows n).needs i)
 
@@ -71,7 +71,7 @@ left_new (r ∷ rs) (Open ∷ ss) = left_new rs ss
 left_new (r ∷ rs) (Done h ∷ ss) = left_new rs ss
 
 -- the work that is left on the stack
-abbrev pub left_open : List Row → List Frame → ℕ
+abbrev pub left_open : List Row → List Visit → ℕ
 left_open rows [] = 0
 left_open rows (f ∷ fs) = length (needs_of rows f) + 1 - f.next + left_open rows fs
 

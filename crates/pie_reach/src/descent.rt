@@ -22,7 +22,7 @@ pub(crate) enum State {
 
 /// A task on the stack, and which of its required tasks comes next.
 #[derive(Clone, Copy)]
-pub(crate) struct Frame {
+pub(crate) struct Visit {
     pub(crate) no: TaskNo,
     pub(crate) next: usize,
 }
@@ -42,7 +42,7 @@ pub(crate) enum Turn {
 #[derive(Drop)]
 pub(crate) struct Descent {
     pub(crate) states: Vec<State>,
-    pub(crate) stack: Vec<Frame>,
+    pub(crate) stack: Vec<Visit>,
 }
 
 impl Descent {
@@ -64,7 +64,7 @@ impl Descent {
         ensures stack { OnOk result (self.new.stack.items ≡ self.old.stack.items ++ record { no = no; next = 0 } ∷ []) }
     {
         self.states[no.0 as usize] = State::Open;
-        self.stack.push(Frame { no, next: 0 })?;
+        self.stack.push(Visit { no, next: 0 })?;
         Ok(())
     }
 
@@ -85,7 +85,7 @@ impl Descent {
         let callee = callees[frame.next];
         match self.states[callee.0 as usize] {
             State::Done(_) => {
-                self.stack.push(Frame {
+                self.stack.push(Visit {
                     no: frame.no,
                     next: frame.next + 1,
                 })?;
@@ -153,7 +153,7 @@ pub(crate) fn descend<R: TaskRows>(
 }
 
 // One more than the greatest height of these, all of them done. A height that didn't fit 32 bits
-// would count as want of memory; there are too few tasks for one.
+// would count as out of memory; there are too few tasks for one.
 fn height_over(states: &[State], callees: &[TaskNo]) -> Result<u32, OutOfMemory>
     requires { AllBelow (length states.now) (numbers callees.now) }
     ensures { IfOk result (λ h. h ≡ height_over (map (height_at states.now) (numbers callees.now))) }

@@ -14,7 +14,7 @@ use Rattle.pie_value.specs.declared.value.Value.{Value}
 use Rattle.pie_value.specs.Tree.{Tree}
 use Rattle.pie_value.specs.Values.{tree_of}
 use Rattle.pie_value.specs.Canonical.{be32, counted, enc, enc_task, IsEncodable, IsEncodableTask, HasTrueLeaves}
-use Rattle.pie_value.specs.Reading.{byte_of, bytes_of, number_of, counted_of, is_path_text, value_within, value_front, task_front}
+use Rattle.pie_value.specs.Reading.{byte_of, bytes_of, number_of, counted_of, is_path_text, value_within, value_prefix, task_prefix}
 use Rattle.pie_value.proofs.Taking.{IsBytes, Takes, byte_takes, bytes_takes, bytes_again, number_takes, number_again, counted_takes, counted_again}
 use Rattle.pie_value.proofs.ReadBack.{value_read}
 use Rattle.pie_value.proofs.WriteBack.{value_again}
@@ -148,11 +148,11 @@ rest_bytes n bs h i = rw get_or-drop (h (n + i))
 
 task_taken : (bs : List ℕ) (t : Task) (rest : List ℕ) → IsBytes bs → task_at bs ≡ Ok (t, rest) → Takes bs (enc_task t) rest × FitsTask t
 task_taken bs t rest fits e =
-    let read = told_ok (task_front bs) t rest e in
+    let read = told_ok (task_prefix bs) t rest e in
     let n = length bs - length rest in
     let h = task_counted bs t rest n fits read refl in
     let c = task_is_canonical (Ok (t, n)) bs fits h in
-    let left : drop n bs ≡ rest = same_rest t t (drop n bs) rest (sym (told_on (task_front bs) t (drop n bs) h.0) ∙ e) in (
+    let left : drop n bs ≡ rest = same_rest t t (drop n bs) rest (sym (told_on (task_prefix bs) t (drop n bs) h.0) ∙ e) in (
       record {
         parts = sym (take-append-drop n bs) ∙ ap (λ (x : List ℕ). x ++ drop n bs) c.bytes ∙ ap (λ (x : List ℕ). enc_task t ++ x) left;
         rest_fits = subst IsBytes left (rest_bytes n bs fits);
@@ -164,7 +164,7 @@ pub task_codec : Codec task_at enc_task FitsTask
 task_codec = record {
   taken = task_taken;
   again = λ t rest h.
-      told_on (task_front (enc_task t ++ rest)) t rest
+      told_on (task_prefix (enc_task t ++ rest)) t rest
       (task_again t (enc_task t) rest (record { encodable = h.0; name = h.1.0; leaves = h.1.1; bytes = refl }));
 }
 
@@ -175,19 +175,19 @@ abbrev pub FitsValue : Value → Type 0
 FitsValue v = IsEncodable (tree_of v) × HasTrueLeaves (tree_of v)
 
 abbrev tree_at : List ℕ → Parsed Tree
-tree_at bs = told (value_front bs)
+tree_at bs = told (value_prefix bs)
 
 abbrev FitsTree : Tree → Type 0
 FitsTree t = IsEncodable t × HasTrueLeaves t
 
 tree_taken : (bs : List ℕ) (t : Tree) (rest : List ℕ) → IsBytes bs → tree_at bs ≡ Ok (t, rest) → Takes bs (enc t) rest × FitsTree t
-unfolding value_front
+unfolding value_prefix
 tree_taken bs t rest fits e =
     let r = value_read 64 bs t rest fits (told_ok (value_within 64 bs) t rest e) in
     (r.takes, (record { shallow = r.deep; short = r.short }, r.leaves))
 
 tree_again : (t : Tree) (rest : List ℕ) → FitsTree t → tree_at (enc t ++ rest) ≡ Ok (t, rest)
-unfolding value_front
+unfolding value_prefix
 tree_again t rest h = told_on (value_within 64 (enc t ++ rest)) t rest (value_again 64 t rest h.0.shallow h.0.short h.1)
 
 tree_codec : Codec tree_at enc FitsTree

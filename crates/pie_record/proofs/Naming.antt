@@ -13,7 +13,7 @@ use Rattle.std.proofs.lemmas.List.Elements.{All-push}
 use Rattle.std.proofs.lemmas.Option.{slice_get-get_or}
 use Rattle.pie_value.specs.declared.task.Task.{Task}
 use Rattle.pie_value.specs.Canonical.{enc_task, IsCanonicalTask}
-use Rattle.pie_value.specs.Reading.{task_front}
+use Rattle.pie_value.specs.Reading.{task_prefix}
 use Rattle.pie_value.proofs.Taking.{same_value}
 use Rattle.pie_value.proofs.Decoded.{task_again}
 use Rattle.pie_record.specs.Names.{AreNamed, IsFree, IsPlace}
@@ -53,7 +53,7 @@ place_is keys bytes (Some i) e = place_some keys bytes i (sym e)
 pub bytes_tell : (t u : Task) → IsCanonicalTask t (enc_task t) → IsCanonicalTask u (enc_task u) → enc_task t ≡ enc_task u → t ≡ u
 bytes_tell t u c d e =
     same_value t u [] []
-    (sym (task_again t (enc_task t) [] c) ∙ ap (λ (bs : List ℕ). task_front (bs ++ [])) e ∙ task_again u (enc_task u) [] d)
+    (sym (task_again t (enc_task t) [] c) ∙ ap (λ (bs : List ℕ). task_prefix (bs ++ [])) e ∙ task_again u (enc_task u) [] d)
 
 many : {Z : Type 0} (keys : List (Vec ℕ Z)) (tasks : List Task) → AreNamed keys tasks → length keys ≡ length tasks
 many {Z} keys tasks n = sym (length-map keys (λ (k : Vec ℕ Z). k.items)) ∙ ap length n.same ∙ length-map tasks enc_task

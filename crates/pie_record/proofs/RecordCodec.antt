@@ -18,7 +18,7 @@ use Rattle.pie_record.specs.declared.record_fault.RecordFault.TheVariants.{Short
 use Rattle.pie_record.specs.Canonical.{enc_dep, enc_write, listed, enc_record, IsStorableDep, IsStorableWrite, IsStorableOutcome, IsStorable}
 use Rattle.pie_record.specs.Canonical.{IsTrueDep, IsTrueWrite, IsTrueRecord, IsCanonicalRecord}
 use Rattle.pie_record.specs.Reading.{Parsed, then_on, number_at, task_at, value_at, dep_at, write_at, many_at, list_at, record_at}
-use Rattle.pie_record.specs.Agreement.{AgreesInFront, Refuses}
+use Rattle.pie_record.specs.Agreement.{RowAgreesOnPrefix, Refuses}
 use Rattle.pie_record.proofs.Steps.{pair, same_value, same_rest, then_ok, Codec, step, last, last_ok}
 use Rattle.pie_record.proofs.Codecs.{number_codec, task_codec, value_codec, value_bytes}
 use Rattle.pie_record.proofs.DepCodec.{dep_codec, write_codec}
@@ -185,7 +185,7 @@ record_counted bs r rest n fits e h =
     let k : drop n bs ≡ rest = ap (λ (m : ℕ). drop m bs) h ∙ left_after bs (enc_record r) rest t in
     (e ∙ ap (λ (x : List ℕ). pair r x) (sym k), omega arith)
 
-pub record_is_canonical : (r : Result (TaskRecord × ℕ) RecordFault) (bs : List ℕ) → IsBytes bs → AgreesInFront (λ x. x) r bs (record_at bs)
+pub record_is_canonical : (r : Result (TaskRecord × ℕ) RecordFault) (bs : List ℕ) → IsBytes bs → RowAgreesOnPrefix (λ x. x) r bs (record_at bs)
     → IfOk r (λ found. IsCanonicalRecord found.0 (take found.1 bs))
 record_is_canonical (Ok a) bs fits e =
     let p = record_taken bs a.0 (drop a.1 bs) fits e.0 in
@@ -193,7 +193,7 @@ record_is_canonical (Ok a) bs fits e =
 record_is_canonical (Err e) bs fits h = tt
 
 -- an answer that refuses is that of the definition
-refusal_is : (r : Result (TaskRecord × ℕ) RecordFault) (bs : List ℕ) (b : TaskRecord × List ℕ) → AgreesInFront (λ x. x) r bs (record_at bs)
+refusal_is : (r : Result (TaskRecord × ℕ) RecordFault) (bs : List ℕ) (b : TaskRecord × List ℕ) → RowAgreesOnPrefix (λ x. x) r bs (record_at bs)
     → Refuses r → record_at bs ≡ Ok b → ⊥
 refusal_is (Ok a) bs b h n e = n
 refusal_is (Err Short) bs b h n e = absurd (cc)
@@ -202,7 +202,7 @@ refusal_is (Err BadPath) bs b h n e = absurd (cc)
 refusal_is (Err BadValue) bs b h n e = absurd (cc)
 refusal_is (Err OutOfMemory) bs b h n e = n
 
-pub record_is_refused : (r : Result (TaskRecord × ℕ) RecordFault) (bs : List ℕ) → AgreesInFront (λ x. x) r bs (record_at bs) → Refuses r
+pub record_is_refused : (r : Result (TaskRecord × ℕ) RecordFault) (bs : List ℕ) → RowAgreesOnPrefix (λ x. x) r bs (record_at bs) → Refuses r
     → (t : TaskRecord) (n : ℕ) → ¬ (IsCanonicalRecord t (take n bs))
 record_is_refused r bs h x t n c =
     refusal_is r bs (t, drop n bs) h x (ap record_at (sym (take-append-drop n bs)) ∙ canonical_again t (take n bs) (drop n bs) c)

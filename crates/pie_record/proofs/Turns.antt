@@ -2,7 +2,7 @@
 use Rattle.std.proofs.Common.{◌≡◌, ℕ, suc, ◌+◌, ◌-◌, ◌<◌, List, [], ◌∷◌, ◌++◌, Ok, Err, sym, ap, ◌∙◌, arith}
 use Rattle.pie_record.specs.declared.record_fault.RecordFault.{RecordFault}
 use Rattle.pie_record.specs.declared.record_fault.RecordFault.TheVariants.{Short, BadTag, BadPath, BadValue, OutOfMemory}
-use Rattle.pie_record.specs.Agreement.{Agrees}
+use Rattle.pie_record.specs.Agreement.{RowAgrees}
 use Rattle.pie_record.specs.Reading.{Parsed, then_on, number_at, many_at, list_at}
 
 left_is : (n i : ℕ) → i < n → n - i ≡ suc (n - (i + 1))
@@ -30,7 +30,7 @@ list_fails {A} one n i xs bs start mid d h e inv f =
 
 -- a fault that is handed on
 pub fault_goes : {A B C D : Type 0} (f : A → B) (g : C → D) (d : RecordFault) (x y : List ℕ) (p : Parsed B) (q : Parsed D)
-    → (p ≡ Err d → q ≡ Err d) → Agrees {A = A} f (Err d) x p → Agrees {A = C} g (Err d) y q
+    → (p ≡ Err d → q ≡ Err d) → RowAgrees {A = A} f (Err d) x p → RowAgrees {A = C} g (Err d) y q
 fault_goes f g Short x y p q k h = k h
 fault_goes f g BadTag x y p q k h = k h
 fault_goes f g BadPath x y p q k h = k h

@@ -6,7 +6,7 @@ use Rattle.pie_value.specs.declared.value.Value.TheVariants.{Unit as VUnit, Bool
 use Rattle.pie_value.specs.declared.value.Value.TheVariants.{List as VList, Tuple as VTuple, Null as VNull, Bytes as VBytes}
 use Rattle.pie_value.specs.Tree.{Tree, Trees, TUnit, TBool, TInt, TText, TPath, TList, TTuple, TNull, TBytes, Nil, Cons, items_of, list_of}
 use Rattle.pie_value.specs.Values.{tree_of}
-use Rattle.pie_value.specs.Reading.{Parsed as Decoded, value_front}
+use Rattle.pie_value.specs.Reading.{Parsed as Decoded, value_prefix}
 use Rattle.pie_value.proofs.Elements.{list_of_items}
 use Rattle.pie_record.specs.Parts.{value_of}
 use Rattle.pie_record.specs.Reading.{Parsed, then_on, told, value_at}
@@ -41,11 +41,11 @@ abbrev pair : {A : Type 0} → A → List ℕ → Parsed A
 pair a rest = Ok (a, rest)
 
 -- what the decoder says of the tree is said of the value
-pub value_read : (v : Value) (bs rest : List ℕ) → value_front bs ≡ Ok (tree_of v, rest) → value_at bs ≡ Ok (v, rest)
+pub value_read : (v : Value) (bs rest : List ℕ) → value_prefix bs ≡ Ok (tree_of v, rest) → value_at bs ≡ Ok (v, rest)
 value_read v bs rest e =
     ap (λ (p : Decoded Tree). then_on (told p) (λ t after. pair (value_of t) after)) e ∙ ap (λ (u : Value). pair u rest) (value_back v)
 
 -- the same, of the bytes that are left
-pub value_taken : (v : Value) (bs : List ℕ) (n : ℕ) → (value_front bs ≡ Ok (tree_of v, drop n bs)) × (n ≤ length bs)
+pub value_taken : (v : Value) (bs : List ℕ) (n : ℕ) → (value_prefix bs ≡ Ok (tree_of v, drop n bs)) × (n ≤ length bs)
     → value_at bs ≡ Ok (v, take (length bs - n) (drop n bs))
 value_taken v bs n h = rw (take_all (length bs - n) (drop n bs) (omega (arith, length-drop n bs))) (value_read v bs (drop n bs) h.0)

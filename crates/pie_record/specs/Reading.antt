@@ -9,7 +9,7 @@ use Rattle.pie_value.specs.declared.stamp.Stamp.{Stamp}
 use Rattle.pie_value.specs.declared.stamp.Stamp.TheVariants.{Absent, Present, Hash, Mark, Whole, Done}
 use Rattle.pie_value.specs.declared.value_fault.ValueFault.{ValueFault}
 use Rattle.pie_value.specs.declared.value_fault.ValueFault.TheVariants.{Short as TooShort, BadTag as NoTag, BadText, Rest, TooDeep, OutOfMemory as NoMemory}
-use Rattle.pie_value.specs.Reading.{byte_of, bytes_of, number_of, counted_of, is_path_text, value_front, task_front}
+use Rattle.pie_value.specs.Reading.{byte_of, bytes_of, number_of, counted_of, is_path_text, value_prefix, task_prefix}
 use Rattle.pie_record.specs.declared.dep.Dep.{Dep}
 use Rattle.pie_record.specs.declared.dep.DepKind.{DepKind}
 use Rattle.pie_record.specs.declared.dep.DepOn.{DepOn}
@@ -80,11 +80,11 @@ out_path_at bs = then_on (path_at bs) (λ path rest. cond (is_out path) (Ok (pat
 
 -- a task
 abbrev pub task_at : List ℕ → Parsed Task
-task_at bs = told (task_front bs)
+task_at bs = told (task_prefix bs)
 
 -- a value
 abbrev pub value_at : List ℕ → Parsed Value
-value_at bs = then_on (told (value_front bs)) (λ t rest. Ok (value_of t, rest))
+value_at bs = then_on (told (value_prefix bs)) (λ t rest. Ok (value_of t, rest))
 
 -- what a byte stands for, if it stands for anything
 abbrev pub known : {A : Type 0} → Option A → List ℕ → Parsed A

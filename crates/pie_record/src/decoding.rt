@@ -3,7 +3,7 @@
 ghost use Rattle.std.specs.Prelude.{ℕ, take, IfOk};
 ghost use Rattle.pie_record.specs.declared.task_record.TaskRecord.{TaskRecord};
 ghost use Rattle.pie_record.specs.Canonical.{IsCanonicalRecord};
-ghost use Rattle.pie_record.specs.Agreement.{AgreesInFront, Refuses};
+ghost use Rattle.pie_record.specs.Agreement.{RowAgreesOnPrefix, Refuses};
 ghost use Rattle.pie_record.specs.Reading.{record_at};
 
 use crate::reader::Reader;
@@ -13,7 +13,7 @@ use std::alloc::Global;
 /// The record whose canonical bytes stand in front, and how many these are. Bytes after them are no fault.
 /// A number of observations or writes takes no memory of its own, so a forged one can't ask for much.
 pub fn decode_record(alloc: Global, bytes: &[u8]) -> Result<(TaskRecord, usize), RecordFault>
-    ensures answer { AgreesInFront (λ r. r) result bytes.now (record_at bytes.now) }
+    ensures answer { RowAgreesOnPrefix (λ r. r) result bytes.now (record_at bytes.now) }
     ensures canonical { IfOk result (λ found. IsCanonicalRecord found.0 (take found.1 bytes.now)) }
     ensures refused { Refuses result → (r : TaskRecord) (n : ℕ) → ¬ (IsCanonicalRecord r (take n bytes.now)) }
 {
@@ -21,7 +21,7 @@ pub fn decode_record(alloc: Global, bytes: &[u8]) -> Result<(TaskRecord, usize),
 }
 
 fn front(alloc: Global, bytes: &[u8]) -> Result<(TaskRecord, usize), RecordFault>
-    ensures { AgreesInFront (λ r. r) result bytes.now (record_at bytes.now) }
+    ensures { RowAgreesOnPrefix (λ r. r) result bytes.now (record_at bytes.now) }
 {
     let mut reader = Reader::new(bytes);
     let rec = reader.parts(alloc)?;

@@ -4,7 +4,7 @@ ghost use Rattle.std.specs.Str.{is_utf8};
 ghost use Rattle.pie_value.specs.Reading.{is_path_text};
 ghost use Rattle.pie_value.specs.Canonical.{enc_task, IsCanonicalTask};
 ghost use Rattle.pie_record.specs.Canonical.{enc_record, IsCanonicalRecord};
-ghost use Rattle.pie_record.specs.Agreement.{Agrees};
+ghost use Rattle.pie_record.specs.Agreement.{RowAgrees};
 ghost use Rattle.pie_record.specs.Reading.{told_fault, byte_at, bytes_at, number_at, mark_at, counted_at, path_at, text_at, task_at, value_at, record_at};
 
 use crate::{RecordFault, TaskRecord, decode_record};
@@ -43,7 +43,7 @@ impl<'a> Reader<'a> {
     }
 
     pub(crate) fn byte(&mut self) -> Result<u8, RecordFault>
-        ensures { Agrees (λ b. b) result self.new (byte_at self.old) }
+        ensures { RowAgrees (λ b. b) result self.new (byte_at self.old) }
     {
         let Some((byte, rest)) = self.rest.split_first() else {
             return Err(RecordFault::Short);
@@ -54,7 +54,7 @@ impl<'a> Reader<'a> {
 
     /// So many bytes.
     pub fn bytes(&mut self, len: usize) -> Result<&'a [u8], RecordFault>
-        ensures { Agrees (λ b. b.now) result self.new (bytes_at len self.old) }
+        ensures { RowAgrees (λ b. b.now) result self.new (bytes_at len self.old) }
     {
         if self.rest.len() < len {
             return Err(RecordFault::Short);
@@ -66,7 +66,7 @@ impl<'a> Reader<'a> {
 
     /// A SHA-256.
     pub fn hash(&mut self) -> Result<[u8; 32], RecordFault>
-        ensures { Agrees (λ b. b) result self.new (bytes_at 32 self.old) }
+        ensures { RowAgrees (λ b. b) result self.new (bytes_at 32 self.old) }
     {
         let Some((hash, rest)) = self.rest.split_first_chunk::<32>() else {
             return Err(RecordFault::Short);
@@ -78,7 +78,7 @@ impl<'a> Reader<'a> {
     /// A number in four bytes.
     #[tactic(auto, unfolding(pie_value::specs::Reading::number_of))]
     pub fn number(&mut self) -> Result<usize, RecordFault>
-        ensures read { Agrees (λ n. n) result self.new (number_at self.old) }
+        ensures read { RowAgrees (λ n. n) result self.new (number_at self.old) }
         ensures small { IfOk result (λ n. n < 2 ^ 32) }
     {
         let Some((digits, rest)) = self.rest.split_first_chunk::<4>() else {
@@ -91,7 +91,7 @@ impl<'a> Reader<'a> {
     /// A number in eight bytes.
     #[tactic(auto, unfolding(crate::specs::Reading::mark_at))]
     pub fn mark(&mut self) -> Result<u64, RecordFault>
-        ensures { Agrees (λ n. n) result self.new (mark_at self.old) }
+        ensures { RowAgrees (λ n. n) result self.new (mark_at self.old) }
     {
         let Some((digits, rest)) = self.rest.split_first_chunk::<8>() else {
             return Err(RecordFault::Short);
@@ -102,7 +102,7 @@ impl<'a> Reader<'a> {
 
     /// Bytes behind their length.
     pub fn counted(&mut self) -> Result<&'a [u8], RecordFault>
-        ensures { Agrees (λ b. b.now) result self.new (counted_at self.old) }
+        ensures { RowAgrees (λ b. b.now) result self.new (counted_at self.old) }
     {
         let len = self.number()?;
         self.bytes(len)
@@ -110,7 +110,7 @@ impl<'a> Reader<'a> {
 
     /// A path behind its length.
     pub fn path(&mut self, alloc: Global) -> Result<Path, RecordFault>
-        ensures { Agrees (λ p. p) result self.new (path_at self.old) }
+        ensures { RowAgrees (λ p. p) result self.new (path_at self.old) }
     {
         let bytes = self.counted()?;
         let Some(text) = as_text(bytes) else {
@@ -126,7 +126,7 @@ impl<'a> Reader<'a> {
     /// A text behind its length.
     #[tactic(auto, using(pie_value::proofs::TextTests::not_utf8, pie_value::proofs::TextTests::utf8))]
     pub fn text(&mut self, alloc: Global) -> Result<Text, RecordFault>
-        ensures { Agrees (λ t. t) result self.new (text_at self.old) }
+        ensures { RowAgrees (λ t. t) result self.new (text_at self.old) }
     {
         let bytes = self.counted()?;
         let Some(text) = as_text(bytes) else {
@@ -138,7 +138,7 @@ impl<'a> Reader<'a> {
 
     /// A task.
     pub fn task(&mut self, alloc: Global) -> Result<Task, RecordFault>
-        ensures read { Agrees (λ t. t) result self.new (task_at self.old) }
+        ensures read { RowAgrees (λ t. t) result self.new (task_at self.old) }
         ensures canonical { IfOk result (λ t. IsCanonicalTask t (enc_task t)) }
     {
         match decode_task_front(alloc, self.rest) {
@@ -152,7 +152,7 @@ impl<'a> Reader<'a> {
 
     /// A record.
     pub fn record(&mut self, alloc: Global) -> Result<TaskRecord, RecordFault>
-        ensures read { Agrees (λ r. r) result self.new (record_at self.old) }
+        ensures read { RowAgrees (λ r. r) result self.new (record_at self.old) }
         ensures canonical { IfOk result (λ r. IsCanonicalRecord r (enc_record r)) }
     {
         match decode_record(alloc, self.rest) {
@@ -166,7 +166,7 @@ impl<'a> Reader<'a> {
 
     /// A value.
     pub fn value(&mut self, alloc: Global) -> Result<Value, RecordFault>
-        ensures { Agrees (λ v. v) result self.new (value_at self.old) }
+        ensures { RowAgrees (λ v. v) result self.new (value_at self.old) }
     {
         match decode_front(alloc, self.rest) {
             Ok((value, len)) => {

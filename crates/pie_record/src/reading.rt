@@ -1,7 +1,7 @@
 //! Reading records.
 ghost use Rattle.std.specs.Prelude.{◌≡◌};
 ghost use Rattle.pie_record.specs.Kinds.{calls as specs_calls};
-ghost use Rattle.pie_record.specs.Agreement.{Agrees};
+ghost use Rattle.pie_record.specs.Agreement.{RowAgrees};
 ghost use Rattle.pie_record.specs.Reading.{kind_at, on_at, any_tag_at, tag_at, stamped, dep_at, out_path_at, write_at, list_at, record_at};
 
 use crate::reader::Reader;
@@ -13,7 +13,7 @@ use std::alloc::Global;
 
 impl<'a> Reader<'a> {
     fn kind(&mut self) -> Result<DepKind, RecordFault>
-        ensures { Agrees (λ k. k) result self.new (kind_at self.old) }
+        ensures { RowAgrees (λ k. k) result self.new (kind_at self.old) }
     {
         let byte = self.byte()?;
         known_kind(byte).ok_or(RecordFault::BadTag)
@@ -21,7 +21,7 @@ impl<'a> Reader<'a> {
 
     // What was observed: a task, or a path.
     fn what(&mut self, alloc: Global, call: bool) -> Result<DepOn, RecordFault>
-        ensures { Agrees (λ w. w) result self.new (on_at call self.old) }
+        ensures { RowAgrees (λ w. w) result self.new (on_at call self.old) }
     {
         if call {
             let task = self.task(alloc)?;
@@ -32,7 +32,7 @@ impl<'a> Reader<'a> {
     }
 
     fn any_tag(&mut self) -> Result<Tag, RecordFault>
-        ensures { Agrees (λ t. t) result self.new (any_tag_at self.old) }
+        ensures { RowAgrees (λ t. t) result self.new (any_tag_at self.old) }
     {
         let byte = self.byte()?;
         known_tag(byte).ok_or(RecordFault::BadTag)
@@ -40,7 +40,7 @@ impl<'a> Reader<'a> {
 
     // The tag of a stamp that the observation may have.
     fn tag(&mut self, kind: DepKind, what: &DepOn) -> Result<Tag, RecordFault>
-        ensures { Agrees (λ t. t) result self.new (tag_at kind what.now self.old) }
+        ensures { RowAgrees (λ t. t) result self.new (tag_at kind what.now self.old) }
     {
         let tag = self.any_tag()?;
         if !allows(kind, what, tag) {
@@ -51,7 +51,7 @@ impl<'a> Reader<'a> {
 
     // A stamp after its tag.
     fn stamp(&mut self, alloc: Global, tag: Tag) -> Result<Stamp, RecordFault>
-        ensures { Agrees (λ s. s) result self.new (stamped tag self.old) }
+        ensures { RowAgrees (λ s. s) result self.new (stamped tag self.old) }
     {
         match tag {
             Tag::Absent => Ok(Stamp::Absent),
@@ -74,7 +74,7 @@ impl<'a> Reader<'a> {
 
     #[tactic(auto, unfolding(crate::specs::Reading::dep_at))]
     fn dep(&mut self, alloc: Global) -> Result<Dep, RecordFault>
-        ensures { Agrees (λ d. d) result self.new (dep_at self.old) }
+        ensures { RowAgrees (λ d. d) result self.new (dep_at self.old) }
     {
         let kind = self.kind()?;
         let what = self.what(alloc, calls(kind))?;
@@ -85,7 +85,7 @@ impl<'a> Reader<'a> {
 
     #[tactic(auto, using(crate::proofs::Turns::one_more, crate::proofs::Turns::one_fails))]
     fn deps(&mut self, alloc: Global) -> Result<Deps, RecordFault>
-        ensures { Agrees (λ ds. ds) result self.new (list_at dep_at self.old) }
+        ensures { RowAgrees (λ ds. ds) result self.new (list_at dep_at self.old) }
     {
         let count = self.number()?;
         let mut deps = Vec::new(alloc);
@@ -99,7 +99,7 @@ impl<'a> Reader<'a> {
     }
 
     fn out_path(&mut self, alloc: Global) -> Result<Path, RecordFault>
-        ensures { Agrees (λ p. p) result self.new (out_path_at self.old) }
+        ensures { RowAgrees (λ p. p) result self.new (out_path_at self.old) }
     {
         let path = self.path(alloc)?;
         if !path.under_out() {
@@ -110,7 +110,7 @@ impl<'a> Reader<'a> {
 
     #[tactic(auto, unfolding(crate::specs::Reading::write_at))]
     fn write(&mut self, alloc: Global) -> Result<(Path, [u8; 32]), RecordFault>
-        ensures { Agrees (λ w. w) result self.new (write_at self.old) }
+        ensures { RowAgrees (λ w. w) result self.new (write_at self.old) }
     {
         let path = self.out_path(alloc)?;
         let hash = self.hash()?;
@@ -119,7 +119,7 @@ impl<'a> Reader<'a> {
 
     #[tactic(auto, using(crate::proofs::Turns::one_more, crate::proofs::Turns::one_fails))]
     fn writes(&mut self, alloc: Global) -> Result<Writes, RecordFault>
-        ensures { Agrees (λ ws. ws) result self.new (list_at write_at self.old) }
+        ensures { RowAgrees (λ ws. ws) result self.new (list_at write_at self.old) }
     {
         let count = self.number()?;
         let mut writes = Vec::new(alloc);
@@ -134,7 +134,7 @@ impl<'a> Reader<'a> {
 
     // A record, part by part.
     pub(crate) fn parts(&mut self, alloc: Global) -> Result<TaskRecord, RecordFault>
-        ensures { Agrees (λ r. r) result self.new (record_at self.old) }
+        ensures { RowAgrees (λ r. r) result self.new (record_at self.old) }
     {
         let task = self.task(alloc)?;
         let deps = self.deps(alloc)?;

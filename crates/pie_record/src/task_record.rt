@@ -13,7 +13,7 @@ pub enum Outcome {
     Done(Value),
     /// With a fault of its own or of a task that it required.
     Failed(Fault),
-    /// It required itself; these are the tasks of the circle.
+    /// It required itself; these are the tasks of the cycle.
     Cycled(Tasks),
 }
 

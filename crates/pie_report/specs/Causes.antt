@@ -6,7 +6,7 @@ use Rattle.pie_store.specs.declared.cause.Cause.TheVariants as causes
 use Rattle.pie_store.specs.declared.store_fault.StoreFault.{StoreFault}
 use Rattle.pie_store.specs.declared.store_fault.StoreFault.TheVariants as faults
 use Rattle.pie_value.specs.Shown.{shown_task}
-use Rattle.pie_report.specs.Verdicts.{circle}
+use Rattle.pie_report.specs.Verdicts.{cycle}
 
 -- why bytes are no store: the name, and the place where there is one
 abbrev pub fault_text : StoreFault → List ℕ
@@ -25,5 +25,5 @@ cause_text causes.Interrupted = codes "Interrupted"
 cause_text causes.NoStore = codes "NoStore"
 cause_text (causes.Damaged fault) = codes "Damaged " ++ fault_text fault
 cause_text causes.BadPending = codes "BadPending"
-cause_text (causes.UnionCycle tasks) = codes "UnionCycle " ++ circle tasks
+cause_text (causes.UnionCycle tasks) = codes "UnionCycle " ++ cycle tasks
 cause_text (causes.UnionMany old entered task) = codes "UnionMany " ++ shown_task task

@@ -28,14 +28,14 @@ kind_text kinds.BadList = codes "BadList"
 kind_text kinds.Unknown = codes "Unknown"
 
 -- tasks that others stand before, each after an arrow
-abbrev pub circle_on : List Task → List ℕ
-circle_on [] = []
-circle_on (t ∷ ts) = codes " -> " ++ (shown_task t ++ circle_on ts)
+abbrev pub cycle_on : List Task → List ℕ
+cycle_on [] = []
+cycle_on (t ∷ ts) = codes " -> " ++ (shown_task t ++ cycle_on ts)
 
 -- tasks with an arrow between them
-abbrev pub circle : List Task → List ℕ
-circle [] = []
-circle (t ∷ ts) = shown_task t ++ circle_on ts
+abbrev pub cycle : List Task → List ℕ
+cycle [] = []
+cycle (t ∷ ts) = shown_task t ++ cycle_on ts
 
 -- two tasks with a comma and a space between them
 abbrev pub two_tasks : Task → Task → List ℕ
@@ -44,7 +44,7 @@ two_tasks t u = shown_task t ++ (codes ", " ++ shown_task u)
 -- why a build is refused
 abbrev pub refusal_text : Refusal → List ℕ
 refusal_text (refusals.Fault fault) = codes "fault " ++ (shown_task fault.task ++ (codes ": " ++ kind_text fault.kind))
-refusal_text (refusals.Cycle tasks) = codes "cycle " ++ circle tasks
+refusal_text (refusals.Cycle tasks) = codes "cycle " ++ cycle tasks
 refusal_text refusals.Many = codes "many"
 refusal_text (refusals.Overlap path t u) = codes "overlap " ++ (path ++ (codes ": " ++ two_tasks t u))
 refusal_text (refusals.Nested path below) = codes "nested " ++ (path ++ (codes ", " ++ below))

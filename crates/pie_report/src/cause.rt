@@ -2,9 +2,9 @@
 ghost use Rattle.std.specs.Prelude.{◌≡◌, ◌++◌, codes, OnOk, string_bytes};
 ghost use Rattle.std.specs.Fmt.{decimal};
 ghost use Rattle.pie_report.specs.Causes.{fault_text, cause_text};
-ghost use Rattle.pie_report.specs.Verdicts.{circle};
+ghost use Rattle.pie_report.specs.Verdicts.{cycle};
 
-use crate::verdict::{put, put_circle, put_task};
+use crate::verdict::{put, put_cycle, put_task};
 use pie_base::OutOfMemory;
 use pie_store::{Cause, StoreFault};
 use pie_value::Task;
@@ -31,10 +31,10 @@ pub(crate) fn put_cause(alloc: Global, out: &mut String, cause: &Cause) -> Resul
 }
 
 fn put_union_cycle(alloc: Global, out: &mut String, tasks: &[Task]) -> Result<(), OutOfMemory>
-    ensures { OnOk result (string_bytes out.new ≡ string_bytes out.old ++ (codes "UnionCycle " ++ circle tasks.now)) }
+    ensures { OnOk result (string_bytes out.new ≡ string_bytes out.old ++ (codes "UnionCycle " ++ cycle tasks.now)) }
 {
     put(out, "UnionCycle ")?;
-    put_circle(alloc, out, tasks)
+    put_cycle(alloc, out, tasks)
 }
 
 fn put_fault(alloc: Global, out: &mut String, fault: StoreFault) -> Result<(), OutOfMemory>

@@ -1,7 +1,7 @@
 //! The verdict as text. Each function appends to what is there.
 ghost use Rattle.std.specs.Prelude.{◌≡◌, ◌++◌, codes, OnOk, string_bytes};
 ghost use Rattle.pie_value.specs.Shown.{quoted, shown_task};
-ghost use Rattle.pie_report.specs.Verdicts.{kind_text, circle, circle_on, two_tasks, refusal_text, verdict_text};
+ghost use Rattle.pie_report.specs.Verdicts.{kind_text, cycle, cycle_on, two_tasks, refusal_text, verdict_text};
 
 use pie_base::{FaultKind, OutOfMemory, Path, Text};
 use pie_value::{Refusal, Task, Value, Verdict, show, show_task};
@@ -36,7 +36,7 @@ fn put_refusal(alloc: Global, out: &mut String, refusal: &Refusal) -> Result<(),
         }
         Refusal::Cycle(tasks) => {
             put(out, "cycle ")?;
-            put_circle(alloc, out, tasks.as_slice())
+            put_cycle(alloc, out, tasks.as_slice())
         }
         Refusal::Many => put(out, "many"),
         Refusal::Overlap(path, first, second) => {
@@ -84,20 +84,20 @@ fn put_two_tasks(
 }
 
 /// The tasks with an arrow between them.
-pub(crate) fn put_circle(alloc: Global, out: &mut String, tasks: &[Task]) -> Result<(), OutOfMemory>
-    ensures { OnOk result (string_bytes out.new ≡ string_bytes out.old ++ circle tasks.now) }
+pub(crate) fn put_cycle(alloc: Global, out: &mut String, tasks: &[Task]) -> Result<(), OutOfMemory>
+    ensures { OnOk result (string_bytes out.new ≡ string_bytes out.old ++ cycle tasks.now) }
 {
     match tasks.split_first() {
         None => Ok(()),
         Some((first, rest)) => {
             put_task(alloc, out, first)?;
-            put_circle_on(alloc, out, rest)
+            put_cycle_on(alloc, out, rest)
         }
     }
 }
 
-fn put_circle_on(alloc: Global, out: &mut String, tasks: &[Task]) -> Result<(), OutOfMemory>
-    ensures { OnOk result (string_bytes out.new ≡ string_bytes out.old ++ circle_on tasks.now) }
+fn put_cycle_on(alloc: Global, out: &mut String, tasks: &[Task]) -> Result<(), OutOfMemory>
+    ensures { OnOk result (string_bytes out.new ≡ string_bytes out.old ++ cycle_on tasks.now) }
 {
     for task in tasks {
         put(out, " -> ")?;

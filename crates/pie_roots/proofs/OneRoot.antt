@@ -12,11 +12,11 @@ use Rattle.pie_value.specs.declared.task.Task.{Task}
 use Rattle.pie_value.specs.Tree.{items_of}
 use Rattle.pie_value.specs.Size.{deepest_of}
 use Rattle.pie_value.specs.Limits.{task_size, is_small_task}
-use Rattle.pie_roots.specs.declared.fault.Fault.{Fault}
-use Rattle.pie_roots.specs.declared.fault.Fault.TheVariants as faults
+use Rattle.pie_roots.specs.declared.fault.RootFault.{RootFault}
+use Rattle.pie_roots.specs.declared.fault.RootFault.TheVariants as faults
 use Rattle.pie_roots.specs.declared.root.Root.{Root}
 use Rattle.pie_roots.specs.declared.root.Root.TheVariants as roots
-use Rattle.pie_roots.specs.Agreement.{Agrees}
+use Rattle.pie_roots.specs.Agreement.{RootsAgree}
 use Rattle.pie_roots.specs.Kinds.{kinds_of}
 use Rattle.pie_roots.specs.Written.{task_tokens, Writes}
 use Rattle.pie_roots.specs.Reading.{task_of}
@@ -49,9 +49,9 @@ pub task_root : (ks : List TokenKind) (t : Task) (rest : List TokenKind) (r : Ro
     → r ≡ limited t (is_small_task t) → IsRootOf ks r
 task_root ks t rest r e n q = subst (λ (x : Root). IsRootOf ks x) (sym q) (by_size ks t rest e n (is_small_task t) refl)
 
-pub bad_root : (ks : List TokenKind) (f : Fault) → f ≡ faults.Bad → Agrees {A = Task} (λ t. t) (Err f) [] (task_of ks) → (ks ≡ [] → ⊥) → IsRootOf ks roots.Bad
+pub bad_root : (ks : List TokenKind) (f : RootFault) → f ≡ faults.Bad → RootsAgree {A = Task} (λ t. t) (Err f) [] (task_of ks) → (ks ≡ [] → ⊥) → IsRootOf ks roots.Bad
 bad_root ks f b h n =
-    let F : Fault → Type 0 = λ g. Agrees {A = Task} (λ t. t) (Err g) [] (task_of ks) in
+    let F : RootFault → Type 0 = λ g. RootsAgree {A = Task} (λ t. t) (Err g) [] (task_of ks) in
     let e : task_of ks ≡ None = subst F b h in (n, λ t w. missed (sym e ∙ written_so ks t w))
 
 no_kinds : (ts : List Token) → kinds_of ts ≡ [] → ts ≡ []

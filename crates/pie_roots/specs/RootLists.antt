@@ -30,7 +30,7 @@ pub data NameAll (number : Task → Option ℕ) : ℕ → List (List ℕ) → Na
 abbrev pub most : ℕ
 most = 1048576
 
--- what reading bytes as roots answers, where `number` gives the number of each task of the pipeline; want of memory says nothing
+-- what reading bytes as roots answers, where `number` gives the number of each task of the pipeline; out of memory says nothing
 abbrev pub Reads : {A : Type 0} → (Task → Option ℕ) → (A → List Task) → Result A RootsFault → List ℕ → Type 0
 Reads number view (Ok a) bytes = (length bytes ≤ most) × IsUtf8 bytes × NameAll number 1 (texts bytes) (Ok (view a))
 Reads number view (Err TooLong) bytes = most < length bytes

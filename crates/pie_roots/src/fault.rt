@@ -6,37 +6,37 @@ use std::alloc::{AllocError, AllocFailed};
 
 // Why nothing is read at a reader's place.
 #[derive(Clone, Copy, Debug, PartialEq, Eq)]
-pub enum Fault {
+pub enum RootFault {
     Bad,
     OutOfMemory,
 }
 
-impl From<OutOfMemory> for Fault {
-    ghost use Rattle.pie_roots.specs.declared.fault.Fault.TheVariants.{OutOfMemory};
+impl From<OutOfMemory> for RootFault {
+    ghost use Rattle.pie_roots.specs.declared.fault.RootFault.TheVariants.{OutOfMemory};
 
     ghost from_gives = { λ _ e. e ≡ OutOfMemory };
 
     fn from(_: OutOfMemory) -> Self {
-        Fault::OutOfMemory
+        RootFault::OutOfMemory
     }
 }
 
-impl From<AllocError> for Fault {
-    ghost use Rattle.pie_roots.specs.declared.fault.Fault.TheVariants.{OutOfMemory};
+impl From<AllocError> for RootFault {
+    ghost use Rattle.pie_roots.specs.declared.fault.RootFault.TheVariants.{OutOfMemory};
 
     ghost from_gives = { λ _ e. e ≡ OutOfMemory };
 
     fn from(_: AllocError) -> Self {
-        Fault::OutOfMemory
+        RootFault::OutOfMemory
     }
 }
 
-impl<T: Drop> From<AllocFailed<T>> for Fault {
-    ghost use Rattle.pie_roots.specs.declared.fault.Fault.TheVariants.{OutOfMemory};
+impl<T: Drop> From<AllocFailed<T>> for RootFault {
+    ghost use Rattle.pie_roots.specs.declared.fault.RootFault.TheVariants.{OutOfMemory};
 
     ghost from_gives = { λ _ e. e ≡ OutOfMemory };
 
     fn from(_: AllocFailed<T>) -> Self {
-        Fault::OutOfMemory
+        RootFault::OutOfMemory
     }
 }

@@ -3,7 +3,7 @@ ghost use Rattle.std.specs.Prelude.{◌≡◌};
 ghost use Rattle.pie_roots.specs.Leads.{lead_of, digits_lead, word_lead, is_sign};
 ghost use Rattle.pie_roots.specs.Agreement.{Says};
 
-use crate::fault::Fault;
+use crate::fault::RootFault;
 use pie_base::Text;
 use pie_lexer::TokenKind;
 
@@ -38,7 +38,7 @@ pub enum Sign {
 }
 
 // What a token says of the value that begins with it.
-pub fn lead_in(kind: &TokenKind) -> Result<Lead, Fault>
+pub fn lead_in(kind: &TokenKind) -> Result<Lead, RootFault>
     ensures { Says (λ l. l) result (lead_of kind.now) }
 {
     match kind {
@@ -56,28 +56,28 @@ pub fn lead_in(kind: &TokenKind) -> Result<Lead, Fault>
             Ok(Lead::Text(text))
         }
         TokenKind::Name(name) => word(name),
-        _ => Err(Fault::Bad),
+        _ => Err(RootFault::Bad),
     }
 }
 
 // Digits say a number that isn't below zero.
-fn digits(n: i64) -> Result<Lead, Fault>
+fn digits(n: i64) -> Result<Lead, RootFault>
     ensures { Says (λ l. l) result (digits_lead n) }
 {
     if n < 0 {
-        return Err(Fault::Bad);
+        return Err(RootFault::Bad);
     }
     Ok(Lead::Int(n))
 }
 
 // The one name that begins a value.
-fn word(name: &Text) -> Result<Lead, Fault>
+fn word(name: &Text) -> Result<Lead, RootFault>
     ensures { Says (λ l. l) result (word_lead name.now) }
 {
     if name.as_str().as_bytes() == b"bytes".as_slice() {
         return Ok(Lead::Bytes);
     }
-    Err(Fault::Bad)
+    Err(RootFault::Bad)
 }
 
 // Whether a token is this one.

@@ -4,7 +4,7 @@ ghost use Rattle.pie_value.specs.Limits.{is_small_task};
 ghost use Rattle.pie_roots.specs.Kinds.{kinds_of};
 ghost use Rattle.pie_roots.specs.Roots.{IsRoot, IsOnlyRoot, IsRootOf, limited};
 
-use crate::fault::Fault;
+use crate::fault::RootFault;
 use crate::reader::Reader;
 use pie_base::OutOfMemory;
 use pie_lexer::{LexError, Token, lex};
@@ -51,8 +51,8 @@ fn root_of(alloc: Global, tokens: &[Token]) -> Result<Root, OutOfMemory>
     }
     match Reader::task(alloc, tokens) {
         Ok(task) => Ok(within_limits(task)),
-        Err(Fault::Bad) => Ok(Root::Bad),
-        Err(Fault::OutOfMemory) => Err(OutOfMemory),
+        Err(RootFault::Bad) => Ok(Root::Bad),
+        Err(RootFault::OutOfMemory) => Err(OutOfMemory),
     }
 }
 

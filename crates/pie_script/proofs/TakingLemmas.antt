@@ -7,15 +7,15 @@ use Rattle.pie_script.specs.Line.{Line, Blank, Content, Put, Del, Change, Build,
 use Rattle.pie_script.specs.Steps.{Plain, PutFile, DelFile, Name, BuildNow, first_wrong, names, placed, gathered, steps}
 use Rattle.pie_script.specs.Taking.{Taken, nothing, put_with, closed, taken, taken_all, placed_one}
 
-closed_front : (ls : List Line) → (gathered (placed false ls)).0 ≡ []
-closed_front [] = refl
-closed_front (Blank ∷ ls) = closed_front ls
-closed_front (Content b ∷ ls) = closed_front ls
-closed_front (Put p ∷ ls) = refl
-closed_front (Del p ∷ ls) = refl
-closed_front (Change p ∷ ls) = refl
-closed_front (Build ∷ ls) = refl
-closed_front (Wrong k ∷ ls) = closed_front ls
+closed_prefix : (ls : List Line) → (gathered (placed false ls)).0 ≡ []
+closed_prefix [] = refl
+closed_prefix (Blank ∷ ls) = closed_prefix ls
+closed_prefix (Content b ∷ ls) = closed_prefix ls
+closed_prefix (Put p ∷ ls) = refl
+closed_prefix (Del p ∷ ls) = refl
+closed_prefix (Change p ∷ ls) = refl
+closed_prefix (Build ∷ ls) = refl
+closed_prefix (Wrong k ∷ ls) = closed_prefix ls
 
 -- what is done, then the put that goes on with its content, then the steps that follow
 abbrev all_of : List Plain → Option (List ℕ × List ℕ) → List ℕ × List Plain → List Plain
@@ -64,7 +64,7 @@ all_is (Wrong k ∷ ls) done None =
 all_is (Wrong k ∷ ls) done (Some p) =
     let g = gathered (placed false ls) in
     all_is ls (done ++ put_with (Some p) []) None ∙ append_assoc done (put_with (Some p) []) g.1
-    ∙ ap (λ (c : List ℕ). done ++ (put_with (Some p) c ++ g.1)) (sym (closed_front ls))
+    ∙ ap (λ (c : List ℕ). done ++ (put_with (Some p) c ++ g.1)) (sym (closed_prefix ls))
 
 pub steps_are : (lines : List Line) → closed (taken_all lines nothing) ≡ steps (placed false lines)
 steps_are lines = all_is lines [] None

@@ -42,7 +42,7 @@ is_script_path path = is_path path && not (is_under_store path) && not (same_tex
 abbrev pub with_path : (List ℕ → Line) → List ℕ → Line
 with_path made path = cond (is_script_path path) (made path) (Wrong BadPath)
 
--- what stands after a word at the front of a text
+-- what stands after a word at the prefix of a text
 abbrev pub after_word : List ℕ → List ℕ → Option (List ℕ)
 after_word [] text = Some text
 after_word (w ∷ word) [] = None

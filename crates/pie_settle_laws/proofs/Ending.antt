@@ -16,10 +16,10 @@ use Rattle.pie_model.specs.Consistent.{IsRecorded}
 use Rattle.pie_model.proofs.Basics.{clash, among_here, among_there}
 use Rattle.pie_model.proofs.Rooms.{Standing, standing, has_task}
 use Rattle.pie_model.proofs.Ways.{further, task_of-evaluation, record_right, reached_stands, stands_reached}
-use Rattle.pie_suspend.specs.Table.{IsTable}
-use Rattle.pie_suspend.specs.UnderWay.{HasEnded}
-use Rattle.pie_suspend.specs.Roots.{Between}
-use Rattle.pie_suspend.proofs.Tables.{no_more, none_some}
+use Rattle.pie_step_laws.specs.Table.{IsTable}
+use Rattle.pie_step_laws.specs.UnderWay.{HasEnded}
+use Rattle.pie_step_laws.specs.Roots.{Between}
+use Rattle.pie_step_laws.proofs.Tables.{no_more, none_some}
 use Rattle.pie_settle_laws.specs.Known.{IsKnown, AreDone, AreCounted, ReachedFrom}
 use Rattle.pie_settle_laws.specs.Ends.{recorded_among}
 use Rattle.pie_settle_laws.proofs.Entering.{entered_distinct, all_distinct, entered_split, StandsUnder, all_split, all_have, all_done}

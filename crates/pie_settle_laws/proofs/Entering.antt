@@ -9,7 +9,7 @@ use Rattle.pie_model.specs.Running.{IsDistinct, entered_all}
 use Rattle.pie_model.proofs.Basics.{clash, among_here, among_there, among_split, among_either}
 use Rattle.pie_model.proofs.Kids.{node_below, evaluation_kids}
 use Rattle.pie_model.proofs.Rooms.{entered_keeps, stands_entered}
-use Rattle.pie_suspend.proofs.Tables.{among_one, distinct_end}
+use Rattle.pie_step_laws.proofs.Tables.{among_one, distinct_end}
 
 -- ---- each once
 

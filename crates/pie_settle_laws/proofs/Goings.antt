@@ -19,9 +19,9 @@ use Rattle.pie_model.specs.Stack.IsWaiting.{nobody, waits}
 use Rattle.pie_model.proofs.Basics.{clash, among_here, among_either}
 use Rattle.pie_model.proofs.RunningLemmas.{starts, sees_nothing, sees_contents, lists_entries, writes_contents, is_answered}
 use Rattle.pie_model.proofs.PlacedLemmas.{known_placed}
-use Rattle.pie_suspend.specs.Frames.{begun, gone_on, saw_nothing, saw_contents, has_listed, has_written, was_answered, set_aside}
-use Rattle.pie_suspend.proofs.Tables.{among_one, no_more}
-use Rattle.pie_suspend.proofs.StepLemmas.{needs_of-append, needs_of-end, map_end}
+use Rattle.pie_step_laws.specs.Frames.{begun, gone_on, saw_nothing, saw_contents, has_listed, has_written, was_answered, set_aside}
+use Rattle.pie_step_laws.proofs.Tables.{among_one, no_more}
+use Rattle.pie_step_laws.proofs.StepLemmas.{needs_of-append, needs_of-end, map_end}
 use Rattle.pie_settle_laws.specs.Known.{IsKnown, AreCounted}
 use Rattle.pie_settle_laws.specs.Going.{IsGoing, before_wait, AreBusy}
 

@@ -3,9 +3,9 @@ use Rattle.std.proofs.Common.{ℕ, ◌≤◌, ◌<◌, List, slice_index, arith}
 use Rattle.pie_graph.specs.Rows.{Row}
 use Rattle.pie_reach.specs.Reaches.{Reaches, IsAcyclic}
 use Rattle.pie_reach.specs.Reaches.Leads.{itself, step}
-use Rattle.pie_order.specs.Places.{Agrees}
+use Rattle.pie_order.specs.Places.{PlacesAgree}
 
-module _ (rows : List Row) (places : List ℕ) (agrees : Agrees rows places) where
+module _ (rows : List Row) (places : List ℕ) (agrees : PlacesAgree rows places) where
   not_later : {a b : ℕ} → Reaches rows a b → slice_index places b ≤ slice_index places a
   not_later itself = omega arith
   not_later {a} {b} (step {b = m} calls more) =

@@ -12,7 +12,7 @@ use Rattle.pie_model.specs.Consistent.{IsRecorded, IsConsistent, IsSettled}
 use Rattle.pie_model.specs.Steps.{ChangesAt}
 use Rattle.pie_model.proofs.Ways.{further}
 use Rattle.pie_model.proofs.SettledLaw.{settled_known}
-use Rattle.pie_suspend.proofs.Tables.{none_some}
+use Rattle.pie_step_laws.proofs.Tables.{none_some}
 use Rattle.pie_settle_laws.specs.Known.{IsKnown}
 use Rattle.pie_settle_laws.specs.Settled.{ReachesBusy}
 

@@ -14,9 +14,9 @@ use Rattle.pie_model.specs.Present.{Reaches}
 use Rattle.pie_model.specs.Present.Way.{here, along}
 use Rattle.pie_model.proofs.Ways.{further, record_right}
 use Rattle.pie_model.proofs.LooksLemmas.{first_write-hashed, some_same}
-use Rattle.pie_suspend.specs.Contents.{KeepsContents, WroteContents, IsShown}
-use Rattle.pie_suspend.proofs.Tables.{none_some}
-use Rattle.pie_suspend.proofs.ContentLemmas.{kept_visible}
+use Rattle.pie_step_laws.specs.Contents.{KeepsContents, WroteContents, IsShown}
+use Rattle.pie_step_laws.proofs.Tables.{none_some}
+use Rattle.pie_step_laws.proofs.ContentLemmas.{kept_visible}
 use Rattle.pie_settle_laws.specs.Known.{AreDone, AreCounted, ReachedFrom}
 use Rattle.pie_settle_laws.specs.Ends.{recorded_among}
 use Rattle.pie_settle_laws.specs.Shown.{KeepsReached, WroteFirst}

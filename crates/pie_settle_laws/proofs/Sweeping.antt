@@ -4,13 +4,13 @@ use Rattle.pie_model.specs.Paths.{Path, among}
 use Rattle.pie_model.specs.Tasks.{Task}
 use Rattle.pie_model.specs.Evaluation.{World, Project}
 use Rattle.pie_model.specs.Records.{Record, Stamp, Query, Looked, Listed, Required, Observation, task_asked, needs_of}
-use Rattle.pie_model.specs.StampNow.{Told, by_records, recorded_outcome, outcome_now, stamp_now, asked_before, Agrees, RecordAgrees}
+use Rattle.pie_model.specs.StampNow.{Told, by_records, recorded_outcome, outcome_now, stamp_now, asked_before, StampsAgree, RecordAgrees}
 use Rattle.pie_model.specs.Present.{Reaches}
 use Rattle.pie_model.specs.Present.Way.{along}
 use Rattle.pie_model.specs.Consistent.{IsRecorded, IsSettled}
 use Rattle.pie_model.specs.Steps.{Each, StampStill, SameShape, ChangesAt, IsUntouched}
 use Rattle.pie_model.proofs.Basics.{among_here, among_left, among_right}
-use Rattle.pie_suspend.proofs.Tables.{none_some}
+use Rattle.pie_step_laws.proofs.Tables.{none_some}
 use Rattle.pie_settle_laws.specs.Sweeps.{IsSwept}
 use Rattle.pie_settle_laws.proofs.Settling.{closed_reach}
 
@@ -29,7 +29,7 @@ module _ (w : World) (now : Project) (R S : Task → Option Record) (told : List
 
   stamps_still : (own : List (Path × List ℕ)) (before : List Task) (os : List Observation)
       → (among t (needs_of os) ≡ true → recorded_outcome (R t) ≡ new.outcome)
-      → Agrees w now (by_records R told) own before os → Each (StampStill w S t) os
+      → StampsAgree w now (by_records R told) own before os → Each (StampStill w S t) os
   stamps_still own before [] f a = tt
   stamps_still own before (o ∷ os) f a = (
     stamp_still own before o.query o.stamp (λ i. f (among_left t (task_asked o.query) (needs_of os) i)) a.0,

@@ -7,8 +7,8 @@ use Rattle.pie_model.specs.declared.words.Outcome.{Outcome}
 use Rattle.pie_model.specs.Evaluation.{World, Project, evaluation}
 use Rattle.pie_model.specs.Records.{Record}
 use Rattle.pie_model.specs.Forest.{entered_tasks}
-use Rattle.pie_suspend.specs.UnderWay.{HasEnded}
-use Rattle.pie_suspend.specs.Roots.{Between}
+use Rattle.pie_step_laws.specs.UnderWay.{HasEnded}
+use Rattle.pie_step_laws.specs.Roots.{Between}
 use Rattle.pie_settle_laws.specs.Known.{IsKnown, AreDone, AreCounted, ReachedFrom}
 
 -- the records of these tasks alone

@@ -16,7 +16,7 @@ use Rattle.pie_model.specs.Records.{Record, Absent, Looked, Listed, Observation,
 use Rattle.pie_model.specs.Consistent.{IsSettled}
 use Rattle.pie_model.specs.Running.{IsRunning, IsDistinct}
 use Rattle.pie_model.specs.Stack.{Frame, tasks_of, IsWaiting}
-use Rattle.pie_suspend.specs.Frames.{gone_on}
+use Rattle.pie_step_laws.specs.Frames.{gone_on}
 
 -- `f` runs above the new tasks `fs` that wait for it, the newest first, down to `base`, which was scheduled or is a root:
 -- it is at the front of its evaluation below them and alone, and what it required so far is settled

@@ -15,7 +15,7 @@ use Rattle.pie_model.specs.Records.{Record, Absent, Required, Observation, obser
 use Rattle.pie_model.specs.RecordLaws.{Passes}
 use Rattle.pie_model.specs.Consistent.{IsSettled}
 use Rattle.pie_model.specs.Stack.{Frame, tasks_of}
-use Rattle.pie_suspend.specs.Frames.{begun, saw_nothing, saw_contents, has_listed, has_written, was_answered, set_aside}
+use Rattle.pie_step_laws.specs.Frames.{begun, saw_nothing, saw_contents, has_listed, has_written, was_answered, set_aside}
 use Rattle.pie_settle_laws.specs.Known.{IsKnown, AreCounted}
 use Rattle.pie_settle_laws.specs.Going.{IsGoing, before_wait, AreBusy, Ends, HasLeft}
 

@@ -33,7 +33,7 @@ pub then_err : {A B : Type 0} (p : Parsed A) (k : A → List ℕ → Parsed B) (
 then_err (Ok q) k e f = inr (q.0, q.1, refl, f)
 then_err (Err d) k e f = inl (cc)
 
--- want of memory isn't a fault of the bytes
+-- out of memory isn't a fault of the bytes
 abbrev pub Named : StoreFault → Type 0
 Named e = e ≢ OutOfMemory
 

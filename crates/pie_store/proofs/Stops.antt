@@ -79,14 +79,14 @@ roots_fault end bs e fits le n f =
 -- ---- records
 
 -- two lists of records with their heights, of the same records, have the same heights
-pub same_front : (known : List ℕ → Bool) (a b : Ranked) → AreAdmitted known a → AreAdmitted known b
+pub same_prefix : (known : List ℕ → Bool) (a b : Ranked) → AreAdmitted known a → AreAdmitted known b
     → ((i : ℕ) (d : TaskRecord × ℕ) → i < length a → i < length b → (get_or a i d).0 ≡ (get_or b i d).0)
     → (n : ℕ) → n ≤ length a → n ≤ length b → take n a ≡ take n b
-same_front known a b p q same zero la lb = refl
-same_front known [] b p q same (suc n) la lb = absurd (omega (arith, la))
-same_front known (r ∷ rows) b p q same (suc n) la lb =
+same_prefix known a b p q same zero la lb = refl
+same_prefix known [] b p q same (suc n) la lb = absurd (omega (arith, la))
+same_prefix known (r ∷ rows) b p q same (suc n) la lb =
     let a = r ∷ rows in
-    let front = same_front known a b p q same n (omega (arith, la)) (omega (arith, lb)) in
+    let front = same_prefix known a b p q same n (omega (arith, la)) (omega (arith, lb)) in
     let x = get_or a n r in
     let y = get_or b n r in
     let first : x.0 ≡ y.0 = same n r (omega (arith, la)) (omega (arith, lb)) in
@@ -146,7 +146,7 @@ not_admitted known pipeline funcs rows x w k e good =
     (omega (arith, lr, length_push (rows_of rows) x, length-map rows (λ (z : TaskRecord × ℕ). z.0))))
     ∙ get_or_append_left (rows_of rows) (x ∷ []) d.0 i (omega (arith, lr, length-map rows (λ (z : TaskRecord × ℕ). z.0)))
     ∙ get_or-map (λ (z : TaskRecord × ℕ). z.0) rows i d d.0 lr in
-    let front : take n whole ≡ rows = same_front known whole rows r k.admitted firsts n (omega (arith, long)) (omega arith) ∙ take-length rows in
+    let front : take n whole ≡ rows = same_prefix known whole rows r k.admitted firsts n (omega (arith, long)) (omega arith) ∙ take-length rows in
     let last : get_or whole n (x, 0) ≡ (x, o.height x.task) =
     get_or-map (λ (z : TaskRecord). (z, o.height z.task)) all n x (x, 0)
     (omega (arith, length_push (rows_of rows) x, length-map rows (λ (z : TaskRecord × ℕ). z.0)))

@@ -4,7 +4,7 @@ use Rattle.std.proofs.lemmas.List.{length_push}
 use Rattle.pie_record.specs.Reading.{number_at}
 use Rattle.pie_store.specs.declared.store_fault.StoreFault.{StoreFault}
 use Rattle.pie_store.specs.declared.store_fault.StoreFault.TheVariants.{Short, Magic, Version, Digest, Row, Order, Rest, OutOfMemory}
-use Rattle.pie_store.specs.Agreement.{Agrees}
+use Rattle.pie_store.specs.Agreement.{StoreAgrees}
 use Rattle.pie_store.specs.Reading.{Parsed, then_on, part_at, some_at, grown, list_at}
 
 abbrev pub pair : {A : Type 0} → A → List ℕ → Parsed A
@@ -83,7 +83,7 @@ list_fails {A} end one n i xs bs start mid d h e inv f =
 
 -- a fault that is handed on
 pub fault_goes : {A B C D : Type 0} (f : A → B) (g : C → D) (d : StoreFault) (x y : List ℕ) (p : Parsed B) (q : Parsed D)
-    → (p ≡ Err d → q ≡ Err d) → Agrees {A = A} f (Err d) x p → Agrees {A = C} g (Err d) y q
+    → (p ≡ Err d → q ≡ Err d) → StoreAgrees {A = A} f (Err d) x p → StoreAgrees {A = C} g (Err d) y q
 fault_goes f g Short x y p q k h = k h
 fault_goes f g Magic x y p q k h = k h
 fault_goes f g Version x y p q k h = k h

@@ -94,13 +94,13 @@ pub data HasFault (bs : List ℕ) : StoreFault → Type 0 where
       → sha256 (take (length bs - 32) bs) ≢ drop (length bs - 32) bs → HasFault bs Digest
   fault_inside : (version : ℕ) (inside : List ℕ) (e : StoreFault) → IsFramed bs version inside → FaultInside version inside e → HasFault bs e
 
--- a refusal has its fault; want of memory says nothing
+-- a refusal has its fault; out of memory says nothing
 abbrev pub TellsFault : Result StoreImage StoreFault → List ℕ → Type 0
 TellsFault (Ok image) bs = Unit {0}
 TellsFault (Err OutOfMemory) bs = Unit {0}
 TellsFault (Err e) bs = HasFault bs e
 
--- an answer refuses with this fault; want of memory says nothing
+-- an answer refuses with this fault; out of memory says nothing
 abbrev pub RefusesWith : Result StoreImage StoreFault → StoreFault → Type 0
 RefusesWith (Ok image) e = ⊥
 RefusesWith (Err OutOfMemory) e = Unit {0}

@@ -14,7 +14,7 @@ pub enum Cause {
     Damaged(StoreFault),
     /// The pending names can't be read.
     BadPending,
-    /// Old and new requires together close this circle.
+    /// Old and new requires together close this cycle.
     UnionCycle(Tasks),
     /// Old and entered tasks together are too many: the number of old tasks, counted up to 50,000, of entered
     /// tasks that aren't old, and the task that wasn't entered.

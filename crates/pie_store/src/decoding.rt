@@ -5,7 +5,7 @@ ghost use Rattle.pie_store.specs.Canonical.{IsStorableStore};
 ghost use Rattle.pie_store.specs.Texts.{IsStoreText};
 ghost use Rattle.pie_store.specs.declared.store_fault.StoreFault.{StoreFault};
 ghost use Rattle.pie_store.specs.Faults.{HasFault, RefusesWith, TellsFault};
-ghost use Rattle.pie_store.specs.Agreement.{Agrees, AgreesWhole, Refuses};
+ghost use Rattle.pie_store.specs.Agreement.{StoreAgrees, AgreesWhole, Refuses};
 ghost use Rattle.pie_store.specs.Reading.{store_says, body_says, contents_1, contents_2, tail_of};
 ghost use Rattle.pie_store.specs.Known.{known_in};
 

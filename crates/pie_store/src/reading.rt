@@ -1,9 +1,9 @@
 //! Reading what a store says, once from the left. `end` is the length of the body, so that what is left tells
 //! the offset.
 ghost use Rattle.std.specs.Prelude.{◌≡◌, ◌-◌, ◌≤◌, ◌<◌, ◌^◌, length, List, ℕ, All, IfOk, None};
-ghost use Rattle.pie_record.specs.Agreement.{Agrees as PartAgrees};
+ghost use Rattle.pie_record.specs.Agreement.{RowAgrees as PartAgrees};
 ghost use Rattle.pie_record.specs.Reading.{number_at};
-ghost use Rattle.pie_store.specs.Agreement.{Agrees};
+ghost use Rattle.pie_store.specs.Agreement.{StoreAgrees};
 ghost use Rattle.pie_store.specs.Ranks.{rank_in, IsStored};
 ghost use Rattle.pie_store.specs.Known.{known_in};
 ghost use Rattle.pie_store.specs.Reading.{row_fault, part_at, grown, list_at, func_at, name_follows, name_last, next_func, next_root, next_row, first_missing};
@@ -37,7 +37,7 @@ pub(crate) fn place(end: usize, reader: &Reader<'_>) -> usize
 }
 
 fn number(end: usize, reader: &mut Reader<'_>) -> Result<usize, StoreFault>
-    ensures read { Agrees (λ n. n) result reader.new (part_at end number_at reader.old) }
+    ensures read { StoreAgrees (λ n. n) result reader.new (part_at end number_at reader.old) }
     ensures small { IfOk result (λ n. n < 2 ^ 32) }
 {
     let at = place(end, reader);
@@ -84,7 +84,7 @@ fn one_func(
     alloc: Global,
     funcs: &[(Text, [u8; 32])],
 ) -> Result<(Text, [u8; 32]), StoreFault>
-    ensures { Agrees (λ f. f) result reader.new (next_func end funcs.now reader.old) }
+    ensures { StoreAgrees (λ f. f) result reader.new (next_func end funcs.now reader.old) }
 {
     let at = place(end, reader);
     match func(reader, alloc) {
@@ -105,7 +105,7 @@ pub(crate) fn funcs(
     reader: &mut Reader<'_>,
     alloc: Global,
 ) -> Result<Vec<(Text, [u8; 32])>, StoreFault>
-    ensures { Agrees (λ fs. fs.items) result reader.new (list_at end (next_func end) reader.old) }
+    ensures { StoreAgrees (λ fs. fs.items) result reader.new (list_at end (next_func end) reader.old) }
 {
     let count = number(end, reader)?;
     let mut funcs = Vec::new(alloc);
@@ -126,7 +126,7 @@ fn one_root(
     alloc: Global,
     roots: &[(Task, usize)],
 ) -> Result<(Task, usize), StoreFault>
-    ensures root { Agrees (λ r. r) result reader.new (next_root end roots.now reader.old) }
+    ensures root { StoreAgrees (λ r. r) result reader.new (next_root end roots.now reader.old) }
     ensures stored { IfOk result (λ r. IsStored r.0) }
 {
     let at = place(end, reader);
@@ -142,7 +142,7 @@ pub(crate) fn roots(
     reader: &mut Reader<'_>,
     alloc: Global,
 ) -> Result<Vec<(Task, usize)>, StoreFault>
-    ensures roots { Agrees (λ rs. rs.items) result reader.new (list_at end (next_root end) reader.old) }
+    ensures roots { StoreAgrees (λ rs. rs.items) result reader.new (list_at end (next_root end) reader.old) }
     ensures stored { IfOk result (λ rs. All (λ (r : Task × ℕ). IsStored r.0) rs.items) }
 {
     let count = number(end, reader)?;
@@ -176,7 +176,7 @@ fn one_row(
     known: &Known,
     rows: &RankedRows,
 ) -> Result<(TaskRecord, u64), StoreFault>
-    ensures row { Agrees (λ r. r) result reader.new (next_row (known_in known.now) end rows.now reader.old) }
+    ensures row { StoreAgrees (λ r. r) result reader.new (next_row (known_in known.now) end rows.now reader.old) }
     ensures stored { IfOk result (λ r. IsStored r.0.task) }
     ensures absent { IfOk result (λ r. rank_in rows.now r.0.task ≡ None) }
     ensures low { IfOk result (λ r. r.1 ≤ length rows.now) }
@@ -200,7 +200,7 @@ fn more_rows(
     rows: RankedRows,
 ) -> Result<RankedRows, StoreFault>
     requires { length rows < 2 ^ 32 }
-    ensures { Agrees (λ rs. rs) result reader.new (grown (next_row (known_in known.now) end) rows reader.old) }
+    ensures { StoreAgrees (λ rs. rs) result reader.new (grown (next_row (known_in known.now) end) rows reader.old) }
 {
     match one_row(end, reader, alloc, known, &rows) {
         Ok((rec, height)) => {
@@ -218,7 +218,7 @@ pub(crate) fn rows(
     alloc: Global,
     known: &Known,
 ) -> Result<RankedRows, StoreFault>
-    ensures { Agrees (λ rs. rs) result reader.new (list_at end (next_row (known_in known.now) end) reader.old) }
+    ensures { StoreAgrees (λ rs. rs) result reader.new (list_at end (next_row (known_in known.now) end) reader.old) }
 {
     let count = number(end, reader)?;
     let mut rows = RankedRows::new(alloc);

@@ -7,7 +7,7 @@ use Rattle.pie_parser.specs.Plain.{Trees, Steps, BlockTree, LineTrees}
 use Rattle.pie_parser.specs.declared.tree.Index.{Index}
 use Rattle.pie_parser.specs.declared.tree.Name.{Name}
 use Rattle.pie_parser.specs.declared.tree.Comparison.{Comparison}
-use Rattle.pie_types.specs.Faults.{Outcome, then_on}
+use Rattle.pie_types.specs.Faults.{TypingResult, then_on}
 use Rattle.pie_types.specs.Scope.{Entry, may_enter, entered, with_name}
 use Rattle.pie_types.specs.Headings.{Heading}
 use Rattle.pie_types.specs.Spans.{at_of, end_of, answer_at, answer_end}
@@ -28,10 +28,10 @@ use Rattle.pie_types.proofs.Inversions.{ok_inj}
 pub matched_self : (t : TyTree) (i j : ℕ) → matched t i j t ≡ Ok t
 matched_self t i j = ap (λ (b : Bool). where_fits b t i j t) (same_self t)
 
-pub fitting_self : (t : TyTree) (e : Tree) (o : Outcome TyTree) → o ≡ Ok t → fitting t e o ≡ Ok t
+pub fitting_self : (t : TyTree) (e : Tree) (o : TypingResult TyTree) → o ≡ Ok t → fitting t e o ≡ Ok t
 fitting_self t e o h = ap (fitting t e) h ∙ matched_self t (at_of e) (end_of e)
 
-pub block_fitting_self : (t : TyTree) (b : BlockTree) (o : Outcome TyTree) → o ≡ Ok t → block_fitting t b o ≡ Ok t
+pub block_fitting_self : (t : TyTree) (b : BlockTree) (o : TypingResult TyTree) → o ≡ Ok t → block_fitting t b o ≡ Ok t
 block_fitting_self t b o h = ap (block_fitting t b) h ∙ matched_self t (answer_at b) (answer_end b)
 
 passes : (test : TyTree → Bool) (w : TyTree) (i j : ℕ) (t : TyTree) → test t ≡ true → passing test w i j t ≡ Ok t
@@ -63,7 +63,7 @@ pub may_enter_is : (n : Name) (sc : List Entry) → IsFresh n.text sc → may_en
 may_enter_is n sc (fresh gone room) = rw (gone, below (length sc) 255 room) refl
 
 pub entered_is : (n : Name) (t : TyTree) (sc : List Entry) → IsFresh n.text sc → entered n t sc ≡ Ok (with_name sc n.text t)
-entered_is n t sc f = ap (λ (o : Outcome (List Entry)). then_on o (λ _. Ok (with_name sc n.text t))) (may_enter_is n sc f)
+entered_is n t sc f = ap (λ (o : TypingResult (List Entry)). then_on o (λ _. Ok (with_name sc n.text t))) (may_enter_is n sc f)
 
 same_number : (m n : ℕ) → m ≡ n → (m == n) ≡ true
 same_number m n h = search (rules, h)

@@ -4,7 +4,7 @@ use Rattle.std.specs.Prelude.{Option, Some, None, Ok, bytes_eq}
 use Rattle.std.proofs.lemmas.List.{append-nil}
 use Rattle.pie_value.specs.declared.task.Task.{Task}
 use Rattle.pie_parser.specs.FunctionTrees.{FunctionTree}
-use Rattle.pie_types.specs.Faults.{Outcome, then_on}
+use Rattle.pie_types.specs.Faults.{TypingResult, then_on}
 use Rattle.pie_types.specs.Written.{written}
 use Rattle.pie_types.specs.Headings.{Heading, function_in, place_from, may_be_named, params_from, signature_of, heading_of, headings_from}
 use Rattle.pie_types.specs.Whole.{takes, number_from}
@@ -49,7 +49,7 @@ picked n (f ∷ fs) [] t x = elim x [ ]
 picked n [] (h ∷ hs) t x = elim x [ ]
 picked n (f ∷ fs) (h ∷ hs) t (one_more s m more) =
     ap (λ (name : List ℕ). cond (bytes_eq t.func name) (cond (takes (signature_of f) t) (Some n) None) (number_from (n + 1) fs t)) (sym m)
-    ∙ ap (λ (o : Outcome Heading). cond (bytes_eq t.func h.name) (cond (takes o t) (Some n) None) (number_from (n + 1) fs t)) s
+    ∙ ap (λ (o : TypingResult Heading). cond (bytes_eq t.func h.name) (cond (takes o t) (Some n) None) (number_from (n + 1) fs t)) s
     ∙ ap (λ (o : Option ℕ). cond (bytes_eq t.func h.name) (cond (takes (Ok h) t) (Some n) None) o) (picked (n + 1) fs hs t more)
     ∙ pick_by (bytes_eq t.func h.name) n h (function_in t.func hs) (place_from (n + 1) t.func hs) t
 

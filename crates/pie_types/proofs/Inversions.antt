@@ -7,7 +7,7 @@ use Rattle.pie_parser.specs.Plain.{Tree, Steps, BlockTree}
 use Rattle.pie_parser.specs.declared.tree.Index.{Index}
 use Rattle.pie_parser.specs.declared.tree.Name.{Name}
 use Rattle.pie_parser.specs.declared.tree.Comparison.{Comparison}
-use Rattle.pie_types.specs.Faults.{Outcome, Refused}
+use Rattle.pie_types.specs.Faults.{TypingResult, Refused}
 use Rattle.pie_types.specs.Scope.{Entry, type_in, may_enter, entered, with_name}
 use Rattle.pie_types.specs.Spans.{at_of, end_of, answer_at, answer_end}
 use Rattle.pie_types.specs.Operators.{same_type, where_fits, matched, passing, name_type, all_plus, is_addable, operands_type, first_operand, is_equality}
@@ -19,18 +19,18 @@ use Rattle.pie_types.proofs.SameType.{same_true}
 use Rattle.pie_types.proofs.Steps.{then_inv}
 
 -- the answer that this is
-abbrev pub answered : {A : Type 0} → A → Outcome A
+abbrev pub answered : {A : Type 0} → A → TypingResult A
 answered a = Ok a
 
 pub ok_inj : {A : Type 0} (a b : A) → answered a ≡ Ok b → a ≡ b
 ok_inj a b h = cc
 
 -- an answer where a refusal is the other choice
-pub cond_ok : {A : Type 0} (b : Bool) (o : Outcome A) (e : Refused) (a : A) → cond b o (Err e) ≡ Ok a → (b ≡ true) × (o ≡ Ok a)
+pub cond_ok : {A : Type 0} (b : Bool) (o : TypingResult A) (e : Refused) (a : A) → cond b o (Err e) ≡ Ok a → (b ≡ true) × (o ≡ Ok a)
 cond_ok true o e a h = (refl, h)
 cond_ok false o e a h = let f : ⊥ = cc in absurd f
 
-pub cond_other : {A : Type 0} (b : Bool) (o : Outcome A) (e : Refused) (a : A) → cond b (Err e) o ≡ Ok a → (b ≡ false) × (o ≡ Ok a)
+pub cond_other : {A : Type 0} (b : Bool) (o : TypingResult A) (e : Refused) (a : A) → cond b (Err e) o ≡ Ok a → (b ≡ false) × (o ≡ Ok a)
 cond_other false o e a h = (refl, h)
 cond_other true o e a h = let f : ⊥ = cc in absurd f
 
@@ -44,13 +44,13 @@ matched_inv w i j t u h = let p = fits_inv (same_type w t) w i j t u h in (same_
 pub passing_inv : (test : TyTree → Bool) (w : TyTree) (i j : ℕ) (t u : TyTree) → passing test w i j t ≡ Ok u → (test t ≡ true) × (t ≡ u)
 passing_inv test w i j t u h = fits_inv (test t) w i j t u h
 
-pub fitting_inv : (w : TyTree) (e : Tree) (o : Outcome TyTree) (u : TyTree) → fitting w e o ≡ Ok u → (o ≡ Ok w) × (w ≡ u)
+pub fitting_inv : (w : TyTree) (e : Tree) (o : TypingResult TyTree) (u : TyTree) → fitting w e o ≡ Ok u → (o ≡ Ok w) × (w ≡ u)
 fitting_inv w e o u h =
     let p = then_inv o (λ t. matched w (at_of e) (end_of e) t) u h in
     let q = matched_inv w (at_of e) (end_of e) p.0 u p.2 in
     (p.1 ∙ ap (λ (t : TyTree). Ok t) (sym q.0), q.0 ∙ q.1)
 
-pub block_fitting_inv : (w : TyTree) (b : BlockTree) (o : Outcome TyTree) (u : TyTree) → block_fitting w b o ≡ Ok u → (o ≡ Ok w) × (w ≡ u)
+pub block_fitting_inv : (w : TyTree) (b : BlockTree) (o : TypingResult TyTree) (u : TyTree) → block_fitting w b o ≡ Ok u → (o ≡ Ok w) × (w ≡ u)
 block_fitting_inv w b o u h =
     let p = then_inv o (λ t. matched w (answer_at b) (answer_end b) t) u h in
     let q = matched_inv w (answer_at b) (answer_end b) p.0 u p.2 in

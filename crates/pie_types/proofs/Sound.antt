@@ -5,7 +5,7 @@ use Rattle.pie_value.specs.Types.{TyTree, UnitTy, BoolTy, TextTy, PathTy, ListTy
 use Rattle.pie_parser.specs.Plain.{Tree, TLiteral, TName, TNull, TEmpty, TChain, TCompare, TPrefix, TProject, TTuple, TList, TEach, TIf, TCall, TEffect}
 use Rattle.pie_parser.specs.Plain.{TWrite, TFail, Trees, Nil, Cons, Steps, NoStep, AStep, BlockTree, TBlock, LineTrees, NoLine, ValLine, ExprLine}
 use Rattle.pie_parser.specs.Plain.{NoLast, ALast, ElseTree, NoElse, AnElse}
-use Rattle.pie_types.specs.Faults.{Outcome, then_on}
+use Rattle.pie_types.specs.Faults.{TypingResult, then_on}
 use Rattle.pie_types.specs.Written.{written}
 use Rattle.pie_types.specs.Scope.{Entry, type_in, entered, with_name}
 use Rattle.pie_types.specs.Headings.{Heading}
@@ -60,7 +60,7 @@ mutual
       let p = then_inv (list_items hs sc i j es) (λ t. Ok (ListTy t)) t h in
       subst (HasType hs sc (TList i j es)) (ok_inj (ListTy p.0) t p.2) (list_sound hs sc i j i j es p.0 p.1)
   sound hs sc (TEach i j a n b) t h =
-      let inner : List Entry → Outcome TyTree = λ inner. type_of hs inner a in
+      let inner : List Entry → TypingResult TyTree = λ inner. type_of hs inner a in
       let p = then_inv (type_of hs sc b) (λ t. then_on (items_type (at_of b) (end_of b) t) (λ u. then_on (within sc n u inner) (λ v. Ok (ListTy v)))) t h in
       let q = then_inv (items_type (at_of b) (end_of b) p.0) (λ u. then_on (within sc n u inner) (λ v. Ok (ListTy v))) t p.2 in
       let r = then_inv (within sc n q.0 inner) (λ v. Ok (ListTy v)) t q.2 in

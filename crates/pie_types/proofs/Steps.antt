@@ -16,7 +16,7 @@ use Rattle.pie_parser.specs.declared.tree.Line.TheVariants as lines
 use Rattle.pie_parser.specs.TreeView.{trees_of, steps_of, lines_of, line_before}
 use Rattle.pie_types.specs.declared.error.TypeError.{TypeError}
 use Rattle.pie_types.specs.declared.error.TypeError.TheVariants as errors
-use Rattle.pie_types.specs.Faults.{Outcome, then_on, Agrees}
+use Rattle.pie_types.specs.Faults.{TypingResult, then_on, TypingAgrees}
 use Rattle.pie_types.specs.Written.{written, written_each}
 use Rattle.pie_types.specs.Scope.{Entry, entered, may_enter, with_name}
 use Rattle.pie_types.specs.Headings.{Heading, headings_from, heading_of, params_from, with_param}
@@ -30,16 +30,16 @@ use Rattle.pie_types.specs.Whole.{bodies, body_type}
 use Rattle.pie_types.proofs.Left.{list_left, trees_left, steps_left, lines_left, types_left}
 
 -- what goes on after a refusal is that refusal
-pub fails_so : {A B C D : Type 0} (f : A → B) (g : C → D) (e : TypeError) (p : Outcome B) (k : B → Outcome D) (q : Outcome D) → q ≡ then_on p k
-    → Agrees f (Err e) p → Agrees g (Err e) q
+pub fails_so : {A B C D : Type 0} (f : A → B) (g : C → D) (e : TypeError) (p : TypingResult B) (k : B → TypingResult D) (q : TypingResult D) → q ≡ then_on p k
+    → TypingAgrees f (Err e) p → TypingAgrees g (Err e) q
 fails_so f g (errors.Fault e) p k q h a = h ∙ ap (λ o. then_on o k) a
 fails_so f g errors.OutOfMemory p k q h a = tt
 
 -- what goes on after an answer
-pub goes_so : {B D : Type 0} (p : Outcome B) (k : B → Outcome D) (b : B) → p ≡ Ok b → then_on p k ≡ k b
+pub goes_so : {B D : Type 0} (p : TypingResult B) (k : B → TypingResult D) (b : B) → p ≡ Ok b → then_on p k ≡ k b
 goes_so p k b h = ap (λ o. then_on o k) h
 
-pub then_then : {A B C : Type 0} (o : Outcome A) (k : A → Outcome B) (m : B → Outcome C) → then_on (then_on o k) m ≡ then_on o (λ a. then_on (k a) m)
+pub then_then : {A B C : Type 0} (o : TypingResult A) (k : A → TypingResult B) (m : B → TypingResult C) → then_on (then_on o k) m ≡ then_on o (λ a. then_on (k a) m)
 then_then (Ok a) k m = refl
 then_then (Err e) k m = refl
 
@@ -57,14 +57,14 @@ more_items_turn hs sc w es i e h p = ap (spec.more_items hs sc w) (trees_left es
 -- ---- parts with a type each
 
 -- the parts done, before those that are left
-abbrev pub onto : {A : Type 0} → List A → Outcome (List A) → Outcome (List A)
+abbrev pub onto : {A : Type 0} → List A → TypingResult (List A) → TypingResult (List A)
 onto done o = then_on o (λ more. Ok (done ++ more))
 
-onto_more : {A : Type 0} (done : List A) (a : A) (o : Outcome (List A)) → onto done (then_on o (λ more. Ok (a ∷ more))) ≡ onto (done ++ a ∷ []) o
+onto_more : {A : Type 0} (done : List A) (a : A) (o : TypingResult (List A)) → onto done (then_on o (λ more. Ok (a ∷ more))) ≡ onto (done ++ a ∷ []) o
 onto_more {A} done a (Ok more) = ap (λ (l : List A). Ok l) (sym (append_assoc done (a ∷ []) more))
 onto_more done a (Err e) = refl
 
-pub onto_nothing : {A : Type 0} (o : Outcome (List A)) → onto [] o ≡ o
+pub onto_nothing : {A : Type 0} (o : TypingResult (List A)) → onto [] o ≡ o
 onto_nothing (Ok more) = refl
 onto_nothing (Err e) = refl
 
@@ -76,7 +76,7 @@ types_turn hs sc done es i e h p =
     ∙ then_then (spec.type_of hs sc e) _ _
     ∙ ap (then_on (spec.type_of hs sc e)) (λ j t. onto_more done t (spec.types_of hs sc (trees_of (drop (i + 1) es))) j)
 
-fitting_more : (o : Outcome TyTree) (done : List TyTree) (t : TyTree) (rest : Outcome (List TyTree))
+fitting_more : (o : TypingResult TyTree) (done : List TyTree) (t : TyTree) (rest : TypingResult (List TyTree))
     → onto done (then_on o (λ _. then_on rest (λ ts. Ok (t ∷ ts)))) ≡ then_on o (λ _. onto (done ++ t ∷ []) rest)
 fitting_more (Ok u) done t rest = onto_more done t rest
 fitting_more (Err e) done t rest = refl
@@ -100,12 +100,12 @@ unless_same None i j t u h = cc
 unless_same (Some w) i j t u h = cc
 
 pub arguments_next : (hs : List Heading) (sc : List Entry) (c : Callee) (done : List TyTree) (es : List Tree) (i : ℕ) (e : Tree) (t u : TyTree)
-    (whole : Outcome (List TyTree))
+    (whole : TypingResult (List TyTree))
     → i < length es → e ≡ get_or es i e → spec.type_of hs sc e ≡ Ok t → unless (misfit c i t) (at_of e) (end_of e) t ≡ Ok u
     → onto done (spec.arguments hs sc c i (trees_of (drop i es))) ≡ whole
     → onto (done ++ u ∷ []) (spec.arguments hs sc c (i + 1) (trees_of (drop (i + 1) es))) ≡ whole
 arguments_next hs sc c done es i e t u whole h p typed fits so =
-    let rest : TyTree → Outcome (List TyTree) = λ v. onto (done ++ v ∷ []) (spec.arguments hs sc c (i + 1) (trees_of (drop (i + 1) es))) in
+    let rest : TyTree → TypingResult (List TyTree) = λ v. onto (done ++ v ∷ []) (spec.arguments hs sc c (i + 1) (trees_of (drop (i + 1) es))) in
     ap rest (unless_same (misfit c i t) (at_of e) (end_of e) t u fits)
     ∙ sym (goes_so (unless (misfit c i t) (at_of e) (end_of e) t) (λ _. rest t) u fits)
     ∙ sym (goes_so (spec.type_of hs sc e) (λ v. then_on (unless (misfit c i v) (at_of e) (end_of e) v) (λ _. rest v)) t typed)
@@ -147,7 +147,7 @@ later_turn t ns i n h e = ap (later_items t) (list_left ns i n h e)
 
 -- ---- names that lines bring into scope
 
-pub then_inv : {A B : Type 0} (o : Outcome A) (k : A → Outcome B) (b : B) → then_on o k ≡ Ok b → (a : A) × (o ≡ Ok a) × (k a ≡ Ok b)
+pub then_inv : {A B : Type 0} (o : TypingResult A) (k : A → TypingResult B) (b : B) → then_on o k ≡ Ok b → (a : A) × (o ≡ Ok a) × (k a ≡ Ok b)
 then_inv (Ok a) k b h = (a, refl, h)
 then_inv (Err e) k b h = let f : ⊥ = cc in absurd f
 

@@ -6,7 +6,7 @@ use Rattle.pie_parser.specs.FunctionTrees.{FunctionTree}
 use Rattle.pie_parser.specs.declared.tree.Param.{Param}
 use Rattle.pie_types.specs.declared.error.TypeError.{TypeError}
 use Rattle.pie_types.specs.declared.error.TypeError.TheVariants as errors
-use Rattle.pie_types.specs.Faults.{then_on, Agrees}
+use Rattle.pie_types.specs.Faults.{then_on, TypingAgrees}
 use Rattle.pie_types.specs.Written.{written}
 use Rattle.pie_types.specs.Scope.{Entry, may_enter, with_name}
 use Rattle.pie_types.specs.Headings.{Heading, is_builtin, function_in, may_be_named, with_param, params_from, signature_of, heading_of, headings_from}
@@ -90,7 +90,7 @@ pub checked_complete : (fs : List FunctionTree) → IsTyped fs → checked fs �
 checked_complete _ (typed {fs = fs} {hs = hs} d t) = rw (headings_complete [] fs hs d, bodies_complete hs fs t) refl
 
 -- what is accepted is typed
-pub answer_typed : (result : Result (List FunctionTree) TypeError) (fs : List FunctionTree) → Agrees (λ (gs : List FunctionTree). gs) result (checked fs)
+pub answer_typed : (result : Result (List FunctionTree) TypeError) (fs : List FunctionTree) → TypingAgrees (λ (gs : List FunctionTree). gs) result (checked fs)
     → IfOk result (λ gs. IsTyped gs)
 answer_typed (Ok gs) fs h =
     let a = then_inv (headings_from [] fs) (λ hs. then_on (bodies hs fs) (λ _. Ok fs)) gs h in
@@ -99,7 +99,7 @@ answer_typed (Ok gs) fs h =
 answer_typed (Err e) fs h = tt
 
 -- what is typed isn't refused
-pub answer_all : (result : Result (List FunctionTree) TypeError) (fs : List FunctionTree) → Agrees (λ (gs : List FunctionTree). gs) result (checked fs)
+pub answer_all : (result : Result (List FunctionTree) TypeError) (fs : List FunctionTree) → TypingAgrees (λ (gs : List FunctionTree). gs) result (checked fs)
     → IsTyped fs → NotRefused result
 answer_all (Ok gs) fs h k = tt
 answer_all (Err (errors.Fault f)) fs h k = let p = checked_complete fs k in let q : ⊥ = cc in q

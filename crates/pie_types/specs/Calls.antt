@@ -7,7 +7,7 @@ use Rattle.pie_signature.specs.Signatures.{arity_of, misfit_of, answer_type_of}
 use Rattle.pie_parser.specs.declared.tree.Name.{Name}
 use Rattle.pie_parser.specs.declared.tree.CallKind.{CallKind}
 use Rattle.pie_parser.specs.declared.tree.CallKind.TheVariants as calls
-use Rattle.pie_types.specs.Faults.{Outcome, refuse, then_on, UnknownFunction, Mismatch, Arity}
+use Rattle.pie_types.specs.Faults.{TypingResult, refuse, then_on, UnknownFunction, Mismatch, Arity}
 use Rattle.pie_types.specs.Scope.{Entry}
 use Rattle.pie_types.specs.Headings.{Heading, function_in}
 use Rattle.pie_types.specs.Operators.{same_type}
@@ -28,7 +28,7 @@ callee_of hs calls.Plain n = plain_callee n
 callee_of hs k n = option_map OfFunction (function_in n hs)
 
 -- what was found under a name
-abbrev pub known : Name → Option Callee → Outcome Callee
+abbrev pub known : Name → Option Callee → TypingResult Callee
 known n None = refuse UnknownFunction n.at n.end
 known n (Some c) = Ok c
 
@@ -39,7 +39,7 @@ taken (OfBuiltin b) = arity_of b
 taken (OfFunction h) = length h.params
 
 -- as many arguments as are taken
-abbrev pub right_number : ℕ → ℕ → Callee → ℕ → Outcome Callee
+abbrev pub right_number : ℕ → ℕ → Callee → ℕ → TypingResult Callee
 right_number i j c n = cond (n == taken c) (Ok c) (refuse Arity i j)
 
 -- the first type where the second is another
@@ -58,7 +58,7 @@ misfit (OfBuiltin b) n t = misfit_of b n t
 misfit (OfFunction h) n t = other_than_param (slice_get h.params n) t
 
 -- the type of an argument that fits
-abbrev pub unless : Option TyTree → ℕ → ℕ → TyTree → Outcome TyTree
+abbrev pub unless : Option TyTree → ℕ → ℕ → TyTree → TypingResult TyTree
 unless None i j t = Ok t
 unless (Some w) i j t = refuse (Mismatch w t) i j
 
@@ -79,6 +79,6 @@ answer k (OfBuiltin b) ts = answer_type_of b (first ts)
 answer k (OfFunction h) ts = function_answer k h
 
 -- a call: what it calls, then the number of its arguments, and then these
-abbrev pub of_call : List Heading → ℕ → ℕ → CallKind → Name → ℕ → (Callee → Outcome (List TyTree)) → Outcome TyTree
+abbrev pub of_call : List Heading → ℕ → ℕ → CallKind → Name → ℕ → (Callee → TypingResult (List TyTree)) → TypingResult TyTree
 of_call hs i j k n count arguments = then_on (known n (callee_of hs k n.text))
     (λ c. then_on (right_number i j c count) (λ _. then_on (arguments c) (λ ts. Ok (answer k c ts))))

@@ -24,15 +24,15 @@ pub record Refused : Type 0 where
   pub end : ℕ
 
 -- an answer, or the refusal in its place
-abbrev pub Outcome : Type 0 → Type 0
-Outcome A = Result A Refused
+abbrev pub TypingResult : Type 0 → Type 0
+TypingResult A = Result A Refused
 
 -- the refusal of these bytes
-abbrev pub refuse : {A : Type 0} → Kind → ℕ → ℕ → Outcome A
+abbrev pub refuse : {A : Type 0} → Kind → ℕ → ℕ → TypingResult A
 refuse k i j = Err (record { kind = k; at = i; end = j })
 
 -- what goes on with an answer
-abbrev pub then_on : {A B : Type 0} → Outcome A → (A → Outcome B) → Outcome B
+abbrev pub then_on : {A B : Type 0} → TypingResult A → (A → TypingResult B) → TypingResult B
 then_on (Ok a) k = k a
 then_on (Err e) k = Err e
 
@@ -49,8 +49,8 @@ kind_of kinds.TooManyNames = TooManyNames
 abbrev pub refused_of : TypeFault → Refused
 refused_of f = record { kind = kind_of f.kind; at = f.at; end = f.end }
 
--- an answer agrees with a definition: both give one thing, or one refusal; want of memory says nothing
-abbrev pub Agrees : {A B : Type 0} → (A → B) → Result A TypeError → Outcome B → Type 0
-Agrees f (Ok a) p = p ≡ Ok (f a)
-Agrees f (Err (errors.Fault e)) p = p ≡ Err (refused_of e)
-Agrees f (Err errors.OutOfMemory) p = Unit {0}
+-- an answer agrees with a definition: both give one thing, or one refusal; out of memory says nothing
+abbrev pub TypingAgrees : {A B : Type 0} → (A → B) → Result A TypeError → TypingResult B → Type 0
+TypingAgrees f (Ok a) p = p ≡ Ok (f a)
+TypingAgrees f (Err (errors.Fault e)) p = p ≡ Err (refused_of e)
+TypingAgrees f (Err errors.OutOfMemory) p = Unit {0}

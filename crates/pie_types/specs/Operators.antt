@@ -13,7 +13,7 @@ use Rattle.pie_parser.specs.declared.tree.Prefix.TheVariants as prefixes
 use Rattle.pie_parser.specs.declared.tree.EffectKind.{EffectKind}
 use Rattle.pie_parser.specs.declared.tree.EffectKind.TheVariants as effects
 use Rattle.pie_parser.specs.Plain.{Steps, NoStep, AStep}
-use Rattle.pie_types.specs.Faults.{Outcome, refuse, then_on, UnknownName, Mismatch, Arity}
+use Rattle.pie_types.specs.Faults.{TypingResult, refuse, then_on, UnknownName, Mismatch, Arity}
 
 abbrev mutual
   -- two types are one
@@ -36,16 +36,16 @@ abbrev mutual
   same_types ts us = false
 
 -- a type of what takes these bytes where it fits, or else another one is named as expected
-abbrev pub where_fits : Bool → TyTree → ℕ → ℕ → TyTree → Outcome TyTree
+abbrev pub where_fits : Bool → TyTree → ℕ → ℕ → TyTree → TypingResult TyTree
 where_fits true w i j t = Ok t
 where_fits false w i j t = refuse (Mismatch w t) i j
 
 -- the second type where the first is expected
-abbrev pub matched : TyTree → ℕ → ℕ → TyTree → Outcome TyTree
+abbrev pub matched : TyTree → ℕ → ℕ → TyTree → TypingResult TyTree
 matched w i j t = where_fits (same_type w t) w i j t
 
 -- a type that passes a test, or else this one is named as expected
-abbrev pub passing : (TyTree → Bool) → TyTree → ℕ → ℕ → TyTree → Outcome TyTree
+abbrev pub passing : (TyTree → Bool) → TyTree → ℕ → ℕ → TyTree → TypingResult TyTree
 passing test w i j t = where_fits (test t) w i j t
 
 -- the type of a literal
@@ -56,7 +56,7 @@ literal_type (literals.Bool b) = BoolTy
 literal_type literals.Unit = UnitTy
 
 -- the type of a name, by what is in scope
-abbrev pub name_type : ℕ → ℕ → Option TyTree → Outcome TyTree
+abbrev pub name_type : ℕ → ℕ → Option TyTree → TypingResult TyTree
 name_type i j None = refuse UnknownName i j
 name_type i j (Some t) = Ok t
 
@@ -90,7 +90,7 @@ operands_type NoStep = IntTy
 operands_type (AStep o t ss) = operand_type o
 
 -- the type of a chain's first operand, which is that of the others and of the chain
-abbrev pub first_operand : Steps → ℕ → ℕ → TyTree → Outcome TyTree
+abbrev pub first_operand : Steps → ℕ → ℕ → TyTree → TypingResult TyTree
 first_operand ss i j t = cond (all_plus ss) (passing is_addable IntTy i j t) (matched (operands_type ss) i j t)
 
 -- a comparison of any values
@@ -107,7 +107,7 @@ is_ordered PathTy = true
 is_ordered t = false
 
 -- the type of what stands before a comparison
-abbrev pub left_operand : Comparison → ℕ → ℕ → TyTree → Outcome TyTree
+abbrev pub left_operand : Comparison → ℕ → ℕ → TyTree → TypingResult TyTree
 left_operand c i j t = cond (is_equality c) (Ok t) (passing is_ordered IntTy i j t)
 
 -- the type of what a prefix operator takes and answers
@@ -127,35 +127,35 @@ numbered (pos n) ts = part_at n ts
 numbered (negsuc n) ts = None
 
 -- the type of an item that was looked for by this number
-abbrev pub found_item : Index → Option TyTree → Outcome TyTree
+abbrev pub found_item : Index → Option TyTree → TypingResult TyTree
 found_item n None = refuse Arity n.at n.end
 found_item n (Some t) = Ok t
 
 -- a pair is expected in the place of what is no tuple
-abbrev pub no_tuple : ℕ → ℕ → TyTree → Outcome TyTree
+abbrev pub no_tuple : ℕ → ℕ → TyTree → TypingResult TyTree
 no_tuple i j t = refuse (Mismatch (TupleTy (MoreTy t (MoreTy t NoTy))) t) i j
 
 -- the type of an item of what takes these bytes
-abbrev pub item_of : ℕ → ℕ → TyTree → Index → Outcome TyTree
+abbrev pub item_of : ℕ → ℕ → TyTree → Index → TypingResult TyTree
 item_of i j (TupleTy ts) n = found_item n (numbered n.number ts)
 item_of i j t n = no_tuple i j t
 
 -- items of items; a number that finds no tuple is refused itself
-abbrev pub later_items : TyTree → List Index → Outcome TyTree
+abbrev pub later_items : TyTree → List Index → TypingResult TyTree
 later_items t [] = Ok t
 later_items t (n ∷ ns) = then_on (item_of n.at n.end t n) (λ u. later_items u ns)
 
 -- items of what takes these bytes, which is refused where it is no tuple itself
-abbrev pub projected : ℕ → ℕ → TyTree → List Index → Outcome TyTree
+abbrev pub projected : ℕ → ℕ → TyTree → List Index → TypingResult TyTree
 projected i j t [] = Ok t
 projected i j t (n ∷ ns) = then_on (item_of i j t n) (λ u. later_items u ns)
 
 -- a list is expected in the place of what is none
-abbrev pub no_list : ℕ → ℕ → TyTree → Outcome TyTree
+abbrev pub no_list : ℕ → ℕ → TyTree → TypingResult TyTree
 no_list i j t = refuse (Mismatch (ListTy t) t) i j
 
 -- the type of the items of a list of this type
-abbrev pub items_type : ℕ → ℕ → TyTree → Outcome TyTree
+abbrev pub items_type : ℕ → ℕ → TyTree → TypingResult TyTree
 items_type i j (ListTy t) = Ok t
 items_type i j t = no_list i j t
 

@@ -3,7 +3,7 @@ use Rattle.std.specs.Prelude.{ℕ, cond, nat_lt, List, [], ◌∷◌, ◌++◌, 
 use Rattle.std.specs.Option.{is_some}
 use Rattle.pie_value.specs.Types.{TyTree}
 use Rattle.pie_parser.specs.declared.tree.Name.{Name}
-use Rattle.pie_types.specs.Faults.{Outcome, refuse, then_on, Duplicate, TooManyNames}
+use Rattle.pie_types.specs.Faults.{TypingResult, refuse, then_on, Duplicate, TooManyNames}
 
 -- a name with its type
 pub record Entry : Type 0 where
@@ -16,7 +16,7 @@ type_in n [] = None
 type_in n (e ∷ es) = cond (bytes_eq n e.name) (Some e.ty) (type_in n es)
 
 -- a name may come into scope: it isn't there, and makes no 256th
-abbrev pub may_enter : Name → List Entry → Outcome (List Entry)
+abbrev pub may_enter : Name → List Entry → TypingResult (List Entry)
 may_enter n sc = cond (is_some (type_in n.text sc)) (refuse Duplicate n.at n.end) (cond (nat_lt (length sc) 255) (Ok sc) (refuse TooManyNames n.at n.end))
 
 -- the names in scope, and one more
@@ -24,5 +24,5 @@ abbrev pub with_name : List Entry → List ℕ → TyTree → List Entry
 with_name sc n t = sc ++ record { name = n; ty = t } ∷ []
 
 -- a name comes into scope, if it may
-abbrev pub entered : Name → TyTree → List Entry → Outcome (List Entry)
+abbrev pub entered : Name → TyTree → List Entry → TypingResult (List Entry)
 entered n t sc = then_on (may_enter n sc) (λ _. Ok (with_name sc n.text t))

@@ -5,23 +5,23 @@ use Rattle.pie_value.specs.Tree.{items_of}
 use Rattle.pie_value.specs.HasType.{have_types}
 use Rattle.pie_value.specs.declared.task.Task.{Task}
 use Rattle.pie_parser.specs.FunctionTrees.{FunctionTree}
-use Rattle.pie_types.specs.Faults.{Outcome, then_on}
+use Rattle.pie_types.specs.Faults.{TypingResult, then_on}
 use Rattle.pie_types.specs.Scope.{Entry}
 use Rattle.pie_types.specs.Headings.{Heading, signature_of, headings_from}
 use Rattle.pie_types.specs.Forms.{block_fitting}
 use Rattle.pie_types.specs.Checking.{block_type}
 
 -- the type of a function's body, which is that of the function's answer
-abbrev pub body_type : List Heading → FunctionTree → Outcome TyTree
+abbrev pub body_type : List Heading → FunctionTree → TypingResult TyTree
 body_type hs f = then_on (signature_of f) (λ h. block_fitting h.result f.body (block_type hs h.params f.body))
 
 -- the bodies of functions, one after another
-abbrev pub bodies : List Heading → List FunctionTree → Outcome (List Heading)
+abbrev pub bodies : List Heading → List FunctionTree → TypingResult (List Heading)
 bodies hs [] = Ok hs
 bodies hs (f ∷ fs) = then_on (body_type hs f) (λ _. bodies hs fs)
 
 -- a pipeline that was checked, or the first refusal
-abbrev pub checked : List FunctionTree → Outcome (List FunctionTree)
+abbrev pub checked : List FunctionTree → TypingResult (List FunctionTree)
 checked fs = then_on (headings_from [] fs) (λ hs. then_on (bodies hs fs) (λ _. Ok fs))
 
 -- a pipeline was checked, and its functions have these headings
@@ -33,7 +33,7 @@ abbrev pub types_in : List Entry → List TyTree
 types_in es = map (λ (e : Entry). e.ty) es
 
 -- a task has arguments of the types of a function's parameters
-abbrev pub takes : Outcome Heading → Task → Bool
+abbrev pub takes : TypingResult Heading → Task → Bool
 takes (Ok h) t = have_types (parts_of (types_in h.params)) (items_of t.args)
 takes (Err e) t = false
 

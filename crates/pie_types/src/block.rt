@@ -3,7 +3,7 @@ ghost use Rattle.std.specs.Prelude.{◌≡◌, OnOk};
 ghost use Rattle.pie_value.specs.TypeTrees.{ty_tree};
 ghost use Rattle.pie_parser.specs.Plain.{AnElse, NoElse};
 ghost use Rattle.pie_parser.specs.TreeView.{block_of, last_of, lines_of};
-ghost use Rattle.pie_types.specs.Faults.{Agrees};
+ghost use Rattle.pie_types.specs.Faults.{TypingAgrees};
 ghost use Rattle.pie_types.specs.Checking as spec;
 ghost use Rattle.pie_types.specs.Blocks as blocks;
 
@@ -23,7 +23,7 @@ pub fn alone(
     test: &Expr,
     then: &Block,
 ) -> Result<Ty, TypeError>
-    ensures typed { Agrees ty_tree result (spec.if_type headings.now scope.old test.now (block_of then.now) NoElse) }
+    ensures typed { TypingAgrees ty_tree result (spec.if_type headings.now scope.old test.now (block_of then.now) NoElse) }
     ensures scope { OnOk result (scope.new ≡ scope.old) }
 {
     expected(headings, scope, &Ty::Bool, test)?;
@@ -39,7 +39,7 @@ pub fn choice(
     then: &Block,
     otherwise: &Block,
 ) -> Result<Ty, TypeError>
-    ensures typed { Agrees ty_tree result (spec.if_type headings.now scope.old test.now (block_of then.now) (AnElse (block_of otherwise.now))) }
+    ensures typed { TypingAgrees ty_tree result (spec.if_type headings.now scope.old test.now (block_of then.now) (AnElse (block_of otherwise.now))) }
     ensures scope { OnOk result (scope.new ≡ scope.old) }
 {
     expected(headings, scope, &Ty::Bool, test)?;
@@ -55,7 +55,7 @@ pub fn expected_block(
     wanted: &Ty,
     block: &Block,
 ) -> Result<Ty, TypeError>
-    ensures typed { Agrees ty_tree result (spec.fitting_block headings.now scope.old (ty_tree wanted.now) (block_of block.now)) }
+    ensures typed { TypingAgrees ty_tree result (spec.fitting_block headings.now scope.old (ty_tree wanted.now) (block_of block.now)) }
     ensures scope { OnOk result (scope.new ≡ scope.old) }
 {
     let found = block_type(headings, scope, block)?;
@@ -66,7 +66,7 @@ pub fn expected_block(
 #[cycle(types)]
 #[tactic(auto, using(crate::proofs::Steps::lines_keep))]
 pub fn block_type(headings: &Headings, scope: &mut Scope, block: &Block) -> Result<Ty, TypeError>
-    ensures typed { Agrees ty_tree result (spec.block_type headings.now scope.old (block_of block.now)) }
+    ensures typed { TypingAgrees ty_tree result (spec.block_type headings.now scope.old (block_of block.now)) }
     ensures scope { OnOk result (scope.new ≡ scope.old) }
 {
     let depth = scope.len();
@@ -79,7 +79,7 @@ pub fn block_type(headings: &Headings, scope: &mut Scope, block: &Block) -> Resu
 // What ends a block.
 #[cycle(types)]
 fn last_type(headings: &Headings, scope: &mut Scope, last: &Option<Expr>) -> Result<Ty, TypeError>
-    ensures typed { Agrees ty_tree result (spec.last_type headings.now scope.old (last_of last.now)) }
+    ensures typed { TypingAgrees ty_tree result (spec.last_type headings.now scope.old (last_of last.now)) }
     ensures scope { OnOk result (scope.new ≡ scope.old) }
 {
     match last {
@@ -92,7 +92,7 @@ fn last_type(headings: &Headings, scope: &mut Scope, last: &Option<Expr>) -> Res
 #[cycle(types)]
 #[tactic(auto, using(crate::proofs::Steps::lines_turn, crate::proofs::Left::line_mass_at))]
 fn after_lines(headings: &Headings, scope: &mut Scope, lines: &[Line]) -> Result<(), TypeError>
-    ensures { Agrees (λ _. scope.new) result (spec.after_lines headings.now scope.old (lines_of lines.now)) }
+    ensures { TypingAgrees (λ _. scope.new) result (spec.after_lines headings.now scope.old (lines_of lines.now)) }
 {
     for line in lines {
         after_line(headings, scope, line)?;
@@ -103,7 +103,7 @@ fn after_lines(headings: &Headings, scope: &mut Scope, lines: &[Line]) -> Result
 // A line of a block.
 #[cycle(types)]
 fn after_line(headings: &Headings, scope: &mut Scope, line: &Line) -> Result<(), TypeError>
-    ensures { Agrees (λ _. scope.new) result (blocks.after_line headings.now scope.old line.now) }
+    ensures { TypingAgrees (λ _. scope.new) result (blocks.after_line headings.now scope.old line.now) }
 {
     match line {
         Line::Val(_, _, name, value) => after_val(headings, scope, name, value),
@@ -122,7 +122,7 @@ fn after_val(
     name: &Name,
     value: &Expr,
 ) -> Result<(), TypeError>
-    ensures { Agrees (λ _. scope.new) result (blocks.after_val headings.now scope.old name.now value.now) }
+    ensures { TypingAgrees (λ _. scope.new) result (blocks.after_val headings.now scope.old name.now value.now) }
 {
     let ty = type_of(headings, scope, value)?;
     scope.enter(name, ty)

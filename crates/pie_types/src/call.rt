@@ -2,7 +2,7 @@
 ghost use Rattle.std.specs.Prelude.{◌≡◌, OnOk};
 ghost use Rattle.pie_value.specs.TypeTrees.{ty_tree, ty_trees};
 ghost use Rattle.pie_parser.specs.TreeView.{trees_of};
-ghost use Rattle.pie_types.specs.Faults.{Agrees};
+ghost use Rattle.pie_types.specs.Faults.{TypingAgrees};
 ghost use Rattle.pie_types.specs.Spans.{at_of, end_of};
 ghost use Rattle.pie_types.specs.Calls as calls;
 ghost use Rattle.pie_types.specs.Callees.{callee_tree};
@@ -28,7 +28,7 @@ pub fn call(
     name: &Name,
     items: &[Expr],
 ) -> Result<Ty, TypeError>
-    ensures typed { Agrees ty_tree result (spec.call_type headings.now scope.old span.at span.end kind name.now (trees_of items.now)) }
+    ensures typed { TypingAgrees ty_tree result (spec.call_type headings.now scope.old span.at span.end kind name.now (trees_of items.now)) }
     ensures scope { OnOk result (scope.new ≡ scope.old) }
 {
     let callee = callee_of(headings, kind, name)?;
@@ -40,7 +40,7 @@ pub fn call(
 // Whether as many arguments stand there as are taken.
 #[tactic(auto, using(crate::proofs::Left::count_is))]
 fn right_number(callee: &Callee, span: Span, items: &[Expr]) -> Result<(), TypeError>
-    ensures { Agrees (λ _. callee_tree callee.now) result (calls.right_number span.at span.end (callee_tree callee.now) (spec.count (trees_of items.now))) }
+    ensures { TypingAgrees (λ _. callee_tree callee.now) result (calls.right_number span.at span.end (callee_tree callee.now) (spec.count (trees_of items.now))) }
 {
     if items.len() == callee.taken() {
         return Ok(());
@@ -57,7 +57,7 @@ fn arguments(
     callee: &Callee,
     items: &[Expr],
 ) -> Result<Vec<Ty>, TypeError>
-    ensures typed { Agrees (λ types. ty_trees types.items) result (spec.arguments headings.now scope.old (callee_tree callee.now) 0 (trees_of items.now)) }
+    ensures typed { TypingAgrees (λ types. ty_trees types.items) result (spec.arguments headings.now scope.old (callee_tree callee.now) 0 (trees_of items.now)) }
     ensures scope { OnOk result (scope.new ≡ scope.old) }
 {
     let mut types = Vec::new(headings.alloc());
@@ -78,7 +78,7 @@ fn fitting(
     item: &Expr,
     ty: Ty,
 ) -> Result<Ty, TypeError>
-    ensures { Agrees ty_tree result (calls.unless (calls.misfit (callee_tree callee.now) number (ty_tree ty)) (at_of item.now) (end_of item.now) (ty_tree ty)) }
+    ensures { TypingAgrees ty_tree result (calls.unless (calls.misfit (callee_tree callee.now) number (ty_tree ty)) (at_of item.now) (end_of item.now) (ty_tree ty)) }
 {
     match callee.misfit(alloc, number, &ty)? {
         None => Ok(ty),

@@ -1,7 +1,7 @@
 //! What a call by name calls.
 ghost use Rattle.std.specs.Prelude.{◌≡◌, IfOk, option_map, slice_get};
 ghost use Rattle.pie_value.specs.TypeTrees.{ty_tree, ty_trees};
-ghost use Rattle.pie_types.specs.Faults.{Agrees};
+ghost use Rattle.pie_types.specs.Faults.{TypingAgrees};
 ghost use Rattle.pie_signature.specs.Signatures.{answer_type_of};
 ghost use Rattle.pie_types.specs.Headings.{function_in};
 ghost use Rattle.pie_types.specs.Shown.{entries_of, heading_tree};
@@ -35,7 +35,7 @@ pub fn callee_of<'a>(
     kind: CallKind,
     name: &Name,
 ) -> Result<Callee<'a>, TypeError>
-    ensures { Agrees callee_tree result (calls.known name.now (calls.callee_of headings.now kind name.now.text)) }
+    ensures { TypingAgrees callee_tree result (calls.known name.now (calls.callee_of headings.now kind name.now.text)) }
 {
     match found(headings, kind, name.text.as_str()) {
         Some(callee) => Ok(callee),

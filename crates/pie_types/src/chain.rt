@@ -2,7 +2,7 @@
 ghost use Rattle.std.specs.Prelude.{◌≡◌, OnOk};
 ghost use Rattle.pie_value.specs.TypeTrees.{ty_tree};
 ghost use Rattle.pie_parser.specs.TreeView.{steps_of};
-ghost use Rattle.pie_types.specs.Faults.{Agrees};
+ghost use Rattle.pie_types.specs.Faults.{TypingAgrees};
 ghost use Rattle.pie_types.specs.Operators as operators;
 ghost use Rattle.pie_types.specs.Checking as spec;
 
@@ -23,7 +23,7 @@ pub fn chain(
     first: &Expr,
     steps: &[Step],
 ) -> Result<Ty, TypeError>
-    ensures typed { Agrees ty_tree result (spec.chain_type headings.now scope.old first.now (steps_of steps.now)) }
+    ensures typed { TypingAgrees ty_tree result (spec.chain_type headings.now scope.old first.now (steps_of steps.now)) }
     ensures scope { OnOk result (scope.new ≡ scope.old) }
 {
     let found = type_of(headings, scope, first)?;
@@ -41,7 +41,7 @@ fn operands(
     ty: &Ty,
     steps: &[Step],
 ) -> Result<(), TypeError>
-    ensures typed { Agrees (λ _. ty_tree ty.now) result (spec.operands headings.now scope.old (ty_tree ty.now) (steps_of steps.now)) }
+    ensures typed { TypingAgrees (λ _. ty_tree ty.now) result (spec.operands headings.now scope.old (ty_tree ty.now) (steps_of steps.now)) }
     ensures scope { OnOk result (scope.new ≡ scope.old) }
 {
     for step in steps {
@@ -52,7 +52,7 @@ fn operands(
 
 // The type of the first operand, where the operators take it.
 fn first_operand(steps: &[Step], at: usize, end: usize, found: Ty) -> Result<Ty, TypeError>
-    ensures { Agrees ty_tree result (operators.first_operand (steps_of steps.now) at end (ty_tree found)) }
+    ensures { TypingAgrees ty_tree result (operators.first_operand (steps_of steps.now) at end (ty_tree found)) }
 {
     if all_plus(steps) {
         let fits = is_addable(&found);
@@ -93,7 +93,7 @@ pub fn comparison(
     a: &Expr,
     b: &Expr,
 ) -> Result<Ty, TypeError>
-    ensures typed { Agrees ty_tree result (spec.compare_type headings.now scope.old kind a.now b.now) }
+    ensures typed { TypingAgrees ty_tree result (spec.compare_type headings.now scope.old kind a.now b.now) }
     ensures scope { OnOk result (scope.new ≡ scope.old) }
 {
     let found = type_of(headings, scope, a)?;
@@ -104,7 +104,7 @@ pub fn comparison(
 
 // The type of what stands before a comparison, where it takes it.
 fn left_operand(kind: Comparison, at: usize, end: usize, found: Ty) -> Result<Ty, TypeError>
-    ensures { Agrees ty_tree result (operators.left_operand kind at end (ty_tree found)) }
+    ensures { TypingAgrees ty_tree result (operators.left_operand kind at end (ty_tree found)) }
 {
     if is_equality(kind) {
         return Ok(found);

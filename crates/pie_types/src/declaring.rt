@@ -1,6 +1,6 @@
 //! The headings of functions, as a pipeline declares them.
 ghost use Rattle.std.specs.Prelude.{◌≡◌, [], Ok};
-ghost use Rattle.pie_types.specs.Faults.{Agrees};
+ghost use Rattle.pie_types.specs.Faults.{TypingAgrees};
 ghost use Rattle.pie_types.specs.Shown.{heading_tree};
 ghost use Rattle.pie_types.specs.Headings as spec;
 
@@ -16,7 +16,7 @@ use std::alloc::Global;
 // The headings of functions.
 #[tactic(auto, using(crate::proofs::Steps::headings_turn))]
 pub fn headings_of(alloc: Global, functions: &[Function]) -> Result<Headings, TypeError>
-    ensures { Agrees (λ h. h) result (spec.headings_from [] functions.now) }
+    ensures { TypingAgrees (λ h. h) result (spec.headings_from [] functions.now) }
 {
     let mut headings = Headings::new(alloc);
     for function in functions {
@@ -28,7 +28,7 @@ pub fn headings_of(alloc: Global, functions: &[Function]) -> Result<Headings, Ty
 
 // The heading of a function behind others.
 fn heading_of(alloc: Global, headings: &Headings, function: &Function) -> Result<Heading, TypeError>
-    ensures { Agrees heading_tree result (spec.heading_of headings.now function.now) }
+    ensures { TypingAgrees heading_tree result (spec.heading_of headings.now function.now) }
 {
     may_be_named(&function.name, headings)?;
     signature_of(alloc, function)
@@ -36,7 +36,7 @@ fn heading_of(alloc: Global, headings: &Headings, function: &Function) -> Result
 
 // Whether a function may have a name behind others.
 fn may_be_named(name: &Name, headings: &Headings) -> Result<(), TypeError>
-    ensures { Agrees (λ _. headings.now) result (spec.may_be_named name.now headings.now) }
+    ensures { TypingAgrees (λ _. headings.now) result (spec.may_be_named name.now headings.now) }
 {
     let text = name.text.as_str();
     if is_builtin(text) || headings.get(text).is_some() {
@@ -54,7 +54,7 @@ fn is_builtin(name: &str) -> bool
 
 // The heading of a function by itself.
 pub fn signature_of(alloc: Global, function: &Function) -> Result<Heading, TypeError>
-    ensures { Agrees heading_tree result (spec.signature_of function.now) }
+    ensures { TypingAgrees heading_tree result (spec.signature_of function.now) }
 {
     let name = function.name.text.copy()?;
     let params = params_of(alloc, function.params.as_slice())?;
@@ -69,7 +69,7 @@ pub fn signature_of(alloc: Global, function: &Function) -> Result<Heading, TypeE
 // The parameters with their types.
 #[tactic(auto, using(crate::proofs::Steps::params_turn))]
 fn params_of(alloc: Global, params: &[Param]) -> Result<Scope, TypeError>
-    ensures { Agrees (λ s. s) result (spec.params_from [] params.now) }
+    ensures { TypingAgrees (λ s. s) result (spec.params_from [] params.now) }
 {
     let mut done = Scope::new(alloc);
     for param in params {
@@ -80,7 +80,7 @@ fn params_of(alloc: Global, params: &[Param]) -> Result<Scope, TypeError>
 
 // One more parameter: its name, and then its type.
 fn declare(alloc: Global, done: &mut Scope, param: &Param) -> Result<(), TypeError>
-    ensures { Agrees (λ _. done.new) result (spec.with_param done.old param.now) }
+    ensures { TypingAgrees (λ _. done.new) result (spec.with_param done.old param.now) }
 {
     done.may_enter(&param.name)?;
     let name = param.name.text.copy()?;

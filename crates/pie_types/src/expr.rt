@@ -3,7 +3,7 @@ ghost use Rattle.std.specs.Prelude.{◌≡◌, OnOk, ◌∷◌};
 ghost use Rattle.pie_value.specs.Types.{ListTy, TupleTy, parts_of};
 ghost use Rattle.pie_value.specs.TypeTrees.{ty_tree, ty_trees};
 ghost use Rattle.pie_parser.specs.TreeView.{trees_of};
-ghost use Rattle.pie_types.specs.Faults.{Agrees};
+ghost use Rattle.pie_types.specs.Faults.{TypingAgrees};
 ghost use Rattle.pie_types.specs.Checking as spec;
 ghost use Rattle.pie_types.specs.Forms as forms;
 
@@ -23,7 +23,7 @@ use pie_value::{Part, Parts, Ty};
 // The type of an expression. The names in scope stay the same.
 #[cycle(types)]
 pub fn type_of(headings: &Headings, scope: &mut Scope, e: &Expr) -> Result<Ty, TypeError>
-    ensures typed { Agrees ty_tree result (spec.type_of headings.now scope.old e.now) }
+    ensures typed { TypingAgrees ty_tree result (spec.type_of headings.now scope.old e.now) }
     ensures scope { OnOk result (scope.new ≡ scope.old) }
 {
     match &e.form {
@@ -63,7 +63,7 @@ pub fn expected(
     wanted: &Ty,
     e: &Expr,
 ) -> Result<Ty, TypeError>
-    ensures typed { Agrees ty_tree result (forms.fitting (ty_tree wanted.now) e.now (spec.type_of headings.now scope.old e.now)) }
+    ensures typed { TypingAgrees ty_tree result (forms.fitting (ty_tree wanted.now) e.now (spec.type_of headings.now scope.old e.now)) }
     ensures scope { OnOk result (scope.new ≡ scope.old) }
 {
     let found = type_of(headings, scope, e)?;
@@ -72,7 +72,7 @@ pub fn expected(
 
 // The type of a name.
 fn name_type(scope: &Scope, at: usize, end: usize, name: &str) -> Result<Ty, TypeError>
-    ensures { Agrees ty_tree result (forms.of_name scope.now at end name.now) }
+    ensures { TypingAgrees ty_tree result (forms.of_name scope.now at end name.now) }
 {
     match scope.get(name) {
         Some(ty) => Ok(ty.copy()?),
@@ -82,7 +82,7 @@ fn name_type(scope: &Scope, at: usize, end: usize, name: &str) -> Result<Ty, Typ
 
 // `null T`
 fn null(headings: &Headings, ty: &Type) -> Result<Ty, TypeError>
-    ensures { Agrees ty_tree result (forms.of_null ty.now) }
+    ensures { TypingAgrees ty_tree result (forms.of_null ty.now) }
 {
     let ty = written(headings.alloc(), ty)?;
     Ok(Ty::Nullable(Part::new(headings.alloc(), ty)?))
@@ -90,7 +90,7 @@ fn null(headings: &Headings, ty: &Type) -> Result<Ty, TypeError>
 
 // `empty T`
 fn empty(headings: &Headings, ty: &Type) -> Result<Ty, TypeError>
-    ensures { Agrees ty_tree result (forms.of_empty ty.now) }
+    ensures { TypingAgrees ty_tree result (forms.of_empty ty.now) }
 {
     let ty = written(headings.alloc(), ty)?;
     Ok(Ty::List(Part::new(headings.alloc(), ty)?))
@@ -104,7 +104,7 @@ fn projection(
     e: &Expr,
     indices: &[Index],
 ) -> Result<Ty, TypeError>
-    ensures typed { Agrees ty_tree result (forms.of_project e.now (spec.type_of headings.now scope.old e.now) indices.now) }
+    ensures typed { TypingAgrees ty_tree result (forms.of_project e.now (spec.type_of headings.now scope.old e.now) indices.now) }
     ensures scope { OnOk result (scope.new ≡ scope.old) }
 {
     let ty = type_of(headings, scope, e)?;
@@ -114,7 +114,7 @@ fn projection(
 // `(a, b)`
 #[cycle(types)]
 fn tuple(headings: &Headings, scope: &mut Scope, items: &[Expr]) -> Result<Ty, TypeError>
-    ensures typed { Agrees ty_tree result (forms.of_tuple (spec.types_of headings.now scope.old (trees_of items.now))) }
+    ensures typed { TypingAgrees ty_tree result (forms.of_tuple (spec.types_of headings.now scope.old (trees_of items.now))) }
     ensures scope { OnOk result (scope.new ≡ scope.old) }
 {
     let types = types_of(headings, scope, items)?;
@@ -125,7 +125,7 @@ fn tuple(headings: &Headings, scope: &mut Scope, items: &[Expr]) -> Result<Ty, T
 #[cycle(types)]
 #[tactic(auto, using(crate::proofs::Steps::types_turn, crate::proofs::Steps::onto_nothing, crate::proofs::Left::tree_mass_at))]
 fn types_of(headings: &Headings, scope: &mut Scope, items: &[Expr]) -> Result<Vec<Ty>, TypeError>
-    ensures typed { Agrees (λ types. ty_trees types.items) result (spec.types_of headings.now scope.old (trees_of items.now)) }
+    ensures typed { TypingAgrees (λ types. ty_trees types.items) result (spec.types_of headings.now scope.old (trees_of items.now)) }
     ensures scope { OnOk result (scope.new ≡ scope.old) }
 {
     let mut types = Vec::new(headings.alloc());
@@ -145,7 +145,7 @@ fn list(
     end: usize,
     items: &[Expr],
 ) -> Result<Ty, TypeError>
-    ensures typed { Agrees ty_tree result (forms.of_list (spec.list_items headings.now scope.old at end (trees_of items.now))) }
+    ensures typed { TypingAgrees ty_tree result (forms.of_list (spec.list_items headings.now scope.old at end (trees_of items.now))) }
     ensures scope { OnOk result (scope.new ≡ scope.old) }
 {
     let item = list_items(headings, scope, at, end, items)?;
@@ -161,7 +161,7 @@ fn list_items(
     end: usize,
     items: &[Expr],
 ) -> Result<Ty, TypeError>
-    ensures typed { Agrees ty_tree result (spec.list_items headings.now scope.old at end (trees_of items.now)) }
+    ensures typed { TypingAgrees ty_tree result (spec.list_items headings.now scope.old at end (trees_of items.now)) }
     ensures scope { OnOk result (scope.new ≡ scope.old) }
 {
     match items {
@@ -183,7 +183,7 @@ fn more_items(
     ty: &Ty,
     items: &[Expr],
 ) -> Result<(), TypeError>
-    ensures typed { Agrees (λ _. ty_tree ty.now) result (spec.more_items headings.now scope.old (ty_tree ty.now) (trees_of items.now)) }
+    ensures typed { TypingAgrees (λ _. ty_tree ty.now) result (spec.more_items headings.now scope.old (ty_tree ty.now) (trees_of items.now)) }
     ensures scope { OnOk result (scope.new ≡ scope.old) }
 {
     for item in items {
@@ -201,7 +201,7 @@ fn each(
     name: &Name,
     list: &Expr,
 ) -> Result<Ty, TypeError>
-    ensures typed { Agrees ty_tree result (spec.each_type headings.now scope.old item.now name.now list.now) }
+    ensures typed { TypingAgrees ty_tree result (spec.each_type headings.now scope.old item.now name.now list.now) }
     ensures scope { OnOk result (scope.new ≡ scope.old) }
 {
     let one = {
@@ -221,7 +221,7 @@ fn within(
     ty: Ty,
     e: &Expr,
 ) -> Result<Ty, TypeError>
-    ensures typed { Agrees ty_tree result (forms.within scope.old name.now (ty_tree ty) (λ inner. spec.type_of headings.now inner e.now)) }
+    ensures typed { TypingAgrees ty_tree result (forms.within scope.old name.now (ty_tree ty) (λ inner. spec.type_of headings.now inner e.now)) }
     ensures scope { OnOk result (scope.new ≡ scope.old) }
 {
     let depth = scope.len();
@@ -239,7 +239,7 @@ fn effect(
     kind: EffectKind,
     e: &Expr,
 ) -> Result<Ty, TypeError>
-    ensures typed { Agrees ty_tree result (forms.of_effect kind e.now (spec.type_of headings.now scope.old e.now)) }
+    ensures typed { TypingAgrees ty_tree result (forms.of_effect kind e.now (spec.type_of headings.now scope.old e.now)) }
     ensures scope { OnOk result (scope.new ≡ scope.old) }
 {
     let _found = expected(headings, scope, &effect_takes(kind), e)?;
@@ -249,7 +249,7 @@ fn effect(
 // `write(path, value)`
 #[cycle(types)]
 fn write(headings: &Headings, scope: &mut Scope, path: &Expr, value: &Expr) -> Result<Ty, TypeError>
-    ensures typed { Agrees ty_tree result (spec.write_type headings.now scope.old path.now value.now) }
+    ensures typed { TypingAgrees ty_tree result (spec.write_type headings.now scope.old path.now value.now) }
     ensures scope { OnOk result (scope.new ≡ scope.old) }
 {
     expected(headings, scope, &Ty::Path, path)?;
@@ -262,7 +262,7 @@ fn write(headings: &Headings, scope: &mut Scope, path: &Expr, value: &Expr) -> R
 // `fail T(text)`
 #[cycle(types)]
 fn fail(headings: &Headings, scope: &mut Scope, ty: &Type, text: &Expr) -> Result<Ty, TypeError>
-    ensures typed { Agrees ty_tree result (forms.of_fail ty.now text.now (spec.type_of headings.now scope.old text.now)) }
+    ensures typed { TypingAgrees ty_tree result (forms.of_fail ty.now text.now (spec.type_of headings.now scope.old text.now)) }
     ensures scope { OnOk result (scope.new ≡ scope.old) }
 {
     let ty = written(headings.alloc(), ty)?;

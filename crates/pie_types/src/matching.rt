@@ -2,7 +2,7 @@
 ghost use Rattle.std.specs.Prelude.{◌≡◌};
 ghost use Rattle.pie_value.specs.TypeTrees.{ty_tree};
 ghost use Rattle.pie_parser.specs.TreeView.{block_of};
-ghost use Rattle.pie_types.specs.Faults.{Agrees};
+ghost use Rattle.pie_types.specs.Faults.{TypingAgrees};
 ghost use Rattle.pie_types.specs.Spans.{answer_at, answer_end, at_of, end_of};
 ghost use Rattle.pie_types.specs.Operators.{matched, same_type, where_fits};
 
@@ -33,7 +33,7 @@ pub fn mismatch(wanted: Ty, found: Ty, at: usize, end: usize) -> TypeError
 
 // The type that was found, where it fits.
 pub fn where_fits(fits: bool, wanted: Ty, at: usize, end: usize, found: Ty) -> Result<Ty, TypeError>
-    ensures { Agrees ty_tree result (where_fits fits (ty_tree wanted) at end (ty_tree found)) }
+    ensures { TypingAgrees ty_tree result (where_fits fits (ty_tree wanted) at end (ty_tree found)) }
 {
     if fits {
         return Ok(found);
@@ -43,7 +43,7 @@ pub fn where_fits(fits: bool, wanted: Ty, at: usize, end: usize, found: Ty) -> R
 
 // The type that was found, where it is the expected one.
 pub fn matched(wanted: &Ty, at: usize, end: usize, found: Ty) -> Result<Ty, TypeError>
-    ensures { Agrees ty_tree result (matched (ty_tree wanted.now) at end (ty_tree found)) }
+    ensures { TypingAgrees ty_tree result (matched (ty_tree wanted.now) at end (ty_tree found)) }
 {
     let fits = same_type(wanted, &found);
     let wanted = wanted.copy()?;

@@ -5,7 +5,7 @@ use pie_value::Ty;
 
 /// The most parts of the type of a name, itself included: as many types as stand in it when it is written out.
 /// Names make types grow without brackets, to any depth and twice as large with each pair, as in
-/// `val b = (a, a); val c = (b, b);`. A larger one is answered as want of memory.
+/// `val b = (a, a); val c = (b, b);`. A larger one is answered as out of memory.
 pub const MAX_TYPE_PARTS: u32 = 1_000;
 
 // What is left of so much room after a type, if it has room.

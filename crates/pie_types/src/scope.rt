@@ -1,7 +1,7 @@
 //! The names in scope, each with its type.
 ghost use Rattle.std.specs.Prelude.{◌≡◌, [], OnOk, length, take, option_map};
 ghost use Rattle.pie_value.specs.TypeTrees.{ty_tree};
-ghost use Rattle.pie_types.specs.Faults.{Agrees};
+ghost use Rattle.pie_types.specs.Faults.{TypingAgrees};
 ghost use Rattle.pie_types.specs.Scope.{entered, may_enter, type_in, with_name};
 ghost use Rattle.pie_types.specs.Shown.{entries_of};
 
@@ -79,7 +79,7 @@ impl Scope {
 
     // Whether a name may come into scope.
     pub fn may_enter(&self, name: &Name) -> Result<(), TypeError>
-        ensures { Agrees (λ _. self.now) result (may_enter name.now self.now) }
+        ensures { TypingAgrees (λ _. self.now) result (may_enter name.now self.now) }
     {
         if self.get(name.text.as_str()).is_some() {
             return Err(refusal(TypeKind::Duplicate, name.at, name.end));
@@ -103,7 +103,7 @@ impl Scope {
 
     // A name comes into scope, if it may.
     pub fn enter(&mut self, name: &Name, ty: Ty) -> Result<(), TypeError>
-        ensures { Agrees (λ _. self.new) result (entered name.now (ty_tree ty) self.old) }
+        ensures { TypingAgrees (λ _. self.new) result (entered name.now (ty_tree ty) self.old) }
     {
         self.may_enter(name)?;
         let text = name.text.copy()?;

@@ -2,7 +2,7 @@
 ghost use Rattle.std.specs.Prelude.{◌≡◌};
 ghost use Rattle.pie_value.specs.TypeTrees.{ty_tree, ty_trees};
 ghost use Rattle.pie_parser.specs.TypeView.{types_of};
-ghost use Rattle.pie_types.specs.Faults.{Agrees};
+ghost use Rattle.pie_types.specs.Faults.{TypingAgrees};
 ghost use Rattle.pie_types.specs.Written.{named_type, plain_type, written, written_each};
 
 use crate::matching::refusal;
@@ -14,7 +14,7 @@ use std::alloc::Global;
 // The type that is written here. A name other than `bytes` is refused.
 #[cycle(written)]
 pub fn written(alloc: Global, ty: &Type) -> Result<Ty, TypeError>
-    ensures { Agrees ty_tree result (written ty.now) }
+    ensures { TypingAgrees ty_tree result (written ty.now) }
 {
     match &ty.form {
         TypeForm::Plain(plain) => Ok(plain_type(*plain)),
@@ -38,7 +38,7 @@ pub fn written(alloc: Global, ty: &Type) -> Result<Ty, TypeError>
 #[cycle(written)]
 #[tactic(auto, using(crate::proofs::Steps::written_turn, crate::proofs::Steps::onto_nothing, crate::proofs::Left::type_mass_at))]
 fn written_each(alloc: Global, items: &[Type]) -> Result<Vec<Ty>, TypeError>
-    ensures { Agrees (λ types. ty_trees types.items) result (written_each (types_of items.now)) }
+    ensures { TypingAgrees (λ types. ty_trees types.items) result (written_each (types_of items.now)) }
 {
     let mut types = Vec::new(alloc);
     for item in items {
@@ -63,7 +63,7 @@ fn plain_type(plain: PlainType) -> Ty
 
 // The type that a name stands for.
 fn named_type(at: usize, end: usize, name: &str) -> Result<Ty, TypeError>
-    ensures { Agrees ty_tree result (named_type at end name.now) }
+    ensures { TypingAgrees ty_tree result (named_type at end name.now) }
 {
     if name == "bytes" {
         return Ok(Ty::Bytes);

@@ -13,7 +13,7 @@ use Rattle.pie_value.specs.Tree.{Tree, Trees, TUnit, TBool, TInt, TText, TPath, 
 use Rattle.pie_value.specs.Size.{depth_of, deepest_of}
 use Rattle.pie_value.specs.Canonical.{be32, enc, encs, enc_items, HasShortParts, HaveShortParts, HasTrueLeaves, HaveTrueLeaves}
 use Rattle.pie_value.specs.Reading.{Parsed, tag_of, flag_of, int_of, number_of, counted_of, tested_of, is_path_text, values_of}
-use Rattle.pie_value.specs.Reading.{items_front, tagged, value_within}
+use Rattle.pie_value.specs.Reading.{items_prefix, tagged, value_within}
 use Rattle.pie_value.proofs.Elements.{count_of_items}
 use Rattle.pie_value.proofs.Taking.{IsBytes, then_ok, same_value, same_rest, Takes, Takes-then, tag_byte, tag_takes, flag_takes}
 use Rattle.pie_value.proofs.Taking.{number_takes, int_takes, counted_takes, tested_takes}
@@ -79,7 +79,7 @@ values_read d value reads (suc n) ts bs us rest fits e =
     }
 
 -- items behind their number
-pub record ReadsFront (d : ℕ) (bs : List ℕ) (ts : List Tree) (rest : List ℕ) : Type 0 where
+pub record ReadsPrefix (d : ℕ) (bs : List ℕ) (ts : List Tree) (rest : List ℕ) : Type 0 where
   pub takes : Takes bs (enc_items (items_of ts)) rest
   pub few : count_of (items_of ts) < 2 ^ 32
   pub deep : deepest_of (items_of ts) ≤ d
@@ -87,13 +87,13 @@ pub record ReadsFront (d : ℕ) (bs : List ℕ) (ts : List Tree) (rest : List �
   pub leaves : HaveTrueLeaves (items_of ts)
 
 pub front_read : (d : ℕ) (value : List ℕ → Parsed Tree) → IsReader d value → (bs : List ℕ) (ts : List Tree) (rest : List ℕ)
-    → IsBytes bs → items_front value bs ≡ Ok (ts, rest) → ReadsFront d bs ts rest
+    → IsBytes bs → items_prefix value bs ≡ Ok (ts, rest) → ReadsPrefix d bs ts rest
 front_read d value reads bs ts rest fits e =
     let h = then_ok (number_of bs) (λ n after. values_of value n [] after) ts rest e in
     let p = number_takes bs h.0 h.1 fits h.2 in
     let q = values_read d value reads h.0 [] h.1 ts rest p.0.rest_fits h.3 in
     let n : h.0 ≡ count_of (items_of q.more) = sym q.count ∙ sym (count_of_items q.more) in
-    let made : ReadsFront d bs q.more rest = record {
+    let made : ReadsPrefix d bs q.more rest = record {
       takes = Takes-then bs (be32 (count_of (items_of q.more))) h.1 (encs (items_of q.more)) rest
           (subst (λ (k : ℕ). Takes bs (be32 k) h.1) n p.0) q.items.takes;
       few = subst (λ (k : ℕ). k < 2 ^ 32) n p.1;
@@ -101,7 +101,7 @@ front_read d value reads bs ts rest fits e =
       short = q.items.short;
       leaves = q.items.leaves;
     } in
-    subst (λ (us : List Tree). ReadsFront d bs us rest) (sym q.is) made
+    subst (λ (us : List Tree). ReadsPrefix d bs us rest) (sym q.is) made
 
 both_true : (a b : Bool) → (a && b) ≡ true → (a ≡ true) × (b ≡ true)
 both_true true true e = (refl, refl)
@@ -173,7 +173,7 @@ tagged_read d value reads TagPath bs mid t rest p e =
       leaves = (IsUtf8-from_is_utf8 h.0 both.0, both.1);
     })
 tagged_read d value reads TagList bs mid t rest p e =
-    let h = then_ok (items_front value mid) (λ ts after. Ok (TList (items_of ts), after)) t rest e in
+    let h = then_ok (items_prefix value mid) (λ ts after. Ok (TList (items_of ts), after)) t rest e in
     let q = front_read d value reads mid h.0 h.1 p.rest_fits h.2 in
     renamed (d + 1) bs (TList (items_of h.0)) t rest (same_value (TList (items_of h.0)) t h.1 rest h.3)
     (record {
@@ -184,7 +184,7 @@ tagged_read d value reads TagList bs mid t rest p e =
       leaves = q.leaves;
     })
 tagged_read d value reads TagTuple bs mid t rest p e =
-    let h = then_ok (items_front value mid) (λ ts after. Ok (TTuple (items_of ts), after)) t rest e in
+    let h = then_ok (items_prefix value mid) (λ ts after. Ok (TTuple (items_of ts), after)) t rest e in
     let q = front_read d value reads mid h.0 h.1 p.rest_fits h.2 in
     renamed (d + 1) bs (TTuple (items_of h.0)) t rest (same_value (TTuple (items_of h.0)) t h.1 rest h.3)
     (record {

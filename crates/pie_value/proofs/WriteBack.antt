@@ -12,7 +12,7 @@ use Rattle.pie_value.specs.Tree.{Tree, Trees, TUnit, TBool, TInt, TText, TPath, 
 use Rattle.pie_value.specs.Tree.{list_of, count_of}
 use Rattle.pie_value.specs.Size.{depth_of, deepest_of}
 use Rattle.pie_value.specs.Canonical.{be32, counted, enc, encs, enc_items, HasShortParts, HaveShortParts, HasTrueLeaves, HaveTrueLeaves}
-use Rattle.pie_value.specs.Reading.{Parsed, then_on, flag_of, is_path_text, values_of, items_front, value_within}
+use Rattle.pie_value.specs.Reading.{Parsed, then_on, flag_of, is_path_text, values_of, items_prefix, value_within}
 use Rattle.pie_value.proofs.Taking.{number_again, int_bytes, int_again, counted_again, tested_again}
 use Rattle.pie_value.proofs.Turns.{value_goes}
 
@@ -49,9 +49,9 @@ one_deep d h e = omega arith
 
 -- items are read behind their number
 pub front_by : (value : List ℕ → Parsed Tree) (ts : Trees) (rest : List ℕ) → count_of ts < 2 ^ 32
-    → values_of value (count_of ts) [] (encs ts ++ rest) ≡ Ok (list_of ts, rest) → items_front value (enc_items ts ++ rest) ≡ Ok (list_of ts, rest)
+    → values_of value (count_of ts) [] (encs ts ++ rest) ≡ Ok (list_of ts, rest) → items_prefix value (enc_items ts ++ rest) ≡ Ok (list_of ts, rest)
 front_by value ts rest few e =
-    ap (λ (x : List ℕ). items_front value x) (append_assoc (be32 (count_of ts)) (encs ts) rest)
+    ap (λ (x : List ℕ). items_prefix value x) (append_assoc (be32 (count_of ts)) (encs ts) rest)
     ∙ ap (λ (p : Parsed ℕ). then_on p (λ n after. values_of value n [] after)) (number_again (count_of ts) (encs ts ++ rest) few)
     ∙ e
 
@@ -97,6 +97,6 @@ mutual
       ∙ items_again d ts (us ++ t ∷ []) rest (omega arith) short.1 leaves.1
       ∙ ap (λ (x : List Tree). found (x, rest)) (append_assoc us (t ∷ []) (list_of ts))
 
-pub front_again : (d : ℕ) (ts : Trees) (rest : List ℕ) → deepest_of ts ≤ d → count_of ts < 2 ^ 32 → HaveShortParts ts → HaveTrueLeaves ts
-    → items_front (value_within d) (enc_items ts ++ rest) ≡ Ok (list_of ts, rest)
-front_again d ts rest deep few short leaves = front_by (value_within d) ts rest few (items_again d ts [] rest deep short leaves)
+pub prefix_again : (d : ℕ) (ts : Trees) (rest : List ℕ) → deepest_of ts ≤ d → count_of ts < 2 ^ 32 → HaveShortParts ts → HaveTrueLeaves ts
+    → items_prefix (value_within d) (enc_items ts ++ rest) ≡ Ok (list_of ts, rest)
+prefix_again d ts rest deep few short leaves = front_by (value_within d) ts rest few (items_again d ts [] rest deep short leaves)

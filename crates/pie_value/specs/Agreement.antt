@@ -4,19 +4,19 @@ use Rattle.pie_value.specs.declared.value_fault.ValueFault.{ValueFault}
 use Rattle.pie_value.specs.declared.value_fault.ValueFault.TheVariants.{OutOfMemory}
 use Rattle.pie_value.specs.Reading.{Parsed}
 
--- an answer is what is read, want of memory left free
-abbrev pub Agrees : {A B : Type 0} → (A → B) → Result A ValueFault → List ℕ → Parsed B → Type 0
-Agrees f (Ok a) rest p = p ≡ Ok (f a, rest)
-Agrees f (Err OutOfMemory) rest p = Unit {0}
-Agrees f (Err e) rest p = p ≡ Err e
+-- an answer is what is read, being out of memory left free
+abbrev pub ValueAgrees : {A B : Type 0} → (A → B) → Result A ValueFault → List ℕ → Parsed B → Type 0
+ValueAgrees f (Ok a) rest p = p ≡ Ok (f a, rest)
+ValueAgrees f (Err OutOfMemory) rest p = Unit {0}
+ValueAgrees f (Err e) rest p = p ≡ Err e
 
 -- an answer is what is read and how many bytes it takes
-abbrev pub AgreesInFront : {A B : Type 0} → (A → B) → Result (A × ℕ) ValueFault → List ℕ → Parsed B → Type 0
-AgreesInFront f (Ok a) bs p = (p ≡ Ok (f a.0, drop a.1 bs)) × (a.1 ≤ length bs)
-AgreesInFront f (Err OutOfMemory) bs p = Unit {0}
-AgreesInFront f (Err e) bs p = p ≡ Err e
+abbrev pub ValueAgreesOnPrefix : {A B : Type 0} → (A → B) → Result (A × ℕ) ValueFault → List ℕ → Parsed B → Type 0
+ValueAgreesOnPrefix f (Ok a) bs p = (p ≡ Ok (f a.0, drop a.1 bs)) × (a.1 ≤ length bs)
+ValueAgreesOnPrefix f (Err OutOfMemory) bs p = Unit {0}
+ValueAgreesOnPrefix f (Err e) bs p = p ≡ Err e
 
--- an answer that refuses the bytes, which want of memory isn't
+-- an answer that refuses the bytes, which out of memory isn't
 abbrev pub Refuses : {A : Type 0} → Result A ValueFault → Type 0
 Refuses (Ok a) = ⊥
 Refuses (Err OutOfMemory) = ⊥

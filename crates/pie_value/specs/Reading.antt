@@ -79,8 +79,8 @@ values_of value zero ts bs = Ok (ts, bs)
 values_of value (suc n) ts bs = then_on (value bs) (λ t rest. values_of value n (ts ++ t ∷ []) rest)
 
 -- values behind their number
-abbrev pub items_front : (List ℕ → Parsed Tree) → List ℕ → Parsed (List Tree)
-items_front value bs = then_on (number_of bs) (λ n rest. values_of value n [] rest)
+abbrev pub items_prefix : (List ℕ → Parsed Tree) → List ℕ → Parsed (List Tree)
+items_prefix value bs = then_on (number_of bs) (λ n rest. values_of value n [] rest)
 
 -- what follows the tag of a value whose items are read so
 abbrev pub tagged : (List ℕ → Parsed Tree) → Tag → List ℕ → Parsed Tree
@@ -89,8 +89,8 @@ tagged value TagBool bs = then_on (flag_of bs) (λ b rest. Ok (TBool b, rest))
 tagged value TagInt bs = then_on (int_of bs) (λ n rest. Ok (TInt n, rest))
 tagged value TagText bs = then_on (tested_of is_utf8 bs) (λ text rest. Ok (TText text, rest))
 tagged value TagPath bs = then_on (tested_of is_path_text bs) (λ text rest. Ok (TPath text, rest))
-tagged value TagList bs = then_on (items_front value bs) (λ ts rest. Ok (TList (items_of ts), rest))
-tagged value TagTuple bs = then_on (items_front value bs) (λ ts rest. Ok (TTuple (items_of ts), rest))
+tagged value TagList bs = then_on (items_prefix value bs) (λ ts rest. Ok (TList (items_of ts), rest))
+tagged value TagTuple bs = then_on (items_prefix value bs) (λ ts rest. Ok (TTuple (items_of ts), rest))
 tagged value TagNull bs = Ok (TNull, bs)
 tagged value TagBytes bs = then_on (counted_of bs) (λ text rest. Ok (TBytes text, rest))
 
@@ -100,8 +100,8 @@ value_within zero bs = then_on (tag_of bs) (λ tag rest. Err TooDeep)
 value_within (suc d) bs = then_on (tag_of bs) (tagged (value_within d))
 
 -- a value as it may be stored
-unfoldable pub value_front : List ℕ → Parsed Tree
-value_front bs = value_within 64 bs
+unfoldable pub value_prefix : List ℕ → Parsed Tree
+value_prefix bs = value_within 64 bs
 
 -- what is read must be all there is
 abbrev pub alone : {A : Type 0} → A → List ℕ → Parsed A
@@ -110,10 +110,10 @@ alone a (b ∷ bs) = Err Rest
 
 -- a value and nothing after it
 abbrev pub value_whole : List ℕ → Parsed Tree
-value_whole bs = then_on (value_front bs) alone
+value_whole bs = then_on (value_prefix bs) alone
 
 -- a task: its name and its arguments
-abbrev pub task_front : List ℕ → Parsed Task
-task_front bs =
+abbrev pub task_prefix : List ℕ → Parsed Task
+task_prefix bs =
     then_on (tested_of is_utf8 bs) (λ name after.
-    then_on (items_front value_front after) (λ ts rest. Ok (record { func = name; args = ts }, rest)))
+    then_on (items_prefix value_prefix after) (λ ts rest. Ok (record { func = name; args = ts }, rest)))

@@ -4,8 +4,8 @@ ghost use Rattle.std.specs.Prelude.{ℕ, [], take, IfOk};
 ghost use Rattle.pie_value.specs.Tree.{Tree};
 ghost use Rattle.pie_value.specs.Values.{tree_of};
 ghost use Rattle.pie_value.specs.Canonical.{IsCanonical, IsCanonicalTask};
-ghost use Rattle.pie_value.specs.Agreement.{Agrees, AgreesInFront, Refuses};
-ghost use Rattle.pie_value.specs.Reading.{value_front, value_whole, task_front};
+ghost use Rattle.pie_value.specs.Agreement.{ValueAgrees, ValueAgreesOnPrefix, Refuses};
+ghost use Rattle.pie_value.specs.Reading.{value_prefix, value_whole, task_prefix};
 
 use crate::reader::Reader;
 use crate::{Task, Value, ValueFault};
@@ -13,7 +13,7 @@ use std::alloc::Global;
 
 /// The value whose canonical bytes these are.
 pub fn decode(alloc: Global, bytes: &[u8]) -> Result<Value, ValueFault>
-    ensures answer { Agrees tree_of result [] (value_whole bytes.now) }
+    ensures answer { ValueAgrees tree_of result [] (value_whole bytes.now) }
     ensures canonical { IfOk result (λ value. IsCanonical (tree_of value) bytes.now) }
     ensures refused { Refuses result → (t : Tree) → ¬ (IsCanonical t bytes.now) }
 {
@@ -22,7 +22,7 @@ pub fn decode(alloc: Global, bytes: &[u8]) -> Result<Value, ValueFault>
 
 /// The value whose canonical bytes stand in front, and how many these are. Bytes after them are no fault.
 pub fn decode_front(alloc: Global, bytes: &[u8]) -> Result<(Value, usize), ValueFault>
-    ensures answer { AgreesInFront tree_of result bytes.now (value_front bytes.now) }
+    ensures answer { ValueAgreesOnPrefix tree_of result bytes.now (value_prefix bytes.now) }
     ensures canonical { IfOk result (λ found. IsCanonical (tree_of found.0) (take found.1 bytes.now)) }
     ensures refused { Refuses result → (t : Tree) (n : ℕ) → ¬ (IsCanonical t (take n bytes.now)) }
 {
@@ -31,7 +31,7 @@ pub fn decode_front(alloc: Global, bytes: &[u8]) -> Result<(Value, usize), Value
 
 /// The task whose canonical bytes stand in front, and how many these are. Bytes after them are no fault.
 pub fn decode_task_front(alloc: Global, bytes: &[u8]) -> Result<(Task, usize), ValueFault>
-    ensures answer { AgreesInFront (λ t. t) result bytes.now (task_front bytes.now) }
+    ensures answer { ValueAgreesOnPrefix (λ t. t) result bytes.now (task_prefix bytes.now) }
     ensures canonical { IfOk result (λ found. IsCanonicalTask found.0 (take found.1 bytes.now)) }
     ensures refused { Refuses result → (t : Task) (n : ℕ) → ¬ (IsCanonicalTask t (take n bytes.now)) }
 {

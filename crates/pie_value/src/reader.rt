@@ -2,9 +2,9 @@
 ghost use Rattle.std.specs.Prelude.{◌≡◌, ◌-◌, ◌==◌, [], length, MatchOption, true, false};
 ghost use Rattle.std.specs.Str.{is_utf8};
 ghost use Rattle.pie_value.specs.Values.{tree_of};
-ghost use Rattle.pie_value.specs.Agreement.{Agrees, AgreesInFront};
+ghost use Rattle.pie_value.specs.Agreement.{ValueAgrees, ValueAgreesOnPrefix};
 ghost use Rattle.pie_value.specs.Reading.{byte_of, bytes_of, number_of, int_of, counted_of, tested_of, is_path_text, tag_at, tag_of};
-ghost use Rattle.pie_value.specs.Reading.{flag_of, tagged, items_front, value_within, value_front, value_whole, task_front};
+ghost use Rattle.pie_value.specs.Reading.{flag_of, tagged, items_prefix, value_within, value_prefix, value_whole, task_prefix};
 
 use crate::{Blob, Items, Task, Value, ValueFault};
 use pie_base::{MAX_DEPTH, Path, PathError, Text};
@@ -41,7 +41,7 @@ impl<'a> Model for Reader<'a> {
 
 impl<'a> Reader<'a> {
     pub(crate) fn whole(alloc: Global, bytes: &'a [u8]) -> Result<Value, ValueFault>
-        ensures { Agrees tree_of result [] (value_whole bytes.now) }
+        ensures { ValueAgrees tree_of result [] (value_whole bytes.now) }
     {
         let mut reader = Reader { rest: bytes };
         let value = reader.front(alloc)?;
@@ -56,7 +56,7 @@ impl<'a> Reader<'a> {
         alloc: Global,
         bytes: &'a [u8],
     ) -> Result<(Value, usize), ValueFault>
-        ensures { AgreesInFront tree_of result bytes.now (value_front bytes.now) }
+        ensures { ValueAgreesOnPrefix tree_of result bytes.now (value_prefix bytes.now) }
     {
         let mut reader = Reader { rest: bytes };
         let value = reader.front(alloc)?;
@@ -65,7 +65,7 @@ impl<'a> Reader<'a> {
     }
 
     pub(crate) fn task_in_front(alloc: Global, bytes: &'a [u8]) -> Result<(Task, usize), ValueFault>
-        ensures { AgreesInFront (λ t. t) result bytes.now (task_front bytes.now) }
+        ensures { ValueAgreesOnPrefix (λ t. t) result bytes.now (task_prefix bytes.now) }
     {
         let mut reader = Reader { rest: bytes };
         let func = reader.text(alloc)?;
@@ -75,7 +75,7 @@ impl<'a> Reader<'a> {
     }
 
     fn byte(&mut self) -> Result<u8, ValueFault>
-        ensures { Agrees (λ b. b) result self.new (byte_of self.old) }
+        ensures { ValueAgrees (λ b. b) result self.new (byte_of self.old) }
     {
         let Some((byte, rest)) = self.rest.split_first() else {
             return Err(ValueFault::Short);
@@ -85,7 +85,7 @@ impl<'a> Reader<'a> {
     }
 
     fn bytes(&mut self, len: usize) -> Result<&'a [u8], ValueFault>
-        ensures { Agrees (λ b. b.now) result self.new (bytes_of len self.old) }
+        ensures { ValueAgrees (λ b. b.now) result self.new (bytes_of len self.old) }
     {
         if self.rest.len() < len {
             return Err(ValueFault::Short);
@@ -97,7 +97,7 @@ impl<'a> Reader<'a> {
 
     #[tactic(auto, unfolding(crate::specs::Reading::number_of))]
     fn number(&mut self) -> Result<usize, ValueFault>
-        ensures { Agrees (λ n. n) result self.new (number_of self.old) }
+        ensures { ValueAgrees (λ n. n) result self.new (number_of self.old) }
     {
         let Some((digits, rest)) = self.rest.split_first_chunk::<4>() else {
             return Err(ValueFault::Short);
@@ -108,7 +108,7 @@ impl<'a> Reader<'a> {
 
     #[tactic(auto, unfolding(crate::specs::Reading::int_of))]
     fn int(&mut self) -> Result<i64, ValueFault>
-        ensures { Agrees (λ n. n) result self.new (int_of self.old) }
+        ensures { ValueAgrees (λ n. n) result self.new (int_of self.old) }
     {
         let Some((digits, rest)) = self.rest.split_first_chunk::<8>() else {
             return Err(ValueFault::Short);
@@ -118,21 +118,21 @@ impl<'a> Reader<'a> {
     }
 
     fn counted(&mut self) -> Result<&'a [u8], ValueFault>
-        ensures { Agrees (λ b. b.now) result self.new (counted_of self.old) }
+        ensures { ValueAgrees (λ b. b.now) result self.new (counted_of self.old) }
     {
         let len = self.number()?;
         self.bytes(len)
     }
 
     fn tag(&mut self) -> Result<Tag, ValueFault>
-        ensures { Agrees (λ t. t) result self.new (tag_of self.old) }
+        ensures { ValueAgrees (λ t. t) result self.new (tag_of self.old) }
     {
         let byte = self.byte()?;
         known_tag(byte).ok_or(ValueFault::BadTag)
     }
 
     fn flag(&mut self) -> Result<bool, ValueFault>
-        ensures { Agrees (λ b. b) result self.new (flag_of self.old) }
+        ensures { ValueAgrees (λ b. b) result self.new (flag_of self.old) }
     {
         match self.byte()? {
             0 => Ok(false),
@@ -142,7 +142,7 @@ impl<'a> Reader<'a> {
     }
 
     fn text(&mut self, alloc: Global) -> Result<Text, ValueFault>
-        ensures { Agrees (λ t. t) result self.new (tested_of is_utf8 self.old) }
+        ensures { ValueAgrees (λ t. t) result self.new (tested_of is_utf8 self.old) }
     {
         let bytes = self.counted()?;
         let Some(text) = as_text(bytes) else {
@@ -154,7 +154,7 @@ impl<'a> Reader<'a> {
 
     #[tactic(auto, using(crate::proofs::TextTests::path_taken, crate::proofs::TextTests::path_refused))]
     fn path(&mut self, alloc: Global) -> Result<Path, ValueFault>
-        ensures { Agrees (λ p. p) result self.new (tested_of is_path_text self.old) }
+        ensures { ValueAgrees (λ p. p) result self.new (tested_of is_path_text self.old) }
     {
         let bytes = self.counted()?;
         let Some(text) = as_text(bytes) else {
@@ -171,7 +171,7 @@ impl<'a> Reader<'a> {
     #[cycle(reading)]
     #[tactic(auto, using(crate::proofs::Turns::value_goes))]
     fn value(&mut self, alloc: Global, depth: u32) -> Result<Value, ValueFault>
-        ensures { Agrees tree_of result self.new (value_within depth self.old) }
+        ensures { ValueAgrees tree_of result self.new (value_within depth self.old) }
     {
         let tag = self.tag()?;
         if depth == 0 {
@@ -182,7 +182,7 @@ impl<'a> Reader<'a> {
 
     #[cycle(reading)]
     fn tagged(&mut self, alloc: Global, tag: Tag, depth: u32) -> Result<Value, ValueFault>
-        ensures { Agrees tree_of result self.new (tagged (value_within depth) tag self.old) }
+        ensures { ValueAgrees tree_of result self.new (tagged (value_within depth) tag self.old) }
     {
         match tag {
             Tag::Unit => Ok(Value::Unit),
@@ -224,7 +224,7 @@ impl<'a> Reader<'a> {
     #[cycle(reading)]
     #[tactic(auto, using(crate::proofs::Turns::one_more, crate::proofs::Turns::one_fails))]
     fn items(&mut self, alloc: Global, depth: u32) -> Result<Items, ValueFault>
-        ensures { Agrees (λ ts. ts) result self.new (items_front (value_within depth) self.old) }
+        ensures { ValueAgrees (λ ts. ts) result self.new (items_prefix (value_within depth) self.old) }
     {
         let count = self.number()?;
         let mut items = Items::new();
@@ -235,17 +235,17 @@ impl<'a> Reader<'a> {
         Ok(items)
     }
 
-    #[tactic(auto, unfolding(crate::specs::Reading::value_front))]
+    #[tactic(auto, unfolding(crate::specs::Reading::value_prefix))]
     fn front(&mut self, alloc: Global) -> Result<Value, ValueFault>
-        ensures { Agrees tree_of result self.new (value_front self.old) }
+        ensures { ValueAgrees tree_of result self.new (value_prefix self.old) }
     {
         let value = self.value(alloc, MAX_DEPTH)?;
         Ok(value)
     }
 
-    #[tactic(auto, unfolding(crate::specs::Reading::value_front))]
+    #[tactic(auto, unfolding(crate::specs::Reading::value_prefix))]
     fn front_items(&mut self, alloc: Global) -> Result<Items, ValueFault>
-        ensures { Agrees (λ ts. ts) result self.new (items_front value_front self.old) }
+        ensures { ValueAgrees (λ ts. ts) result self.new (items_prefix value_prefix self.old) }
     {
         let items = self.items(alloc, MAX_DEPTH)?;
         Ok(items)

@@ -67,7 +67,7 @@ impl Tasks {
 pub enum Refusal {
     /// The first fault of the first root that failed.
     Fault(Fault),
-    /// Tasks that require one another in a circle.
+    /// Tasks that require one another in a cycle.
     Cycle(Tasks),
     /// More tasks than a build may enter.
     Many,

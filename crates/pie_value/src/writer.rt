@@ -6,7 +6,7 @@ ghost use Rattle.pie_value.specs.Tree.{items_of};
 ghost use Rattle.pie_value.specs.Values.{tree_of, trees_of};
 ghost use Rattle.pie_value.specs.Canonical.{be32, counted, enc, encs, enc_items, enc_task, HasShortParts, HaveShortParts, HasTrueLeaves};
 ghost use Rattle.pie_value.specs.Canonical.{HaveTrueLeaves, IsEncodable, IsEncodableTask, IsCanonical, IsCanonicalTask};
-ghost use Rattle.pie_value.specs.Reading.{value_whole, task_front};
+ghost use Rattle.pie_value.specs.Reading.{value_whole, task_prefix};
 
 use crate::{Items, Task, Value, size};
 use pie_base::OutOfMemory;
@@ -31,7 +31,7 @@ pub fn encode_task(alloc: Global, task: &Task) -> Result<Vec<u8>, OutOfMemory>
     requires { IsEncodableTask task.now }
     ensures bytes { IfOk result (λ bytes. bytes.items ≡ enc_task task.now) }
     ensures canonical { IfOk result (λ bytes. IsCanonicalTask task.now bytes.items) }
-    ensures read_back { IfOk result (λ bytes. task_front bytes.items ≡ Ok (task.now, [])) }
+    ensures read_back { IfOk result (λ bytes. task_prefix bytes.items ≡ Ok (task.now, [])) }
 {
     let mut out = Vec::with_capacity(alloc, task.size() as usize)?;
     put_counted(&mut out, task.func.as_str().as_bytes())?;

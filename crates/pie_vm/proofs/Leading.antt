@@ -30,10 +30,10 @@ leads_far code b c d l m = record { ends = λ rest o h. l.ends rest o (m.ends re
 no_more : (c : Config) → more_for [] c ≡ c
 no_more c = ap (λ left. record c { state = record c.state { answers = left } }) (append-nil c.state.answers)
 
--- running that ends here is what code comes to
-pub comes_to : (code : Code) (args : List Tree) (answers : List Answer) (c : Config) (o : Outcome Tree) (s : State)
+-- running that ends here is what code evaluates to
+pub evaluates_to : (code : Code) (args : List Tree) (answers : List Answer) (c : Config) (o : Outcome Tree) (s : State)
     → Leads code (start code args answers) c → step code c ≡ ends o s → CodeNext code args answers (o, s)
-comes_to code args answers c o s l e =
+evaluates_to code args answers c o s l e =
     subst (λ d. Ends code d (o, s)) (no_more (start code args answers))
     (l.ends [] (o, s) (1, ap (λ d. run code 1 d) (no_more c) ∙ ap (λ t. run_on t (run code 0)) e))
 
@@ -63,10 +63,10 @@ waits_empty code b (wants e) d (reaches {last = c} l h k) = asks_empty code c (w
 waits_empty code b (done t) d r = tt
 waits_empty code b (fails k) d r = tt
 
--- what is reached is what code comes to
+-- what is reached is what code evaluates to
 pub next_is : (code : Code) (b : Config) (o : Outcome Tree) (d : Config) → Reaches code b o d → (args : List Tree) (answers : List Answer)
     → Leads code (start code args answers) b → CodeNext code args answers (o, d.state)
-next_is code b o d (reaches {last = c} l h k) args answers m = comes_to code args answers c o d.state (leads_far code (start code args answers) b c m l.leads) h
+next_is code b o d (reaches {last = c} l h k) args answers m = evaluates_to code args answers c o d.state (leads_far code (start code args answers) b c m l.leads) h
 
 -- and where it asks, running goes on from there
 pub next_follows : (code : Code) (b : Config) (o : Outcome Tree) (d : Config) → Reaches code b o d → (args : List Tree) (answers : List Answer)

@@ -7,14 +7,14 @@ use Rattle.pie_value.specs.Values.{tree_of}
 use Rattle.pie_value.specs.BuiltinForms.{Answered}
 use Rattle.pie_operators.specs.declared.fault.OperatorFault.{OperatorFault}
 use Rattle.pie_operators.specs.declared.fault.OperatorFault.TheVariants.{Fault, OutOfMemory as NoMemory}
-use Rattle.pie_operators.specs.Agreement.{Agrees}
+use Rattle.pie_operators.specs.Agreement.{ResultAgrees}
 use Rattle.pie_operators.specs.Domain.{by_answer}
 use Rattle.pie_code.specs.Running.{Config, Turn, act_on}
 use Rattle.pie_vm.specs.declared.ending.Ending.{Ending}
 use Rattle.pie_vm.specs.Steps.{Moved, Settles}
 
 pub settled : (x : Result Value OperatorFault) (a : Answered) (r : Result (Option Ending) OutOfMemory) (old new : Config)
-    → Agrees x a → Settles x r old new → Moved r new (act_on (by_answer a) old)
+    → ResultAgrees x a → Settles x r old new → Moved r new (act_on (by_answer a) old)
 settled (Ok v) a r old new h k = subst (λ b. Moved r new (act_on (by_answer b) old)) (sym h) k
 settled (Err (Fault f)) a r old new h k = subst (λ b. Moved r new (act_on (by_answer b) old)) (sym h) k
 settled (Err NoMemory) a r old new h k = k (act_on (by_answer a) old)

@@ -21,13 +21,13 @@ abbrev pub answers_of : Option Answer → List Answer
 answers_of None = []
 answers_of (Some a) = a ∷ []
 
--- what running has come to, by the event that the machine gives
+-- what running evaluated to, by the event that the machine gives
 abbrev pub outcome_of : Event → Outcome Tree
 outcome_of (Done v) = done (tree_of v)
 outcome_of (Fail k) = fails k
 outcome_of e = wants e
 
--- what running has come to at its end
+-- what running evaluated to at its end
 abbrev pub ended : Ending → Outcome Tree
 ended (endings.Done v) = done (tree_of v)
 ended (endings.Fail k) = fails k
@@ -42,7 +42,7 @@ told (Ok None) = Ok None
 told (Ok (Some e)) = Ok (Some (event_told e))
 told (Err e) = Err e
 
--- what an instruction that asks nothing did is one turn of running: it goes on, or ends; want of memory says nothing
+-- what an instruction that asks nothing did is one turn of running: it goes on, or ends; out of memory says nothing
 abbrev pub Moved : Result (Option Ending) OutOfMemory → Config → Turn → Type 0
 Moved (Ok None) new t = t ≡ goes new
 Moved (Ok (Some e)) new t = t ≡ ends (ended e) new.state
@@ -60,7 +60,7 @@ Stays (wants e) old new = new ≡ old
 Stays (done t) old new = Unit {0}
 Stays (fails k) old new = Unit {0}
 
--- what the machine did is one turn of running: it goes on, or gives an event; want of memory says nothing
+-- what the machine did is one turn of running: it goes on, or gives an event; out of memory says nothing
 abbrev pub Turned : Result (Option Event) OutOfMemory → Config → Config → Turn → Type 0
 Turned (Ok None) old new t = t ≡ goes new
 Turned (Ok (Some e)) old new t = (t ≡ ends (outcome_of e) new.state) × Stays (outcome_of e) old new

@@ -2,7 +2,7 @@
 ghost use Rattle.std.specs.Prelude.{◌≡◌, List, length, ◌≤◌, take, drop, reverse};
 ghost use Rattle.pie_value.specs.Builtins.{answer_of};
 ghost use Rattle.pie_signature.specs.Signatures.{arity_of};
-ghost use Rattle.pie_operators.specs.Agreement.{Agrees};
+ghost use Rattle.pie_operators.specs.Agreement.{ResultAgrees};
 ghost use Rattle.pie_operators.specs.Domain.{by_answer};
 ghost use Rattle.pie_code.specs.Running.{act_on, pop_many};
 ghost use Rattle.pie_vm.specs.Steps.{Moved};
@@ -42,7 +42,7 @@ impl Frame {
 
 // What a built-in function answers.
 fn answered(alloc: Global, which: Builtin, args: &Items) -> Result<Value, OperatorFault>
-    ensures { Agrees result (answer_of which args.now) }
+    ensures { ResultAgrees result (answer_of which args.now) }
 {
     match apply(alloc, which, args.as_slice()) {
         Ok(value) => Ok(value),

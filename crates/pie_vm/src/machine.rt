@@ -76,7 +76,7 @@ impl Machine {
     }
 
     #[tactic(auto, using(crate::proofs::Walks::next_turn))]
-    /// Runs up to the next effect or to the end. After want of memory the machine is over.
+    /// Runs up to the next effect or to the end. After out of memory the machine is over.
     pub fn next(&mut self, code: &Checked) -> Result<Event, OutOfMemory>
         requires ready { self.old.phase ≡ MachineState.Ready }
         requires belongs { Belongs code.now self.old }

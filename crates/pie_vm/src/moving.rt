@@ -3,7 +3,7 @@ ghost use Rattle.std.specs.Prelude.{◌≡◌, slice_get};
 ghost use Rattle.pie_value.specs.Tree.{TText};
 ghost use Rattle.pie_value.specs.Values.{tree_of};
 ghost use Rattle.pie_value.specs.BuiltinForms.{made};
-ghost use Rattle.pie_operators.specs.Agreement.{Agrees};
+ghost use Rattle.pie_operators.specs.Agreement.{ResultAgrees};
 ghost use Rattle.pie_operators.specs.Domain.{by_answer};
 ghost use Rattle.pie_operators.specs.Effects.{fail};
 ghost use Rattle.pie_code.specs.Running.{act_on, finish, pop, push_found, push_text, store, tick};
@@ -111,7 +111,7 @@ impl Frame {
 
 // A new value, or the fault Big where it passes the limits.
 fn made(value: Value) -> Result<Value, OperatorFault>
-    ensures { Agrees result (made (tree_of value)) }
+    ensures { ResultAgrees result (made (tree_of value)) }
 {
     if value.is_small() {
         Ok(value)

@@ -18,7 +18,7 @@ impl Frame {
         self.answer = Some(answer);
     }
 
-    /// Runs up to the next event. Accepted code comes to one.
+    /// Runs up to the next event. Accepted code evaluates to one.
     #[tactic(auto, using(crate::proofs::Walks::steps_lead))]
     pub(crate) fn run(&mut self, code: &Code) -> Result<Event, OutOfMemory>
         requires accepted { IsAccepted code.now }

@@ -1,6 +1,6 @@
 //! What a command line asks for.
 
-/// What the words of a command line ask for. Rule: docs/BUILDING.md, "Commands".
+/// What the arguments of a command line ask for. Rule: docs/BUILDING.md, "Commands".
 #[derive(Clone, Copy, Debug, PartialEq, Eq)]
 pub enum Command {
     /// `check`: read and check the project.

@@ -1,4 +1,4 @@
-//! The words of a command line.
+//! The arguments of a command line.
 #![tactic(auto)]
 
 mod command;

@@ -1,4 +1,4 @@
-//! Reading the words of a command line.
+//! Reading the arguments of a command line.
 ghost use Rattle.std.specs.Prelude.{◌≡◌, ◌≢◌, List, ℕ, [], ◌∷◌, codes, IfOk, IfErr};
 ghost use Rattle.pie_words.specs.Commands.{words_of, texts_of, usage_text};
 ghost use Rattle.pie_words.specs.declared.command.Command.{Command};
@@ -16,7 +16,7 @@ pub enum WordsFault {
 pub const USAGE: &str =
     "usage: pie check, fresh [--json], build [--json], replay [--json], demo SEED SIZE, topdown [--json], scan, auto, cached\n";
 
-/// What the words of a command line, without the program's name, ask for.
+/// What the arguments of a command line, without the program's name, ask for.
 pub fn read_words(words: &[String]) -> Result<Command, WordsFault>
     ensures accepted { IfOk result (λ command. texts_of words.now ≡ words_of command) }
     ensures refused { IfErr result (λ fault. (command : Command) → texts_of words.now ≢ words_of command) }

@@ -15,5 +15,5 @@ loop-done-preserved g c =
           (g.K.Sink.held c.put.new.self) c.args.text.now c.loop-done.done c.in_ok-n.n
           c.loop-done.invariant.gained gained;
       steady = c.in_ok-n.ensures.counted.steady ∙ c.loop-done.invariant.steady;
-      sure = λ s. (c.put.ensures.sure (c.loop-done.invariant.sure s)).0;
+      infallible = λ s. (c.put.ensures.infallible (c.loop-done.invariant.infallible s)).0;
     }

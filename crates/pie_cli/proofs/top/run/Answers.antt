@@ -15,8 +15,8 @@ returns-in-Ok-clause-front g c = λ json is. c.run_command.ensures.front json (s
 pub returns-in-Ok-clause-checked : goal.returns-in-Ok-clause-checked
 returns-in-Ok-clause-checked g c = λ is. c.run_command.ensures.checked (same_command _ _ (sym c.in-Ok.ensures.accepted ∙ is))
 
-pub returns-in-Ok-clause-check_front : goal.returns-in-Ok-clause-check_front
-returns-in-Ok-clause-check_front g c = λ is. c.run_command.ensures.check_front (same_command _ _ (sym c.in-Ok.ensures.accepted ∙ is))
+pub returns-in-Ok-clause-check_prefix : goal.returns-in-Ok-clause-check_prefix
+returns-in-Ok-clause-check_prefix g c = λ is. c.run_command.ensures.check_prefix (same_command _ _ (sym c.in-Ok.ensures.accepted ∙ is))
 
 pub returns-in-Ok-clause-check_same : goal.returns-in-Ok-clause-check_same
 returns-in-Ok-clause-check_same g c = λ is. c.run_command.ensures.check_same (same_command _ _ (sym c.in-Ok.ensures.accepted ∙ is))
@@ -32,8 +32,8 @@ returns-in-Ok-clause-check_stops g c = λ is e.
 pub returns-in-Ok-clause-usage : goal.returns-in-Ok-clause-usage
 returns-in-Ok-clause-usage g c = λ none. absurd (none _ c.in-Ok.ensures.accepted)
 
-pub returns-in-Ok-clause-usage_front : goal.returns-in-Ok-clause-usage_front
-returns-in-Ok-clause-usage_front g c = λ none. absurd (none _ c.in-Ok.ensures.accepted)
+pub returns-in-Ok-clause-usage_prefix : goal.returns-in-Ok-clause-usage_prefix
+returns-in-Ok-clause-usage_prefix g c = λ none. absurd (none _ c.in-Ok.ensures.accepted)
 
 pub returns-in-Ok-clause-nothing_asked : goal.returns-in-Ok-clause-nothing_asked
 returns-in-Ok-clause-nothing_asked g c = λ none. absurd (none _ c.in-Ok.ensures.accepted)
@@ -47,8 +47,8 @@ returns-in-Err-Usage-clause-front g c = λ json is. absurd (c.in-Err-Usage.ensur
 pub returns-in-Err-Usage-clause-checked : goal.returns-in-Err-Usage-clause-checked
 returns-in-Err-Usage-clause-checked g c = λ is. absurd (c.in-Err-Usage.ensures.refused commands.Check is)
 
-pub returns-in-Err-Usage-clause-check_front : goal.returns-in-Err-Usage-clause-check_front
-returns-in-Err-Usage-clause-check_front g c = λ is. absurd (c.in-Err-Usage.ensures.refused commands.Check is)
+pub returns-in-Err-Usage-clause-check_prefix : goal.returns-in-Err-Usage-clause-check_prefix
+returns-in-Err-Usage-clause-check_prefix g c = λ is. absurd (c.in-Err-Usage.ensures.refused commands.Check is)
 
 pub returns-in-Ok-clause-crash : goal.returns-in-Ok-clause-crash
 returns-in-Ok-clause-crash g c = λ json is. c.run_command.ensures.crash json (same_command _ _ (sym c.in-Ok.ensures.accepted ∙ is))

@@ -1,6 +1,6 @@
 use Rattle.std.proofs.Common.{◌≡◌, true}
 use Rattle.std.specs.Prelude.{IfSome}
-use Rattle.pie_cli.specs.Fresh.{HasBuilt, PrintsFront}
+use Rattle.pie_cli.specs.Fresh.{HasBuilt, PrintsPrefix}
 use Rattle.pie_cli.specs.Run.{is_answer}
 use Rattle.pie_cli.proofs.Fresh.{at_flag}
 use Rattle.pie_cli.proofs.top.run_command.Goals as goal
@@ -16,5 +16,5 @@ pub returns-in-Fresh-clause-front : goal.returns-in-Fresh-clause-front
 returns-in-Fresh-clause-front g c = λ json is.
     at_flag
     (λ b. IfSome (g.F.Files.holds c.args.files.now)
-    (λ d. PrintsFront d b (g.F.Files.holds c.run_fresh.new.files) (g.K.Sink.held c.args.out.now) (g.K.Sink.held c.run_fresh.new.out)))
+    (λ d. PrintsPrefix d b (g.F.Files.holds c.run_fresh.new.files) (g.K.Sink.held c.args.out.now) (g.K.Sink.held c.run_fresh.new.out)))
     c.args.command c.in-Fresh.json json c.in-Fresh.is is c.run_fresh.ensures.front

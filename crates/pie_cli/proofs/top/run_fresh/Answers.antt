@@ -1,5 +1,5 @@
 use Rattle.std.specs.Prelude.{string_bytes}
-use Rattle.pie_cli.proofs.Fresh.{built, fronted}
+use Rattle.pie_cli.proofs.Fresh.{built, prefixed}
 use Rattle.pie_cli.proofs.Statuses.{answer_is_told}
 use Rattle.pie_cli.proofs.top.run_fresh.Goals as goal
 
@@ -11,5 +11,5 @@ returns-in-Ok-clause-built g c = λ a.
 
 pub returns-in-Ok-clause-front : goal.returns-in-Ok-clause-front
 returns-in-Ok-clause-front g c =
-    fronted (g.F.Files.holds c.args.files.now) (g.F.Files.holds c.fresh.new.files) c.args.json (string_bytes c.in-Ok.told.text) c.in-Ok.told.status
+    prefixed (g.F.Files.holds c.args.files.now) (g.F.Files.holds c.fresh.new.files) c.args.json (string_bytes c.in-Ok.told.text) c.in-Ok.told.status
     (g.K.Sink.held c.args.out.now) (g.K.Sink.held c.show_told.new.out) c.in-Ok.ensures.built c.show_told.ensures.front

@@ -1,6 +1,6 @@
 use Rattle.std.proofs.Common.{ℕ, Ok}
 use Rattle.pie_project.specs.declared.project.Project.{Project}
-use Rattle.pie_project.specs.Looking.{front_calls}
+use Rattle.pie_project.specs.Looking.{prefix_calls}
 use Rattle.pie_project.specs.Projects.{front_of}
 use Rattle.pie_project.proofs.Finding.{counts_good, counts_bad}
 use Rattle.pie_project.proofs.Lookings.{looks_as, looks_err}
@@ -12,7 +12,7 @@ returns-in-Ok-clause-found g c =
 
 pub returns-in-Ok-clause-looks : goal.returns-in-Ok-clause-looks
 returns-in-Ok-clause-looks g c =
-    looks_as g.F.Files.holds g.F.Files.asked g.F.Files.faults c.in-Ok.project c.counts.result front_calls c.args.files.now c.read_project.new.files
+    looks_as g.F.Files.holds g.F.Files.asked g.F.Files.faults c.in-Ok.project c.counts.result prefix_calls c.args.files.now c.read_project.new.files
     c.in-Ok.ensures.looks c.counts.ensures.no_fault
 
 pub returns-in-Err-clause-found : goal.returns-in-Err-clause-found
@@ -21,4 +21,4 @@ returns-in-Err-clause-found g c = counts_bad Project (ℕ × ℕ) front_of (λ p
 pub returns-in-Err-clause-looks : goal.returns-in-Err-clause-looks
 returns-in-Err-clause-looks g c =
     looks_err g.F.Files.holds g.F.Files.asked g.F.Files.faults Project
-    (ℕ × ℕ) c.in-Err.error front_calls c.args.files.now c.read_project.new.files c.in-Err.ensures.looks
+    (ℕ × ℕ) c.in-Err.error prefix_calls c.args.files.now c.read_project.new.files c.in-Err.ensures.looks

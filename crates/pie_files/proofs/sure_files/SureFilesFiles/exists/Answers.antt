@@ -1,6 +1,6 @@
 use Rattle.std.proofs.Common.{ap, refl}
 use Rattle.pie_files.specs.declared.files.Call.TheVariants.{Read}
-use Rattle.pie_files.proofs.Asked.{sure_called}
+use Rattle.pie_files.proofs.Asked.{infallible_called}
 use Rattle.pie_files.proofs.Moving.{look_unnoted, look_noted}
 use Rattle.pie_files.proofs.sure_files.SureFilesFiles.exists.Goals as goal
 
@@ -15,4 +15,4 @@ returns-clause-crash c = look_noted c.args.self.now c.note_asked.new.self
     (Read c.in_ok-copy.field-0) tt c.note_asked.ensures.began c.in_ok-note_asked.ensures.noted
 
 pub returns-clause-called : goal.returns-clause-called
-returns-clause-called c = sure_called _ _ _ _ _ (ap Read c.in_ok-copy.ensures) c.in_ok-note_asked.ensures.asked
+returns-clause-called c = infallible_called _ _ _ _ _ (ap Read c.in_ok-copy.ensures) c.in_ok-note_asked.ensures.asked

@@ -1,7 +1,7 @@
 use Rattle.std.proofs.Common.{ap, refl, ◌∙◌}
 use Rattle.pie_files.specs.declared.sure_files.Logged.TheVariants.{Removed}
 use Rattle.pie_files.specs.Memory.{asked_of}
-use Rattle.pie_files.proofs.Asked.{sure_called, asked_push}
+use Rattle.pie_files.proofs.Asked.{infallible_called, asked_push}
 use Rattle.pie_files.proofs.Moving.{removal_unnoted, removal_done}
 use Rattle.pie_files.proofs.sure_files.SureFilesFiles.remove.Goals as goal
 
@@ -14,4 +14,4 @@ returns-clause-crash c = removal_done c.args.self.now c.take_away.new.self c.arg
 
 pub returns-clause-called : goal.returns-clause-called
 returns-clause-called c =
-    sure_called _ _ _ _ _ refl (ap asked_of c.in_ok-take_away.ensures.noted ∙ asked_push c.args.self.now.log.items (Removed c.args.path.now))
+    infallible_called _ _ _ _ _ refl (ap asked_of c.in_ok-take_away.ensures.noted ∙ asked_push c.args.self.now.log.items (Removed c.args.path.now))

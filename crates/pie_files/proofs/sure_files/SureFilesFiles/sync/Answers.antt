@@ -1,7 +1,7 @@
 use Rattle.std.proofs.Common.{ap, refl, ◌∙◌}
 use Rattle.pie_files.specs.declared.sure_files.Logged.TheVariants.{Synced}
 use Rattle.pie_files.specs.Memory.{asked_of}
-use Rattle.pie_files.proofs.Asked.{sure_called, asked_push}
+use Rattle.pie_files.proofs.Asked.{infallible_called, asked_push}
 use Rattle.pie_files.proofs.Moving.{look_unnoted, sync_done, sync_only}
 use Rattle.pie_files.proofs.sure_files.SureFilesFiles.sync.Goals as goal
 
@@ -17,4 +17,4 @@ returns-clause-crash c = sync_done c.args.self.now c.note_synced.new.self c.note
 
 pub returns-clause-called : goal.returns-clause-called
 returns-clause-called c =
-    sure_called _ _ _ _ _ refl (ap asked_of c.in_ok-note_synced.ensures.noted ∙ asked_push c.args.self.now.log.items Synced)
+    infallible_called _ _ _ _ _ refl (ap asked_of c.in_ok-note_synced.ensures.noted ∙ asked_push c.args.self.now.log.items Synced)

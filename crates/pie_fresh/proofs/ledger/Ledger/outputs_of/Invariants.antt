@@ -1,5 +1,5 @@
 use Rattle.std.proofs.Common.{take}
-use Rattle.pie_bridge.specs.Builds.{AreOutputs}
+use Rattle.pie_builder_laws.specs.Builds.{AreOutputs}
 use Rattle.pie_fresh.proofs.ledger.Ledger.outputs_of.Given as goal
 
 -- the outputs so far are those of the roots so far

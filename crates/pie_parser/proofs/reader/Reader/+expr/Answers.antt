@@ -2,7 +2,7 @@ use Rattle.std.proofs.Common.{Vec, Global, [], ◌∷◌, ◌-◌, false, sym, s
 use Rattle.std.proofs.lemmas.Result.{err_from_is_err_and}
 use Rattle.pie_parser.specs.declared.tree.Expr.{Expr}
 use Rattle.pie_parser.specs.declared.tree.Step.{Step}
-use Rattle.pie_parser.specs.Places.{Agrees}
+use Rattle.pie_parser.specs.Places.{ParseAgrees}
 use Rattle.pie_parser.specs.Turns.{all_behind}
 use Rattle.pie_parser.specs.ExprReading.{around, another, another_step, operand, all_pieces}
 use Rattle.pie_parser.proofs.Nesting.{inner_is, test_is}
@@ -13,12 +13,12 @@ use Rattle.pie_parser.proofs.reader.Reader.+expr.Goals as goal
 
 pub inner-returns : goal.inner-returns
 inner-returns t c =
-    subst (Agrees (λ (t : Expr). t) c.expr.result c.expr.new.self)
+    subst (ParseAgrees (λ (t : Expr). t) c.expr.result c.expr.new.self)
     (sym (inner_is c.args.room.brackets c.args.room.conditions c.args.in_read c.args.self.now c.requires)) c.expr.ensures
 
 pub test-returns : goal.test-returns
 test-returns t c =
-    subst (Agrees (λ (t : Expr). t) c.expr.result c.expr.new.self)
+    subst (ParseAgrees (λ (t : Expr). t) c.expr.result c.expr.new.self)
     (sym (test_is c.args.room.brackets c.args.room.conditions c.args.self.now c.requires)) c.expr.ensures
 
 pub steps-returns-in_err-step : goal.steps-returns-in_err-step

@@ -1,7 +1,7 @@
 use Rattle.std.proofs.Common.{Vec, Global, [], ◌∷◌, ◌-◌, sym, subst}
 use Rattle.std.proofs.lemmas.Result.{err_from_is_err_and}
 use Rattle.pie_parser.specs.declared.type_tree.Type.{«Type»}
-use Rattle.pie_parser.specs.Places.{Agrees}
+use Rattle.pie_parser.specs.Places.{ParseAgrees}
 use Rattle.pie_parser.specs.Turns.{all_behind}
 use Rattle.pie_parser.specs.TypeReading.{another_type, inner_type}
 use Rattle.pie_parser.proofs.Nesting.{inner_type_is}
@@ -10,7 +10,7 @@ use Rattle.pie_parser.proofs.reader.Reader.+typing.Goals as goal
 
 pub inner_type-returns : goal.inner_type-returns
 inner_type-returns t c =
-    subst (Agrees (λ (t : «Type»). t) c.written_type.result c.written_type.new.self)
+    subst (ParseAgrees (λ (t : «Type»). t) c.written_type.result c.written_type.new.self)
     (sym (inner_type_is c.args.room c.args.self.now c.requires)) c.written_type.ensures
 
 pub more_types-returns-in_err-item : goal.more_types-returns-in_err-item

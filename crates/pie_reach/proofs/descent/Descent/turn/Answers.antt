@@ -2,7 +2,7 @@ use Rattle.std.proofs.Common.{◌∙◌, ◌<◌, ◌+◌, List, length, get_or,
 use Rattle.pie_graph.specs.declared.edges.TaskNo.{TaskNo}
 use Rattle.pie_graph.specs.Numbers.{numbers}
 use Rattle.pie_reach.specs.declared.descent.State.{State}
-use Rattle.pie_reach.specs.declared.descent.Frame.{Frame}
+use Rattle.pie_reach.specs.declared.descent.Visit.{Visit}
 use Rattle.pie_reach.specs.Reaches.{height_over}
 use Rattle.pie_reach.specs.Descents.{height_at}
 use Rattle.pie_reach.proofs.WalkSteps.{number_below}
@@ -38,7 +38,7 @@ returns-in_ok-push-in-Done g c =
     let callees = c.callees-callees.result.now in
     let states = c.args.self.now.states.items in
     let d : TaskNo = record { 0 = 0 } in
-    let next : Frame = record { no = c.in-Some.frame.no; next = c.in-Some.frame.next + 1 } in
+    let next : Visit = record { no = c.in-Some.frame.no; next = c.in-Some.frame.next + 1 } in
     let callee = get_or callees c.in-Some.frame.next d in
     let within : callee.0 < length states = omega (
       arith,
@@ -72,7 +72,7 @@ returns-in_ok-enter-in-New g c =
     let states = c.args.self.now.states.items in
     let d : TaskNo = record { 0 = 0 } in
     let callee = get_or callees c.in-Some.frame.next d in
-    let next : Frame = record { no = callee; next = 0 } in
+    let next : Visit = record { no = callee; next = 0 } in
     let inside = number_below _ callees c.in-Some.frame.next d c.callees-callees.ensures.needs_below c.if-frame-callees.false in
     let within : callee.0 < length states = omega (arith, c.requires.sized, inside) in
     turn_enter

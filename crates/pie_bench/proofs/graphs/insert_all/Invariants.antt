@@ -1,6 +1,0 @@
-use Rattle.std.proofs.Common.{◌≡◌, length}
-use Rattle.pie_order.specs.Places.{Agrees}
-use Rattle.pie_bench.proofs.graphs.insert_all.Given as goal
-
-abbrev pub invariant-loop-i : goal.invariant-loop-i
-invariant-loop-i l = Agrees l.rows l.order × (length l.rows ≡ l.count)

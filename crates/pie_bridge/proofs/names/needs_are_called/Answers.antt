@@ -1,5 +1,0 @@
-use Rattle.pie_bridge.proofs.Tabled.{needs_called}
-use Rattle.pie_bridge.proofs.names.needs_are_called.Goals as goal
-
-pub returns : goal.returns
-returns c = λ deps. needs_called deps

@@ -1,5 +1,0 @@
-use Rattle.pie_bridge.proofs.KindLemmas.{kinds_same}
-use Rattle.pie_bridge.proofs.visible.kinds_are_the_models.Goals as goal
-
-pub returns : goal.returns
-returns c = λ p. kinds_same p

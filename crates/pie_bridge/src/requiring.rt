@@ -1,8 +1,0 @@
-//! What is noted and told of required tasks.
-ghost use Rattle.pie_bridge.specs.Requiring.{RequiresAreObserved, RequiresAreAnswered};
-
-/// Requires are noted and answered as in the model.
-pub fn requires_are_the_models()
-    ensures observed { RequiresAreObserved }
-    ensures answered { RequiresAreAnswered }
-{}

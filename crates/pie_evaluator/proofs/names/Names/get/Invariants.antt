@@ -1,8 +1,0 @@
--- The names so far are others.
-use Rattle.std.proofs.Common.{◌≡◌, drop}
-use Rattle.pie_meaning.specs.Words.{look_up}
-use Rattle.pie_evaluator.specs.Bindings.{env_of}
-use Rattle.pie_evaluator.proofs.names.Names.get.Given as goal
-
-abbrev pub invariant-loop-bound : goal.invariant-loop-bound
-invariant-loop-bound l = look_up l.name (env_of (drop l.bound-index l.bound-items)) ≡ look_up l.name l.self

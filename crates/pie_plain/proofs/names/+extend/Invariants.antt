@@ -1,5 +1,0 @@
-use Rattle.std.proofs.Common.{length}
-use Rattle.pie_plain.proofs.names.+extend.Given as goal
-
-abbrev pub decreases-extend : goal.decreases-extend
-decreases-extend l = length l.writes.now

@@ -1,5 +1,0 @@
-use Rattle.std.proofs.Common.{length}
-use Rattle.pie_plain.proofs.names.+round_onto.Given as goal
-
-abbrev pub decreases-round_onto : goal.decreases-round_onto
-decreases-round_onto l = length l.above.now

@@ -1,5 +1,0 @@
-use Rattle.std.proofs.Common.{length}
-use Rattle.pie_plain.proofs.roots.+evaluate_roots.Given as goal
-
-abbrev pub decreases-evaluate_roots : goal.decreases-evaluate_roots
-decreases-evaluate_roots g l = length l.roots.now

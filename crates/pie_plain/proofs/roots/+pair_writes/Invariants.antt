@@ -1,5 +1,0 @@
-use Rattle.std.proofs.Common.{length}
-use Rattle.pie_plain.proofs.roots.+pair_writes.Given as goal
-
-abbrev pub decreases-pair_writes : goal.decreases-pair_writes
-decreases-pair_writes l = length l.writes.now

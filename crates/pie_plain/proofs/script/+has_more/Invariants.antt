@@ -1,5 +1,0 @@
-use Rattle.std.proofs.Common.{length}
-use Rattle.pie_plain.proofs.script.+has_more.Given as goal
-
-abbrev pub decreases-has_more : goal.decreases-has_more
-decreases-has_more l = length l.path.now

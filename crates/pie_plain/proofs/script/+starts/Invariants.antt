@@ -1,5 +1,0 @@
-use Rattle.std.proofs.Common.{length}
-use Rattle.pie_plain.proofs.script.+starts.Given as goal
-
-abbrev pub decreases-starts : goal.decreases-starts
-decreases-starts l = length l.path.now

@@ -1,5 +1,0 @@
-use Rattle.std.proofs.Common.{length}
-use Rattle.pie_plain.proofs.sight.+first.Given as goal
-
-abbrev pub decreases-first : goal.decreases-first
-decreases-first l = length l.writes.now

@@ -1,5 +1,0 @@
-use Rattle.std.proofs.Common.{length}
-use Rattle.pie_plain.proofs.sight.+shown.Given as goal
-
-abbrev pub decreases-shown : goal.decreases-shown
-decreases-shown l = length l.all.now

@@ -1,6 +1,0 @@
-use Rattle.std.proofs.Common.{◌≡◌, ◌++◌, drop, string_bytes}
-use Rattle.pie_report.specs.Verdicts.{circle_on}
-use Rattle.pie_report.proofs.verdict.put_circle_on.Given as goal
-
-abbrev pub invariant-loop-task : goal.invariant-loop-task
-invariant-loop-task l = string_bytes l.out ++ circle_on (drop l.task-index l.tasks) ≡ string_bytes l.fn.out ++ circle_on l.tasks

@@ -1,5 +1,0 @@
-use Rattle.pie_spelling.proofs.Equal.{kinds_decide}
-use Rattle.pie_spelling.proofs.laws.kinds_decide_a_function.Goals as goal
-
-pub returns : goal.returns
-returns c = λ us vs f g x y e. kinds_decide us vs f g x y e

@@ -1,5 +1,0 @@
-use Rattle.pie_spelling.proofs.Blind.{equal_up_to_spans}
-use Rattle.pie_spelling.proofs.laws.spans_say_nothing.Goals as goal
-
-pub returns : goal.returns
-returns c = λ f g e args answers. equal_up_to_spans f g e args answers

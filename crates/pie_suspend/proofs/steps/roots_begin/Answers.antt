@@ -1,5 +1,0 @@
-use Rattle.pie_suspend.proofs.StepLemmas.{root_begins}
-use Rattle.pie_suspend.proofs.steps.roots_begin.Goals as goal
-
-pub returns : goal.returns
-returns c = λ w P R names root S h few. root_begins w P root R names S h few

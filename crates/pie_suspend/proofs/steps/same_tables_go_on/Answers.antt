@@ -1,5 +1,0 @@
-use Rattle.pie_suspend.proofs.StepLemmas.{same_under_way}
-use Rattle.pie_suspend.proofs.steps.same_tables_go_on.Goals as goal
-
-pub returns : goal.returns
-returns c = λ w P root base R S names fs f e U. same_under_way w P root base R S names fs f e U
