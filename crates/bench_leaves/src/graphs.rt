@@ -5,10 +5,9 @@ ghost use Rattle.pie_order.specs.Places.{PlacesAgree};
 
 use crate::job::Shape;
 use pie_base::{MAX_TASKS, OutOfMemory};
-use pie_collect::live;
 use pie_graph::{Edges, IndexedRows, TaskNo, TaskRows};
 use pie_order::Order;
-use pie_reach::{heights, is_acyclic};
+use pie_reach::{heights, is_acyclic, live};
 use std::alloc::Global;
 
 /// How many tasks have a height.

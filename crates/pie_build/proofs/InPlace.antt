@@ -14,7 +14,7 @@ use Rattle.pie_base.specs.Path.{is_out, is_below, same_text}
 use Rattle.pie_files.specs.declared.files.FilesError.{FilesError}
 use Rattle.pie_files.proofs.HeldLemmas.{antisymmetric}
 use Rattle.pie_files.specs.Directory.{Directory, file_at, files_under, paths_of}
-use Rattle.pie_collect.specs.Plan.{IsPlan}
+use Rattle.pie_reach.specs.Plan.{IsPlan}
 use Rattle.pie_commit.specs.declared.plan.Pending.{Pending}
 use Rattle.pie_commit.specs.declared.plan.Plan.{Plan}
 use Rattle.pie_commit.specs.Plans.{Wanted, Same, Gone, Bytes, Meets, Brings, later, at, removed, written, pended, stored, changes, wanted_by, is_none, is_empty}

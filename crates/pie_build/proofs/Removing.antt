@@ -7,7 +7,7 @@ use Rattle.std.proofs.lemmas.List.Elements.{Contains-append_right}
 use Rattle.std.proofs.lemmas.List.Sums.{list_all-from_AllPass}
 use Rattle.pie_base.specs.Path.{is_out, is_below, same_text}
 use Rattle.pie_files.specs.Directory.{Directory, files_under, paths_of}
-use Rattle.pie_collect.specs.Plan.{IsPlan}
+use Rattle.pie_reach.specs.Plan.{IsPlan}
 use Rattle.pie_commit.specs.declared.plan.Pending.{Pending}
 use Rattle.pie_commit.specs.declared.plan.Plan.{Plan}
 use Rattle.pie_commit.specs.Plans.{may_be_written, is_sound}

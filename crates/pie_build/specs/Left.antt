@@ -11,7 +11,7 @@ use Rattle.pie_value.specs.declared.verdict.Refusal.{Refusal}
 use Rattle.pie_value.specs.declared.verdict.Verdict.{Verdict}
 use Rattle.pie_value.specs.declared.verdict.Verdict.TheVariants.{Accepted, Refused}
 use Rattle.pie_record.specs.declared.task_record.TaskRecord.{TaskRecord}
-use Rattle.pie_collect.specs.Plan.{IsPlan}
+use Rattle.pie_reach.specs.Plan.{IsPlan}
 use Rattle.pie_codegen.specs.Digests.{HasNames}
 use Rattle.pie_fresh.specs.Cleans.{contents_in}
 use Rattle.pie_project.specs.Digested.{HasDigests}

@@ -8,7 +8,7 @@ use Rattle.pie_value.specs.declared.verdict.Refusal.TheVariants as refusals
 use Rattle.pie_value.specs.declared.verdict.Verdict.TheVariants.{Refused}
 use Rattle.pie_value.specs.Canonical.{enc_task}
 use Rattle.pie_graph.specs.Rows.{Row, row_at}
-use Rattle.pie_stage.specs.Content.{content}
+use Rattle.pie_view.specs.Content.{content}
 use Rattle.pie_record.specs.declared.task_record.TaskRecord.{TaskRecord}
 use Rattle.pie_record.specs.Records.{record_of as kept_of}
 use Rattle.pie_checks.specs.declared.built.Built.{Built}

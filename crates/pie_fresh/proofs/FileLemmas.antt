@@ -13,7 +13,7 @@ use Rattle.std.proofs.lemmas.Option.{slice_get_within}
 use Rattle.pie_base.specs.Path.{is_out}
 use Rattle.pie_record.specs.declared.task_record.TaskRecord.{TaskRecord}
 use Rattle.pie_record.specs.Records.{record_of}
-use Rattle.pie_stage.specs.Content.{content}
+use Rattle.pie_view.specs.Content.{content}
 use Rattle.pie_check_laws.proofs.Members.{into_map, from_map}
 use Rattle.pie_builder_laws.specs.Builds.{WroteAt, IsFile}
 use Rattle.pie_fresh.specs.declared.ledger.Ledger.{Ledger}

@@ -15,7 +15,7 @@ use Rattle.pie_value.specs.Limits.{is_small}
 use Rattle.pie_value.specs.Canonical.{enc, enc_task, IsCanonical}
 use Rattle.pie_code.specs.declared.code.Code.{Code}
 use Rattle.pie_vm.specs.Machines.{Standing}
-use Rattle.pie_stage.specs.Content.{content}
+use Rattle.pie_view.specs.Content.{content}
 use Rattle.pie_record.specs.declared.records.Records.{Records}
 use Rattle.pie_record.specs.declared.task_record.TaskRecord.{TaskRecord}
 use Rattle.pie_record.specs.Records.{record_of as kept_of, Puts}

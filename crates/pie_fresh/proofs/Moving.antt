@@ -6,7 +6,7 @@ use Rattle.pie_value.specs.declared.task.Task.{Task}
 use Rattle.pie_value.specs.Canonical.{enc_task}
 use Rattle.pie_code.specs.declared.code.Code.{Code}
 use Rattle.pie_vm.specs.Machines.{Standing}
-use Rattle.pie_stage.specs.Content.{content}
+use Rattle.pie_view.specs.Content.{content}
 use Rattle.pie_record.specs.Records.{record_of as kept_of}
 use Rattle.pie_model.specs.Paths.{among}
 use Rattle.pie_model.specs.Stack.{Frame as ModelFrame, tasks_of}

@@ -4,7 +4,7 @@ use Rattle.std.specs.Prelude.{is_some, IfSome}
 use Rattle.std.specs.Option.{option_map}
 use Rattle.pie_base.specs.Path.{is_out, is_source}
 use Rattle.pie_graph.specs.Rows.{Row}
-use Rattle.pie_stage.specs.Content.{Staged, content}
+use Rattle.pie_view.specs.Content.{Staged, content}
 use Rattle.pie_files.specs.Directory.{Directory, file_at, entries_of}
 use Rattle.pie_files.specs.Within.{IsWithin}
 use Rattle.pie_files.specs.declared.files.Within.{Within}

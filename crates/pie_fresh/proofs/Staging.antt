@@ -1,7 +1,7 @@
 -- Contents that are staged, and what was written first.
 use Rattle.std.proofs.Common.{◌≡◌, ℕ, true, false, Option, Some, None, List}
 use Rattle.std.specs.Prelude.{is_some}
-use Rattle.pie_stage.specs.Content.{Staged, content, Puts}
+use Rattle.pie_view.specs.Content.{Staged, content, Puts}
 use Rattle.pie_fresh.specs.Told.{StagesFirst, KeepsFirst}
 
 -- where a content was staged before, all stays

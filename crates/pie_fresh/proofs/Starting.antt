@@ -14,7 +14,7 @@ use Rattle.pie_value.specs.Tree.{Tree}
 use Rattle.pie_value.specs.Limits.{is_small_task}
 use Rattle.pie_value.specs.Canonical.{enc_task, IsCanonicalTask}
 use Rattle.pie_graph.specs.Rows.{no_edges}
-use Rattle.pie_stage.specs.Content.{content}
+use Rattle.pie_view.specs.Content.{content}
 use Rattle.pie_code.specs.declared.code.Code.{Code}
 use Rattle.pie_code.specs.Running.{start}
 use Rattle.pie_vm.specs.Machines.{Standing, Leads, Follows}

@@ -12,7 +12,7 @@ use Rattle.pie_operators.specs.Domain.{done, wants}
 use Rattle.pie_code.specs.declared.code.Code.{Code}
 use Rattle.pie_vm.specs.Machines.{Standing, Follows}
 use Rattle.pie_files.specs.Directory.{Directory}
-use Rattle.pie_stage.specs.Content.{content}
+use Rattle.pie_view.specs.Content.{content}
 use Rattle.pie_record.specs.Records.{record_of as kept_of}
 use Rattle.pie_record.specs.declared.task_record.Outcome.{Outcome}
 use Rattle.pie_record.specs.declared.task_record.TaskRecord.{TaskRecord}

@@ -20,7 +20,7 @@ use Rattle.pie_code.specs.Coming.{CodeNext}
 use Rattle.pie_vm.specs.Machines.{Follows}
 use Rattle.pie_record.specs.declared.dep.Dep.{Dep}
 use Rattle.pie_record.specs.declared.dep.DepKind.TheVariants as kinds
-use Rattle.pie_stage.specs.Content.{Staged, content, Puts}
+use Rattle.pie_view.specs.Content.{Staged, content, Puts}
 use Rattle.pie_builder_laws.specs.Looks.{reading_stamp, reading_answer}
 use Rattle.pie_fresh.specs.declared.frame.RunningTask.{RunningTask}
 use Rattle.pie_fresh.specs.declared.frame.Waiting.{Waiting}

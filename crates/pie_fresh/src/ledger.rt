@@ -17,8 +17,8 @@ use crate::notes::Notes;
 use pie_base::{OutOfMemory, Path};
 use pie_graph::{Edges, IndexedRows, TaskNo, TaskRows};
 use pie_record::{Deps, Outcome, Records, TaskNames, TaskRecord, Writes};
-use pie_stage::Stage;
 use pie_value::{Task, Value};
+use pie_view::Stage;
 use std::alloc::Global;
 
 /// The tasks that were entered, in order. Those that are done have a record.

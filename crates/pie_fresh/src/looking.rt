@@ -3,7 +3,7 @@ ghost use Rattle.std.specs.Prelude.{◌≡◌, false, length, IfOk, Some, is_som
 ghost use Rattle.std.specs.Option.{option_map};
 ghost use Rattle.pie_base.specs.Path.{is_source};
 ghost use Rattle.pie_graph.specs.Numbers.{AllBelow};
-ghost use Rattle.pie_stage.specs.Content.{content};
+ghost use Rattle.pie_view.specs.Content.{content};
 ghost use Rattle.pie_commit.specs.Outcomes.{LeavesAsBefore};
 ghost use Rattle.pie_files.specs.Streams.{Counted};
 ghost use Rattle.pie_builder_laws.specs.Views.{unmarked};

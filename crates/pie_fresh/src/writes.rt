@@ -2,7 +2,7 @@
 ghost use Rattle.std.specs.Prelude.{◌≡◌, IsTrue, IfOk, OnOk, is_some};
 ghost use Rattle.pie_base.specs.Path.{is_out};
 ghost use Rattle.pie_value.specs.declared.event.Event.TheVariants as events;
-ghost use Rattle.pie_stage.specs.Content.{content};
+ghost use Rattle.pie_view.specs.Content.{content};
 ghost use Rattle.pie_fresh.specs.Noted.{wrote as with_write};
 ghost use Rattle.pie_fresh.specs.Frames.{IsReady, IsWaiting};
 ghost use Rattle.pie_fresh.specs.Turns.{Advanced, Answered};
@@ -14,9 +14,9 @@ use crate::frame::{RunningTask, Waiting};
 use crate::turn::{Turn, failed};
 use pie_base::{FaultKind, OutOfMemory, Path};
 use pie_graph::TaskNo;
-use pie_stage::Stage;
 use pie_stamp::hash_of;
 use pie_value::{Answer, Blob};
+use pie_view::Stage;
 use std::alloc::Global;
 
 impl<'a> Builder<'a> {

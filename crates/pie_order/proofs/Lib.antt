@@ -5,5 +5,6 @@ pub mod MarkSteps
 pub mod Numbering
 pub mod RingSteps
 pub mod RunSteps
+pub mod SetSteps
 pub mod SideSteps
 pub mod StandingSteps

@@ -1,3 +1,4 @@
+pub mod Candidates
 pub mod Cycles
 pub mod Founds
 pub mod Places

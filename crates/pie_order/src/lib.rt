@@ -2,15 +2,19 @@
 #![tactic(auto)]
 
 mod agreeing;
+mod candidates;
 mod cycle;
 mod marks;
 mod order;
 mod placed;
 mod placing;
+#[cfg(test)]
+mod queue_tests;
 mod search;
 mod side;
 #[cfg(test)]
 mod tests;
 mod within;
 
+pub use candidates::Candidates;
 pub use order::Order;

@@ -2,14 +2,20 @@
 #![tactic(auto)]
 
 mod best;
+mod collect;
+#[cfg(test)]
+mod collect_tests;
 mod descent;
 mod reach;
+mod removals;
 #[cfg(test)]
 mod tests;
 mod walk;
 mod ways;
 
 pub use best::least;
+pub use collect::live;
 pub use reach::{heights, is_acyclic, lowest, reaches, upstream};
+pub use removals::plan_removals;
 pub use walk::{Walk, closure};
 pub use ways::{Down, Up, Ways};

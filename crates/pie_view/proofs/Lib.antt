@@ -1,3 +1,4 @@
 pub mod Choosing
+pub mod Contents
 pub mod Meeting
 pub mod Sights

@@ -2,7 +2,7 @@ use Rattle.std.proofs.Common.{◌≡◌, ℕ, List, map, Vec, Global, refl, sym,
 use Rattle.std.specs.Prelude.{IfSome, codes}
 use Rattle.std.specs.Prelude.{Option}
 use Rattle.pie_files.specs.Directory.{Directory, files_under}
-use Rattle.pie_collect.specs.Plan.{IsPlan}
+use Rattle.pie_reach.specs.Plan.{IsPlan}
 use Rattle.pie_build.specs.Left.{KeepsRest}
 use Rattle.pie_build.specs.Plans.{IsPlanOf}
 use Rattle.pie_build.specs.Reported.{PutsMade}

@@ -1,7 +1,7 @@
 use Rattle.std.proofs.Common.{ℕ, List, ap, subst, ◌∙◌}
 use Rattle.std.specs.List.{filter}
 use Rattle.pie_base.specs.Path.{is_out}
-use Rattle.pie_collect.specs.Plan.{IsPlan}
+use Rattle.pie_reach.specs.Plan.{IsPlan}
 use Rattle.pie_build.proofs.Removing.{removal_plan, removed_out}
 use Rattle.pie_build.proofs.place.removals.Goals as goal
 

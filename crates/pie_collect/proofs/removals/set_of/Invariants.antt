@@ -1,8 +1,0 @@
-use Rattle.std.proofs.Common.{◌≡◌, ◌||◌, ℕ, List, drop}
-use Rattle.std.specs.BTreeSet.{contains}
-use Rattle.pie_collect.specs.Plan.{path_cmp}
-use Rattle.pie_collect.specs.Listed.{listed}
-use Rattle.pie_collect.proofs.removals.set_of.Given as goal
-
-abbrev pub invariant-loop-path : goal.invariant-loop-path
-invariant-loop-path l = (q : List ℕ) → (contains path_cmp l.set q || listed q (drop l.path-index l.paths)) ≡ listed q l.paths

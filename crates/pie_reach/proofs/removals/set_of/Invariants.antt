@@ -1,0 +1,8 @@
+use Rattle.std.proofs.Common.{◌≡◌, ◌||◌, ℕ, List, drop}
+use Rattle.std.specs.BTreeSet.{contains}
+use Rattle.pie_reach.specs.Plan.{path_cmp}
+use Rattle.pie_reach.specs.Listed.{listed}
+use Rattle.pie_reach.proofs.removals.set_of.Given as goal
+
+abbrev pub invariant-loop-path : goal.invariant-loop-path
+invariant-loop-path l = (q : List ℕ) → (contains path_cmp l.set q || listed q (drop l.path-index l.paths)) ≡ listed q l.paths
