@@ -7,7 +7,7 @@ use Rattle.pie_builder_laws.specs.Events.{AreCompiled}
 use Rattle.pie_checks.specs.declared.built.Built.{Built}
 use Rattle.pie_code.specs.declared.code.Code.{Code}
 use Rattle.pie_codegen.specs.Pipelines.{AreCodesOf, AllMean}
-use Rattle.pie_commit.proofs.Standing.{if_each}
+use Rattle.pie_files.proofs.Reading.{if_each}
 use Rattle.pie_files.specs.declared.files.FilesError.{FilesError}
 use Rattle.pie_files.specs.Directory.{Directory}
 use Rattle.pie_fresh.specs.Cleans.{CleansAs, IsCleanOf, IsRootOf, contents_in}

@@ -5,11 +5,14 @@ use Rattle.pie_base.specs.Path.{is_out, same_text}
 use Rattle.pie_commit.specs.declared.plan.Pending.{Pending}
 use Rattle.pie_commit.specs.declared.plan.Plan.{Plan}
 use Rattle.pie_commit.specs.Outcomes as commits
-use Rattle.pie_commit.specs.Outcomes.{HasBrought, HasFile, IsAtRest, Leaves, LeavesAsBefore, LeavesFromRest, Underway}
+use Rattle.pie_files.specs.Reading.{Leaves, LeavesAsBefore}
+use Rattle.pie_commit.specs.Outcomes.{HasBrought, HasFile, IsAtRest, LeavesFromRest, Underway}
 use Rattle.pie_commit.specs.Plans.{Same, Gone, Meets, Brings, later, at, removed, written, pended, stored, changes, wanted_by, is_empty}
 use Rattle.pie_commit.proofs.Bringing.{get_without}
-use Rattle.pie_commit.proofs.Reading.{if_two, none_before, before_rest, then_rest, still_rest}
-use Rattle.pie_commit.proofs.Standing.{same_path, if_each, weaker}
+use Rattle.pie_files.proofs.Reading.{if_two, none_before}
+use Rattle.pie_commit.proofs.Reading.{before_rest, then_rest, still_rest}
+use Rattle.pie_files.proofs.Reading.{if_each, weaker}
+use Rattle.pie_commit.proofs.Standing.{same_path}
 use Rattle.pie_files.specs.declared.files.FilesError.{FilesError}
 use Rattle.pie_files.specs.Directory.{Directory, file_at, without_file}
 use Rattle.pie_files.specs.Images.{Only}

@@ -3,7 +3,7 @@ ghost use Rattle.std.specs.Prelude.{◌≡◌, ◌≤◌, ◌++◌, All, IfSome,
 ghost use Rattle.pie_files.specs.Streams.{Counted};
 ghost use Rattle.pie_value.specs.Canonical.{IsEncodableTask};
 ghost use Rattle.pie_codegen.specs.Digests.{HasNames};
-ghost use Rattle.pie_commit.specs.Outcomes.{LeavesAsBefore};
+ghost use Rattle.pie_files.specs.Reading.{LeavesAsBefore};
 ghost use Rattle.pie_fresh.specs.Builds.{Gains, IsKept, StoredWhere};
 ghost use Rattle.pie_fresh.specs.Cleans.{IsCleanOf};
 ghost use Rattle.pie_project.specs.Refusals.{IsVerdict, Says};
@@ -107,7 +107,7 @@ fn build<F: Files>(
 }
 
 // What the project comes to.
-#[tactic(auto, using(pie_commit::proofs::Reading::reads))]
+#[tactic(auto, using(pie_files::proofs::Reading::reads))]
 fn evaluate<F: Files>(
     alloc: Global,
     files: &mut F,

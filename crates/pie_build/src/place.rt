@@ -6,7 +6,8 @@ ghost use Rattle.pie_files.specs.Directory.{file_at, files_under};
 ghost use Rattle.pie_files.specs.Images.{Only};
 ghost use Rattle.pie_files.specs.Streams.{Counted};
 ghost use Rattle.pie_reach.specs.Plan.{IsPlan};
-ghost use Rattle.pie_commit.specs.Outcomes.{HasBrought, KeepsOthers, IsAtRest, IsOfThree, LeavesAsBefore, LeavesFromRest, LeavesMarked};
+ghost use Rattle.pie_files.specs.Reading.{LeavesAsBefore};
+ghost use Rattle.pie_commit.specs.Outcomes.{HasBrought, KeepsOthers, IsAtRest, IsOfThree, LeavesFromRest, LeavesMarked};
 ghost use Rattle.pie_commit.specs.Plans.{is_sound, is_empty, wanted_by};
 ghost use Rattle.pie_fresh.specs.Builds.{InPathOrder};
 ghost use Rattle.pie_build.specs.Crashes.{StaysAtRest, Withstands};
@@ -38,7 +39,7 @@ pub(crate) struct Made {
 }
 
 /// Writes the files and the store that were made, and removes every other file under `out/` and the pending names.
-#[tactic(auto, using(crate::proofs::Crashing::withstands_still, crate::proofs::Crashing::withstands_none, pie_commit::proofs::Reading::reads))]
+#[tactic(auto, using(crate::proofs::Crashing::withstands_still, crate::proofs::Crashing::withstands_none, pie_files::proofs::Reading::reads))]
 pub(crate) fn put_into_place<F: Files>(
     alloc: Global,
     files: &mut F,
@@ -85,7 +86,7 @@ fn commit_then<F: Files>(files: &mut F, plan: &Plan, report: Report) -> Result<R
 }
 
 // The files under `out/` but for these.
-#[tactic(auto, using(pie_commit::proofs::Reading::reads))]
+#[tactic(auto, using(pie_files::proofs::Reading::reads))]
 fn removals<F: Files>(alloc: Global, files: &mut F, kept: &[Path]) -> Result<Vec<Path>, FilesError>
     ensures plan { IfSome (F.holds files.old) (λ d. IfOk result (λ found. IsPlan (files_under d (codes "out")) kept.now found.items)) }
     ensures out { IfOk result (λ found. list_all is_out found.items ≡ true) }
@@ -101,7 +102,7 @@ fn removals<F: Files>(alloc: Global, files: &mut F, kept: &[Path]) -> Result<Vec
 }
 
 // What becomes of the pending names: they go, where there are any.
-#[tactic(auto, using(pie_commit::proofs::Reading::reads))]
+#[tactic(auto, using(pie_files::proofs::Reading::reads))]
 fn end_of_pending<F: Files>(alloc: Global, files: &mut F) -> Result<Pending, FilesError>
     ensures gone { IfSome (F.holds files.old) (λ d. IfOk result (λ p. p ≡ gone_if (is_some (file_at d (codes ".pie/pending"))))) }
     ensures same { F.holds files.new ≡ F.holds files.old }

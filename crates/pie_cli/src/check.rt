@@ -1,6 +1,6 @@
 //! Checking a project, and what is told of it.
 ghost use Rattle.std.specs.Prelude.{◌≡◌, true, IfSome, IfOk, string_bytes};
-ghost use Rattle.pie_commit.specs.Outcomes.{LeavesAsBefore};
+ghost use Rattle.pie_files.specs.Reading.{LeavesAsBefore};
 ghost use Rattle.pie_files.specs.Streams.{Counted};
 ghost use Rattle.pie_project.specs.Looking.{Asks, prefix_calls};
 ghost use Rattle.pie_project.specs.Refusals.{plain};

@@ -2,7 +2,7 @@
 ghost use Rattle.std.specs.Prelude.{◌≡◌, ◌≢◌, Bool, true, IfSome, string_bytes};
 ghost use Rattle.pie_build.specs.Crashes.{StaysAtRest, Withstands};
 ghost use Rattle.pie_build.specs.Left.{KeepsRest, Leaves};
-ghost use Rattle.pie_commit.specs.Outcomes.{LeavesAsBefore};
+ghost use Rattle.pie_files.specs.Reading.{LeavesAsBefore};
 ghost use Rattle.pie_files.specs.Faults.{Rose};
 ghost use Rattle.pie_files.specs.Streams.{StaysInfallible};
 ghost use Rattle.pie_project.specs.Looking.{Asks, prefix_calls};

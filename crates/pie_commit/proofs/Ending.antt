@@ -6,10 +6,12 @@ use Rattle.pie_files.specs.Directory.{Directory, file_at}
 use Rattle.pie_files.specs.Images.{Only}
 use Rattle.pie_commit.specs.declared.plan.Plan.{Plan}
 use Rattle.pie_commit.specs.Plans.{Same, Gone, Bytes, Meets, Brings, later, at, changes, wanted_by}
-use Rattle.pie_commit.specs.Outcomes.{HasFile, HasBrought, Underway, IsDone, AllDone, IsOfThree, IsEarly, IsEnding, IsAtRest, Stands, Leaves}
+use Rattle.pie_files.specs.Reading.{Leaves}
+use Rattle.pie_commit.specs.Outcomes.{HasFile, HasBrought, Underway, IsDone, AllDone, IsOfThree, IsEarly, IsEnding, IsAtRest, Stands}
 use Rattle.pie_commit.specs.Outcomes.{LeavesMarked, LeavesFromRest, KeepsMarked}
 use Rattle.pie_commit.proofs.Bringing.{later-same}
-use Rattle.pie_commit.proofs.Standing.{starts, in_turn, weaker, removal_apart, Told, if_each, both_each}
+use Rattle.pie_files.proofs.Reading.{starts, in_turn, weaker, if_each}
+use Rattle.pie_commit.proofs.Standing.{removal_apart, Told, both_each}
 
 pub in_any_err : {T A : Type 0} (result : Result T FilesError) → A → OnErr result A
 in_any_err (Ok value) a = tt

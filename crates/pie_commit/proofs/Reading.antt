@@ -1,37 +1,13 @@
--- Calls that change no file, alone and before a commit.
+-- Calls that change no file, before a commit.
 use Rattle.std.proofs.Common.{◌≡◌, ℕ, Option, Some, None, sym, subst}
 use Rattle.std.specs.Prelude.{IfSome}
 use Rattle.pie_files.specs.Directory.{Directory}
-use Rattle.pie_files.specs.Images.{Elapses, MayLeave, Only, Stays}
-use Rattle.pie_commit.specs.Outcomes.{Leaves, LeavesAsBefore, LeavesFromRest}
-use Rattle.pie_commit.proofs.Standing.{starts, one_call, in_turn, weaker, if_always, if_each}
-
-pub if_two : (A B C : Directory → Type 0) (o : Option Directory) → ((d : Directory) → A d → B d → C d) → IfSome o A → IfSome o B → IfSome o C
-if_two A B C None f a b = tt
-if_two A B C (Some d) f a b = f d a b
+use Rattle.pie_files.specs.Images.{Only}
+use Rattle.pie_files.specs.Reading.{Leaves, LeavesAsBefore}
+use Rattle.pie_files.proofs.Reading.{in_turn, weaker, if_two, if_each}
+use Rattle.pie_commit.specs.Outcomes.{LeavesFromRest}
 
 module _ {S : Type 0} (holds : S → Option Directory) (moment : S → ℕ) (left_since : S → ℕ → Directory → Type 0) (images : S → Directory → Type 0) where
-  -- no call
-  pub none_before : (old : S) → LeavesAsBefore holds moment left_since images old old
-  none_before old = if_always (holds old) (starts moment left_since images (images old) old (λ c is. is))
-
-  -- one call
-  pub read_before : (old new : S) → MayLeave holds moment left_since images Stays old new → LeavesAsBefore holds moment left_since images old new
-  read_before old new may = if_each
-      (λ d. Elapses Stays (moment old) (moment new) (left_since old) (left_since new) (images old) (images new))
-      (λ d. Leaves moment left_since images (images old) old new) (holds old)
-      (λ d time. one_call moment left_since images (images old) Stays old new (λ b c same is. subst (images old) (sym same) is) (λ c is. is) time) may
-
-  -- one after another
-  pub both_before : (old mid new : S) → holds mid ≡ holds old → LeavesAsBefore holds moment left_since images old mid
-      → LeavesAsBefore holds moment left_since images mid new → LeavesAsBefore holds moment left_since images old new
-  both_before old mid new same first second = if_two
-      (λ d. Leaves moment left_since images (images old) old mid)
-      (λ d. Leaves moment left_since images (images mid) mid new)
-      (λ d. Leaves moment left_since images (images old) old new) (holds old)
-      (λ d a b. in_turn moment left_since images (images old) old mid new a (weaker moment left_since images (images mid) (images old) mid new a.now b))
-      first (subst (λ o. IfSome o (λ d. Leaves moment left_since images (images mid) mid new)) same second)
-
   -- from rest a crash leaves what is there
   pub before_rest : (P : Directory → Directory → Type 0) → ((d : Directory) → P d d) → (old new : S) → LeavesAsBefore holds moment left_since images old new
       → LeavesFromRest holds moment left_since images P old new
@@ -62,6 +38,3 @@ module _ {S : Type 0} (holds : S → Option Directory) (moment : S → ℕ) (lef
       (λ d. Only d (images old) → Q d) (holds old)
       (λ d a b only. b (λ c is. only c (a.now c is)))
       first (subst (λ o. IfSome o (λ d. Only d (images mid) → Q d)) same second)
-
--- what the search takes for a function whose calls change no file
-pub ruleset reads = (none_before, read_before, both_before)

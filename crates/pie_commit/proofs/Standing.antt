@@ -11,11 +11,13 @@ use Rattle.std.proofs.lemmas.Map.Views.{tells_apart}
 use Rattle.pie_base.specs.Path.{same_text}
 use Rattle.pie_files.specs.Directory.{Directory, file_at, with_file, without_file}
 use Rattle.pie_files.specs.Images.{Stays, MayWrite, MayRemove, MayLeave, Elapses, Only}
+use Rattle.pie_files.specs.Reading.{Leaves}
 use Rattle.pie_files.proofs.HeldLemmas.{antisymmetric}
+use Rattle.pie_files.proofs.Reading.{starts, one_call, in_turn, if_always, if_each}
 use Rattle.pie_files.specs.declared.files.FilesError.{FilesError}
 use Rattle.pie_commit.specs.declared.plan.Plan.{Plan}
 use Rattle.pie_commit.specs.Plans.{Wanted, is_own, is_inner}
-use Rattle.pie_commit.specs.Outcomes.{Underway, Leaves, Stands, IsEarly, IsEnding, IsAtRest, HasBrought, KeepsOthers, KeepsMarked, LeavesFromRest}
+use Rattle.pie_commit.specs.Outcomes.{Underway, Stands, IsEarly, IsEnding, IsAtRest, HasBrought, KeepsOthers, KeepsMarked, LeavesFromRest}
 use Rattle.pie_commit.proofs.Bringing.{get_with, get_without}
 
 pub same_itself : (q : List ℕ) → same_text q q ≡ true
@@ -62,39 +64,6 @@ removal_keeps p d b c q inner may way =
     ⊎_elim (λ same. subst (Underway p d) (sym same) way)
     (λ gone. underway_still p d b c q inner (λ r off. ap (λ e. file_at e r) gone ∙ removal_apart b q r off) way) may
 
--- ---- calls, one after another
-
-module _ {S : Type 0} (moment : S → ℕ) (left_since : S → ℕ → Directory → Type 0) (images : S → Directory → Type 0) where
-  pub starts : (P : Directory → Type 0) (old : S) → ((c : Directory) → images old c → P c) → Leaves moment left_since images P old old
-  starts P old here = record { now = here; later = omega arith; since = λ t c le left. inl left }
-
-  pub one_call : (P : Directory → Type 0) (step : Directory → Directory → Type 0) (old new : S) → ((b c : Directory) → step b c → P b → P c)
-      → ((c : Directory) → images old c → P c)
-      → Elapses step (moment old) (moment new) (left_since old) (left_since new) (images old) (images new) → Leaves moment left_since images P old new
-  one_call P step old new keeps here time =
-      let now : (c : Directory) → images new c → P c = λ c left. let from = time.follows c left in keeps from.0 c from.2 (here from.0 from.1) in
-      record {
-        now = now;
-        later = time.later;
-        since = λ t c le left. ⊎_elim (λ past. inl past) (λ is. inr (now c is)) (time.nothing_else t c le left);
-      }
-
-  pub in_turn : (P : Directory → Type 0) (old mid new : S) → Leaves moment left_since images P old mid → Leaves moment left_since images P mid new
-      → Leaves moment left_since images P old new
-  in_turn P old mid new first second = record {
-    now = second.now;
-    later = omega (arith, first.later, second.later);
-    since = λ t c le left. ⊎_elim (first.since t c le) (λ is. inr is) (second.since t c (omega (arith, le, first.later)) left);
-  }
-
-  pub weaker : (P Q : Directory → Type 0) (old new : S) → ((c : Directory) → P c → Q c) → Leaves moment left_since images P old new
-      → Leaves moment left_since images Q old new
-  weaker P Q old new implies leaves = record {
-    now = λ c left. implies c (leaves.now c left);
-    later = leaves.later;
-    since = λ t c le left. ⊎_elim (λ past. inl past) (λ is. inr (implies c is)) (leaves.since t c le left);
-  }
-
 -- ---- where the directory is observable
 
 -- where the one is told, the other is
@@ -112,14 +81,6 @@ told_both (Some d) b c first second = subst (λ o. Told o c) first.1 second
 pub told_itself : (a : Option Directory) → Told a a
 told_itself None = tt
 told_itself (Some d) = (d, refl)
-
-pub if_always : {A : Type 0} (o : Option Directory) → A → IfSome o (λ d. A)
-if_always None a = tt
-if_always (Some d) a = a
-
-pub if_each : (A B : Directory → Type 0) (o : Option Directory) → ((d : Directory) → A d → B d) → IfSome o A → IfSome o B
-if_each A B None f h = tt
-if_each A B (Some d) f h = f d h
 
 pub both_each : (A : Directory → Type 0) (B : Type 0) (C : Directory → Type 0) (a b : Option Directory) → Told a b → ((d : Directory) → A d → B → C d)
     → IfSome a A → IfSome b (λ e. B) → IfSome a C

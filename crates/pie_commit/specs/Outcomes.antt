@@ -1,8 +1,9 @@
 -- What a commit leaves, at its end and at each moment.
-use Rattle.std.specs.Prelude.{◌≡◌, ◌⊎◌, ◌≤◌, ℕ, false, List, Option, Some, IfSome}
+use Rattle.std.specs.Prelude.{◌≡◌, ◌⊎◌, ℕ, false, List, Option, Some, IfSome}
 use Rattle.pie_base.specs.Path.{same_text}
 use Rattle.pie_files.specs.Directory.{Directory, file_at, without_file}
 use Rattle.pie_files.specs.Images.{Only}
+use Rattle.pie_files.specs.Reading.{Leaves}
 use Rattle.pie_commit.specs.declared.plan.Plan.{Plan}
 use Rattle.pie_commit.specs.Plans.{Wanted, Meets, Brings, wanted_by, is_own}
 
@@ -43,13 +44,6 @@ AllDone p before images = (c : Directory) → images c → IsDone p before c
 abbrev pub LeavesMarked : Plan → Directory → (Directory → Type 0) → Type 0
 LeavesMarked p before images = ((c : Directory) → images c → HasFile c p.marker ⊎ (c ≡ before)) ⊎ AllDone p before images
 
--- a crash now, or at a moment since old, leaves only what has P, or what was left before
-pub record Leaves {S : Type 0} (moment : S → ℕ) (left_since : S → ℕ → Directory → Type 0) (images : S → Directory → Type 0)
-    (P : Directory → Type 0) (old new : S) : Type 0 where
-  pub now : (c : Directory) → images new c → P c
-  pub later : moment old ≤ moment new
-  pub since : (t : ℕ) (c : Directory) → t ≤ moment old → left_since new t c → left_since old t c ⊎ P c
-
 -- before the first change: a commit is under way or hasn't begun
 abbrev pub IsEarly : Plan → Directory → Directory → Type 0
 IsEarly p before c = Underway p before c ⊎ (c ≡ before)
@@ -73,7 +67,3 @@ abbrev pub LeavesFromRest : {S : Type 0} → (S → Option Directory) → (S →
     → (Directory → Directory → Type 0) → S → S → Type 0
 LeavesFromRest holds moment left_since images P old new = IfSome (holds old) (λ d. Only d (images old)
     → Leaves moment left_since images (P d) old new)
-
--- a crash leaves only what it might have left before
-abbrev pub LeavesAsBefore : {S : Type 0} → (S → Option Directory) → (S → ℕ) → (S → ℕ → Directory → Type 0) → (S → Directory → Type 0) → S → S → Type 0
-LeavesAsBefore holds moment left_since images old new = IfSome (holds old) (λ d. Leaves moment left_since images (images old) old new)

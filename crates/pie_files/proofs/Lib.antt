@@ -5,3 +5,4 @@ pub mod Leaving
 pub mod Moving
 pub mod OrderedPaths
 pub mod Picking
+pub mod Reading

@@ -7,6 +7,7 @@ pub mod Images
 pub mod MemFiles
 pub mod MemStreams
 pub mod Memory
+pub mod Reading
 pub mod Story
 pub mod StoryLaws
 pub mod Streams

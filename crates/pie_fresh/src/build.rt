@@ -1,6 +1,6 @@
 //! The one call: from the roots to what a build makes of them.
 ghost use Rattle.std.specs.Prelude.{◌≡◌, List, [], None, IfOk};
-ghost use Rattle.pie_commit.specs.Outcomes.{LeavesAsBefore};
+ghost use Rattle.pie_files.specs.Reading.{LeavesAsBefore};
 ghost use Rattle.pie_files.specs.Streams.{Counted};
 ghost use Rattle.pie_value.specs.declared.task.Task.{Task};
 ghost use Rattle.pie_value.specs.declared.verdict.Verdict.TheVariants.{Refused};
@@ -24,7 +24,7 @@ use std::alloc::Global;
 /// Evaluates the roots in order up to the first that fails, each entered task once, and tests what they wrote.
 /// It changes no file. `Failed` comes only where the count of faults rose.
 /// Rule: docs/BUILDING.md, "A clean build".
-#[tactic(auto, using(crate::proofs::Growing::gains, pie_commit::proofs::Reading::reads))]
+#[tactic(auto, using(crate::proofs::Growing::gains, pie_files::proofs::Reading::reads))]
 pub fn fresh<F: Files>(
     alloc: Global,
     typed: &Typed,
@@ -50,7 +50,7 @@ pub fn fresh<F: Files>(
 }
 
 // Evaluates roots up to the first that fails; why it does.
-#[tactic(auto, using(crate::proofs::Walks::evaluates_all, pie_commit::proofs::Reading::reads))]
+#[tactic(auto, using(crate::proofs::Walks::evaluates_all, pie_files::proofs::Reading::reads))]
 fn evaluate_all<'a, F: Files>(
     builder: &mut Builder<'a>,
     roots: &[Task],

@@ -2,7 +2,7 @@
 ghost use Rattle.std.specs.Prelude.{◌≡◌, ◌+◌, ◌<◌, [], None, IfOk};
 ghost use Rattle.std.specs.List.{Contains};
 ghost use Rattle.pie_value.specs.Canonical.{IsEncodableTask};
-ghost use Rattle.pie_commit.specs.Outcomes.{LeavesAsBefore};
+ghost use Rattle.pie_files.specs.Reading.{LeavesAsBefore};
 ghost use Rattle.pie_files.specs.Streams.{Counted};
 ghost use Rattle.pie_fresh.specs.Ledgers.{Enters, IsPlaced, Starts};
 ghost use Rattle.pie_fresh.specs.Frames.{IsIdle, IsWaiting, Running, StandsAt};
@@ -59,7 +59,7 @@ impl<'a> Builder<'a> {
     }
 
     /// Evaluates a root; why it fails, if it does.
-    #[tactic(auto, using(crate::proofs::Growing::enters_same, crate::proofs::Growing::starts_same, pie_commit::proofs::Reading::reads))]
+    #[tactic(auto, using(crate::proofs::Growing::enters_same, crate::proofs::Growing::starts_same, pie_files::proofs::Reading::reads))]
     pub(crate) fn evaluate<F: Files>(
         &mut self,
         root: &Task,
@@ -88,7 +88,7 @@ impl<'a> Builder<'a> {
     }
 
     // Evaluates a root that wasn't entered.
-    #[tactic(auto, using(crate::proofs::Growing::enters_then, pie_commit::proofs::Reading::reads))]
+    #[tactic(auto, using(crate::proofs::Growing::enters_then, pie_files::proofs::Reading::reads))]
     fn begin<F: Files>(
         &mut self,
         root: &Task,
@@ -115,7 +115,7 @@ impl<'a> Builder<'a> {
     }
 
     // Goes on until the root is done or fails.
-    #[tactic(auto, using(crate::proofs::Walks::runs, pie_commit::proofs::Reading::reads))]
+    #[tactic(auto, using(crate::proofs::Walks::runs, pie_files::proofs::Reading::reads))]
     fn run<F: Files>(
         &mut self,
         frame: RunningTask<'a>,
@@ -143,7 +143,7 @@ impl<'a> Builder<'a> {
     }
 
     // One event of the running task.
-    #[tactic(auto, using(crate::proofs::Growing::enters_same, pie_commit::proofs::Reading::reads))]
+    #[tactic(auto, using(crate::proofs::Growing::enters_same, pie_files::proofs::Reading::reads))]
     fn turn<F: Files>(
         &mut self,
         frame: RunningTask<'a>,
@@ -169,7 +169,7 @@ impl<'a> Builder<'a> {
     }
 
     // An event that asks.
-    #[tactic(auto, using(crate::proofs::Walks::treats, pie_commit::proofs::Reading::reads))]
+    #[tactic(auto, using(crate::proofs::Walks::treats, pie_files::proofs::Reading::reads))]
     fn treat<F: Files>(
         &mut self,
         waiting: Waiting<'a>,

@@ -4,7 +4,7 @@ ghost use Rattle.std.specs.Option.{option_map};
 ghost use Rattle.pie_value.specs.declared.event.Event.TheVariants as events;
 ghost use Rattle.pie_value.specs.Tree.{TPath};
 ghost use Rattle.pie_files.specs.Directory.{Directory};
-ghost use Rattle.pie_commit.specs.Outcomes.{LeavesAsBefore};
+ghost use Rattle.pie_files.specs.Reading.{LeavesAsBefore};
 ghost use Rattle.pie_files.specs.Streams.{Counted};
 ghost use Rattle.pie_fresh.specs.Frames.{IsWaiting};
 ghost use Rattle.pie_fresh.specs.Turns.{Answered};
@@ -25,7 +25,7 @@ use std::alloc::Global;
 
 impl<'a> Builder<'a> {
     /// What lies in a directory.
-    #[tactic(auto, using(pie_commit::proofs::Reading::reads))]
+    #[tactic(auto, using(pie_files::proofs::Reading::reads))]
     pub(crate) fn list<F: Files>(
         &self,
         waiting: Waiting<'a>,
@@ -46,7 +46,7 @@ impl<'a> Builder<'a> {
 }
 
 // The entries of a directory, or `None` where it is no source.
-#[tactic(auto, using(pie_commit::proofs::Reading::reads))]
+#[tactic(auto, using(pie_files::proofs::Reading::reads))]
 fn names<F: Files>(dir: &Path, files: &mut F) -> Result<Option<Vec<Path>>, FilesError>
     ensures same { F.holds files.new ≡ F.holds files.old }
     ensures crash { LeavesAsBefore F.holds F.moment F.left_since F.images files.old files.new }

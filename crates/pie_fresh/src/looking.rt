@@ -4,7 +4,7 @@ ghost use Rattle.std.specs.Option.{option_map};
 ghost use Rattle.pie_base.specs.Path.{is_source};
 ghost use Rattle.pie_graph.specs.Numbers.{AllBelow};
 ghost use Rattle.pie_view.specs.Content.{content};
-ghost use Rattle.pie_commit.specs.Outcomes.{LeavesAsBefore};
+ghost use Rattle.pie_files.specs.Reading.{LeavesAsBefore};
 ghost use Rattle.pie_files.specs.Streams.{Counted};
 ghost use Rattle.pie_builder_laws.specs.Views.{unmarked};
 ghost use Rattle.pie_fresh.specs.Sights.{SeesHeldDigest, SeesHeldPresence, SeesHeldReading, SeesOut, SeesOthers, SightSays};
@@ -82,7 +82,7 @@ impl Ledger {
     }
 
     /// What a task sees that reads a path. Only a source path is asked of the files.
-    #[tactic(auto, using(pie_commit::proofs::Reading::reads))]
+    #[tactic(auto, using(pie_files::proofs::Reading::reads))]
     pub(crate) fn sight<F: Files>(
         &self,
         notes: &Notes,
@@ -122,7 +122,7 @@ impl Ledger {
     }
 
     /// Whether a task sees a file at a path, or `None` where two tasks wrote it.
-    #[tactic(auto, using(pie_commit::proofs::Reading::reads))]
+    #[tactic(auto, using(pie_files::proofs::Reading::reads))]
     pub(crate) fn presence<F: Files>(
         &self,
         notes: &Notes,
@@ -147,7 +147,7 @@ impl Ledger {
     }
 
     /// The SHA-256 of what a task sees at a path, or `None` where two tasks wrote it.
-    #[tactic(auto, using(pie_commit::proofs::Reading::reads))]
+    #[tactic(auto, using(pie_files::proofs::Reading::reads))]
     pub(crate) fn digest<F: Files>(
         &self,
         notes: &Notes,

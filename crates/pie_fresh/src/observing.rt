@@ -4,7 +4,7 @@ ghost use Rattle.std.specs.Option.{option_map};
 ghost use Rattle.pie_value.specs.declared.event.Event.TheVariants as events;
 ghost use Rattle.pie_builder_laws.specs.Looks.{reading_stamp, reading_answer};
 ghost use Rattle.pie_graph.specs.Numbers.{AllBelow};
-ghost use Rattle.pie_commit.specs.Outcomes.{LeavesAsBefore};
+ghost use Rattle.pie_files.specs.Reading.{LeavesAsBefore};
 ghost use Rattle.pie_files.specs.Streams.{Counted};
 ghost use Rattle.pie_record.specs.Canonical.{IsStorableDep};
 ghost use Rattle.pie_fresh.specs.Noted.{file_dep, read_kind, observed as with_dep};
@@ -28,7 +28,7 @@ use std::alloc::Global;
 
 impl<'a> Builder<'a> {
     /// Whether a file is there.
-    #[tactic(auto, using(pie_commit::proofs::Reading::reads))]
+    #[tactic(auto, using(pie_files::proofs::Reading::reads))]
     pub(crate) fn exists<F: Files>(
         &self,
         waiting: Waiting<'a>,
@@ -49,7 +49,7 @@ impl<'a> Builder<'a> {
     }
 
     /// The bytes of a file.
-    #[tactic(auto, using(pie_commit::proofs::Reading::reads))]
+    #[tactic(auto, using(pie_files::proofs::Reading::reads))]
     pub(crate) fn read<F: Files>(
         &self,
         waiting: Waiting<'a>,
@@ -71,7 +71,7 @@ impl<'a> Builder<'a> {
     }
 
     /// The SHA-256 of a file.
-    #[tactic(auto, using(pie_commit::proofs::Reading::reads))]
+    #[tactic(auto, using(pie_files::proofs::Reading::reads))]
     pub(crate) fn digest<F: Files>(
         &self,
         waiting: Waiting<'a>,

@@ -1,6 +1,6 @@
 //! Checking a project.
 ghost use Rattle.std.specs.Prelude.{◌≡◌, Ok, IfSome, IsErrOf};
-ghost use Rattle.pie_commit.specs.Outcomes.{LeavesAsBefore};
+ghost use Rattle.pie_files.specs.Reading.{LeavesAsBefore};
 ghost use Rattle.pie_project.specs.Fronts.{CheckSays, counts_of};
 ghost use Rattle.pie_project.specs.Looking.{Looks, prefix_calls};
 ghost use Rattle.pie_project.specs.Projects.{front_of};

@@ -1,7 +1,7 @@
 //! Reading a file of a project.
 ghost use Rattle.std.specs.Prelude.{◌≡◌, true, IfSome, IfOk};
 ghost use Rattle.pie_base.specs.Path.{is_path};
-ghost use Rattle.pie_commit.specs.Outcomes.{LeavesAsBefore};
+ghost use Rattle.pie_files.specs.Reading.{LeavesAsBefore};
 ghost use Rattle.pie_files.specs.declared.files.Call.TheVariants as calls;
 ghost use Rattle.pie_files.specs.Calls.{Called};
 ghost use Rattle.pie_files.specs.Directory.{file_at};
@@ -15,7 +15,7 @@ use pie_files::{Files, FilesError, Within};
 use std::alloc::Global;
 
 /// A file, if it is there and no longer than a pipeline or roots may be.
-#[tactic(auto, using(pie_commit::proofs::Reading::reads))]
+#[tactic(auto, using(pie_files::proofs::Reading::reads))]
 pub(crate) fn load<F: Files>(alloc: Global, files: &mut F, name: &str) -> Result<Within, FilesError>
     requires { is_path name.now ≡ true }
     ensures found { IfSome (F.holds files.old) (λ d. IfOk result (λ found. IsWithin most found (file_at d name.now))) }

@@ -1,7 +1,7 @@
 //! A project of a directory.
 ghost use Rattle.std.specs.Prelude.{◌≡◌, ◌∷◌, [], IfSome, IfOk};
 ghost use Rattle.pie_codegen.specs.Digests.{HasNames};
-ghost use Rattle.pie_commit.specs.Outcomes.{LeavesAsBefore};
+ghost use Rattle.pie_files.specs.Reading.{LeavesAsBefore};
 ghost use Rattle.pie_files.specs.declared.files.Call.TheVariants as calls;
 ghost use Rattle.pie_project.specs.Digested.{HasDigests, IsDigested};
 ghost use Rattle.pie_project.specs.Fronts.{ProjectSays, TypedSays, PipelineSays};
@@ -47,7 +47,7 @@ pub fn read_project<F: Files>(alloc: Global, files: &mut F) -> Result<Project, B
 }
 
 // The project of a directory.
-#[tactic(auto, using(pie_commit::proofs::Reading::reads))]
+#[tactic(auto, using(pie_files::proofs::Reading::reads))]
 fn project_in<F: Files>(alloc: Global, files: &mut F) -> Result<Project, BuildError>
     ensures found { IfSome (F.holds files.old) (λ d. Says front_of (ProjectSays d) result) }
     ensures digests { IfSome (F.holds files.old) (λ d. IfOk result (λ p. HasDigests d p.digests.items)) }
@@ -65,7 +65,7 @@ fn project_in<F: Files>(alloc: Global, files: &mut F) -> Result<Project, BuildEr
 }
 
 // The project with the pipeline that these bytes are.
-#[tactic(auto, using(pie_commit::proofs::Reading::reads))]
+#[tactic(auto, using(pie_files::proofs::Reading::reads))]
 fn with_pipeline<F: Files>(
     alloc: Global,
     files: &mut F,

@@ -8,7 +8,7 @@ use Rattle.pie_build.specs.Plans.{IsPlanOf}
 use Rattle.pie_build.specs.Reported.{PutsMade}
 use Rattle.pie_build.proofs.Cleaning.{report_of}
 use Rattle.pie_build.proofs.Crashing.{rests_commit, rests_ok, withstands_commit, withstands_still, withstands_then}
-use Rattle.pie_commit.proofs.Reading.{both_before}
+use Rattle.pie_files.proofs.Reading.{both_before}
 use Rattle.pie_build.proofs.OwnPaths.{same_keeps, commit_keeps}
 use Rattle.pie_build.proofs.InPlace.{Fits, fits_before, puts_after}
 use Rattle.pie_build.proofs.place.put_into_place.Goals as goal

@@ -1,5 +1,5 @@
 use Rattle.std.proofs.Common.{subst, ◌∙◌}
-use Rattle.pie_commit.proofs.Reading.{both_before}
+use Rattle.pie_files.proofs.Reading.{both_before}
 use Rattle.pie_fresh.proofs.Growing.{enters_then, starts_then}
 use Rattle.pie_fresh.specs.Cleans.{EvaluatesRoot}
 use Rattle.pie_fresh.proofs.Cleaning.{does_more, ends_build, does_all}

@@ -1,5 +1,5 @@
 use Rattle.std.proofs.Common.{◌≡◌, ◌+◌}
-use Rattle.pie_commit.specs.Outcomes.{LeavesAsBefore}
+use Rattle.pie_files.specs.Reading.{LeavesAsBefore}
 use Rattle.pie_fresh.specs.Ledgers.{Enters, Starts}
 use Rattle.pie_fresh.specs.Frames.{Running}
 use Rattle.pie_fresh.specs.Turns.{below_left}
