@@ -5,7 +5,7 @@ use Rattle.std.proofs.lemmas.List.Elements.{All-weaker}
 use Rattle.std.proofs.lemmas.List.Sorted.{Contains-permutation}
 use Rattle.pie_base.specs.declared.memory.OutOfMemory.{OutOfMemory}
 use Rattle.pie_checks.specs.declared.built.Built.{Built}
-use Rattle.pie_codegen.specs.Digests.{function_names, HasNames}
+use Rattle.pie_digest.specs.Digests.{function_names, HasNames}
 use Rattle.pie_files.proofs.Reading.{if_two}
 use Rattle.pie_files.specs.Directory.{Directory}
 use Rattle.pie_fresh.specs.Builds.{IsKept, IsStored, StoredWhere}

@@ -12,7 +12,7 @@ use Rattle.pie_value.specs.declared.verdict.Verdict.{Verdict}
 use Rattle.pie_value.specs.declared.verdict.Verdict.TheVariants.{Accepted, Refused}
 use Rattle.pie_record.specs.declared.task_record.TaskRecord.{TaskRecord}
 use Rattle.pie_reach.specs.Plan.{IsPlan}
-use Rattle.pie_codegen.specs.Digests.{HasNames}
+use Rattle.pie_digest.specs.Digests.{HasNames}
 use Rattle.pie_fresh.specs.Cleans.{contents_in}
 use Rattle.pie_project.specs.Digested.{HasDigests}
 use Rattle.pie_project.specs.Fronts.{ProjectSays}

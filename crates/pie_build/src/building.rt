@@ -2,7 +2,7 @@
 ghost use Rattle.std.specs.Prelude.{◌≡◌, ◌≤◌, ◌++◌, All, IfSome, IfOk, OnOk, drop, length};
 ghost use Rattle.pie_files.specs.Streams.{Counted};
 ghost use Rattle.pie_value.specs.Canonical.{IsEncodableTask};
-ghost use Rattle.pie_codegen.specs.Digests.{HasNames};
+ghost use Rattle.pie_digest.specs.Digests.{HasNames};
 ghost use Rattle.pie_files.specs.Reading.{LeavesAsBefore};
 ghost use Rattle.pie_fresh.specs.Builds.{Gains, IsKept, StoredWhere};
 ghost use Rattle.pie_fresh.specs.Cleans.{IsCleanOf};

@@ -16,6 +16,4 @@ pub mod Accepted
 pub mod Verified
 pub mod Typed
 pub mod Pipelined
-pub mod Digesting
-pub mod FuncTokens
 pub mod Walks

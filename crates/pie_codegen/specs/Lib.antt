@@ -9,4 +9,3 @@ pub mod Functions
 pub mod Formed
 pub mod Names
 pub mod Pipelines
-pub mod Digests

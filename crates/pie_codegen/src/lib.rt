@@ -8,7 +8,6 @@ mod block;
 mod call;
 mod chain;
 mod compiling;
-mod digests;
 mod each;
 mod emitter;
 mod expr;
@@ -20,6 +19,5 @@ mod scope;
 mod spot;
 
 pub use compiling::compile;
-pub use digests::func_digests;
 pub use function::function_code;
 pub use spot::Spot;

@@ -14,8 +14,8 @@ use Rattle.pie_parser.specs.At.{At}
 use Rattle.pie_parser.specs.Places.{Got, Miss, behind, name_in, name_by}
 use Rattle.pie_parser.specs.FunctionGrammar as functions
 use Rattle.pie_parser.specs.FunctionGrammar.{IsFunction}
-use Rattle.pie_codegen.specs.Digests.{is_func, before_func, function_tokens, spelled, name_of, digest_here, digests_of}
-use Rattle.pie_codegen.specs.Digests.{name_in as named}
+use Rattle.pie_digest.specs.Digests.{is_func, before_func, function_tokens, spelled, name_of, digest_here, digests_of}
+use Rattle.pie_digest.specs.Digests.{name_in as named}
 use Rattle.pie_spelling_laws.specs.Spelling.{spelling, joined, tokens_within, function_spelling}
 use Rattle.pie_spelling_laws.specs.Standing.{IsStretch, NoFunc, NextIsFunc}
 use Rattle.pie_spelling_laws.specs.Standing.{is_func as is_one_func}

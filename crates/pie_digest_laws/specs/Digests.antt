@@ -3,7 +3,7 @@ use Rattle.std.specs.Prelude.{◌≡◌, ℕ, List, Contains}
 use Rattle.sha2.specs.Sha256.{sha256}
 use Rattle.pie_lexer.specs.declared.token.Token.{Token}
 use Rattle.pie_parser.specs.FunctionTrees.{FunctionTree}
-use Rattle.pie_codegen.specs.Digests.{digests_of}
+use Rattle.pie_digest.specs.Digests.{digests_of}
 use Rattle.pie_spelling_laws.specs.Spelling.{function_spelling}
 use Rattle.pie_spelling_laws.specs.Standing.{IsFunctionOf}
 use Rattle.pie_spelling_laws.specs.Same.{MeanTheSame}

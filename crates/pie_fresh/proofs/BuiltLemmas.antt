@@ -6,7 +6,7 @@ use Rattle.pie_value.specs.declared.task.Task.{Task}
 use Rattle.pie_value.specs.declared.verdict.Verdict.TheVariants.{Accepted}
 use Rattle.pie_parser.specs.FunctionTrees.{FunctionTree}
 use Rattle.pie_store.specs.Canonical.{AreInOrder, tasks_in}
-use Rattle.pie_codegen.specs.Digests.{function_names}
+use Rattle.pie_digest.specs.Digests.{function_names}
 use Rattle.pie_record.specs.declared.task_record.TaskRecord.{TaskRecord}
 use Rattle.pie_record.specs.Records.{record_of}
 use Rattle.pie_fresh.specs.declared.ledger.Ledger.{Ledger}

@@ -4,7 +4,7 @@ use Rattle.std.specs.Prelude.{All, Contains, slice_get}
 use Rattle.pie_record.specs.Records.{Puts}
 use Rattle.pie_record.specs.declared.task_record.TaskRecord.{TaskRecord}
 use Rattle.pie_record.specs.declared.dep.DepOn.TheVariants.{Called}
-use Rattle.pie_codegen.specs.Digests.{function_names}
+use Rattle.pie_digest.specs.Digests.{function_names}
 use Rattle.std.proofs.lemmas.List.{length-append}
 use Rattle.std.proofs.lemmas.List.Elements.{All-nil, All-pop}
 use Rattle.pie_value.specs.declared.task.Task.{Task}

@@ -7,7 +7,7 @@ use Rattle.pie_value.specs.declared.task.Task.{Task}
 use Rattle.pie_parser.specs.FunctionTrees.{FunctionTree}
 use Rattle.pie_types.specs.Headings.{signature_of}
 use Rattle.pie_types.specs.Whole.{number_from, takes}
-use Rattle.pie_codegen.specs.Digests.{function_names}
+use Rattle.pie_digest.specs.Digests.{function_names}
 
 pub found_known : (n : ℕ) (fs : List FunctionTree) (t : Task) (k : ℕ) → number_from n fs t ≡ Some k → Contains (function_names fs) t.func
 found_known n [] t k e = absurd (cc)

@@ -4,7 +4,7 @@ use Rattle.std.specs.Prelude.{All, Contains, IfSome, Option, slice_get}
 use Rattle.pie_record.specs.Canonical.{IsStorable}
 use Rattle.pie_record.specs.Records.{record_of}
 use Rattle.pie_record.specs.declared.task_record.TaskRecord.{TaskRecord}
-use Rattle.pie_codegen.specs.Digests.{function_names}
+use Rattle.pie_digest.specs.Digests.{function_names}
 use Rattle.pie_value.specs.declared.task.Task.{Task}
 use Rattle.pie_fresh.specs.declared.ledger.Ledger.{Ledger}
 use Rattle.pie_fresh.specs.declared.frame.Caller.{Caller}

@@ -13,7 +13,7 @@ use Rattle.pie_record.specs.declared.task_record.TaskRecord.{TaskRecord}
 use Rattle.pie_record.specs.Canonical.{IsStorable}
 use Rattle.pie_parser.specs.FunctionTrees.{FunctionTree}
 use Rattle.pie_store.specs.Canonical.{AreInOrder, tasks_in}
-use Rattle.pie_codegen.specs.Digests.{function_names}
+use Rattle.pie_digest.specs.Digests.{function_names}
 use Rattle.pie_checks.specs.declared.built.Built.{Built}
 
 -- so many tasks at most were started after those that were

@@ -2,7 +2,7 @@
 use Rattle.std.specs.Prelude.{◌≡◌, ℕ, ◌+◌, ◌<◌, ◌≤◌, List, [], ◌∷◌, ◌++◌, length, map, Some, slice_get, All, Contains}
 use Rattle.pie_value.specs.declared.task.Task.{Task}
 use Rattle.pie_value.specs.Canonical.{IsEncodableTask}
-use Rattle.pie_codegen.specs.Digests.{function_names}
+use Rattle.pie_digest.specs.Digests.{function_names}
 use Rattle.pie_vm.specs.Machines.{Belongs}
 use Rattle.pie_vm.specs.declared.machine.MachineState.TheVariants.{Ready, Waiting as Waits}
 use Rattle.pie_fresh.specs.declared.frame.RunningTask.{RunningTask}

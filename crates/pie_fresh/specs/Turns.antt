@@ -3,7 +3,7 @@ use Rattle.std.specs.Prelude.{◌≡◌, ℕ, ◌+◌, ◌-◌, ◌*◌, ◌<◌
 use Rattle.pie_value.specs.declared.task.Task.{Task}
 use Rattle.pie_record.specs.declared.dep.DepOn.{DepOn}
 use Rattle.pie_store.specs.Canonical.{required_on}
-use Rattle.pie_codegen.specs.Digests.{function_names}
+use Rattle.pie_digest.specs.Digests.{function_names}
 use Rattle.pie_value.specs.declared.event.Event.{Event}
 use Rattle.pie_value.specs.declared.event.Event.TheVariants.{Exists, Read, Digest, List as Listing, Write, Require, Done, Fail}
 use Rattle.pie_fresh.specs.declared.frame.RunningTask.{RunningTask}

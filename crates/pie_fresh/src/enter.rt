@@ -3,7 +3,7 @@ ghost use Rattle.std.specs.Prelude.{◌≡◌, ◌<◌, length, None, IfOk, IfSo
 ghost use Rattle.std.specs.Option.{option_map};
 ghost use Rattle.std.specs.List.{Contains};
 ghost use Rattle.pie_value.specs.Canonical.{IsEncodableTask};
-ghost use Rattle.pie_codegen.specs.Digests.{function_names};
+ghost use Rattle.pie_digest.specs.Digests.{function_names};
 ghost use Rattle.pie_fresh.specs.Ledgers.{Enters, IsLedger, Starts};
 ghost use Rattle.pie_fresh.specs.Turns.{Begins};
 ghost use Rattle.pie_fresh.specs.Kept.{IsCodeAt, IsCodeFor};

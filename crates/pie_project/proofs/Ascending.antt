@@ -15,7 +15,7 @@ use Rattle.std.proofs.lemmas.List.{get_or-map, length-map}
 use Rattle.std.proofs.lemmas.List.Sorted.{sorted_far, ranks_by}
 use Rattle.std.proofs.lemmas.Map.Keys.{apart_from_distinct}
 use Rattle.std.proofs.lemmas.Slice.Eq.{bytes_eq-Decides}
-use Rattle.pie_codegen.specs.Digests.{name_cmp, row_names}
+use Rattle.pie_digest.specs.Digests.{name_cmp, row_names}
 use Rattle.pie_store.specs.Canonical.{name_before}
 
 names_total : IsTotalOrder name_cmp

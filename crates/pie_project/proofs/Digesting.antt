@@ -5,7 +5,7 @@ use Rattle.std.proofs.lemmas.Cmp.{nat_list_eq_equiv}
 use Rattle.std.proofs.lemmas.List.Elements.{All-weaker}
 use Rattle.std.proofs.lemmas.List.Sorted.{All-permutation, length_permutation}
 use Rattle.std.proofs.lemmas.Map.Keys.{IsDistinct-IsPermutation}
-use Rattle.pie_codegen.specs.Digests.{digests_of, row_names, function_names, HasNames}
+use Rattle.pie_digest.specs.Digests.{digests_of, row_names, function_names, HasNames}
 use Rattle.pie_files.specs.Directory.{Directory, file_at}
 use Rattle.pie_files.specs.Within.{IsWithin}
 use Rattle.pie_files.specs.declared.files.Found.{Found}

@@ -16,7 +16,7 @@ use Rattle.pie_lexer.specs.Tokens.{Lexeme, Number, Kind, Spells, word, digits, q
 use Rattle.pie_lexer.specs.Words as words
 use Rattle.pie_lexer.specs.Words.{same_text, keyword_of, named, word_kind}
 use Rattle.pie_lexer.proofs.Spelled.{nonempty}
-use Rattle.pie_codegen.specs.Digests.{is_func, name_in, name_of, digest_here, digests_of}
+use Rattle.pie_digest.specs.Digests.{is_func, name_in, name_of, digest_here, digests_of}
 
 -- ---- the name of a token
 

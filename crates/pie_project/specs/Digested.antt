@@ -1,6 +1,6 @@
 -- The names and digests of a pipeline's functions.
 use Rattle.std.specs.Prelude.{◌≡◌, ℕ, List, Some, Ok, IsPermutation, IsSortedByKey}
-use Rattle.pie_codegen.specs.Digests.{digests_of, name_cmp, HasNames}
+use Rattle.pie_digest.specs.Digests.{digests_of, name_cmp, HasNames}
 use Rattle.pie_files.specs.Directory.{Directory}
 use Rattle.pie_lexer.specs.declared.token.Token.{Token}
 use Rattle.pie_lexer.specs.Tokens.{Lexes}

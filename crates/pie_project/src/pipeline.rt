@@ -9,7 +9,7 @@ ghost use Rattle.pie_project.specs.Refusals.{Says};
 
 use crate::{BuildError, PipelineFault};
 use pie_base::{MAX_PIPELINE_BYTES, Text};
-use pie_codegen::func_digests;
+use pie_digest::func_digests;
 use pie_lexer::{LexError, Token, lex};
 use pie_parser::{ParseError, Pipeline, parse};
 use pie_types::{TypeError, Typed, check};

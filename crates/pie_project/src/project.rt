@@ -1,6 +1,6 @@
 //! A project of a directory.
 ghost use Rattle.std.specs.Prelude.{◌≡◌, ◌∷◌, [], IfSome, IfOk};
-ghost use Rattle.pie_codegen.specs.Digests.{HasNames};
+ghost use Rattle.pie_digest.specs.Digests.{HasNames};
 ghost use Rattle.pie_files.specs.Reading.{LeavesAsBefore};
 ghost use Rattle.pie_files.specs.declared.files.Call.TheVariants as calls;
 ghost use Rattle.pie_project.specs.Digested.{HasDigests, IsDigested};

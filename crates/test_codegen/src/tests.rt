@@ -1,7 +1,8 @@
 //! The code of each form, instruction by instruction, and forms of many parts.
 use pie_base::{OutOfMemory, Text};
 use pie_code::{Code, Constant, Each, Instr, Required};
-use pie_codegen::{compile, func_digests};
+use pie_codegen::compile;
+use pie_digest::func_digests;
 use pie_lexer::lex;
 use pie_parser::parse;
 use pie_types::{Typed, check};

@@ -2,7 +2,7 @@ use Rattle.std.proofs.Common.{[], ap, subst, ◌∙◌}
 use Rattle.std.specs.Prelude.{Contains}
 use Rattle.std.proofs.lemmas.List.Elements.{All-nil}
 use Rattle.pie_value.specs.declared.task.Task.{Task}
-use Rattle.pie_codegen.specs.Digests.{function_names}
+use Rattle.pie_digest.specs.Digests.{function_names}
 use Rattle.pie_fresh.specs.Cleans.{EvaluatesAs}
 use Rattle.pie_fresh.proofs.Cleaning.{cleans_refused, cleans_checked}
 use Rattle.pie_fresh.proofs.Roots.{idle_known}

@@ -1,9 +1,9 @@
 use Rattle.std.proofs.Common.{◌+◌, ◌++◌, List, ap, sym, ◌∙◌, drop, ℕ}
 use Rattle.std.proofs.lemmas.List.{take_rest}
 use Rattle.pie_lexer.specs.declared.token.Token.{Token}
-use Rattle.pie_codegen.specs.Digests.{digest_here, digests_of}
-use Rattle.pie_codegen.proofs.Digesting.{digests_turn}
-use Rattle.pie_codegen.proofs.digests.digests.Goals as goal
+use Rattle.pie_digest.specs.Digests.{digest_here, digests_of}
+use Rattle.pie_digest.proofs.Digesting.{digests_turn}
+use Rattle.pie_digest.proofs.digests.digests.Goals as goal
 
 pub loop-i-preserved : goal.loop-i-preserved
 loop-i-preserved c =

@@ -8,7 +8,7 @@ use Rattle.std.specs.Cmp.{IsTotalOrder}
 use Rattle.std.proofs.lemmas.Cmp.{then_total, on_total, nat_cmp_total, nat_list_cmp_total}
 use Rattle.pie_lexer.specs.declared.token.Token.{Token}
 use Rattle.pie_types.proofs.Left.{list_left}
-use Rattle.pie_codegen.specs.Digests.{is_func, before_func, spelling, spaced, digest_here, digests_of, name_cmp}
+use Rattle.pie_digest.specs.Digests.{is_func, before_func, spelling, spaced, digest_here, digests_of, name_cmp}
 
 pub spaced_turn : (done text : List ℕ) (ts : List Token) (i : ℕ) (t : Token) → i < length ts → t ≡ get_or ts i t
     → done ++ spaced text (drop i ts) ≡ ((done ++ 32 ∷ []) ++ spelling text t) ++ spaced text (drop (i + 1) ts)

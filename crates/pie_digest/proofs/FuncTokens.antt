@@ -37,7 +37,7 @@ use Rattle.pie_parser.specs.Grammar.{IsIndex, Indices, ByOfRequire, ByOfRead, Is
 use Rattle.pie_parser.specs.Grammar.{IsPrimary, Arguments, More, IsBlock, Lines}
 use Rattle.pie_parser.specs.FunctionGrammar as functions
 use Rattle.pie_parser.specs.FunctionGrammar.{IsParam, MoreParams, IsParams, IsFunction, Functions, IsPipeline}
-use Rattle.pie_codegen.specs.Digests.{is_func, name_in as named, name_of, digests_of, function_names, row_names}
+use Rattle.pie_digest.specs.Digests.{is_func, name_in as named, name_of, digests_of, function_names, row_names}
 
 -- between the first list and the second, its end, stands no `func`
 data Clear : List Token → List Token → Type 0 where

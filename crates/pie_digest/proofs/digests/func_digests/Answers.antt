@@ -2,10 +2,10 @@ use Rattle.std.proofs.Common.{rules, is_lt, ℕ, List, subst, ap, ◌∙◌}
 use Rattle.std.specs.Prelude.{IsPermutation}
 use Rattle.std.proofs.lemmas.List.Sorted.{ranks_by, IsPermutation-map}
 use Rattle.std.proofs.lemmas.Fn.{always_returns_same}
-use Rattle.pie_codegen.specs.Digests.{name_cmp, row_names}
-use Rattle.pie_codegen.proofs.Digesting.{name_total}
-use Rattle.pie_codegen.proofs.FuncTokens.{pipeline_names}
-use Rattle.pie_codegen.proofs.digests.func_digests.Goals as goal
+use Rattle.pie_digest.specs.Digests.{name_cmp, row_names}
+use Rattle.pie_digest.proofs.Digesting.{name_total}
+use Rattle.pie_digest.proofs.FuncTokens.{pipeline_names}
+use Rattle.pie_digest.proofs.digests.func_digests.Goals as goal
 
 pub returns-clause-ordered : goal.returns-clause-ordered
 returns-clause-ordered c =

@@ -3,8 +3,8 @@ ghost use Rattle.std.specs.Prelude.{◌≡◌, ◌≤◌, ◌++◌, IfOk, OnOk, 
 ghost use Rattle.sha2.specs.Sha256.{sha256};
 ghost use Rattle.pie_parser.specs.FunctionGrammar.{IsPipeline};
 ghost use Rattle.pie_parser.specs.FunctionTrees.{FunctionTree};
-ghost use Rattle.pie_codegen.specs.Digests as spec;
-ghost use Rattle.pie_codegen.specs.Digests.{HasNames};
+ghost use Rattle.pie_digest.specs.Digests as spec;
+ghost use Rattle.pie_digest.specs.Digests.{HasNames};
 
 use pie_base::{OutOfMemory, Text};
 use pie_lexer::{Token, TokenKind};
