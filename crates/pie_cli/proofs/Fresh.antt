@@ -10,7 +10,7 @@ use Rattle.pie_project.specs.Refusals.{Refusal}
 use Rattle.pie_report.specs.declared.report.Report.{Report}
 use Rattle.pie_words.specs.declared.command.Command.{Command}
 use Rattle.pie_words.specs.declared.command.Command.TheVariants as commands
-use Rattle.pie_cli.specs.Check.{refusal_line}
+use Rattle.pie_report.specs.Refused.{refusal_line}
 use Rattle.pie_cli.specs.Fresh.{FreshSays, HasBuilt, PrintsPrefix, IsPrinted, verdict_status}
 use Rattle.pie_cli.specs.Run.{Gains, GainsPrefix, files_fault_text}
 

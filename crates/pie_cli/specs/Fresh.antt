@@ -11,7 +11,7 @@ use Rattle.pie_report.specs.Objects.{IsJson}
 use Rattle.pie_report.specs.Texts.{IsText}
 use Rattle.pie_value.specs.declared.verdict.Verdict.{Verdict}
 use Rattle.pie_value.specs.declared.verdict.Verdict.TheVariants as verdicts
-use Rattle.pie_cli.specs.Check.{refusal_line}
+use Rattle.pie_report.specs.Refused.{refusal_line}
 use Rattle.pie_cli.specs.Run.{Gains, GainsPrefix, files_fault_text}
 
 -- a text is that of a report: its lines, or its one line of JSON

@@ -4,11 +4,11 @@ ghost use Rattle.pie_files.specs.Reading.{LeavesAsBefore};
 ghost use Rattle.pie_files.specs.Streams.{Counted};
 ghost use Rattle.pie_project.specs.Looking.{Asks, prefix_calls};
 ghost use Rattle.pie_project.specs.Refusals.{plain};
+ghost use Rattle.pie_report.specs.Refused as refused;
 ghost use Rattle.pie_cli.specs.Check as spec;
 ghost use Rattle.pie_cli.specs.Check.{Tells};
 ghost use Rattle.pie_cli.specs.Run.{is_answer};
 
-use crate::reason;
 use crate::told::CommandResult;
 use pie_base::{OutOfMemory, Status};
 use pie_files::{Files, FilesError};
@@ -51,10 +51,10 @@ pub(crate) fn bad_pipeline(
     alloc: Global,
     fault: PipelineFault,
 ) -> Result<CommandResult, OutOfMemory>
-    ensures text { IfOk result (λ told. string_bytes told.text ≡ spec.bad_pipeline_text (plain fault)) }
+    ensures text { IfOk result (λ told. string_bytes told.text ≡ refused.bad_pipeline_text (plain fault)) }
     ensures status { IfOk result (λ told. told.status ≡ Status.Pipeline) }
 {
-    let text = reason::bad_pipeline(alloc, &fault)?;
+    let text = pie_report::bad_pipeline(alloc, &fault)?;
     Ok(CommandResult {
         text,
         status: Status::Pipeline,
@@ -63,10 +63,10 @@ pub(crate) fn bad_pipeline(
 
 /// What is told of roots that are refused.
 pub(crate) fn bad_roots(alloc: Global, reason: RootsReason) -> Result<CommandResult, OutOfMemory>
-    ensures text { IfOk result (λ told. string_bytes told.text ≡ spec.bad_roots_text reason) }
+    ensures text { IfOk result (λ told. string_bytes told.text ≡ refused.bad_roots_text reason) }
     ensures status { IfOk result (λ told. told.status ≡ Status.Pipeline) }
 {
-    let text = reason::bad_roots(alloc, reason)?;
+    let text = pie_report::bad_roots(alloc, reason)?;
     Ok(CommandResult {
         text,
         status: Status::Pipeline,

@@ -4,7 +4,6 @@
 mod check;
 mod clean;
 mod print;
-mod reason;
 mod told;
 mod top;
 

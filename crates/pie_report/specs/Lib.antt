@@ -1,6 +1,7 @@
-pub mod Verdicts
 pub mod Causes
 pub mod Keys
-pub mod Order
-pub mod Texts
 pub mod Objects
+pub mod Order
+pub mod Refused
+pub mod Texts
+pub mod Verdicts

@@ -3,7 +3,7 @@ ghost use Rattle.std.specs.Prelude.{◌≡◌, IfOk, string_bytes};
 ghost use Rattle.pie_types.specs.Faults as types;
 ghost use Rattle.pie_project.specs.declared.fault.RootsReason.TheVariants as reasons;
 ghost use Rattle.pie_project.specs.Refusals.{plain};
-ghost use Rattle.pie_cli.specs.Check as spec;
+ghost use Rattle.pie_report.specs.Refused as spec;
 
 use pie_base::OutOfMemory;
 use pie_lexer::LexError;
@@ -12,8 +12,8 @@ use pie_project::{PipelineFault, RootsReason};
 use pie_types::{TypeFault, TypeKind};
 use std::alloc::Global;
 
-/// The line of a pipeline that is refused.
-pub(crate) fn bad_pipeline(alloc: Global, fault: &PipelineFault) -> Result<String, OutOfMemory>
+/// The line of a pipeline that is refused, with its line end. Rule: docs/BUILDING.md, "What is printed".
+pub fn bad_pipeline(alloc: Global, fault: &PipelineFault) -> Result<String, OutOfMemory>
     ensures { IfOk result (λ text. string_bytes text ≡ spec.bad_pipeline_text (plain fault.now)) }
 {
     let reason = pipeline_reason(alloc, fault)?;
@@ -23,8 +23,8 @@ pub(crate) fn bad_pipeline(alloc: Global, fault: &PipelineFault) -> Result<Strin
     Ok(text)
 }
 
-/// The line of roots that are refused.
-pub(crate) fn bad_roots(alloc: Global, reason: RootsReason) -> Result<String, OutOfMemory>
+/// The line of roots that are refused, with its line end. Rule: docs/BUILDING.md, "What is printed".
+pub fn bad_roots(alloc: Global, reason: RootsReason) -> Result<String, OutOfMemory>
     ensures { IfOk result (λ text. string_bytes text ≡ spec.bad_roots_text reason) }
 {
     let reason = roots_reason(alloc, reason)?;
