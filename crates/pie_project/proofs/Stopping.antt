@@ -7,7 +7,7 @@ use Rattle.pie_lexer.specs.Tokens.{Lexes}
 use Rattle.pie_parser.specs.declared.error.ParseError.{ParseError}
 use Rattle.pie_parser.specs.declared.error.ParseError.TheVariants.{Expected, TooDeep}
 use Rattle.pie_parser.specs.FunctionTrees.{FunctionTree}
-use Rattle.pie_grammar.proofs.Stops.{expected_is, too_deep_is}
+use Rattle.pie_grammar_laws.proofs.Stops.{expected_is, too_deep_is}
 use Rattle.pie_types.specs.Faults.{TypingResult}
 use Rattle.pie_types.specs.Whole.{checked}
 use Rattle.pie_value.specs.declared.task.Task.{Task}

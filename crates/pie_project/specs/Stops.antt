@@ -5,7 +5,7 @@ use Rattle.pie_lexer.specs.declared.token.Token.{Token}
 use Rattle.pie_lexer.specs.Tokens.{Lexes}
 use Rattle.pie_parser.specs.declared.error.ParseError.{ParseError}
 use Rattle.pie_parser.specs.declared.error.ParseError.TheVariants.{Expected, TooDeep, OutOfMemory}
-use Rattle.pie_grammar.specs.Refusals.{StopsAt, NestsTooDeepAt}
+use Rattle.pie_grammar_laws.specs.Refusals.{StopsAt, NestsTooDeepAt}
 use Rattle.pie_project.specs.Looking.{file_bytes, pipeline_path}
 use Rattle.pie_project.specs.Refusals.{Refusal, OfPipeline, Parse}
 
