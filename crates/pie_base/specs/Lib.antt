@@ -1,2 +1,2 @@
 pub mod Path
-pub mod Status
+pub mod inner

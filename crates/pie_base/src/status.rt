@@ -1,6 +1,6 @@
 //! How a run of the program ends.
 ghost use Rattle.std.specs.Prelude.{◌≡◌};
-ghost use Rattle.pie_base.specs.Status.{code_of};
+ghost use Rattle.pie_base.specs.inner.Status.{code_of};
 
 /// The exit statuses of the program, in the order of their codes. Rule: docs/BUILDING.md, "Statuses".
 #[derive(Clone, Copy, Debug, PartialEq, Eq)]

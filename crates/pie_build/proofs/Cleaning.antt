@@ -18,14 +18,14 @@ use Rattle.pie_project.specs.Fronts.{Checked, Front, typed_or, TokensSay, tree, 
 use Rattle.pie_project.specs.Fronts.{pipeline_no_text, pipeline_text}
 use Rattle.pie_project.specs.Fronts.{RootsSay, roots_found, roots_too_long, roots_no_text, bad_root, TypedSays, no_roots, with_roots}
 use Rattle.pie_project.specs.Fronts.{PipelineSays, bad_pipeline, good_pipeline, ProjectSays, no_pipeline, with_pipeline}
-use Rattle.pie_project.specs.Projects.{front_of}
+use Rattle.pie_project.specs.inner.Projects.{front_of}
 use Rattle.pie_record.specs.declared.task_record.TaskRecord.{TaskRecord}
 use Rattle.pie_report.specs.declared.report.Report.{Report}
 use Rattle.pie_roots.specs.Lines.{texts}
 use Rattle.pie_roots.specs.RootLists.{Named, NameAll, before, ended, blank, named, stranger, bad}
 use Rattle.pie_types.specs.Faults.{TypingResult}
 use Rattle.pie_types.specs.Whole.{checked, number_from}
-use Rattle.pie_types.specs.WholeRules.{IsTyped}
+use Rattle.pie_types.specs.inner.WholeRules.{IsTyped}
 use Rattle.pie_types.proofs.WholeLaw.{checked_sound, checked_complete}
 use Rattle.pie_value.specs.declared.task.Task.{Task}
 use Rattle.pie_value.specs.declared.value.Value.{Value}
@@ -35,8 +35,8 @@ use Rattle.pie_value.specs.declared.verdict.Verdict.TheVariants.{Accepted, Refus
 use Rattle.pie_model_pipeline.specs.Clean.{IsCleanBuild}
 use Rattle.pie_build.specs.declared.place.Made.{Made}
 use Rattle.pie_build.specs.Left.{LeavesBy, Puts}
-use Rattle.pie_build.specs.Projects.{IsCleanBy, IsReady, LeavesFor}
-use Rattle.pie_build.specs.Reported.{IsReportOf, PutsMade}
+use Rattle.pie_build.specs.inner.Projects.{IsCleanBy, IsReady, LeavesFor}
+use Rattle.pie_build.specs.inner.Reported.{IsReportOf, PutsMade}
 use Rattle.pie_build.specs.Stored.{IsStoreOf}
 
 -- ---- the functions of a project are typed

@@ -7,7 +7,7 @@ use Rattle.pie_commit.specs.declared.plan.Plan.{Plan}
 use Rattle.pie_commit.specs.Outcomes as commits
 use Rattle.pie_files.specs.Reading.{Leaves, LeavesAsBefore}
 use Rattle.pie_commit.specs.Outcomes.{HasBrought, HasFile, IsAtRest, LeavesFromRest, Underway}
-use Rattle.pie_commit.specs.Plans.{Same, Gone, Meets, Brings, later, at, removed, written, pended, stored, changes, wanted_by, is_empty}
+use Rattle.pie_commit.specs.inner.Plans.{Same, Gone, Meets, Brings, later, at, removed, written, pended, stored, changes, wanted_by, is_empty}
 use Rattle.pie_commit.proofs.Bringing.{get_without}
 use Rattle.pie_files.proofs.Reading.{if_two, none_before}
 use Rattle.pie_commit.proofs.Reading.{before_rest, then_rest, still_rest}
@@ -20,7 +20,7 @@ use Rattle.pie_report.specs.declared.report.Report.{Report}
 use Rattle.pie_value.specs.declared.verdict.Verdict.TheVariants.{Accepted}
 use Rattle.pie_build.specs.Crashes.{IsUnderWay, IsDone, IsOfThree, LeavesMarked, StaysAtRest, Withstands}
 use Rattle.pie_build.specs.Left.{may_change, KeepsRest, Puts}
-use Rattle.pie_build.specs.Plans.{IsPlanOf}
+use Rattle.pie_build.specs.inner.Plans.{IsPlanOf}
 use Rattle.pie_build.proofs.InPlace.{Fits, has_store, in_place, none_wanted, wanted_marker}
 use Rattle.pie_build.proofs.OwnPaths.{none_own, or_left, or_right, places}
 

@@ -17,14 +17,14 @@ use Rattle.pie_files.specs.Directory.{Directory, file_at, files_under, paths_of}
 use Rattle.pie_reach.specs.Plan.{IsPlan}
 use Rattle.pie_commit.specs.declared.plan.Pending.{Pending}
 use Rattle.pie_commit.specs.declared.plan.Plan.{Plan}
-use Rattle.pie_commit.specs.Plans.{Wanted, Same, Gone, Bytes, Meets, Brings, later, at, removed, written, pended, stored, changes, wanted_by, is_none, is_empty}
-use Rattle.pie_commit.specs.Plans.{stores_none, keeps}
+use Rattle.pie_commit.specs.inner.Plans.{Wanted, Same, Gone, Bytes, Meets, Brings, later, at, removed, written, pended, stored, changes, wanted_by, is_none, is_empty}
+use Rattle.pie_commit.specs.inner.Plans.{stores_none, keeps}
 use Rattle.pie_commit.specs.Outcomes.{HasBrought, KeepsOthers}
 use Rattle.pie_commit.proofs.Standing.{same_path, same_itself}
 use Rattle.pie_report.specs.declared.report.Report.{Report}
 use Rattle.pie_value.specs.declared.verdict.Verdict.TheVariants.{Accepted}
 use Rattle.pie_build.specs.Left.{or_earlier, content_at, may_change, KeepsRest, IsInPlace, Puts}
-use Rattle.pie_build.specs.Plans.{IsPlanOf, gone_if}
+use Rattle.pie_build.specs.inner.Plans.{IsPlanOf, gone_if}
 use Rattle.pie_build.proofs.OwnPaths.{and_left, and_right, apart, none_removed, places, commit_keeps}
 
 -- ---- what is wanted under `out/`

@@ -7,11 +7,11 @@ use Rattle.pie_base.specs.Path.{is_out, same_text}
 use Rattle.pie_files.specs.Directory.{Directory, file_at}
 use Rattle.pie_commit.specs.declared.plan.Pending.{Pending}
 use Rattle.pie_commit.specs.declared.plan.Plan.{Plan}
-use Rattle.pie_commit.specs.Plans.{has_own_places, is_own}
+use Rattle.pie_commit.specs.inner.Plans.{has_own_places, is_own}
 use Rattle.pie_commit.specs.Outcomes.{KeepsOthers}
 use Rattle.pie_commit.proofs.Standing.{same_path}
 use Rattle.pie_build.specs.Left.{may_change, KeepsRest}
-use Rattle.pie_build.specs.Plans.{IsPlanOf}
+use Rattle.pie_build.specs.inner.Plans.{IsPlanOf}
 
 pub and_left : (a b : Bool) → (a && b) ≡ true → a ≡ true
 and_left true b e = refl

@@ -9,13 +9,13 @@ use Rattle.pie_files.specs.declared.files.FilesError.{FilesError}
 use Rattle.pie_files.specs.declared.files.FilesError.TheVariants.{Failed, OutOfMemory}
 use Rattle.pie_files.specs.Directory.{Directory}
 use Rattle.pie_files.specs.Streams.{Counted}
-use Rattle.pie_fresh.specs.Builds.{Gains}
+use Rattle.pie_fresh.specs.inner.Builds.{Gains}
 use Rattle.pie_report.specs.declared.report.Report.{Report}
 use Rattle.pie_project.specs.declared.fault.BuildError.TheVariants as errors
 use Rattle.pie_project.specs.declared.project.Project.{Project}
 use Rattle.pie_build.specs.Left.{KeepsRest}
-use Rattle.pie_build.specs.Projects.{LeavesFor}
-use Rattle.pie_build.specs.Rebuilt.{Tells}
+use Rattle.pie_build.specs.inner.Projects.{LeavesFor}
+use Rattle.pie_build.specs.inner.Rebuilt.{Tells}
 
 -- as many tasks as were started before are there still
 pub still_there : (n : ℕ) (old new : List Task) → n ≡ length old → Gains 50000 old new → n ≤ length new

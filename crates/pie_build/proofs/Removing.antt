@@ -10,9 +10,9 @@ use Rattle.pie_files.specs.Directory.{Directory, files_under, paths_of}
 use Rattle.pie_reach.specs.Plan.{IsPlan}
 use Rattle.pie_commit.specs.declared.plan.Pending.{Pending}
 use Rattle.pie_commit.specs.declared.plan.Plan.{Plan}
-use Rattle.pie_commit.specs.Plans.{may_be_written, is_sound}
+use Rattle.pie_commit.specs.inner.Plans.{may_be_written, is_sound}
 use Rattle.pie_commit.proofs.Standing.{same_path}
-use Rattle.pie_build.specs.Plans.{IsPlanOf}
+use Rattle.pie_build.specs.inner.Plans.{IsPlanOf}
 use Rattle.pie_build.proofs.InPlace.{is_any}
 
 filter_twice : (test : List ℕ → Bool) (xs : List (List ℕ)) → filter test (filter test xs) ≡ filter test xs

@@ -8,13 +8,13 @@ use Rattle.pie_checks.specs.declared.built.Built.{Built}
 use Rattle.pie_digest.specs.Digests.{function_names, HasNames}
 use Rattle.pie_files.proofs.Reading.{if_two}
 use Rattle.pie_files.specs.Directory.{Directory}
-use Rattle.pie_fresh.specs.Builds.{IsKept, IsStored, StoredWhere}
+use Rattle.pie_fresh.specs.inner.Builds.{IsKept, IsStored, StoredWhere}
 use Rattle.pie_parser.specs.FunctionTrees.{FunctionTree}
 use Rattle.pie_project.specs.declared.fault.BuildError.{BuildError}
 use Rattle.pie_project.specs.declared.project.Project.{Project}
 use Rattle.pie_project.specs.Digested.{HasDigests}
 use Rattle.pie_project.specs.Fronts.{ProjectSays}
-use Rattle.pie_project.specs.Projects.{front_of}
+use Rattle.pie_project.specs.inner.Projects.{front_of}
 use Rattle.pie_record.specs.declared.task_record.TaskRecord.{TaskRecord}
 use Rattle.pie_report.specs.declared.report.Report.{Report}
 use Rattle.pie_store.specs.declared.image.StoreImage.{StoreImage}
@@ -24,7 +24,7 @@ use Rattle.pie_value.specs.declared.task.Task.{Task}
 use Rattle.pie_value.specs.declared.verdict.Verdict.{Verdict}
 use Rattle.pie_value.specs.declared.verdict.Verdict.TheVariants.{Accepted}
 use Rattle.pie_build.specs.Left.{Leaves}
-use Rattle.pie_build.specs.Projects.{LeavesFor}
+use Rattle.pie_build.specs.inner.Projects.{LeavesFor}
 use Rattle.pie_build.specs.Stored.{MayStand, IsStoreOf}
 
 -- the records of an accepted build may stand in a store with its functions and roots

@@ -1,7 +1,4 @@
 pub mod Crashes
 pub mod Left
-pub mod Plans
-pub mod Projects
-pub mod Rebuilt
-pub mod Reported
 pub mod Stored
+pub mod inner

@@ -4,13 +4,13 @@ ghost use Rattle.pie_files.specs.Streams.{Counted};
 ghost use Rattle.pie_value.specs.Canonical.{IsEncodableTask};
 ghost use Rattle.pie_digest.specs.Digests.{HasNames};
 ghost use Rattle.pie_files.specs.Reading.{LeavesAsBefore};
-ghost use Rattle.pie_fresh.specs.Builds.{Gains, IsKept, StoredWhere};
+ghost use Rattle.pie_fresh.specs.inner.Builds.{Gains, IsKept, StoredWhere};
 ghost use Rattle.pie_fresh.specs.Cleans.{IsCleanOf};
 ghost use Rattle.pie_project.specs.Refusals.{IsVerdict, Says};
 ghost use Rattle.pie_build.specs.Crashes.{StaysAtRest, Withstands};
 ghost use Rattle.pie_build.specs.Left.{KeepsRest, Leaves};
-ghost use Rattle.pie_build.specs.Projects.{IsCleanBy, IsReady, LeavesFor};
-ghost use Rattle.pie_build.specs.Rebuilt.{RebuildSays, IsReport, IsRefusal, Tells};
+ghost use Rattle.pie_build.specs.inner.Projects.{IsCleanBy, IsReady, LeavesFor};
+ghost use Rattle.pie_build.specs.inner.Rebuilt.{RebuildSays, IsReport, IsRefusal, Tells};
 ghost use Rattle.pie_build.specs.Stored.{MayStand, IsStoreOf};
 ghost use Rattle.pie_store.specs.Canonical.{AreFuncs};
 

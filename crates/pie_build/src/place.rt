@@ -8,12 +8,12 @@ ghost use Rattle.pie_files.specs.Streams.{Counted};
 ghost use Rattle.pie_reach.specs.Plan.{IsPlan};
 ghost use Rattle.pie_files.specs.Reading.{LeavesAsBefore};
 ghost use Rattle.pie_commit.specs.Outcomes.{HasBrought, KeepsOthers, IsAtRest, IsOfThree, LeavesFromRest, LeavesMarked};
-ghost use Rattle.pie_commit.specs.Plans.{is_sound, is_empty, wanted_by};
-ghost use Rattle.pie_fresh.specs.Builds.{InPathOrder};
+ghost use Rattle.pie_commit.specs.inner.Plans.{is_sound, is_empty, wanted_by};
+ghost use Rattle.pie_fresh.specs.inner.Builds.{InPathOrder};
 ghost use Rattle.pie_build.specs.Crashes.{StaysAtRest, Withstands};
 ghost use Rattle.pie_build.specs.Left.{KeepsRest, Puts};
-ghost use Rattle.pie_build.specs.Reported.{IsReportOf, PutsMade};
-ghost use Rattle.pie_build.specs.Plans.{IsPlanOf, gone_if};
+ghost use Rattle.pie_build.specs.inner.Reported.{IsReportOf, PutsMade};
+ghost use Rattle.pie_build.specs.inner.Plans.{IsPlanOf, gone_if};
 
 use crate::outcome::accepted;
 use crate::paths::{copies, paths_of, under_out};

@@ -12,7 +12,7 @@ use Rattle.pie_value.specs.declared.verdict.Verdict.TheVariants.{Accepted, Refus
 use Rattle.pie_value.specs.Canonical.{enc_task}
 use Rattle.pie_record.specs.declared.records.Records.{Records}
 use Rattle.pie_record.specs.declared.task_record.TaskRecord.{TaskRecord}
-use Rattle.pie_record.specs.Records.{record_of as kept_of}
+use Rattle.pie_record.specs.inner.Records.{record_of as kept_of}
 use Rattle.pie_parser.specs.FunctionTrees.{FunctionTree}
 use Rattle.pie_files.specs.Directory.{Directory}
 use Rattle.pie_model.specs.declared.words.Outcome.TheVariants.{Ended, Failed, Cycled}
@@ -21,9 +21,9 @@ use Rattle.pie_model.specs.Trees.{entered}
 use Rattle.pie_model.specs.Evaluation.{evaluation}
 use Rattle.pie_model.specs.Records.{record_of as record_of_evaluation}
 use Rattle.pie_model.specs.Forest.{entered_tasks}
-use Rattle.pie_model.specs.Stack.{Begins}
+use Rattle.pie_model.specs.inner.Stack.{Begins}
 use Rattle.pie_model.specs.Built.{provided_at}
-use Rattle.pie_model.specs.Verdict.{final_checks}
+use Rattle.pie_model.specs.inner.Verdict.{final_checks}
 use Rattle.pie_step_laws.specs.Table.{Rests}
 use Rattle.pie_step_laws.specs.UnderWay.{HasEnded}
 use Rattle.pie_step_laws.specs.Roots.{Between, EvaluatesTo}

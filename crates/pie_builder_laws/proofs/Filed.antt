@@ -8,7 +8,7 @@ use Rattle.pie_value.specs.declared.task.Task.{Task}
 use Rattle.pie_value.specs.Canonical.{enc_task}
 use Rattle.pie_record.specs.declared.records.Records.{Records}
 use Rattle.pie_record.specs.declared.task_record.TaskRecord.{TaskRecord}
-use Rattle.pie_record.specs.Records.{record_of as kept_of}
+use Rattle.pie_record.specs.inner.Records.{record_of as kept_of}
 use Rattle.pie_checks.specs.Records.{Wrote}
 use Rattle.pie_checks.specs.Refusals.{NoPlace, Overlaps}
 use Rattle.pie_model.specs.Paths.{Path, among}

@@ -19,7 +19,7 @@ use Rattle.pie_code.specs.Running.{start}
 use Rattle.pie_parser.specs.FunctionTrees.{FunctionTree}
 use Rattle.pie_types.specs.Headings.{Heading, function_in}
 use Rattle.pie_types.specs.Whole.{number_from}
-use Rattle.pie_types.specs.WholeRules.{IsTyped, typed}
+use Rattle.pie_types.specs.inner.WholeRules.{IsTyped, typed}
 use Rattle.pie_semantics.specs.Meaning.{next_of}
 use Rattle.pie_type_laws.specs.Fitting.{AnswerFits, OutputFits}
 use Rattle.pie_type_laws.specs.NeverStuck.{RunsWell}

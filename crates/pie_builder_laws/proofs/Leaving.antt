@@ -16,7 +16,7 @@ use Rattle.pie_record.specs.declared.dep.DepOn.TheVariants.{File, Called}
 use Rattle.pie_record.specs.declared.records.Records.{Records}
 use Rattle.pie_record.specs.declared.task_record.Outcome.{Outcome}
 use Rattle.pie_record.specs.declared.task_record.TaskRecord.{TaskRecord}
-use Rattle.pie_record.specs.Records.{record_of as kept_of}
+use Rattle.pie_record.specs.inner.Records.{record_of as kept_of}
 use Rattle.pie_store.specs.Canonical.{tasks_in, required_on, needs, over as over_tasks, RowBefore}
 use Rattle.pie_model.specs.Paths.{among}
 use Rattle.pie_model.specs.Trees.{outcome_of as outcome_in_tree}

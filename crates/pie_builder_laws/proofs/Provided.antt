@@ -13,7 +13,7 @@ use Rattle.pie_value.specs.Canonical.{enc_task}
 use Rattle.pie_graph.specs.Rows.{Row, row_at, no_edges, Writes}
 use Rattle.pie_record.specs.declared.records.Records.{Records}
 use Rattle.pie_record.specs.declared.task_record.TaskRecord.{TaskRecord}
-use Rattle.pie_record.specs.Records.{record_of as kept_of, Puts}
+use Rattle.pie_record.specs.inner.Records.{record_of as kept_of, Puts}
 use Rattle.pie_view.specs.declared.seen.Seen.{Seen as RowsSeen}
 use Rattle.pie_view.specs.declared.seen.Seen.TheVariants.{Absent, By, Clash}
 use Rattle.pie_view.specs.Seen.{Visible, IsOnly}
@@ -22,7 +22,7 @@ use Rattle.pie_model.specs.Trees.{trace_of, writes_of}
 use Rattle.pie_model.specs.Seen.{first_write, seen_file, provided}
 use Rattle.pie_model.specs.Evaluation.{World, Project, evaluation}
 use Rattle.pie_model.specs.Records.{Record, hashed, needs_of}
-use Rattle.pie_model.specs.Stack.{Frame}
+use Rattle.pie_model.specs.inner.Stack.{Frame}
 use Rattle.pie_step_laws.specs.Contents.{KeepsContents, WroteContents, IsShown}
 use Rattle.pie_step_laws.specs.Table.{IsTable}
 use Rattle.pie_step_laws.specs.UnderWay.{UnderWay}

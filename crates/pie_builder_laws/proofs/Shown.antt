@@ -6,19 +6,19 @@ use Rattle.std.proofs.lemmas.Option.{slice_get_past, slice_get_cases, unwrap_or-
 use Rattle.pie_value.specs.declared.task.Task.{Task}
 use Rattle.pie_value.specs.Canonical.{enc_task}
 use Rattle.pie_graph.specs.Rows.{Row, row_at, no_edges, Calls, Writes}
-use Rattle.pie_reach.specs.Reaches.{Reaches as RowsReach}
-use Rattle.pie_reach.specs.Reaches.Leads.{itself, step}
+use Rattle.pie_reach.specs.inner.Reaches.{Reaches as RowsReach}
+use Rattle.pie_reach.specs.inner.Reaches.Leads.{itself, step}
 use Rattle.pie_record.specs.declared.records.Records.{Records}
 use Rattle.pie_record.specs.declared.task_record.TaskRecord.{TaskRecord}
-use Rattle.pie_record.specs.Records.{record_of as kept_of}
+use Rattle.pie_record.specs.inner.Records.{record_of as kept_of}
 use Rattle.pie_view.specs.declared.seen.Seen.{Seen as RowsSeen}
 use Rattle.pie_view.specs.declared.seen.Seen.TheVariants.{Absent, By, Clash}
 use Rattle.pie_view.specs.Seen.{Visible, IsOnly}
 use Rattle.pie_model.specs.Paths.{Path, among}
 use Rattle.pie_model.specs.Seen.{first_write, seen_file}
 use Rattle.pie_model.specs.Records.{Record, needs_of}
-use Rattle.pie_model.specs.Present.{Reaches}
-use Rattle.pie_model.specs.Present.Way.{here as arrived, along}
+use Rattle.pie_model.specs.inner.Present.{Reaches}
+use Rattle.pie_model.specs.inner.Present.Way.{here as arrived, along}
 use Rattle.pie_model.proofs.Basics.{same_bytes, bytes_same}
 use Rattle.pie_step_laws.specs.Contents.{WroteContents, IsShown}
 use Rattle.pie_check_laws.proofs.Members.{none_in, here, there, here_or_there, into_map, from_map}

@@ -14,9 +14,9 @@ use Rattle.pie_record.specs.declared.dep.DepOn.{DepOn}
 use Rattle.pie_record.specs.declared.dep.DepOn.TheVariants.{File, Called}
 use Rattle.pie_record.specs.declared.records.Records.{Records}
 use Rattle.pie_record.specs.declared.task_record.TaskRecord.{TaskRecord}
-use Rattle.pie_record.specs.Records.{record_of as kept_of, Puts}
+use Rattle.pie_record.specs.inner.Records.{record_of as kept_of, Puts}
 use Rattle.pie_model.specs.Records.{Record, task_asked, needs_of}
-use Rattle.pie_model.specs.Steps.{ChangesAt}
+use Rattle.pie_model.specs.inner.Steps.{ChangesAt}
 use Rattle.pie_model.proofs.Basics.{cases}
 use Rattle.pie_step_laws.specs.Contents.{KeepsMore}
 use Rattle.pie_model_pipeline.specs.Rows.{asked_of, query_of, observation_of, record_of}

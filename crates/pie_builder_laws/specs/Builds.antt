@@ -10,7 +10,7 @@ use Rattle.pie_value.specs.Canonical.{enc_task}
 use Rattle.pie_record.specs.declared.records.Records.{Records}
 use Rattle.pie_record.specs.declared.task_record.Outcome.TheVariants.{Done}
 use Rattle.pie_record.specs.declared.task_record.TaskRecord.{TaskRecord}
-use Rattle.pie_record.specs.Records.{record_of as kept_of}
+use Rattle.pie_record.specs.inner.Records.{record_of as kept_of}
 use Rattle.pie_store.specs.Canonical.{AreInOrder}
 use Rattle.pie_checks.specs.Records.{Wrote, Missed}
 use Rattle.pie_checks.specs.Refusals.{FindsFirst}
@@ -19,7 +19,7 @@ use Rattle.pie_files.specs.Directory.{Directory}
 use Rattle.pie_model.specs.declared.words.Outcome.TheVariants.{Ended, Failed, Cycled}
 use Rattle.pie_model.specs.Trees.{entered}
 use Rattle.pie_model.specs.Evaluation.{evaluation}
-use Rattle.pie_model.specs.Stack.{Begins}
+use Rattle.pie_model.specs.inner.Stack.{Begins}
 use Rattle.pie_step_laws.specs.Table.{Rests}
 use Rattle.pie_step_laws.specs.UnderWay.{HasEnded}
 use Rattle.pie_step_laws.specs.Roots.{Between}

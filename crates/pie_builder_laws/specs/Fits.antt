@@ -16,7 +16,7 @@ use Rattle.pie_code.specs.Coming.{CodeNext}
 use Rattle.pie_parser.specs.FunctionTrees.{FunctionTree}
 use Rattle.pie_types.specs.Headings.{Heading, function_in}
 use Rattle.pie_types.specs.Whole.{number_from}
-use Rattle.pie_types.specs.WholeRules.{AreDeclared, IsTyped}
+use Rattle.pie_types.specs.inner.WholeRules.{AreDeclared, IsTyped}
 use Rattle.pie_type_laws.specs.Fitting.{AnswerFits, OutputFits}
 use Rattle.pie_type_laws.specs.NeverStuck.{AnswersFit}
 use Rattle.pie_builder_laws.specs.Events.{AreCompiled}

@@ -4,10 +4,10 @@ use Rattle.pie_value.specs.declared.task.Task.{Task}
 use Rattle.pie_value.specs.Canonical.{enc_task}
 use Rattle.pie_record.specs.declared.records.Records.{Records}
 use Rattle.pie_record.specs.declared.task_record.TaskRecord.{TaskRecord}
-use Rattle.pie_record.specs.Records.{record_of as kept_of, Puts}
+use Rattle.pie_record.specs.inner.Records.{record_of as kept_of, Puts}
 use Rattle.pie_model.specs.Paths.{Path}
 use Rattle.pie_model.specs.Records.{Record}
-use Rattle.pie_model.specs.Steps.{ChangesAt}
+use Rattle.pie_model.specs.inner.Steps.{ChangesAt}
 use Rattle.pie_step_laws.specs.Contents.{KeepsMore}
 use Rattle.pie_model_pipeline.specs.Rows.{record_of}
 use Rattle.pie_builder_laws.specs.Names.{AreTasks, under_name}

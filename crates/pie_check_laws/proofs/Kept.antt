@@ -17,7 +17,7 @@ use Rattle.pie_record.specs.declared.dep.DepOn.{DepOn}
 use Rattle.pie_record.specs.declared.dep.DepOn.TheVariants.{File, Called}
 use Rattle.pie_record.specs.declared.records.Records.{Records}
 use Rattle.pie_record.specs.declared.task_record.TaskRecord.{TaskRecord}
-use Rattle.pie_record.specs.Records.{record_of}
+use Rattle.pie_record.specs.inner.Records.{record_of}
 use Rattle.pie_checks.specs.Records.{looks_at_file, absent_at, missing_in, WritesAt, MissesAt, OfTask, Wrote, Missed}
 use Rattle.pie_checks.specs.Refusals.{FindsFirst}
 use Rattle.pie_model_pipeline.specs.Rows.{stamp_of, query_of, observation_of, record_of as record_in_model}
@@ -26,7 +26,7 @@ use Rattle.pie_model.specs.declared.words.Look.TheVariants as looks
 use Rattle.pie_model.specs.Trees.{Node, task_of, trace_of, outcome_of, is_done, writes_of}
 use Rattle.pie_model.specs.Evaluation.{World, Project, evaluation}
 use Rattle.pie_model.specs.Records.{Record, Looked, record_of as record_of_evaluation}
-use Rattle.pie_model.specs.Verdict.{written_by, found_absent, missed_by, final_checks}
+use Rattle.pie_model.specs.inner.Verdict.{written_by, found_absent, missed_by, final_checks}
 use Rattle.pie_model.proofs.Ways.{task_of-evaluation}
 use Rattle.pie_model.proofs.LooksLemmas.{some_same}
 use Rattle.pie_check_laws.specs.Verdicts.{evaluation_of, AreRecorded, verdict_by}

@@ -6,7 +6,7 @@ use Rattle.pie_value.specs.declared.verdict.Refusal.{Refusal}
 use Rattle.pie_value.specs.Canonical.{enc_task, IsCanonicalTask}
 use Rattle.pie_record.specs.declared.records.Records.{Records}
 use Rattle.pie_record.specs.declared.task_record.TaskRecord.{TaskRecord}
-use Rattle.pie_record.specs.Records.{record_of}
+use Rattle.pie_record.specs.inner.Records.{record_of}
 use Rattle.pie_checks.specs.Records.{Wrote, Missed}
 use Rattle.pie_checks.specs.Refusals.{Paths, FindsFirst}
 use Rattle.pie_model_pipeline.specs.Rows.{record_of as record_in_model, refusal_of}
@@ -16,7 +16,7 @@ use Rattle.pie_model.specs.Trees.{Node, outcome_of, is_done}
 use Rattle.pie_model.specs.Evaluation.{World, Project, evaluation}
 use Rattle.pie_model.specs.Records.{record_of as record_of_evaluation}
 use Rattle.pie_model.specs.Forest.{entered_tasks}
-use Rattle.pie_model.specs.Verdict.{written_by, missed_by, final_checks, verdict}
+use Rattle.pie_model.specs.inner.Verdict.{written_by, missed_by, final_checks, verdict}
 
 -- the evaluation of a task of the language
 abbrev pub evaluation_of : World → Project → Task → Node

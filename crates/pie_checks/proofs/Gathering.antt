@@ -14,7 +14,7 @@ use Rattle.pie_graph.proofs.Among.{contains_here, contains_later, contains_cases
 use Rattle.pie_record.specs.declared.dep.Dep.{Dep}
 use Rattle.pie_record.specs.declared.records.Records.{Records}
 use Rattle.pie_record.specs.declared.task_record.TaskRecord.{TaskRecord}
-use Rattle.pie_record.specs.Records.{record_of}
+use Rattle.pie_record.specs.inner.Records.{record_of}
 use Rattle.pie_checks.specs.Records.{missing_in, WritesAt, MissesAt}
 use Rattle.pie_checks.specs.Listings.{Entry, entry_of, writes_in, missing_among, misses_in, all_writes, all_misses, numbers_beside}
 

@@ -13,7 +13,7 @@ use Rattle.pie_value.specs.declared.task.Task.{Task}
 use Rattle.pie_value.specs.declared.verdict.Refusal.{Refusal}
 use Rattle.pie_value.specs.declared.verdict.Refusal.TheVariants.{Hidden}
 use Rattle.pie_value.specs.Order.{byte_order}
-use Rattle.pie_record.specs.Names.{AreDistinct}
+use Rattle.pie_record.specs.inner.Names.{AreDistinct}
 use Rattle.pie_checks.specs.Records.{OfTask}
 use Rattle.pie_checks.specs.Refusals.{Hides, task_order, IsLeastPlace, NoPlace, FindsHidden}
 use Rattle.pie_checks.specs.Listings.{Entry, IsInOrder, AreNumbered, Stands, HasOneEach, numbers_beside}

@@ -7,7 +7,7 @@ use Rattle.std.proofs.lemmas.Option.{slice_get-get_or}
 use Rattle.std.proofs.lemmas.List.Elements.{All-contains, Contains-get_or}
 use Rattle.pie_graph.specs.Numbers.{AllBelow}
 use Rattle.pie_value.specs.declared.task.Task.{Task}
-use Rattle.pie_record.specs.Names.{AreDistinct}
+use Rattle.pie_record.specs.inner.Names.{AreDistinct}
 use Rattle.pie_checks.specs.Listings.{Entry, AreNumbered, Stands, numbers_beside}
 use Rattle.pie_checks.specs.Searches.{task_at, is_but}
 use Rattle.pie_checks.proofs.Gathering.{beside_only}

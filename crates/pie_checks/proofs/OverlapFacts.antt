@@ -11,7 +11,7 @@ use Rattle.pie_value.specs.declared.verdict.Refusal.{Refusal}
 use Rattle.pie_value.specs.declared.verdict.Refusal.TheVariants.{Overlap}
 use Rattle.pie_value.specs.Canonical.{enc_task}
 use Rattle.pie_value.specs.Order.{byte_order}
-use Rattle.pie_record.specs.Names.{AreDistinct}
+use Rattle.pie_record.specs.inner.Names.{AreDistinct}
 use Rattle.pie_checks.specs.Records.{OfTask}
 use Rattle.pie_checks.specs.Refusals.{Overlaps, task_order, IsLeastPlace, NoPlace, FindsOverlap}
 use Rattle.pie_checks.specs.Listings.{Entry, AreNumbered, Stands, IsShared, IsFirstShared, HasTwo, numbers_beside}

@@ -7,7 +7,7 @@ use Rattle.pie_value.specs.Order.{byte_order}
 use Rattle.pie_record.specs.declared.dep.Dep.{Dep}
 use Rattle.pie_record.specs.declared.records.Records.{Records}
 use Rattle.pie_record.specs.declared.task_record.TaskRecord.{TaskRecord}
-use Rattle.pie_record.specs.Records.{record_of}
+use Rattle.pie_record.specs.inner.Records.{record_of}
 use Rattle.pie_checks.specs.Records.{missing_in}
 
 -- a path and the number of a task

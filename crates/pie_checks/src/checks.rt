@@ -1,7 +1,7 @@
 //! The last checks of a build.
 ghost use Rattle.std.specs.Prelude.{length, IfOk};
 ghost use Rattle.pie_graph.specs.Numbers.{numbers, AllBelow};
-ghost use Rattle.pie_record.specs.Names.{AreDistinct};
+ghost use Rattle.pie_record.specs.inner.Names.{AreDistinct};
 ghost use Rattle.pie_checks.specs.Records.{Wrote, Missed};
 ghost use Rattle.pie_checks.specs.Refusals.{FindsFirst};
 ghost use Rattle.pie_checks.specs.Searches.{AreEncodable};

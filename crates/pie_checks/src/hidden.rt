@@ -2,7 +2,7 @@
 ghost use Rattle.std.specs.Prelude.{◌≡◌, ℕ, ◌<◌, length, IfOk, Some};
 ghost use Rattle.pie_graph.specs.Numbers.{AllBelow};
 ghost use Rattle.pie_value.specs.declared.verdict.Refusal.TheVariants.{Hidden};
-ghost use Rattle.pie_record.specs.Names.{AreDistinct};
+ghost use Rattle.pie_record.specs.inner.Names.{AreDistinct};
 ghost use Rattle.pie_checks.specs.Records.{OfTask};
 ghost use Rattle.pie_checks.specs.Refusals.{FindsHidden};
 ghost use Rattle.pie_checks.specs.Listings.{IsInOrder, AreNumbered, Stands, HasOneEach};

@@ -3,7 +3,7 @@ ghost use Rattle.std.specs.Prelude.{◌≡◌, ◌++◌, ◌∷◌, [], if◌the
 ghost use Rattle.std.specs.Ordering.{is_lt};
 ghost use Rattle.pie_base.specs.Path.{same_text};
 ghost use Rattle.pie_graph.specs.Numbers.{numbers};
-ghost use Rattle.pie_record.specs.Records.{record_of};
+ghost use Rattle.pie_record.specs.inner.Records.{record_of};
 ghost use Rattle.pie_value.specs.Order.{byte_order};
 ghost use Rattle.pie_checks.specs.Records.{WritesAt};
 ghost use Rattle.pie_checks.specs.Listings.{IsListing, IsInOrder, all_writes, writes_in, numbers_beside};

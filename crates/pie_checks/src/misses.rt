@@ -2,7 +2,7 @@
 ghost use Rattle.std.specs.Prelude.{◌≡◌, ◌++◌, IfOk, OnOk, if◌then◌else◌, Some, None, option_map};
 ghost use Rattle.pie_base.specs.Path.{is_out};
 ghost use Rattle.pie_graph.specs.Numbers.{numbers};
-ghost use Rattle.pie_record.specs.Records.{record_of};
+ghost use Rattle.pie_record.specs.inner.Records.{record_of};
 ghost use Rattle.pie_checks.specs.Records.{MissesAt, missing_in, looks_at_file as specs_looks_at_file};
 ghost use Rattle.pie_checks.specs.Listings.{IsListing, all_misses, misses_in, missing_among, entry_of};
 

@@ -3,7 +3,7 @@ ghost use Rattle.std.specs.Prelude.{◌≡◌, ◌<◌, ◌&&◌, ◌==◌, not,
 ghost use Rattle.pie_base.specs.Path.{same_text};
 ghost use Rattle.pie_graph.specs.Numbers.{AllBelow};
 ghost use Rattle.pie_value.specs.declared.verdict.Refusal.TheVariants.{Overlap};
-ghost use Rattle.pie_record.specs.Names.{AreDistinct};
+ghost use Rattle.pie_record.specs.inner.Names.{AreDistinct};
 ghost use Rattle.pie_checks.specs.Records.{OfTask};
 ghost use Rattle.pie_checks.specs.Refusals.{FindsOverlap};
 ghost use Rattle.pie_checks.specs.Listings.{IsInOrder, AreNumbered, Stands, IsFirstShared, HasTwo};

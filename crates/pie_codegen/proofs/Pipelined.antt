@@ -13,7 +13,7 @@ use Rattle.pie_code.proofs.Exact.{only_memory}
 use Rattle.pie_parser.specs.FunctionTrees.{FunctionTree}
 use Rattle.pie_types.specs.Headings.{Heading}
 use Rattle.pie_types.specs.Whole.{number_from}
-use Rattle.pie_types.specs.WholeRules.{AreDeclared, AreTyped, IsTyped, nothing, one_more, typed}
+use Rattle.pie_types.specs.inner.WholeRules.{AreDeclared, AreTyped, IsTyped, nothing, one_more, typed}
 use Rattle.pie_semantics.specs.Meaning.{next_of}
 use Rattle.pie_type_laws.specs.NeverStuck.{RunsWell}
 use Rattle.pie_type_laws.proofs.Whole.{never_stuck}

@@ -17,10 +17,10 @@ use Rattle.pie_types.specs.Scope.{Entry, type_in, with_name}
 use Rattle.pie_types.specs.Headings.{Heading}
 use Rattle.pie_types.specs.Operators.{numbered}
 use Rattle.pie_types.specs.Calls as types
-use Rattle.pie_types.specs.Rules.{Leads, HasType, StepsHave, AllHave, HaveTypes, BlockHas, LinesBring}
-use Rattle.pie_types.specs.Rules as rules_of
-use Rattle.pie_types.specs.WholeRules.{ParamsBring, Declares, IsTypedFunction}
-use Rattle.pie_types.specs.WholeRules as whole
+use Rattle.pie_types.specs.inner.Rules.{Leads, HasType, StepsHave, AllHave, HaveTypes, BlockHas, LinesBring}
+use Rattle.pie_types.specs.inner.Rules as rules_of
+use Rattle.pie_types.specs.inner.WholeRules.{ParamsBring, Declares, IsTypedFunction}
+use Rattle.pie_types.specs.inner.WholeRules as whole
 use Rattle.pie_semantics.specs.Words.{Callee, ABuiltin, ReadBytes, NoCallee, callee_of, callee_arity, callee_by}
 use Rattle.pie_codegen.specs.Formed.{is_bound, Counts, AllCount, IsThere, CallFits, Formed, StepsFormed, TreesFormed, BlockFormed, LinesFormed, LastFormed}
 use Rattle.pie_codegen.specs.Formed.{ElseFormed}

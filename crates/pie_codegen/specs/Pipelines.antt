@@ -10,7 +10,7 @@ use Rattle.pie_code.specs.Coming.{CodeNext}
 use Rattle.pie_parser.specs.FunctionTrees.{FunctionTree}
 use Rattle.pie_types.specs.Headings.{Heading, function_in}
 use Rattle.pie_types.specs.Whole.{number_from}
-use Rattle.pie_types.specs.WholeRules.{AreDeclared}
+use Rattle.pie_types.specs.inner.WholeRules.{AreDeclared}
 use Rattle.pie_type_laws.specs.NeverStuck.{AnswersFit, RunsWell}
 use Rattle.pie_codegen.specs.Functions.{IsCodeOf, Means}
 use Rattle.pie_codegen.specs.Formed.{BlockFormed}

@@ -7,7 +7,7 @@ use Rattle.pie_base.specs.Path.{same_text}
 use Rattle.pie_files.specs.Directory.{Directory, file_at, with_file, without_file}
 use Rattle.pie_files.specs.declared.files.FilesError.{FilesError}
 use Rattle.pie_commit.specs.declared.plan.Plan.{Plan}
-use Rattle.pie_commit.specs.Plans.{Wanted, Same, Gone, Bytes, Meets, later, at, removed, written, Brings, changes, wanted_by}
+use Rattle.pie_commit.specs.inner.Plans.{Wanted, Same, Gone, Bytes, Meets, later, at, removed, written, Brings, changes, wanted_by}
 use Rattle.pie_commit.specs.Outcomes.{HasBrought}
 
 pub get_with : (d : Directory) (path bytes : List ℕ) (mark : ℕ) (q : List ℕ)

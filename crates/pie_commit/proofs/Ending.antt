@@ -5,7 +5,7 @@ use Rattle.pie_files.specs.declared.files.FilesError.{FilesError}
 use Rattle.pie_files.specs.Directory.{Directory, file_at}
 use Rattle.pie_files.specs.Images.{Only}
 use Rattle.pie_commit.specs.declared.plan.Plan.{Plan}
-use Rattle.pie_commit.specs.Plans.{Same, Gone, Bytes, Meets, Brings, later, at, changes, wanted_by}
+use Rattle.pie_commit.specs.inner.Plans.{Same, Gone, Bytes, Meets, Brings, later, at, changes, wanted_by}
 use Rattle.pie_files.specs.Reading.{Leaves}
 use Rattle.pie_commit.specs.Outcomes.{HasFile, HasBrought, Underway, IsDone, AllDone, IsOfThree, IsEarly, IsEnding, IsAtRest, Stands}
 use Rattle.pie_commit.specs.Outcomes.{LeavesMarked, LeavesFromRest, KeepsMarked}

@@ -5,7 +5,7 @@ use Rattle.std.specs.List.{list_all, list_any}
 use Rattle.std.proofs.lemmas.Bool.{false≢true}
 use Rattle.pie_base.specs.Path.{same_text, is_out}
 use Rattle.pie_commit.specs.declared.plan.Plan.{Plan}
-use Rattle.pie_commit.specs.Plans.{may_be_written, is_sound, is_own, is_inner}
+use Rattle.pie_commit.specs.inner.Plans.{may_be_written, is_sound, is_own, is_inner}
 use Rattle.pie_commit.proofs.Standing.{same_path, same_itself}
 
 left_of : (a b : Bool) → (a && b) ≡ true → a ≡ true

@@ -16,7 +16,7 @@ use Rattle.pie_files.proofs.HeldLemmas.{antisymmetric}
 use Rattle.pie_files.proofs.Reading.{starts, one_call, in_turn, if_always, if_each}
 use Rattle.pie_files.specs.declared.files.FilesError.{FilesError}
 use Rattle.pie_commit.specs.declared.plan.Plan.{Plan}
-use Rattle.pie_commit.specs.Plans.{Wanted, is_own, is_inner}
+use Rattle.pie_commit.specs.inner.Plans.{Wanted, is_own, is_inner}
 use Rattle.pie_commit.specs.Outcomes.{Underway, Stands, IsEarly, IsEnding, IsAtRest, HasBrought, KeepsOthers, KeepsMarked, LeavesFromRest}
 use Rattle.pie_commit.proofs.Bringing.{get_with, get_without}
 

@@ -5,7 +5,7 @@ use Rattle.pie_files.specs.Directory.{Directory, file_at, without_file}
 use Rattle.pie_files.specs.Images.{Only}
 use Rattle.pie_files.specs.Reading.{Leaves}
 use Rattle.pie_commit.specs.declared.plan.Plan.{Plan}
-use Rattle.pie_commit.specs.Plans.{Wanted, Meets, Brings, wanted_by, is_own}
+use Rattle.pie_commit.specs.inner.Plans.{Wanted, Meets, Brings, wanted_by, is_own}
 
 -- where the directory is observable, it is told still, and each path has what was wanted
 abbrev pub HasBrought : (List ℕ → Wanted) → Option Directory → Option Directory → Type 0

@@ -2,7 +2,7 @@
 ghost use Rattle.std.specs.Prelude.{◌≡◌, true, [], IfSome, OnOk};
 ghost use Rattle.pie_files.specs.Images.{MayLeave, Stays, Only};
 ghost use Rattle.pie_files.specs.Streams.{Counted};
-ghost use Rattle.pie_commit.specs.Plans.{is_sound, is_inner, Bytes, Gone, at, removed, written, pended, stored};
+ghost use Rattle.pie_commit.specs.inner.Plans.{is_sound, is_inner, Bytes, Gone, at, removed, written, pended, stored};
 ghost use Rattle.pie_commit.specs.Outcomes.{HasBrought, KeepsOthers, KeepsMarked, LeavesFromRest, IsEarly, IsEnding, IsAtRest, Stands};
 
 use crate::{Pending, Plan};

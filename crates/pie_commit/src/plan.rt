@@ -2,7 +2,7 @@
 ghost use Rattle.std.specs.Prelude.{◌≡◌, ◌||◌, true, codes, IfOk};
 ghost use Rattle.std.specs.List.{list_all};
 ghost use Rattle.pie_base.specs.Path.{is_out, same_text};
-ghost use Rattle.pie_commit.specs.Plans.{has_own_places, may_be_written, is_sound, is_empty};
+ghost use Rattle.pie_commit.specs.inner.Plans.{has_own_places, may_be_written, is_sound, is_empty};
 
 use pie_base::{OutOfMemory, Path};
 use std::alloc::Global;

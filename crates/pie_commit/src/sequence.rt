@@ -2,7 +2,7 @@
 ghost use Rattle.std.specs.Prelude.{◌≡◌, true, false, IfSome, OnOk, OnErr};
 ghost use Rattle.pie_files.specs.Images.{Only};
 ghost use Rattle.pie_files.specs.Streams.{Counted};
-ghost use Rattle.pie_commit.specs.Plans.{is_sound, is_empty, wanted_by, changes};
+ghost use Rattle.pie_commit.specs.inner.Plans.{is_sound, is_empty, wanted_by, changes};
 ghost use Rattle.pie_commit.specs.Outcomes.{HasBrought, KeepsOthers, KeepsMarked, LeavesFromRest, IsAtRest, IsOfThree, LeavesMarked};
 
 use crate::Plan;

@@ -9,7 +9,7 @@ use Rattle.std.specs.Map.{keys_of}
 use Rattle.std.proofs.lemmas.Map.Views.{tells_apart}
 use Rattle.pie_files.specs.declared.files.Found.{Found}
 use Rattle.pie_files.specs.Directory.{Directory}
-use Rattle.pie_files.specs.Held.{content_of, directory_of, is_among, with_same, with_all}
+use Rattle.pie_files.specs.inner.Held.{content_of, directory_of, is_among, with_same, with_all}
 use Rattle.pie_files.proofs.HeldLemmas.{found_at, get_held, antisymmetric}
 use Rattle.pie_files.proofs.Picking.{neither}
 

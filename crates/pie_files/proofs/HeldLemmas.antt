@@ -9,7 +9,7 @@ use Rattle.std.specs.FinMap as fin
 use Rattle.std.specs.BTreeMap.{is_at}
 use Rattle.std.specs.Map.{lookup}
 use Rattle.pie_files.specs.declared.files.Found.{Found}
-use Rattle.pie_files.specs.Held.{content_of, entry_of, directory_of}
+use Rattle.pie_files.specs.inner.Held.{content_of, entry_of, directory_of}
 
 -- the file that the map finds at a path
 abbrev pub found_at : List (List ℕ × Found) → List ℕ → Option Found

@@ -10,7 +10,7 @@ use Rattle.pie_files.specs.declared.sure_files.Logged.{Logged}
 use Rattle.pie_files.specs.declared.sure_files.Logged.TheVariants.{Put, Asked, Wrote, Removed, Synced}
 use Rattle.pie_files.specs.Directory.{Directory}
 use Rattle.pie_files.specs.Images.{Stays, MayWrite, MayRemove, Elapses, Only, Follows, Sets}
-use Rattle.pie_files.specs.Story.{picked, after_all, MayTry, LeftAfter, LeftFrom, IsLeft, WasLeft}
+use Rattle.pie_files.specs.inner.Story.{picked, after_all, MayTry, LeftAfter, LeftFrom, IsLeft, WasLeft}
 
 -- the directory after one thing more
 pub after_more : (d : Directory) (log : List Logged) (x : Logged) → after_all d (log ++ x ∷ []) ≡ picked All (after_all d log) x

@@ -6,8 +6,8 @@ use Rattle.pie_files.specs.declared.files.Call.TheVariants.{Write, Remove}
 use Rattle.pie_files.specs.declared.sure_files.SureFiles.{SureFiles}
 use Rattle.pie_files.specs.declared.sure_files.Logged.TheVariants.{Put, Asked, Wrote, Removed, Synced}
 use Rattle.pie_files.specs.Images.{Stays, MayWrite, MayRemove, Elapses, Follows, Only, Sets}
-use Rattle.pie_files.specs.Story.{IsLeft}
-use Rattle.pie_files.specs.SureFiles.{images_by, moment_by, left_since_by}
+use Rattle.pie_files.specs.inner.Story.{IsLeft}
+use Rattle.pie_files.specs.inner.SureFiles.{images_by, moment_by, left_since_by}
 use Rattle.pie_files.proofs.Leaving.{Looks, looked, write_tried, removal_tried, wrote, removed, synced_all, put_left, only_done, look_unmoved, write_unmoved}
 use Rattle.pie_files.proofs.Leaving.{removal_unmoved}
 

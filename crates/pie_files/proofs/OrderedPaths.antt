@@ -13,7 +13,7 @@ use Rattle.std.proofs.lemmas.List.{append-nil}
 use Rattle.std.specs.Map.{keys_of}
 use Rattle.pie_files.specs.declared.files.Found.{Found}
 use Rattle.pie_files.specs.Directory.{in_path_order, unmarked}
-use Rattle.pie_files.specs.Held.{entry_of, directory_of, is_among, Gains}
+use Rattle.pie_files.specs.inner.Held.{entry_of, directory_of, is_among, Gains}
 use Rattle.std.specs.BTreeMap.{is_at}
 use Rattle.pie_files.proofs.HeldLemmas.{antisymmetric, turned}
 

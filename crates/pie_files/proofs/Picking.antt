@@ -9,8 +9,8 @@ use Rattle.pie_files.specs.declared.sure_files.Logged.{Logged}
 use Rattle.pie_files.specs.declared.sure_files.Logged.TheVariants.{Put, Asked, Wrote, Removed, Synced}
 use Rattle.pie_files.specs.Directory.{Directory}
 use Rattle.pie_files.specs.Images.{MayWrite, MayRemove}
-use Rattle.pie_files.specs.Story.{picked, picked_all, picked_write, picked_removal, picked_image, after_all, LeftAfter, LeftFrom, IsLeft}
-use Rattle.pie_files.specs.Story.{is_sync, has_sync, synced}
+use Rattle.pie_files.specs.inner.Story.{picked, picked_all, picked_write, picked_removal, picked_image, after_all, LeftAfter, LeftFrom, IsLeft}
+use Rattle.pie_files.specs.inner.Story.{is_sync, has_sync, synced}
 use Rattle.pie_files.proofs.Leaving.{tried_not, done_left}
 
 -- a picked write is one of those that may have been left

@@ -1,15 +1,6 @@
-pub mod Calls
 pub mod Directory
-pub mod Failures
 pub mod Faults
-pub mod Held
 pub mod Images
-pub mod MemFiles
-pub mod MemStreams
-pub mod Memory
 pub mod Reading
-pub mod Story
-pub mod StoryLaws
 pub mod Streams
-pub mod SureFiles
-pub mod Within
+pub mod inner

@@ -1,7 +1,7 @@
 //! What a crash leaves of a directory in memory: the things that happened to it, done as they are picked.
 ghost use Rattle.std.specs.Prelude.{◌≡◌, ◌+◌, ◌≤◌, ◌<◌, ◌^◌, cond, length, OnOk, IfOk};
 ghost use Rattle.pie_files.specs.Directory.{with_file};
-ghost use Rattle.pie_files.specs.Story.{picked, picked_all, picked_write, picked_removal, picked_image, is_sync, synced};
+ghost use Rattle.pie_files.specs.inner.Story.{picked, picked_all, picked_write, picked_removal, picked_image, is_sync, synced};
 
 use crate::held::Held;
 use crate::{Found, Logged, Pick};

@@ -14,7 +14,7 @@ pub(crate) struct Failures {
 }
 
 impl Failures {
-    ghost use Rattle.pie_files.specs.Failures.{IsInfallible};
+    ghost use Rattle.pie_files.specs.inner.Failures.{IsInfallible};
 
     /// No call is to fail.
     pub(crate) fn new(alloc: Global) -> Failures

@@ -3,7 +3,7 @@ ghost use Rattle.std.specs.Prelude.{◌≡◌, [], ◌∷◌, ◌++◌, if◌the
 ghost use Rattle.std.specs.Option.{option_map, option_copied};
 ghost use Rattle.std.specs.FinMap as fin;
 ghost use Rattle.pie_files.specs.Directory.{file_at, with_file, without_file, files_under, entries_of, in_path_order};
-ghost use Rattle.pie_files.specs.Held.{content_of, with_same, Gains};
+ghost use Rattle.pie_files.specs.inner.Held.{content_of, with_same, Gains};
 ghost use Rattle.pie_base.specs.Path.{is_below, entry_on_way};
 
 use crate::Found;
@@ -26,7 +26,7 @@ impl Model for Held {
 
     ghost Value = { Directory };
 
-    ghost use Rattle.pie_files.specs.Held.{directory_of, directory_code};
+    ghost use Rattle.pie_files.specs.inner.Held.{directory_of, directory_code};
 
     ghost coded = { directory_code };
 

@@ -3,7 +3,7 @@ ghost use Rattle.std.specs.Prelude.{◌≡◌, [], OnOk, OnErr, IfOk};
 ghost use Rattle.std.specs.FinMap as fin;
 ghost use Rattle.pie_files.specs.Directory.{Directory, with_file};
 ghost use Rattle.pie_files.specs.Images.{Follows, Only, Sets};
-ghost use Rattle.pie_files.specs.Story.{picked_image};
+ghost use Rattle.pie_files.specs.inner.Story.{picked_image};
 
 use crate::failures::Failures;
 use crate::{Call, Files, FilesError, Found, Logged, Pick, SureFiles, Within};
@@ -19,7 +19,7 @@ pub struct MemFiles {
 }
 
 impl MemFiles {
-    ghost use Rattle.pie_files.specs.MemFiles.{held_in, began_in, story_in, asked_in, faults_in, InfallibleMemory, images_in};
+    ghost use Rattle.pie_files.specs.inner.MemFiles.{held_in, began_in, story_in, asked_in, faults_in, InfallibleMemory, images_in};
 
     /// No file, and no call that is to fail.
     pub fn new(alloc: Global) -> MemFiles
@@ -85,8 +85,8 @@ impl MemFiles {
 
 impl Files for MemFiles {
     ghost use Rattle.std.specs.Prelude.{Some};
-    ghost use Rattle.pie_files.specs.MemFiles.{held_in, began_in, story_in, asked_in, faults_in, images_in, moment_in, left_since_in};
-    ghost use Rattle.pie_files.specs.StoryLaws.{counts_now, only_now};
+    ghost use Rattle.pie_files.specs.inner.MemFiles.{held_in, began_in, story_in, asked_in, faults_in, images_in, moment_in, left_since_in};
+    ghost use Rattle.pie_files.specs.inner.StoryLaws.{counts_now, only_now};
 
     ghost holds = { λ s. Some (held_in s) };
 

@@ -16,7 +16,7 @@ pub struct MemSource {
 }
 
 impl MemSource {
-    ghost use Rattle.pie_files.specs.MemStreams.{left_in, source_faults, InfallibleSource};
+    ghost use Rattle.pie_files.specs.inner.MemStreams.{left_in, source_faults, InfallibleSource};
 
     /// An input of these bytes, no call of which is to fail.
     pub fn new(alloc: Global, bytes: Vec<u8>) -> MemSource
@@ -42,7 +42,7 @@ impl MemSource {
 
 impl Source for MemSource {
     ghost use Rattle.std.specs.Prelude.{Some};
-    ghost use Rattle.pie_files.specs.MemStreams.{left_in, source_faults, InfallibleSource};
+    ghost use Rattle.pie_files.specs.inner.MemStreams.{left_in, source_faults, InfallibleSource};
 
     ghost left = { λ s. Some (left_in s) };
 
@@ -69,7 +69,7 @@ pub struct MemSink {
 }
 
 impl MemSink {
-    ghost use Rattle.pie_files.specs.MemStreams.{held_at, sink_faults, InfallibleSink};
+    ghost use Rattle.pie_files.specs.inner.MemStreams.{held_at, sink_faults, InfallibleSink};
 
     /// An empty output, no call of which is to fail.
     pub fn new(alloc: Global) -> MemSink
@@ -101,7 +101,7 @@ impl MemSink {
 
 impl Sink for MemSink {
     ghost use Rattle.std.specs.Prelude.{Some};
-    ghost use Rattle.pie_files.specs.MemStreams.{held_at, sink_faults, InfallibleSink};
+    ghost use Rattle.pie_files.specs.inner.MemStreams.{held_at, sink_faults, InfallibleSink};
 
     ghost held = { λ s. Some (held_at s) };
 

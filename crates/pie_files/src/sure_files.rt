@@ -3,11 +3,11 @@ ghost use Rattle.std.specs.Prelude.{◌≡◌, ◌++◌, ◌<◌, [], ◌∷◌,
 ghost use Rattle.std.specs.Option.{option_map};
 ghost use Rattle.std.specs.FinMap as fin;
 ghost use Rattle.pie_files.specs.Directory.{Directory, file_at, with_file, without_file};
-ghost use Rattle.pie_files.specs.Held.{content_of, directory_code};
-ghost use Rattle.pie_files.specs.Within.{IsWithin};
-ghost use Rattle.pie_files.specs.Memory.{asked_of};
+ghost use Rattle.pie_files.specs.inner.Held.{content_of, directory_code};
+ghost use Rattle.pie_files.specs.inner.Within.{IsWithin};
+ghost use Rattle.pie_files.specs.inner.Memory.{asked_of};
 ghost use Rattle.pie_files.specs.Images.{Follows, Only, Sets};
-ghost use Rattle.pie_files.specs.Story.{picked, after_all, picked_image};
+ghost use Rattle.pie_files.specs.inner.Story.{picked, after_all, picked_image};
 ghost use Rattle.pie_files.specs.declared.pick.Pick.TheVariants.{All};
 ghost use Rattle.std.specs.Coded.{Coded-set};
 ghost use Rattle.sha2.specs.Sha256.{sha256};
@@ -48,7 +48,7 @@ pub struct SureFiles {
 }
 
 impl SureFiles {
-    ghost use Rattle.pie_files.specs.SureFiles.{held_by, began_by, story_by, asked_by, images_by};
+    ghost use Rattle.pie_files.specs.inner.SureFiles.{held_by, began_by, story_by, asked_by, images_by};
 
     /// No file.
     pub fn new(alloc: Global) -> SureFiles
@@ -249,8 +249,8 @@ fn push_reserved(log: &mut Vec<Logged>, logged: Logged)
 
 impl Files for SureFiles {
     ghost use Rattle.std.specs.Prelude.{Some};
-    ghost use Rattle.pie_files.specs.SureFiles.{held_by, asked_by, images_by, moment_by, left_since_by};
-    ghost use Rattle.pie_files.specs.StoryLaws.{counts_now, only_now};
+    ghost use Rattle.pie_files.specs.inner.SureFiles.{held_by, asked_by, images_by, moment_by, left_since_by};
+    ghost use Rattle.pie_files.specs.inner.StoryLaws.{counts_now, only_now};
 
     ghost holds = { λ s. Some (held_by s) };
 

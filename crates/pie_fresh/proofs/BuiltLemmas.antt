@@ -8,11 +8,11 @@ use Rattle.pie_parser.specs.FunctionTrees.{FunctionTree}
 use Rattle.pie_store.specs.Canonical.{AreInOrder, tasks_in}
 use Rattle.pie_digest.specs.Digests.{function_names}
 use Rattle.pie_record.specs.declared.task_record.TaskRecord.{TaskRecord}
-use Rattle.pie_record.specs.Records.{record_of}
+use Rattle.pie_record.specs.inner.Records.{record_of}
 use Rattle.pie_fresh.specs.declared.ledger.Ledger.{Ledger}
-use Rattle.pie_fresh.specs.Ledgers.{IsLedger, IsRecorded, AreOpen}
-use Rattle.pie_fresh.specs.Ordered.{AreOrdered}
-use Rattle.pie_fresh.specs.Frames.{AreEntered}
+use Rattle.pie_fresh.specs.inner.Ledgers.{IsLedger, IsRecorded, AreOpen}
+use Rattle.pie_fresh.specs.inner.Ordered.{AreOrdered}
+use Rattle.pie_fresh.specs.inner.Frames.{AreEntered}
 use Rattle.pie_fresh.proofs.Ordering.{recorded_at}
 use Rattle.std.proofs.Common.{Vec, Global}
 use Rattle.pie_base.specs.Path.{is_out}
@@ -25,7 +25,7 @@ use Rattle.pie_graph.specs.declared.edges.TaskNo.{TaskNo}
 use Rattle.pie_graph.specs.Numbers.{numbers, AllBelow}
 use Rattle.pie_record.specs.Canonical.{IsStorable}
 use Rattle.pie_checks.specs.declared.built.Built.{Built}
-use Rattle.pie_fresh.specs.Builds.{IsKept, IsStored, IsStoredOf, StoredWhere, InPathOrder}
+use Rattle.pie_fresh.specs.inner.Builds.{IsKept, IsStored, IsStoredOf, StoredWhere, InPathOrder}
 
 sorted_nil : IsStrictlySortedBy (slice_cmp nat_cmp) []
 unfolding IsStrictlySortedBy

@@ -27,10 +27,10 @@ use Rattle.pie_builder_laws.proofs.Provided.{hashed_paths}
 use Rattle.pie_builder_laws.proofs.Shown.{path_wrote}
 use Rattle.pie_builder_laws.proofs.Tabled.{record_by_number}
 use Rattle.pie_fresh.specs.declared.ledger.Ledger.{Ledger}
-use Rattle.pie_fresh.specs.Builds.{IsEmptyWhereRefused, MakesNothing, NothingWhere}
+use Rattle.pie_fresh.specs.inner.Builds.{IsEmptyWhereRefused, MakesNothing, NothingWhere}
 use Rattle.pie_fresh.specs.Cleans.{contents_in}
-use Rattle.pie_fresh.specs.Collected.{AreFilesOf, HasDone, CleansDone, PassesChecks, WritesAreStaged}
-use Rattle.pie_fresh.specs.Ledgers.{IsLedger}
+use Rattle.pie_fresh.specs.inner.Collected.{AreFilesOf, HasDone, CleansDone, PassesChecks, WritesAreStaged}
+use Rattle.pie_fresh.specs.inner.Ledgers.{IsLedger}
 use Rattle.pie_fresh.proofs.Ordering.{recorded_at}
 
 -- what a record says was written is what the task wrote in the model, which is staged

@@ -10,7 +10,7 @@ use Rattle.pie_value.specs.Canonical.{enc_task}
 use Rattle.pie_graph.specs.Rows.{Row, row_at}
 use Rattle.pie_view.specs.Content.{content}
 use Rattle.pie_record.specs.declared.task_record.TaskRecord.{TaskRecord}
-use Rattle.pie_record.specs.Records.{record_of as kept_of}
+use Rattle.pie_record.specs.inner.Records.{record_of as kept_of}
 use Rattle.pie_checks.specs.declared.built.Built.{Built}
 use Rattle.pie_files.specs.Directory.{Directory}
 use Rattle.pie_code.specs.declared.code.Code.{Code}
@@ -23,10 +23,10 @@ use Rattle.pie_builder_laws.proofs.Ended.{none_done, ended_done, failed_is, cycl
 use Rattle.pie_builder_laws.proofs.Fitted.{headings_of}
 use Rattle.pie_fresh.specs.declared.ledger.Ledger.{Ledger}
 use Rattle.pie_fresh.specs.declared.builder.Builder.{Builder}
-use Rattle.pie_fresh.specs.Ledgers.{Starts}
-use Rattle.pie_fresh.specs.Builds.{MakesNothing, NothingWhere, IsEmptyWhereRefused}
-use Rattle.pie_fresh.specs.Means.{Site, names_of, IsKeptOutput, MeansTable, IsResting, RestsAs, RefusesAs, RootMeans}
-use Rattle.pie_fresh.specs.Collected.{IsClean, CleansDone}
+use Rattle.pie_fresh.specs.inner.Ledgers.{Starts}
+use Rattle.pie_fresh.specs.inner.Builds.{MakesNothing, NothingWhere, IsEmptyWhereRefused}
+use Rattle.pie_fresh.specs.inner.Means.{Site, names_of, IsKeptOutput, MeansTable, IsResting, RestsAs, RefusesAs, RootMeans}
+use Rattle.pie_fresh.specs.inner.Collected.{IsClean, CleansDone}
 use Rattle.pie_fresh.specs.Cleans.{contents_in, IsRootOf, RootsDone, NoRootsDone, EvaluatesRoot, DoesRoots, EvaluatesAs, IsCleanOf, CleansAs}
 
 -- ---- the root of a site, and what was entered before it, are nothing to a build that rests

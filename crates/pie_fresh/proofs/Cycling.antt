@@ -9,9 +9,9 @@ use Rattle.std.proofs.lemmas.List.Elements.{All-contains, Contains-push_cases}
 use Rattle.std.proofs.lemmas.Option.{slice_get_within, get_or_from_slice_get}
 use Rattle.pie_value.specs.declared.task.Task.{Task}
 use Rattle.pie_value.specs.Canonical.{enc_task}
-use Rattle.pie_record.specs.Records.{record_of as kept_of}
+use Rattle.pie_record.specs.inner.Records.{record_of as kept_of}
 use Rattle.pie_model.specs.Evaluation.{round}
-use Rattle.pie_model.specs.Stack.{Frame as ModelFrame, tasks_of}
+use Rattle.pie_model.specs.inner.Stack.{Frame as ModelFrame, tasks_of}
 use Rattle.pie_model.proofs.Basics.{same_bytes, bytes_same}
 use Rattle.pie_step_laws.proofs.StepLemmas.{map_end}
 use Rattle.pie_model_pipeline.proofs.Joining.{tasks_told}
@@ -19,10 +19,10 @@ use Rattle.pie_builder_laws.specs.Names.{AreTasks}
 use Rattle.pie_builder_laws.proofs.Naming.{canonical_at}
 use Rattle.pie_fresh.specs.declared.frame.Caller.{Caller}
 use Rattle.pie_fresh.specs.declared.ledger.Ledger.{Ledger}
-use Rattle.pie_fresh.specs.Ledgers.{AreOpen}
-use Rattle.pie_fresh.specs.Frames.{numbers_of}
-use Rattle.pie_fresh.specs.Cycles.{tasks_from}
-use Rattle.pie_fresh.specs.Means.{Site, MeanCallers}
+use Rattle.pie_fresh.specs.inner.Ledgers.{AreOpen}
+use Rattle.pie_fresh.specs.inner.Frames.{numbers_of}
+use Rattle.pie_fresh.specs.inner.Cycles.{tasks_from}
+use Rattle.pie_fresh.specs.inner.Means.{Site, MeanCallers}
 use Rattle.pie_fresh.proofs.Opening.{pairs_front, below_last}
 
 -- ---- numbers and the tasks from one on

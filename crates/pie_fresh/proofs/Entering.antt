@@ -14,10 +14,10 @@ use Rattle.pie_vm.specs.declared.machine.MachineState.TheVariants.{Ready}
 use Rattle.pie_fresh.specs.declared.frame.RunningTask.{RunningTask}
 use Rattle.pie_fresh.specs.declared.frame.Caller.{Caller}
 use Rattle.pie_fresh.specs.declared.builder.Builder.{Builder}
-use Rattle.pie_fresh.specs.Noted.{Noted, begun, IsSound}
-use Rattle.pie_fresh.specs.Ledgers.{IsLedger, IsPlaced, AreOpen, Grows}
-use Rattle.pie_fresh.specs.Frames.{IsCaller, IsTop, StandsAt, IsIdle, Running, WaitInTurn, AreKnown, numbers_of}
-use Rattle.pie_fresh.specs.Turns.{Begun, waiting_left, below_left, still}
+use Rattle.pie_fresh.specs.inner.Noted.{Noted, begun, IsSound}
+use Rattle.pie_fresh.specs.inner.Ledgers.{IsLedger, IsPlaced, AreOpen, Grows}
+use Rattle.pie_fresh.specs.inner.Frames.{IsCaller, IsTop, StandsAt, IsIdle, Running, WaitInTurn, AreKnown, numbers_of}
+use Rattle.pie_fresh.specs.inner.Turns.{Begun, waiting_left, below_left, still}
 use Rattle.pie_fresh.proofs.Opening.{open_none, open_entered}
 use Rattle.pie_fresh.proofs.Waiting.{numbers_push, turns_more, turns_grow}
 use Rattle.pie_fresh.proofs.Growing.{callers_grow, caller_grows}

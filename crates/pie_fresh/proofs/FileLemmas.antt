@@ -12,14 +12,14 @@ use Rattle.std.proofs.lemmas.Map.Views.{All-found, btree_map_get_iff, tells_apar
 use Rattle.std.proofs.lemmas.Option.{slice_get_within}
 use Rattle.pie_base.specs.Path.{is_out}
 use Rattle.pie_record.specs.declared.task_record.TaskRecord.{TaskRecord}
-use Rattle.pie_record.specs.Records.{record_of}
+use Rattle.pie_record.specs.inner.Records.{record_of}
 use Rattle.pie_view.specs.Content.{content}
 use Rattle.pie_check_laws.proofs.Members.{into_map, from_map}
 use Rattle.pie_builder_laws.specs.Builds.{WroteAt, IsFile}
 use Rattle.pie_fresh.specs.declared.ledger.Ledger.{Ledger}
-use Rattle.pie_fresh.specs.Builds.{OnlyOut, InPathOrder}
-use Rattle.pie_fresh.specs.Collected.{AreFilesOf, AreOfTasks, HasAllBelow, HasStaged, HasWritten, KeepsPaths, WritesAreStaged, file_at}
-use Rattle.pie_fresh.specs.Ledgers.{IsLedger}
+use Rattle.pie_fresh.specs.inner.Builds.{OnlyOut, InPathOrder}
+use Rattle.pie_fresh.specs.inner.Collected.{AreFilesOf, AreOfTasks, HasAllBelow, HasStaged, HasWritten, KeepsPaths, WritesAreStaged, file_at}
+use Rattle.pie_fresh.specs.inner.Ledgers.{IsLedger}
 use Rattle.pie_fresh.proofs.Ordering.{recorded_at}
 
 pub in_path_order : {Z : Type 0} (files : BTreeMap (List ℕ) (Vec ℕ Z)) (list : List (List ℕ × Vec ℕ Z)) → IsOrdered (slice_cmp nat_cmp) files → OnlyOut files

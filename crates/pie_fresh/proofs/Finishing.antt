@@ -1,7 +1,7 @@
 -- What the end of a task makes of a build.
 use Rattle.std.proofs.Common.{◌≡◌, ℕ, ◌+◌, ◌<◌, [], ◌∷◌, ◌++◌, length, Some, sym, ap, subst, ◌∙◌, arith}
 use Rattle.std.specs.Prelude.{All, Contains, slice_get}
-use Rattle.pie_record.specs.Records.{Puts}
+use Rattle.pie_record.specs.inner.Records.{Puts}
 use Rattle.pie_record.specs.declared.task_record.TaskRecord.{TaskRecord}
 use Rattle.pie_record.specs.declared.dep.DepOn.TheVariants.{Called}
 use Rattle.pie_digest.specs.Digests.{function_names}
@@ -11,10 +11,10 @@ use Rattle.pie_value.specs.declared.task.Task.{Task}
 use Rattle.pie_fresh.specs.declared.frame.RunningTask.{RunningTask}
 use Rattle.pie_fresh.specs.declared.frame.Caller.{Caller}
 use Rattle.pie_fresh.specs.declared.builder.Builder.{Builder}
-use Rattle.pie_fresh.specs.Noted.{Noted}
-use Rattle.pie_fresh.specs.Ledgers.{IsLedger, IsHigh, IsPlaced, AreOpen, Grows}
-use Rattle.pie_fresh.specs.Frames.{IsReady, IsCaller, Stands, StandsAt, IsIdle, Running, WaitInTurn, numbers_of}
-use Rattle.pie_fresh.specs.Turns.{Given, waiting_left, below_left, still}
+use Rattle.pie_fresh.specs.inner.Noted.{Noted}
+use Rattle.pie_fresh.specs.inner.Ledgers.{IsLedger, IsHigh, IsPlaced, AreOpen, Grows}
+use Rattle.pie_fresh.specs.inner.Frames.{IsReady, IsCaller, Stands, StandsAt, IsIdle, Running, WaitInTurn, numbers_of}
+use Rattle.pie_fresh.specs.inner.Turns.{Given, waiting_left, below_left, still}
 use Rattle.pie_fresh.proofs.Rising.{append_none}
 use Rattle.pie_fresh.proofs.Opening.{open_ended}
 use Rattle.pie_fresh.proofs.Waiting.{numbers_push, turns_less}

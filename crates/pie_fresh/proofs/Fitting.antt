@@ -14,20 +14,20 @@ use Rattle.pie_code.specs.declared.code.Code.{Code}
 use Rattle.pie_vm.specs.Machines.{Standing}
 use Rattle.pie_record.specs.declared.task_record.TaskRecord.{TaskRecord}
 use Rattle.pie_record.specs.declared.task_record.Outcome.TheVariants as ends
-use Rattle.pie_record.specs.Records.{record_of as kept_of}
+use Rattle.pie_record.specs.inner.Records.{record_of as kept_of}
 use Rattle.pie_types.specs.Headings.{function_in}
 use Rattle.pie_types.specs.Whole.{number_from}
 use Rattle.pie_type_laws.specs.Fitting.{AnswerFits, OutputFits}
-use Rattle.pie_model.specs.Stack.{Frame as ModelFrame}
-use Rattle.pie_model_pipeline.specs.Answers.{answer_of}
+use Rattle.pie_model.specs.inner.Stack.{Frame as ModelFrame}
+use Rattle.pie_model_pipeline.specs.inner.Answers.{answer_of}
 use Rattle.pie_builder_laws.specs.Fits.{Fit, EvaluatesTo}
 use Rattle.pie_builder_laws.specs.Requiring.{requiring_answer}
 use Rattle.pie_builder_laws.proofs.Fitted.{more_answers, required_known, output_fits, builders_fit}
 use Rattle.pie_fresh.specs.declared.ledger.Ledger.{Ledger}
 use Rattle.pie_fresh.specs.declared.builder.Builder.{Builder}
-use Rattle.pie_fresh.specs.Noted.{Noted}
-use Rattle.pie_fresh.specs.Told.{EvaluatedTo}
-use Rattle.pie_fresh.specs.Means.{Site, IsThere, FitsAs, MeansTable, MeansFrame}
+use Rattle.pie_fresh.specs.inner.Noted.{Noted}
+use Rattle.pie_fresh.specs.inner.Told.{EvaluatedTo}
+use Rattle.pie_fresh.specs.inner.Means.{Site, IsThere, FitsAs, MeansTable, MeansFrame}
 
 -- with the answers of a task so far its code evaluates to something
 module _ (s : Site) (b : Builder) (there : IsThere s b) (l : Ledger) (code : Code) (m : Standing) (n : Noted) (left : ℕ) (g : ModelFrame)

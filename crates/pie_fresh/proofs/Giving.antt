@@ -17,20 +17,20 @@ use Rattle.pie_code.specs.declared.code.Code.{Code}
 use Rattle.pie_vm.specs.Machines.{Standing, Follows}
 use Rattle.pie_record.specs.declared.task_record.TaskRecord.{TaskRecord}
 use Rattle.pie_record.specs.declared.task_record.Outcome.TheVariants as ends
-use Rattle.pie_record.specs.Records.{record_of as kept_of}
+use Rattle.pie_record.specs.inner.Records.{record_of as kept_of}
 use Rattle.pie_model.specs.declared.words.Event.TheVariants.{Require, Fail}
 use Rattle.pie_model.specs.declared.words.FaultKind.TheVariants as model_faults
 use Rattle.pie_model.specs.declared.words.Outcome.TheVariants.{Cycled}
 use Rattle.pie_model.specs.Trees.{Node}
 use Rattle.pie_model.specs.Evaluation.{required as model_required, output_answer, evaluation, round}
 use Rattle.pie_model.specs.Records.{Required, observed as observation, value_stamp}
-use Rattle.pie_model.specs.Stack.{Frame as ModelFrame, tasks_of}
+use Rattle.pie_model.specs.inner.Stack.{Frame as ModelFrame, tasks_of}
 use Rattle.pie_step_laws.specs.Frames.{gone_on, was_answered}
 use Rattle.pie_step_laws.specs.UnderWay.{HasEnded}
 use Rattle.pie_step_laws.proofs.StepLemmas.{map_end, require_answered}
 use Rattle.pie_step_laws.proofs.EndLemmas.{ends_in_a_cycle}
 use Rattle.pie_model_pipeline.specs.Words.{how_of}
-use Rattle.pie_model_pipeline.specs.Answers.{answer_of}
+use Rattle.pie_model_pipeline.specs.inner.Answers.{answer_of}
 use Rattle.pie_model_pipeline.specs.Rows.{observation_of, record_of, outcome_of}
 use Rattle.pie_model_pipeline.specs.World.{world}
 use Rattle.pie_builder_laws.specs.Fits.{Fit}
@@ -44,12 +44,12 @@ use Rattle.pie_fresh.specs.declared.frame.Waiting.{Waiting}
 use Rattle.pie_fresh.specs.declared.ledger.Ledger.{Ledger}
 use Rattle.pie_fresh.specs.declared.builder.Builder.{Builder}
 use Rattle.pie_fresh.specs.declared.ledger.Done.{Done}
-use Rattle.pie_fresh.specs.Noted.{Noted, required}
-use Rattle.pie_fresh.specs.Frames.{StandsAt}
-use Rattle.pie_fresh.specs.Cycles.{tasks_from}
-use Rattle.pie_fresh.specs.Kept.{IsKeptAs}
-use Rattle.pie_fresh.specs.Told.{IsTold, fails_by}
-use Rattle.pie_fresh.specs.Means.{Site, project_of, table_of, names_of, IsKeptOutput, MeansFrame, MeansTable, Means, IsAsking, RefusesAs}
+use Rattle.pie_fresh.specs.inner.Noted.{Noted, required}
+use Rattle.pie_fresh.specs.inner.Frames.{StandsAt}
+use Rattle.pie_fresh.specs.inner.Cycles.{tasks_from}
+use Rattle.pie_fresh.specs.inner.Kept.{IsKeptAs}
+use Rattle.pie_fresh.specs.inner.Told.{IsTold, fails_by}
+use Rattle.pie_fresh.specs.inner.Means.{Site, project_of, table_of, names_of, IsKeptOutput, MeansFrame, MeansTable, Means, IsAsking, RefusesAs}
 use Rattle.pie_fresh.proofs.Fitting.{fits_output, output_kept}
 use Rattle.pie_fresh.proofs.Telling.{called_end, one_less, fails_turn}
 use Rattle.pie_fresh.proofs.Cycling.{cycle_round}

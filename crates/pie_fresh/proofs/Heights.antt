@@ -15,7 +15,7 @@ use Rattle.pie_value.specs.declared.task.Task.{Task}
 use Rattle.pie_value.specs.Canonical.{enc_task, IsCanonicalTask}
 use Rattle.pie_value.specs.Order.{byte_order}
 use Rattle.pie_record.specs.declared.task_record.TaskRecord.{TaskRecord}
-use Rattle.pie_record.specs.Names.{AreDistinct}
+use Rattle.pie_record.specs.inner.Names.{AreDistinct}
 use Rattle.pie_record.proofs.Naming.{bytes_tell}
 use Rattle.pie_store.specs.Canonical.{tasks_in, needs, over, RowBefore, AreInOrder}
 

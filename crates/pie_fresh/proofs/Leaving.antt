@@ -18,15 +18,15 @@ use Rattle.pie_vm.specs.Machines.{Standing}
 use Rattle.pie_view.specs.Content.{content}
 use Rattle.pie_record.specs.declared.records.Records.{Records}
 use Rattle.pie_record.specs.declared.task_record.TaskRecord.{TaskRecord}
-use Rattle.pie_record.specs.Records.{record_of as kept_of, Puts}
+use Rattle.pie_record.specs.inner.Records.{record_of as kept_of, Puts}
 use Rattle.pie_model.specs.declared.words.Event.TheVariants.{Done, Fail}
 use Rattle.pie_model.specs.declared.words.FaultKind.TheVariants as model_faults
 use Rattle.pie_model.specs.declared.words.Outcome.TheVariants.{Ended, Failed}
 use Rattle.pie_model.specs.Trees.{trace_of, writes_of}
 use Rattle.pie_model.specs.Seen.{first_write}
 use Rattle.pie_model.specs.Evaluation.{evaluation}
-use Rattle.pie_model.specs.Steps.{ChangesAt}
-use Rattle.pie_model.specs.Stack.{Frame as ModelFrame}
+use Rattle.pie_model.specs.inner.Steps.{ChangesAt}
+use Rattle.pie_model.specs.inner.Stack.{Frame as ModelFrame}
 use Rattle.pie_step_laws.specs.Frames.{record_left, was_answered}
 use Rattle.pie_step_laws.specs.Table.{Rests as TableRests}
 use Rattle.pie_step_laws.specs.UnderWay.{UnderWay, HasEnded}
@@ -44,11 +44,11 @@ use Rattle.pie_fresh.specs.declared.ledger.Ledger.{Ledger}
 use Rattle.pie_fresh.specs.declared.builder.Builder.{Builder}
 use Rattle.pie_fresh.specs.declared.turn.Turn.{Turn}
 use Rattle.pie_fresh.specs.declared.turn.Turn.TheVariants.{Stops}
-use Rattle.pie_fresh.specs.Noted.{Noted}
-use Rattle.pie_fresh.specs.Kept.{ended_with, row_ended, HasOutput}
-use Rattle.pie_fresh.specs.Means.{Site, project_of, table_of, names_of, IsKeptOutput, FitsAs, MeansTable, MeanCallers, Means, EndsWith, GoesOnAfter}
-use Rattle.pie_fresh.specs.Means.{HasFinished, FinishesAs, ResumesAs}
-use Rattle.pie_fresh.specs.Means.{IsThere, RefusesAs, TurnMeans}
+use Rattle.pie_fresh.specs.inner.Noted.{Noted}
+use Rattle.pie_fresh.specs.inner.Kept.{ended_with, row_ended, HasOutput}
+use Rattle.pie_fresh.specs.inner.Means.{Site, project_of, table_of, names_of, IsKeptOutput, FitsAs, MeansTable, MeanCallers, Means, EndsWith, GoesOnAfter}
+use Rattle.pie_fresh.specs.inner.Means.{HasFinished, FinishesAs, ResumesAs}
+use Rattle.pie_fresh.specs.inner.Means.{IsThere, RefusesAs, TurnMeans}
 use Rattle.pie_fresh.proofs.Fitting.{output_has}
 use Rattle.pie_fresh.proofs.Moving.{callers_move}
 use Rattle.pie_fresh.proofs.Telling.{one_less}

@@ -8,10 +8,10 @@ use Rattle.std.proofs.lemmas.Option.{slice_get_within}
 use Rattle.pie_value.specs.declared.task.Task.{Task}
 use Rattle.pie_record.specs.declared.task_record.TaskRecord.{TaskRecord}
 use Rattle.pie_record.specs.Canonical.{IsStorable}
-use Rattle.pie_record.specs.Records.{record_of, Puts}
+use Rattle.pie_record.specs.inner.Records.{record_of, Puts}
 use Rattle.pie_fresh.specs.declared.ledger.Ledger.{Ledger}
 use Rattle.pie_store.specs.Canonical.{needs}
-use Rattle.pie_fresh.specs.Ledgers.{IsLedger, IsRecorded, Rises}
+use Rattle.pie_fresh.specs.inner.Ledgers.{IsLedger, IsRecorded, Rises}
 use Rattle.pie_fresh.proofs.Rising.{KeepsHeights, by_equality, get_kept, recorded_with, rises_kept, entered_keeps, ended_keeps}
 
 low_after : (hs : List ℕ) (n height ended : ℕ) (o : Option TaskRecord) (r : TaskRecord) (k : ℕ) → n < length hs → height ≤ ended

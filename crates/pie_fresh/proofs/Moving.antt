@@ -7,9 +7,9 @@ use Rattle.pie_value.specs.Canonical.{enc_task}
 use Rattle.pie_code.specs.declared.code.Code.{Code}
 use Rattle.pie_vm.specs.Machines.{Standing}
 use Rattle.pie_view.specs.Content.{content}
-use Rattle.pie_record.specs.Records.{record_of as kept_of}
+use Rattle.pie_record.specs.inner.Records.{record_of as kept_of}
 use Rattle.pie_model.specs.Paths.{among}
-use Rattle.pie_model.specs.Stack.{Frame as ModelFrame, tasks_of}
+use Rattle.pie_model.specs.inner.Stack.{Frame as ModelFrame, tasks_of}
 use Rattle.pie_model.proofs.Basics.{among_here, among_there}
 use Rattle.pie_model_pipeline.specs.Rows.{record_of}
 use Rattle.pie_builder_laws.specs.Views.{AreNumbersOf}
@@ -17,8 +17,8 @@ use Rattle.pie_builder_laws.proofs.Tabled.{record_by_number}
 use Rattle.pie_fresh.specs.declared.frame.Caller.{Caller}
 use Rattle.pie_fresh.specs.declared.ledger.Ledger.{Ledger}
 use Rattle.pie_fresh.specs.declared.builder.Builder.{Builder}
-use Rattle.pie_fresh.specs.Noted.{Noted}
-use Rattle.pie_fresh.specs.Means.{Site, table_of, MeansFrame, MeanCallers, Means}
+use Rattle.pie_fresh.specs.inner.Noted.{Noted}
+use Rattle.pie_fresh.specs.inner.Means.{Site, table_of, MeansFrame, MeanCallers, Means}
 
 -- a task keeps its number
 pub record Extends (old new : Ledger) : Type 0 where

@@ -8,8 +8,8 @@ use Rattle.pie_record.specs.declared.dep.Dep.{Dep}
 use Rattle.pie_record.specs.declared.dep.DepKind.{DepKind}
 use Rattle.pie_store.specs.Canonical.{required_on}
 use Rattle.pie_record.specs.Canonical.{IsStorableDep, IsStorableWrite}
-use Rattle.pie_fresh.specs.Noted.{Noted, file_dep, tasks_on, observed, required, wrote, IsSound}
-use Rattle.pie_fresh.specs.Turns.{Advanced, Given}
+use Rattle.pie_fresh.specs.inner.Noted.{Noted, file_dep, tasks_on, observed, required, wrote, IsSound}
+use Rattle.pie_fresh.specs.inner.Turns.{Advanced, Given}
 use Rattle.pie_fresh.proofs.Rising.{append_none}
 
 one_more : {X : Type 0} (xs : List X) (x : X) → length (xs ++ x ∷ []) ≡ length xs + 1

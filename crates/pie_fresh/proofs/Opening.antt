@@ -11,9 +11,9 @@ use Rattle.std.proofs.lemmas.Option.{slice_get_within}
 use Rattle.std.proofs.Math.Seq.{get_or-append_seam}
 use Rattle.pie_value.specs.declared.task.Task.{Task}
 use Rattle.pie_record.specs.declared.task_record.TaskRecord.{TaskRecord}
-use Rattle.pie_record.specs.Records.{record_of, Puts}
+use Rattle.pie_record.specs.inner.Records.{record_of, Puts}
 use Rattle.pie_fresh.specs.declared.ledger.Ledger.{Ledger}
-use Rattle.pie_fresh.specs.Ledgers.{IsLedger, IsRecorded, AreOpen}
+use Rattle.pie_fresh.specs.inner.Ledgers.{IsLedger, IsRecorded, AreOpen}
 use Rattle.pie_fresh.proofs.Rising.{by_equality}
 
 pub open_none : (l : Ledger) → l.names ≡ [] → AreOpen l []

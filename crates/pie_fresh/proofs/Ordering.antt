@@ -16,13 +16,13 @@ use Rattle.pie_value.specs.declared.task.Task.{Task}
 use Rattle.pie_value.specs.Canonical.{enc_task, IsCanonicalTask}
 use Rattle.pie_value.specs.Order.{byte_order}
 use Rattle.pie_record.specs.declared.task_record.TaskRecord.{TaskRecord}
-use Rattle.pie_record.specs.Names.{AreDistinct}
-use Rattle.pie_record.specs.Records.{record_of}
+use Rattle.pie_record.specs.inner.Names.{AreDistinct}
+use Rattle.pie_record.specs.inner.Records.{record_of}
 use Rattle.pie_record.proofs.Naming.{bytes_tell}
 use Rattle.pie_store.specs.Canonical.{tasks_in, needs, over, RowBefore}
 use Rattle.pie_fresh.specs.declared.ledger.Ledger.{Ledger}
-use Rattle.pie_fresh.specs.Ledgers.{HasHeight, Rises, IsRecorded, IsLedger}
-use Rattle.pie_fresh.specs.Ordered.{Place, place_cmp, keys_in, IsPlace, HasPlace, ArePlaces, recorded, AreOrdered}
+use Rattle.pie_fresh.specs.inner.Ledgers.{HasHeight, Rises, IsRecorded, IsLedger}
+use Rattle.pie_fresh.specs.inner.Ordered.{Place, place_cmp, keys_in, IsPlace, HasPlace, ArePlaces, recorded, AreOrdered}
 use Rattle.pie_fresh.proofs.Heights.{in_order, height_in, height_at}
 
 abbrev IsTold : Task → Type 0

@@ -12,9 +12,9 @@ use Rattle.std.proofs.lemmas.Bool.{cases_lt}
 use Rattle.std.proofs.lemmas.Map.Lookups.{exact_unsigned, exact_bytes}
 use Rattle.pie_value.specs.Canonical.{enc_task}
 use Rattle.pie_record.specs.declared.task_record.TaskRecord.{TaskRecord}
-use Rattle.pie_record.specs.Records.{record_of}
+use Rattle.pie_record.specs.inner.Records.{record_of}
 use Rattle.pie_fresh.specs.declared.ledger.Ledger.{Ledger}
-use Rattle.pie_fresh.specs.Ordered.{Place, place_cmp, keys_in, IsPlace, HasPlace, ArePlaces}
+use Rattle.pie_fresh.specs.inner.Ordered.{Place, place_cmp, keys_in, IsPlace, HasPlace, ArePlaces}
 
 -- equal keys have one height and the same bytes
 pub key_exact : {Z : Type 0} (x y : ℕ × Vec ℕ Z) → place_cmp x y ≡ Equal → (x.0 ≡ y.0) × (x.1.items ≡ y.1.items)

@@ -19,7 +19,7 @@ use Rattle.pie_step_laws.specs.UnderWay.{UnderWay, HasEnded}
 use Rattle.pie_step_laws.proofs.StepLemmas.{map_end, present_look}
 use Rattle.pie_step_laws.proofs.EndLemmas.{failed, ran_out}
 use Rattle.pie_model_pipeline.specs.Words.{fault_of, look_by}
-use Rattle.pie_model_pipeline.specs.Answers.{answer_of}
+use Rattle.pie_model_pipeline.specs.inner.Answers.{answer_of}
 use Rattle.pie_model_pipeline.specs.World.{world, next}
 use Rattle.pie_builder_laws.proofs.Naming.{canonical_at}
 use Rattle.pie_builder_laws.proofs.Coded.{event_is}
@@ -29,9 +29,9 @@ use Rattle.pie_fresh.specs.declared.looking.Sight.{Sight}
 use Rattle.pie_fresh.specs.declared.looking.Sight.TheVariants.{File, Long, Clash as Clashes}
 use Rattle.pie_fresh.specs.declared.turn.Turn.{Turn}
 use Rattle.pie_fresh.specs.declared.turn.Turn.TheVariants.{Stops}
-use Rattle.pie_fresh.specs.Sights.{found_in, most_content, Sees, SightSays}
-use Rattle.pie_fresh.specs.Told.{IsToldReading, fails_by, too_much}
-use Rattle.pie_fresh.specs.Means.{Site, project_of, table_of, names_of, IsAsking, TurnMeans}
+use Rattle.pie_fresh.specs.inner.Sights.{found_in, most_content, Sees, SightSays}
+use Rattle.pie_fresh.specs.inner.Told.{IsToldReading, fails_by, too_much}
+use Rattle.pie_fresh.specs.inner.Means.{Site, project_of, table_of, names_of, IsAsking, TurnMeans}
 use Rattle.pie_fresh.proofs.Seeing.{seen_visible}
 use Rattle.pie_fresh.proofs.Telling.{one_less, read_turn}
 use Rattle.pie_fresh.proofs.TooLong.{comes_big}

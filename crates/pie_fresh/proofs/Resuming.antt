@@ -8,7 +8,7 @@ use Rattle.pie_value.specs.Canonical.{enc, enc_task}
 use Rattle.pie_model.specs.declared.words.How.{How}
 use Rattle.pie_model.specs.declared.words.Event.TheVariants.{Require}
 use Rattle.pie_model.specs.Evaluation.{evaluation}
-use Rattle.pie_model.specs.Stack.{Frame as ModelFrame}
+use Rattle.pie_model.specs.inner.Stack.{Frame as ModelFrame}
 use Rattle.pie_step_laws.specs.Frames.{was_answered}
 use Rattle.pie_step_laws.specs.Table.{Rests as TableRests}
 use Rattle.pie_step_laws.specs.UnderWay.{UnderWay, HasEnded}
@@ -21,10 +21,10 @@ use Rattle.pie_builder_laws.proofs.Naming.{canonical_at}
 use Rattle.pie_fresh.specs.declared.frame.RunningTask.{RunningTask}
 use Rattle.pie_fresh.specs.declared.frame.Caller.{Caller}
 use Rattle.pie_fresh.specs.declared.builder.Builder.{Builder}
-use Rattle.pie_fresh.specs.Noted.{required}
-use Rattle.pie_fresh.specs.Told.{IsTold}
-use Rattle.pie_fresh.specs.Means.{MeansTable}
-use Rattle.pie_fresh.specs.Means.{Site, project_of, table_of, names_of, IsThere, MeansFrame, MeansCaller, MeanCallers, Means, GoesOnAfter, HasFinished, RestsAs}
+use Rattle.pie_fresh.specs.inner.Noted.{required}
+use Rattle.pie_fresh.specs.inner.Told.{IsTold}
+use Rattle.pie_fresh.specs.inner.Means.{MeansTable}
+use Rattle.pie_fresh.specs.inner.Means.{Site, project_of, table_of, names_of, IsThere, MeansFrame, MeansCaller, MeanCallers, Means, GoesOnAfter, HasFinished, RestsAs}
 use Rattle.pie_fresh.proofs.Fitting.{fits_output, output_kept}
 use Rattle.pie_fresh.proofs.Giving.{given_frame, output_canonical}
 

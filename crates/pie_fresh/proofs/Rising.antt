@@ -9,10 +9,10 @@ use Rattle.std.proofs.lemmas.List.{get_or_append_left, length-append, get_or-set
 use Rattle.std.proofs.lemmas.Option.{slice_get-get_or, slice_get_within, get_or_from_slice_get}
 use Rattle.pie_value.specs.declared.task.Task.{Task}
 use Rattle.pie_record.specs.declared.task_record.TaskRecord.{TaskRecord}
-use Rattle.pie_record.specs.Records.{record_of, Puts}
+use Rattle.pie_record.specs.inner.Records.{record_of, Puts}
 use Rattle.pie_store.specs.Canonical.{needs}
 use Rattle.pie_fresh.specs.declared.ledger.Ledger.{Ledger}
-use Rattle.pie_fresh.specs.Ledgers.{IsHigh, HasHeight, Rises, IsRecorded, IsLedger, Grows}
+use Rattle.pie_fresh.specs.inner.Ledgers.{IsHigh, HasHeight, Rises, IsRecorded, IsLedger, Grows}
 
 pub get_kept : {X : Type 0} (xs ys : List X) (i : ℕ) (x : X) → slice_get xs i ≡ Some x → slice_get (xs ++ ys) i ≡ Some x
 get_kept xs ys i x e =

@@ -18,7 +18,7 @@ use Rattle.pie_fresh.specs.declared.builder.Builder.{Builder}
 use Rattle.pie_fresh.specs.declared.turn.Turn.{Turn}
 use Rattle.pie_fresh.specs.declared.turn.Turn.TheVariants.{Goes, Rests, Stops}
 use Rattle.pie_fresh.specs.declared.builder.Entered.TheVariants.{Runs, Refused as NotStarted}
-use Rattle.pie_fresh.specs.Means.{Site, project_of, table_of, names_of, Means, TurnMeans, TurnsAs, NewAs, RunsOn, RunsAs, BeginsAs}
+use Rattle.pie_fresh.specs.inner.Means.{Site, project_of, table_of, names_of, Means, TurnMeans, TurnsAs, NewAs, RunsOn, RunsAs, BeginsAs}
 use Rattle.pie_fresh.proofs.Starting.{root_means, root_refused}
 
 -- ---- from one event of the running task to the next

@@ -7,8 +7,8 @@ use Rattle.pie_value.specs.Canonical.{IsEncodableTask}
 use Rattle.pie_parser.specs.FunctionTrees.{FunctionTree}
 use Rattle.pie_digest.specs.Digests.{function_names}
 use Rattle.pie_fresh.specs.declared.builder.Builder.{Builder}
-use Rattle.pie_fresh.specs.Ledgers.{AreOpen}
-use Rattle.pie_fresh.specs.Frames.{AreEntered, IsIdle, numbers_of}
+use Rattle.pie_fresh.specs.inner.Ledgers.{AreOpen}
+use Rattle.pie_fresh.specs.inner.Frames.{AreEntered, IsIdle, numbers_of}
 
 pub entered_more : (names after roots : List Task) (i : ℕ) (t : Task) → ((u : Task) → Contains names u → Contains after u) → i < length roots
     → t ≡ get_or roots i t → IsEncodableTask t → Contains after t → AreEntered names (take i roots) → AreEntered after (take (i + 1) roots)

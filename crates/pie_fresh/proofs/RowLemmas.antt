@@ -5,16 +5,16 @@ use Rattle.std.specs.List.{AllZip}
 use Rattle.std.proofs.lemmas.List.Elements.{All-contains}
 use Rattle.pie_value.specs.Canonical.{enc_task, IsCanonicalTask}
 use Rattle.pie_record.specs.declared.task_record.TaskRecord.{TaskRecord}
-use Rattle.pie_record.specs.Names.{AreDistinct}
-use Rattle.pie_record.specs.Records.{record_of}
+use Rattle.pie_record.specs.inner.Names.{AreDistinct}
+use Rattle.pie_record.specs.inner.Records.{record_of}
 use Rattle.pie_store.specs.Canonical.{tasks_in}
 use Rattle.pie_check_laws.proofs.Members.{from_map}
 use Rattle.pie_builder_laws.specs.Names.{AreTasks}
 use Rattle.pie_builder_laws.specs.Builds.{AreRows}
 use Rattle.pie_builder_laws.proofs.Naming.{one_place}
 use Rattle.pie_fresh.specs.declared.ledger.Ledger.{Ledger}
-use Rattle.pie_fresh.specs.Ledgers.{IsLedger}
-use Rattle.pie_fresh.specs.Ordered.{Place, IsPlace, ArePlaces, recorded, AreOrdered}
+use Rattle.pie_fresh.specs.inner.Ledgers.{IsLedger}
+use Rattle.pie_fresh.specs.inner.Ordered.{Place, IsPlace, ArePlaces, recorded, AreOrdered}
 use Rattle.pie_fresh.proofs.Ordering.{placed_zip, rows_all, recorded_at, ordered_rows}
 
 some_same : (r s : TaskRecord) → Some r ≡ Some s → r ≡ s

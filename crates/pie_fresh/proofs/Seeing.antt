@@ -6,7 +6,7 @@ use Rattle.pie_base.specs.Path.{is_out, is_source}
 use Rattle.pie_graph.specs.Rows.{Row}
 use Rattle.pie_view.specs.Content.{Staged, content}
 use Rattle.pie_files.specs.Directory.{Directory, file_at, entries_of}
-use Rattle.pie_files.specs.Within.{IsWithin}
+use Rattle.pie_files.specs.inner.Within.{IsWithin}
 use Rattle.pie_files.specs.declared.files.Within.{Within}
 use Rattle.pie_files.specs.declared.files.Within.TheVariants as within
 use Rattle.pie_code.specs.declared.code.Code.{Code}
@@ -26,12 +26,12 @@ use Rattle.pie_builder_laws.proofs.Tabled.{needs_called}
 use Rattle.pie_builder_laws.proofs.KindLemmas.{source_is_file, kept_is_empty, own_is_visible, others_are_visible}
 use Rattle.pie_builder_laws.proofs.Provided.{provided_is}
 use Rattle.pie_fresh.specs.declared.builder.Builder.{Builder}
-use Rattle.pie_fresh.specs.Noted.{Noted}
+use Rattle.pie_fresh.specs.inner.Noted.{Noted}
 use Rattle.pie_fresh.specs.declared.looking.Sight.{Sight}
 use Rattle.pie_fresh.specs.declared.looking.Sight.TheVariants.{File, Long, Clash as Clashes}
-use Rattle.pie_fresh.specs.Sights.{Sighted, found_in, hash_in, most_content, sight_by, sight_within, SightSays, SeesOthers, OwnFirst, SeesOut, Sees}
-use Rattle.pie_fresh.specs.Sights.{SeesDigest, SeesPresence, listing_in}
-use Rattle.pie_fresh.specs.Means.{Site, project_of, Means}
+use Rattle.pie_fresh.specs.inner.Sights.{Sighted, found_in, hash_in, most_content, sight_by, sight_within, SightSays, SeesOthers, OwnFirst, SeesOut, Sees}
+use Rattle.pie_fresh.specs.inner.Sights.{SeesDigest, SeesPresence, listing_in}
+use Rattle.pie_fresh.specs.inner.Means.{Site, project_of, Means}
 
 -- ---- what the code sees
 

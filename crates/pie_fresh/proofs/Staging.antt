@@ -2,7 +2,7 @@
 use Rattle.std.proofs.Common.{◌≡◌, ℕ, true, false, Option, Some, None, List}
 use Rattle.std.specs.Prelude.{is_some}
 use Rattle.pie_view.specs.Content.{Staged, content, Puts}
-use Rattle.pie_fresh.specs.Told.{StagesFirst, KeepsFirst}
+use Rattle.pie_fresh.specs.inner.Told.{StagesFirst, KeepsFirst}
 
 -- where a content was staged before, all stays
 pub first_stays : (old new : Staged) (task : ℕ) (path bytes : List ℕ) → is_some (content old task path) ≡ true → new ≡ old → KeepsFirst old new task path bytes

@@ -19,14 +19,14 @@ use Rattle.pie_code.specs.declared.code.Code.{Code}
 use Rattle.pie_code.specs.Running.{start}
 use Rattle.pie_vm.specs.Machines.{Standing, Leads, Follows}
 use Rattle.pie_record.specs.declared.task_record.TaskRecord.{TaskRecord}
-use Rattle.pie_record.specs.Records.{record_of as kept_of}
+use Rattle.pie_record.specs.inner.Records.{record_of as kept_of}
 use Rattle.pie_types.specs.Whole.{number_from}
 use Rattle.pie_model.specs.Paths.{among}
 use Rattle.pie_model.specs.declared.words.Event.TheVariants.{Require, Fail}
 use Rattle.pie_model.specs.declared.words.FaultKind.TheVariants as model_faults
 use Rattle.pie_model.specs.Trees.{entered}
 use Rattle.pie_model.specs.Evaluation.{evaluation}
-use Rattle.pie_model.specs.Stack.{Frame as ModelFrame, Begins}
+use Rattle.pie_model.specs.inner.Stack.{Frame as ModelFrame, Begins}
 use Rattle.pie_step_laws.specs.Frames.{begun as model_begun, set_aside}
 use Rattle.pie_step_laws.specs.UnderWay.{UnderWay}
 use Rattle.pie_step_laws.proofs.StepLemmas.{map_end, root_begins, require_descends}
@@ -47,11 +47,11 @@ use Rattle.pie_fresh.specs.declared.frame.Caller.{Caller}
 use Rattle.pie_fresh.specs.declared.frame.Waiting.{Waiting}
 use Rattle.pie_fresh.specs.declared.ledger.Ledger.{Ledger}
 use Rattle.pie_fresh.specs.declared.builder.Builder.{Builder}
-use Rattle.pie_fresh.specs.Noted.{Noted, begun}
-use Rattle.pie_fresh.specs.Kept.{IsCodeFor, HasFunction}
-use Rattle.pie_fresh.specs.Means as means
-use Rattle.pie_fresh.specs.Means.{Site, project_of, table_of, names_of, IsThere, MeansTable, MeansFrame, MeansCaller, MeanCallers, Means, IsAsking}
-use Rattle.pie_fresh.specs.Means.{AddsTask, HasNoRoom, RefusesNew, EntersTooMany, RefusesAs, IsResting}
+use Rattle.pie_fresh.specs.inner.Noted.{Noted, begun}
+use Rattle.pie_fresh.specs.inner.Kept.{IsCodeFor, HasFunction}
+use Rattle.pie_fresh.specs.inner.Means as means
+use Rattle.pie_fresh.specs.inner.Means.{Site, project_of, table_of, names_of, IsThere, MeansTable, MeansFrame, MeansCaller, MeanCallers, Means, IsAsking}
+use Rattle.pie_fresh.specs.inner.Means.{AddsTask, HasNoRoom, RefusesNew, EntersTooMany, RefusesAs, IsResting}
 use Rattle.pie_fresh.proofs.Fitting.{required_has}
 use Rattle.pie_fresh.proofs.Moving.{Extends, frame_moves, callers_move}
 use Rattle.pie_fresh.proofs.Telling.{one_less}

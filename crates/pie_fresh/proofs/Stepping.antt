@@ -2,7 +2,7 @@
 use Rattle.std.proofs.Common.{◌≡◌, ℕ, ◌+◌, ◌<◌, ◌≤◌, List, [], ◌∷◌, ◌++◌, length, get_or, Some, None, sym, ap, subst, ◌∙◌, arith}
 use Rattle.std.specs.Prelude.{All, Contains, IfSome, Option, slice_get}
 use Rattle.pie_record.specs.Canonical.{IsStorable}
-use Rattle.pie_record.specs.Records.{record_of}
+use Rattle.pie_record.specs.inner.Records.{record_of}
 use Rattle.pie_record.specs.declared.task_record.TaskRecord.{TaskRecord}
 use Rattle.pie_digest.specs.Digests.{function_names}
 use Rattle.pie_value.specs.declared.task.Task.{Task}
@@ -11,10 +11,10 @@ use Rattle.pie_fresh.specs.declared.frame.Caller.{Caller}
 use Rattle.pie_fresh.specs.declared.builder.Builder.{Builder}
 use Rattle.pie_fresh.specs.declared.turn.Turn.{Turn}
 use Rattle.pie_fresh.specs.declared.turn.Turn.TheVariants.{Goes, Rests, Stops}
-use Rattle.pie_fresh.specs.Noted.{Noted}
-use Rattle.pie_fresh.specs.Ledgers.{IsLedger, IsRecorded, IsPlaced, AreOpen, Grows}
-use Rattle.pie_fresh.specs.Frames.{IsCaller, StandsAt, WaitInTurn, numbers_of}
-use Rattle.pie_fresh.specs.Turns.{Answered, GoesOn, Nearer, waiting_left, below_left, still}
+use Rattle.pie_fresh.specs.inner.Noted.{Noted}
+use Rattle.pie_fresh.specs.inner.Ledgers.{IsLedger, IsRecorded, IsPlaced, AreOpen, Grows}
+use Rattle.pie_fresh.specs.inner.Frames.{IsCaller, StandsAt, WaitInTurn, numbers_of}
+use Rattle.pie_fresh.specs.inner.Turns.{Answered, GoesOn, Nearer, waiting_left, below_left, still}
 use Rattle.pie_fresh.proofs.Rising.{alike_keeps, recorded_with}
 use Rattle.pie_fresh.proofs.Opening.{open_alike}
 use Rattle.pie_fresh.proofs.Growing.{advanced_placed, callers_grow, grows_alike, placed_grows}

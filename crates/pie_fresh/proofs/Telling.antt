@@ -35,7 +35,7 @@ use Rattle.pie_step_laws.specs.UnderWay.{UnderWay, HasEnded}
 use Rattle.pie_step_laws.proofs.StepLemmas.{map_end, absent_look, present_look, listing_made}
 use Rattle.pie_step_laws.proofs.EndLemmas.{failed, clashes, lists_too_much}
 use Rattle.pie_model_pipeline.specs.Words.{fault_of, look_by}
-use Rattle.pie_model_pipeline.specs.Answers.{answer_of}
+use Rattle.pie_model_pipeline.specs.inner.Answers.{answer_of}
 use Rattle.pie_model_pipeline.specs.Rows.{observation_of}
 use Rattle.pie_model_pipeline.specs.World.{world}
 use Rattle.pie_type_laws.specs.Fitting.{AnswerFits}
@@ -50,11 +50,11 @@ use Rattle.pie_fresh.specs.declared.frame.Waiting.{Waiting}
 use Rattle.pie_fresh.specs.declared.builder.Builder.{Builder}
 use Rattle.pie_fresh.specs.declared.turn.Turn.{Turn}
 use Rattle.pie_fresh.specs.declared.turn.Turn.TheVariants.{Goes, Rests, Stops}
-use Rattle.pie_fresh.specs.Noted.{observed}
-use Rattle.pie_fresh.specs.Sights.{Sighted, hash_in, Sees, SeesDigest, SeesPresence, listing_in}
-use Rattle.pie_fresh.specs.Told.{EvaluatedTo, IsTold, IsToldOrFails, IsToldSmall, IsToldList, fails_by, told_flag, told_reading, told_hash}
-use Rattle.pie_fresh.specs.Told.{paths_list}
-use Rattle.pie_fresh.specs.Means.{Site, project_of, table_of, names_of, Means, IsAsking, RefusesAs, TurnMeans}
+use Rattle.pie_fresh.specs.inner.Noted.{observed}
+use Rattle.pie_fresh.specs.inner.Sights.{Sighted, hash_in, Sees, SeesDigest, SeesPresence, listing_in}
+use Rattle.pie_fresh.specs.inner.Told.{EvaluatedTo, IsTold, IsToldOrFails, IsToldSmall, IsToldList, fails_by, told_flag, told_reading, told_hash}
+use Rattle.pie_fresh.specs.inner.Told.{paths_list}
+use Rattle.pie_fresh.specs.inner.Means.{Site, project_of, table_of, names_of, Means, IsAsking, RefusesAs, TurnMeans}
 use Rattle.pie_fresh.proofs.Fitting.{fits_more}
 use Rattle.pie_fresh.proofs.Seeing.{seen_by, seen_visible}
 

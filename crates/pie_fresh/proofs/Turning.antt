@@ -14,7 +14,7 @@ use Rattle.pie_model.specs.declared.words.Outcome.TheVariants.{Failed}
 use Rattle.pie_step_laws.specs.UnderWay.{HasEnded}
 use Rattle.pie_step_laws.proofs.EndLemmas.{failed, ran_out}
 use Rattle.pie_model_pipeline.specs.Words.{event_of, fault_of}
-use Rattle.pie_model_pipeline.specs.Answers.{answer_of}
+use Rattle.pie_model_pipeline.specs.inner.Answers.{answer_of}
 use Rattle.pie_model_pipeline.specs.World.{world, next}
 use Rattle.pie_builder_laws.proofs.Naming.{canonical_at}
 use Rattle.pie_builder_laws.proofs.Coded.{event_is}
@@ -26,10 +26,10 @@ use Rattle.pie_fresh.specs.declared.frame.Paused.TheVariants.{Asks, Ends, Fails}
 use Rattle.pie_fresh.specs.declared.builder.Builder.{Builder}
 use Rattle.pie_fresh.specs.declared.turn.Turn.{Turn}
 use Rattle.pie_fresh.specs.declared.turn.Turn.TheVariants.{Stops}
-use Rattle.pie_fresh.specs.Noted.{Noted}
-use Rattle.pie_fresh.specs.Told.{EvaluatedTo, StopsFor, ComesAs}
-use Rattle.pie_fresh.specs.Means.{Site, project_of, table_of, names_of, MeansFrame, Means, IsAsking, EndsWith, RefusesAs, TurnMeans, TreatsAs}
-use Rattle.pie_fresh.specs.Means.{TurnsAs, FinishesAs}
+use Rattle.pie_fresh.specs.inner.Noted.{Noted}
+use Rattle.pie_fresh.specs.inner.Told.{EvaluatedTo, StopsFor, ComesAs}
+use Rattle.pie_fresh.specs.inner.Means.{Site, project_of, table_of, names_of, MeansFrame, Means, IsAsking, EndsWith, RefusesAs, TurnMeans, TreatsAs}
+use Rattle.pie_fresh.specs.inner.Means.{TurnsAs, FinishesAs}
 use Rattle.pie_fresh.proofs.Telling.{one_less}
 
 module _ (s : Site) (b : Builder) (f : RunningTask) (M : Means s b f.code.now f.machine f.notes) where

@@ -3,7 +3,7 @@ use Rattle.std.proofs.Common.{◌≡◌, ℕ, List, [], ◌∷◌, ◌++◌, Som
 use Rattle.std.specs.Prelude.{slice_get}
 use Rattle.pie_value.specs.declared.task.Task.{Task}
 use Rattle.pie_fresh.specs.declared.frame.Caller.{Caller}
-use Rattle.pie_fresh.specs.Frames.{first_of, numbers_of, WaitInTurn}
+use Rattle.pie_fresh.specs.inner.Frames.{first_of, numbers_of, WaitInTurn}
 use Rattle.pie_fresh.proofs.Rising.{get_kept}
 
 pub numbers_push : (cs : List Caller) (w : Caller) → numbers_of (cs ++ w ∷ []) ≡ numbers_of cs ++ w.waiting.notes.number ∷ []

@@ -20,7 +20,7 @@ use Rattle.pie_view.specs.Content.{Staged, content}
 use Rattle.pie_operators.specs.Domain.{wants}
 use Rattle.pie_vm.specs.Machines.{Follows}
 use Rattle.pie_record.specs.declared.task_record.TaskRecord.{TaskRecord}
-use Rattle.pie_record.specs.Records.{record_of as kept_of}
+use Rattle.pie_record.specs.inner.Records.{record_of as kept_of}
 use Rattle.pie_model.specs.Paths.{Path, among}
 use Rattle.pie_model.specs.declared.words.Answer.TheVariants as model_answers
 use Rattle.pie_model.specs.declared.words.Event.TheVariants.{Write, Fail}
@@ -28,19 +28,19 @@ use Rattle.pie_model.specs.declared.words.FaultKind.TheVariants as model_faults
 use Rattle.pie_model.specs.Seen.{first_write}
 use Rattle.pie_model.specs.Evaluation.{World}
 use Rattle.pie_model.specs.Records.{hashed}
-use Rattle.pie_model.specs.Stack.{tasks_of}
+use Rattle.pie_model.specs.inner.Stack.{tasks_of}
 use Rattle.pie_model.proofs.Basics.{same_bytes, bytes_same, clash}
 use Rattle.pie_step_laws.specs.Frames.{has_written}
 use Rattle.pie_step_laws.proofs.StepLemmas.{map_end, write_made}
-use Rattle.pie_model_pipeline.specs.Answers.{answer_of}
+use Rattle.pie_model_pipeline.specs.inner.Answers.{answer_of}
 use Rattle.pie_model_pipeline.specs.World.{world}
 use Rattle.pie_builder_laws.specs.Fits.{Fit}
 use Rattle.pie_fresh.specs.declared.frame.RunningTask.{RunningTask}
 use Rattle.pie_fresh.specs.declared.frame.Waiting.{Waiting}
 use Rattle.pie_fresh.specs.declared.builder.Builder.{Builder}
-use Rattle.pie_fresh.specs.Noted.{wrote}
-use Rattle.pie_fresh.specs.Told.{EvaluatedTo, IsTold, StagesFirst, KeepsFirst, fails_by}
-use Rattle.pie_fresh.specs.Means.{Site, project_of, table_of, names_of, Means, IsAsking, RefusesAs}
+use Rattle.pie_fresh.specs.inner.Noted.{wrote}
+use Rattle.pie_fresh.specs.inner.Told.{EvaluatedTo, IsTold, StagesFirst, KeepsFirst, fails_by}
+use Rattle.pie_fresh.specs.inner.Means.{Site, project_of, table_of, names_of, Means, IsAsking, RefusesAs}
 use Rattle.pie_fresh.proofs.Fitting.{fits_more}
 use Rattle.pie_fresh.proofs.Moving.{Extends, KeepsStaged, callers_move, top_unrecorded}
 use Rattle.pie_fresh.proofs.Telling.{one_less, fails_turn}

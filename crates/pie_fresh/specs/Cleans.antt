@@ -7,7 +7,7 @@ use Rattle.pie_value.specs.Limits.{is_small_task}
 use Rattle.pie_files.specs.Directory.{Directory}
 use Rattle.pie_parser.specs.FunctionTrees.{FunctionTree}
 use Rattle.pie_types.specs.Whole.{number_from}
-use Rattle.pie_types.specs.WholeRules.{IsTyped}
+use Rattle.pie_types.specs.inner.WholeRules.{IsTyped}
 use Rattle.pie_code.specs.declared.code.Code.{Code}
 use Rattle.pie_checks.specs.declared.built.Built.{Built}
 use Rattle.pie_model_pipeline.specs.Clean.{IsCleanBuild}
@@ -15,7 +15,7 @@ use Rattle.pie_builder_laws.specs.Events.{AreCompiled}
 use Rattle.pie_builder_laws.specs.Fits.{HasHeadings}
 use Rattle.pie_builder_laws.specs.Builds.{AreDone}
 use Rattle.pie_fresh.specs.declared.builder.Builder.{Builder}
-use Rattle.pie_fresh.specs.Means.{Site, IsResting, BeginsAs}
+use Rattle.pie_fresh.specs.inner.Means.{Site, IsResting, BeginsAs}
 
 -- the files with their contents
 abbrev pub contents_in : {Z : Type 0} → List (List ℕ × Vec ℕ Z) → List (List ℕ × List ℕ)

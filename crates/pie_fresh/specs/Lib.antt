@@ -1,14 +1,2 @@
-pub mod Noted
-pub mod NotedCodes
-pub mod Ledgers
-pub mod Ordered
-pub mod Frames
-pub mod Turns
-pub mod Cycles
-pub mod Sights
-pub mod Told
-pub mod Kept
-pub mod Means
-pub mod Builds
 pub mod Cleans
-pub mod Collected
+pub mod inner

@@ -4,11 +4,11 @@ ghost use Rattle.pie_files.specs.Reading.{LeavesAsBefore};
 ghost use Rattle.pie_files.specs.Streams.{Counted};
 ghost use Rattle.pie_value.specs.declared.task.Task.{Task};
 ghost use Rattle.pie_value.specs.declared.verdict.Verdict.TheVariants.{Refused};
-ghost use Rattle.pie_fresh.specs.Ledgers.{AreOpen, Enters, IsLedger, Starts};
-ghost use Rattle.pie_fresh.specs.Frames.{AreEntered, IsIdle};
-ghost use Rattle.pie_fresh.specs.Builds.{Gains, IsEmptyWhereRefused, IsKept, IsStoredOf, StoredWhere};
+ghost use Rattle.pie_fresh.specs.inner.Ledgers.{AreOpen, Enters, IsLedger, Starts};
+ghost use Rattle.pie_fresh.specs.inner.Frames.{AreEntered, IsIdle};
+ghost use Rattle.pie_fresh.specs.inner.Builds.{Gains, IsEmptyWhereRefused, IsKept, IsStoredOf, StoredWhere};
 ghost use Rattle.pie_fresh.specs.Cleans.{CleansAs, EvaluatesAs};
-ghost use Rattle.pie_fresh.specs.Collected.{CleansDone, PassesChecks};
+ghost use Rattle.pie_fresh.specs.inner.Collected.{CleansDone, PassesChecks};
 
 use crate::builder::Builder;
 use crate::ledger::Ledger;

@@ -4,10 +4,10 @@ ghost use Rattle.std.specs.List.{Contains};
 ghost use Rattle.pie_value.specs.Canonical.{IsEncodableTask};
 ghost use Rattle.pie_files.specs.Reading.{LeavesAsBefore};
 ghost use Rattle.pie_files.specs.Streams.{Counted};
-ghost use Rattle.pie_fresh.specs.Ledgers.{Enters, IsPlaced, Starts};
-ghost use Rattle.pie_fresh.specs.Frames.{IsIdle, IsWaiting, Running, StandsAt};
-ghost use Rattle.pie_fresh.specs.Turns.{GoesOn, IsEffect, Nearer, below_left};
-ghost use Rattle.pie_fresh.specs.Means.{TreatsAs, TurnsAs, RunsAs, BeginsAs};
+ghost use Rattle.pie_fresh.specs.inner.Ledgers.{Enters, IsPlaced, Starts};
+ghost use Rattle.pie_fresh.specs.inner.Frames.{IsIdle, IsWaiting, Running, StandsAt};
+ghost use Rattle.pie_fresh.specs.inner.Turns.{GoesOn, IsEffect, Nearer, below_left};
+ghost use Rattle.pie_fresh.specs.inner.Means.{TreatsAs, TurnsAs, RunsAs, BeginsAs};
 ghost use Rattle.pie_fresh.specs.Cleans.{NoRootsDone, EvaluatesRoot};
 
 use crate::frame::{Caller, Paused, RunningTask, Waiting, next};

@@ -4,10 +4,10 @@ ghost use Rattle.std.specs.Option.{option_map};
 ghost use Rattle.std.specs.List.{Contains};
 ghost use Rattle.pie_value.specs.Canonical.{IsEncodableTask};
 ghost use Rattle.pie_digest.specs.Digests.{function_names};
-ghost use Rattle.pie_fresh.specs.Ledgers.{Enters, IsLedger, Starts};
-ghost use Rattle.pie_fresh.specs.Turns.{Begins};
-ghost use Rattle.pie_fresh.specs.Kept.{IsCodeAt, IsCodeFor};
-ghost use Rattle.pie_fresh.specs.Means.{NewAs};
+ghost use Rattle.pie_fresh.specs.inner.Ledgers.{Enters, IsLedger, Starts};
+ghost use Rattle.pie_fresh.specs.inner.Turns.{Begins};
+ghost use Rattle.pie_fresh.specs.inner.Kept.{IsCodeAt, IsCodeFor};
+ghost use Rattle.pie_fresh.specs.inner.Means.{NewAs};
 
 use crate::builder::{Builder, Entered};
 use crate::frame::RunningTask;

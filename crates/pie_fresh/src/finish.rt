@@ -2,11 +2,11 @@
 ghost use Rattle.std.specs.Prelude.{◌≡◌, ◌+◌, ◌<◌, [], None, IfOk};
 ghost use Rattle.pie_value.specs.Canonical.{IsEncodable};
 ghost use Rattle.pie_value.specs.Values.{tree_of};
-ghost use Rattle.pie_fresh.specs.Noted.{IsSound};
-ghost use Rattle.pie_fresh.specs.Ledgers.{IsHigh, IsPlaced};
-ghost use Rattle.pie_fresh.specs.Frames.{Stands, StandsAt};
-ghost use Rattle.pie_fresh.specs.Turns.{GoesOn, Nearer, below_left};
-ghost use Rattle.pie_fresh.specs.Means.{FinishesAs, ResumesAs};
+ghost use Rattle.pie_fresh.specs.inner.Noted.{IsSound};
+ghost use Rattle.pie_fresh.specs.inner.Ledgers.{IsHigh, IsPlaced};
+ghost use Rattle.pie_fresh.specs.inner.Frames.{Stands, StandsAt};
+ghost use Rattle.pie_fresh.specs.inner.Turns.{GoesOn, Nearer, below_left};
+ghost use Rattle.pie_fresh.specs.inner.Means.{FinishesAs, ResumesAs};
 
 use crate::builder::Builder;
 use crate::frame::Caller;

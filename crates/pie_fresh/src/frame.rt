@@ -1,12 +1,12 @@
 //! A task that runs, and one that waits for an answer.
 ghost use Rattle.std.specs.Prelude.{◌≡◌, ◌<◌, List, IfOk};
 ghost use Rattle.pie_value.specs.declared.event.Answer.{Answer as Given};
-ghost use Rattle.pie_fresh.specs.Frames.{IsReady};
-ghost use Rattle.pie_fresh.specs.Noted.{IsSound};
+ghost use Rattle.pie_fresh.specs.inner.Frames.{IsReady};
+ghost use Rattle.pie_fresh.specs.inner.Noted.{IsSound};
 ghost use Rattle.pie_vm.specs.Machines.{Asks, Belongs, Follows, phase_after};
 ghost use Rattle.pie_vm.specs.Steps.{outcome_of};
-ghost use Rattle.pie_fresh.specs.Turns.{Comes};
-ghost use Rattle.pie_fresh.specs.Told.{EvaluatedTo, ComesAs, IsTold};
+ghost use Rattle.pie_fresh.specs.inner.Turns.{Comes};
+ghost use Rattle.pie_fresh.specs.inner.Told.{EvaluatedTo, ComesAs, IsTold};
 ghost use Rattle.pie_vm.specs.declared.machine.MachineState.TheVariants.{Waiting as Waits};
 
 use crate::notes::Notes;

@@ -7,11 +7,11 @@ ghost use Rattle.pie_value.specs.Values.{tree_of};
 ghost use Rattle.pie_graph.specs.Numbers.{AllBelow, numbers};
 ghost use Rattle.pie_graph.specs.Rows.{no_edges};
 ghost use Rattle.pie_builder_laws.specs.Names.{AreTasks};
-ghost use Rattle.pie_fresh.specs.Kept.{IsKeptAs, ended_with, row_ended, row_with};
-ghost use Rattle.pie_fresh.specs.Noted.{IsSound};
-ghost use Rattle.pie_record.specs.Records.{record_of, Puts};
-ghost use Rattle.pie_fresh.specs.Collected.{output_at};
-ghost use Rattle.pie_fresh.specs.Ledgers.{Grows, IsHigh, IsLedger, IsPlaced};
+ghost use Rattle.pie_fresh.specs.inner.Kept.{IsKeptAs, ended_with, row_ended, row_with};
+ghost use Rattle.pie_fresh.specs.inner.Noted.{IsSound};
+ghost use Rattle.pie_record.specs.inner.Records.{record_of, Puts};
+ghost use Rattle.pie_fresh.specs.inner.Collected.{output_at};
+ghost use Rattle.pie_fresh.specs.inner.Ledgers.{Grows, IsHigh, IsLedger, IsPlaced};
 
 use crate::notes::Notes;
 use pie_base::{OutOfMemory, Path};

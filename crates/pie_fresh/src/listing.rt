@@ -6,11 +6,11 @@ ghost use Rattle.pie_value.specs.Tree.{TPath};
 ghost use Rattle.pie_files.specs.Directory.{Directory};
 ghost use Rattle.pie_files.specs.Reading.{LeavesAsBefore};
 ghost use Rattle.pie_files.specs.Streams.{Counted};
-ghost use Rattle.pie_fresh.specs.Frames.{IsWaiting};
-ghost use Rattle.pie_fresh.specs.Turns.{Answered};
-ghost use Rattle.pie_fresh.specs.Sights.{listing_in};
-ghost use Rattle.pie_fresh.specs.Told.{IsToldList, IsToldEntries};
-ghost use Rattle.pie_fresh.specs.Means.{LooksAs};
+ghost use Rattle.pie_fresh.specs.inner.Frames.{IsWaiting};
+ghost use Rattle.pie_fresh.specs.inner.Turns.{Answered};
+ghost use Rattle.pie_fresh.specs.inner.Sights.{listing_in};
+ghost use Rattle.pie_fresh.specs.inner.Told.{IsToldList, IsToldEntries};
+ghost use Rattle.pie_fresh.specs.inner.Means.{LooksAs};
 
 use crate::builder::Builder;
 use crate::frame::Waiting;

@@ -7,8 +7,8 @@ ghost use Rattle.pie_view.specs.Content.{content};
 ghost use Rattle.pie_files.specs.Reading.{LeavesAsBefore};
 ghost use Rattle.pie_files.specs.Streams.{Counted};
 ghost use Rattle.pie_builder_laws.specs.Views.{unmarked};
-ghost use Rattle.pie_fresh.specs.Sights.{SeesHeldDigest, SeesHeldPresence, SeesHeldReading, SeesOut, SeesOthers, SightSays};
-ghost use Rattle.pie_fresh.specs.Sights.{hash_in, provided_sight, sight_by, sight_within};
+ghost use Rattle.pie_fresh.specs.inner.Sights.{SeesHeldDigest, SeesHeldPresence, SeesHeldReading, SeesOut, SeesOthers, SightSays};
+ghost use Rattle.pie_fresh.specs.inner.Sights.{hash_in, provided_sight, sight_by, sight_within};
 
 use crate::ledger::Ledger;
 use crate::notes::Notes;

@@ -1,6 +1,6 @@
 //! What a task has done so far while it runs.
 ghost use Rattle.std.specs.Prelude.{◌≡◌, ◌<◌, ◌^◌, ◌-◌, OnOk};
-ghost use Rattle.pie_fresh.specs.Noted.{begun, file_dep, observed, required as specs_required, wrote as specs_wrote};
+ghost use Rattle.pie_fresh.specs.inner.Noted.{begun, file_dep, observed, required as specs_required, wrote as specs_wrote};
 
 use pie_base::{MAX_TICKS, OutOfMemory, Path};
 use pie_graph::TaskNo;
@@ -27,8 +27,8 @@ pub(crate) struct Notes {
 
 impl Model for Notes {
     ghost use Rattle.pie_graph.specs.Numbers.{numbers};
-    ghost use Rattle.pie_fresh.specs.Noted.{Noted};
-    ghost use Rattle.pie_fresh.specs.NotedCodes.{coded_noted};
+    ghost use Rattle.pie_fresh.specs.inner.Noted.{Noted};
+    ghost use Rattle.pie_fresh.specs.inner.NotedCodes.{coded_noted};
 
     ghost Value = { Noted };
 

@@ -3,11 +3,11 @@ ghost use Rattle.std.specs.Prelude.{◌≡◌, IsTrue, IfOk, OnOk, is_some};
 ghost use Rattle.pie_base.specs.Path.{is_out};
 ghost use Rattle.pie_value.specs.declared.event.Event.TheVariants as events;
 ghost use Rattle.pie_view.specs.Content.{content};
-ghost use Rattle.pie_fresh.specs.Noted.{wrote as with_write};
-ghost use Rattle.pie_fresh.specs.Frames.{IsReady, IsWaiting};
-ghost use Rattle.pie_fresh.specs.Turns.{Advanced, Answered};
-ghost use Rattle.pie_fresh.specs.Told.{IsTold, KeepsFirst};
-ghost use Rattle.pie_fresh.specs.Means.{GoesAs};
+ghost use Rattle.pie_fresh.specs.inner.Noted.{wrote as with_write};
+ghost use Rattle.pie_fresh.specs.inner.Frames.{IsReady, IsWaiting};
+ghost use Rattle.pie_fresh.specs.inner.Turns.{Advanced, Answered};
+ghost use Rattle.pie_fresh.specs.inner.Told.{IsTold, KeepsFirst};
+ghost use Rattle.pie_fresh.specs.inner.Means.{GoesAs};
 
 use crate::builder::Builder;
 use crate::frame::{RunningTask, Waiting};

@@ -21,8 +21,8 @@ use Rattle.pie_parser.specs.Tests.{operator_at, comparison_at, prefix_at, effect
 use Rattle.pie_parser.specs.Plain.{Tree, TPrefix, TCompare, TIf, BlockTree, NoElse, AnElse}
 use Rattle.pie_parser.specs.At.{At}
 use Rattle.pie_parser.specs.Places.{Parsed, Got, Miss, Parser, then_on, next, start, passed}
-use Rattle.pie_parser.specs.Turns.{Stop, Part}
-use Rattle.pie_parser.specs.Pieces.{ALine, TheLast, on_piece, onto_lines}
+use Rattle.pie_parser.specs.inner.Turns.{Stop, Part}
+use Rattle.pie_parser.specs.inner.Pieces.{ALine, TheLast, on_piece, onto_lines}
 use Rattle.pie_parser.specs.ExprReading as reads
 use Rattle.pie_parser.specs.ExprReading.{Around, around, by_conditions, expr_at, inner_at, test_at, nowhere}
 use Rattle.pie_parser.specs.TypeGrammar.{Eats, IsName}

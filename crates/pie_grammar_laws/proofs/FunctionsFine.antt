@@ -10,7 +10,7 @@ use Rattle.pie_parser.specs.declared.reader.Room.{Room}
 use Rattle.pie_parser.specs.Kinds.{is}
 use Rattle.pie_parser.specs.At.{At}
 use Rattle.pie_parser.specs.Places.{next}
-use Rattle.pie_parser.specs.Turns.{Stop, Part}
+use Rattle.pie_parser.specs.inner.Turns.{Stop, Part}
 use Rattle.pie_parser.specs.FunctionTrees.{FunctionTree}
 use Rattle.pie_parser.specs.FunctionReading as reads
 use Rattle.pie_parser.specs.TypeGrammar.{Eats}

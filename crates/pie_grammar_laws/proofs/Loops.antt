@@ -3,7 +3,7 @@ use Rattle.std.proofs.Common.{◌≡◌, ℕ, ◌+◌, ◌≤◌, zero, suc, Boo
 use Rattle.pie_lexer.specs.declared.token.Token.{Token}
 use Rattle.pie_parser.specs.At.{At}
 use Rattle.pie_parser.specs.Places.{Parsed, Got}
-use Rattle.pie_parser.specs.Turns.{Turn, Stop, Part, on_turn, many, onto, all_behind}
+use Rattle.pie_parser.specs.inner.Turns.{Turn, Stop, Part, on_turn, many, onto, all_behind}
 use Rattle.pie_grammar_laws.proofs.Twins.{Texts, place, Twin, before, gone, Alike, both_got, both_miss, past_got, past_miss, then_alike, any_alike, from_gone}
 use Rattle.pie_grammar_laws.proofs.Twins.{got_alike}
 

@@ -3,7 +3,7 @@ use Rattle.std.proofs.Common.{◌≡◌, ℕ, zero, suc, Bool, true, false, cond
 use Rattle.pie_lexer.specs.declared.token.Token.{Token}
 use Rattle.pie_parser.specs.At.{At}
 use Rattle.pie_parser.specs.Places.{Parsed}
-use Rattle.pie_parser.specs.Turns.{Turn, Stop, Part, on_turn, many, onto, all_behind}
+use Rattle.pie_parser.specs.inner.Turns.{Turn, Stop, Part, on_turn, many, onto, all_behind}
 use Rattle.pie_grammar_laws.proofs.Words.{Then, Word, Fine, fine_got, fine_miss, no_memory, fine_then, fine_as, fine_last, fine_nothing, Nothing}
 
 -- a turn that stops, or reads a part that is a word

@@ -17,7 +17,7 @@ use Rattle.pie_parser.specs.Places.{Parsed, Got, Miss, first_kind, next, start_o
 use Rattle.pie_parser.specs.FunctionTrees.{FunctionTree}
 use Rattle.pie_parser.specs.FunctionReading.{functions, read_all, last_end, Reads}
 use Rattle.pie_parser.specs.FunctionGrammar.{IsPipeline}
-use Rattle.pie_parser.specs.Whole.{functions_of}
+use Rattle.pie_parser.specs.inner.Whole.{functions_of}
 use Rattle.pie_parser.proofs.Readings.{is_same, chosen, missed, bound}
 use Rattle.pie_parser.proofs.Hits.{Hits}
 use Rattle.pie_parser.proofs.FunctionsComplete.{pipeline_hits}

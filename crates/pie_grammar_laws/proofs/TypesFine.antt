@@ -9,7 +9,7 @@ use Rattle.pie_parser.specs.Kinds.{is}
 use Rattle.pie_parser.specs.PlainTypes.{TypeTree, PlainT, NullableT}
 use Rattle.pie_parser.specs.At.{At}
 use Rattle.pie_parser.specs.Places.{Got, Miss, Parser, next, start}
-use Rattle.pie_parser.specs.Turns.{all_behind}
+use Rattle.pie_parser.specs.inner.Turns.{all_behind}
 use Rattle.pie_parser.specs.TypeReading as reads
 use Rattle.pie_parser.specs.TypeReading.{plain_at, plain_type, written_type, type_at, inner_type}
 use Rattle.pie_parser.specs.TypeGrammar as grammar

@@ -1,3 +1,3 @@
-pub mod Answers
 pub mod Brackets
 pub mod Refusals
+pub mod inner

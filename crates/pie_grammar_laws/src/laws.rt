@@ -1,5 +1,5 @@
 //! The laws by which an answer of the parser is the grammar's.
-ghost use Rattle.pie_grammar_laws.specs.Answers.{AcceptedPipelinesAreShallow, ShallowPipelinesAreAccepted, ExpectedStops, TooDeepNests};
+ghost use Rattle.pie_grammar_laws.specs.inner.Answers.{AcceptedPipelinesAreShallow, ShallowPipelinesAreAccepted, ExpectedStops, TooDeepNests};
 
 /// What the parser answers is said by the grammar alone: it refuses no pipeline whose brackets keep the limit, except when
 /// out of memory, and accepts no other; and the place of a refusal is where the tokens stop to begin a pipeline, or where the first

@@ -4,7 +4,7 @@ use Rattle.std.proofs.Common.{length-append, arith}
 use Rattle.std.proofs.lemmas.Bool.Decides.{eqb_tells}
 use Rattle.pie_lexer.specs.Quotes.{escape_of, Inside, nothing, plain, escape, EndsOpen, IsBadEscape}
 use Rattle.pie_lexer.proofs.Prefixes.{some_or_none}
-use Rattle.pie_lexer.specs.Scanning.{End, Closes, Opens, Fails, scan}
+use Rattle.pie_lexer.specs.inner.Scanning.{End, Closes, Opens, Fails, scan}
 
 pub inside-append : {a s b t : List ℕ} → Inside a s → Inside b t → Inside (a ++ b) (s ++ t)
 inside-append nothing i = i

@@ -5,7 +5,7 @@ use Rattle.pie_lexer.specs.Bytes.{gap_len}
 use Rattle.pie_lexer.specs.Quotes.{Inside, EndsOpen, IsBadEscape}
 use Rattle.pie_lexer.specs.Tokens.{Lexeme, Number, Kind, Spells, word, digits, quoted, mark, IsLongest, Means, Refused, wide, unclosed, escape, char, before}
 use Rattle.pie_lexer.specs.Tokens.{Lexes, ended, gap, token, refused}
-use Rattle.pie_lexer.specs.Answers.{IsAnswer, IsOnlyAnswer}
+use Rattle.pie_lexer.specs.inner.Answers.{IsAnswer, IsOnlyAnswer}
 use Rattle.pie_lexer.specs.declared.token.Token.{Token}
 use Rattle.pie_lexer.specs.declared.token.TokenKind.{TokenKind}
 use Rattle.pie_lexer.specs.declared.token.TokenKind.TheVariants as kinds

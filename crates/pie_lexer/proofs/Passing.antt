@@ -8,7 +8,7 @@ use Rattle.std.proofs.lemmas.List.Sums.{prefix_len-le-length}
 use Rattle.pie_lexer.specs.Bytes.{off_line_end, opens_comment, opens_space, gap_len}
 use Rattle.pie_lexer.specs.Tokens.{before, Lexes, ended, gap, token, refused}
 use Rattle.pie_lexer.proofs.Spelled.{nonempty}
-use Rattle.pie_lexer.specs.Answers.{after, Carries, IsTokenAt, TakesToken, Passes}
+use Rattle.pie_lexer.specs.inner.Answers.{after, Carries, IsTokenAt, TakesToken, Passes}
 use Rattle.pie_lexer.specs.declared.token.Token.{Token}
 use Rattle.pie_lexer.specs.declared.error.LexError.{LexError}
 use Rattle.pie_lexer.specs.declared.error.LexError.TheVariants.{BadChar, OpenText, BadEscape, WideInt, OutOfMemory}

@@ -12,10 +12,10 @@ use Rattle.pie_lexer.specs.Bytes.{is_letter, is_digit, is_word_byte}
 use Rattle.pie_lexer.specs.Words.{word_kind}
 use Rattle.pie_lexer.specs.Marks.{pair_at, byte_at}
 use Rattle.pie_lexer.specs.Quotes.{nothing}
-use Rattle.pie_lexer.specs.Scanning.{End, Closes, Opens, Fails, scan, end_of}
+use Rattle.pie_lexer.specs.inner.Scanning.{End, Closes, Opens, Fails, scan, end_of}
 use Rattle.pie_lexer.specs.declared.unquote.Quoted.{Quoted}
 use Rattle.pie_lexer.specs.Tokens.{read_on, number_of, narrow, Number, Kind, IsLongest, Refused, wide, unclosed, escape, char}
-use Rattle.pie_lexer.specs.Answers.{IsTokenAt}
+use Rattle.pie_lexer.specs.inner.Answers.{IsTokenAt}
 use Rattle.pie_lexer.specs.declared.token.TokenKind.{TokenKind}
 use Rattle.pie_lexer.specs.declared.token.TokenKind.TheVariants as kinds
 use Rattle.pie_lexer.specs.declared.error.LexError.TheVariants.{BadChar, OpenText, BadEscape, WideInt}

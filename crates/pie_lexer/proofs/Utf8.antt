@@ -10,7 +10,7 @@ use Rattle.std.proofs.lemmas.Str.Ascii.{IsAscii-nil, IsAscii-cons}
 use Rattle.std.proofs.lemmas.Bool.Decides.{nat_tests}
 use Rattle.pie_lexer.specs.Bytes.{is_digit, is_word_byte}
 use Rattle.pie_lexer.specs.Quotes.{escape_of, Inside, nothing, plain, escape}
-use Rattle.pie_lexer.specs.Scanning.{Closes, scan}
+use Rattle.pie_lexer.specs.inner.Scanning.{Closes, scan}
 use Rattle.pie_lexer.proofs.Prefixes.{both_true, chosen}
 use Rattle.pie_lexer.proofs.Insides.{Said, plain_says}
 use Rattle.pie_lexer.proofs.Takes.{quote_first}

@@ -1,7 +1,7 @@
 //! The one call: from a text to its tokens.
 ghost use Rattle.std.specs.Prelude.{◌≡◌, ◌<◌, length, drop};
 ghost use Rattle.pie_lexer.specs.Bytes.{gap_len};
-ghost use Rattle.pie_lexer.specs.Answers.{IsAnswer, IsOnlyAnswer, TakesToken, Passes};
+ghost use Rattle.pie_lexer.specs.inner.Answers.{IsAnswer, IsOnlyAnswer, TakesToken, Passes};
 
 use crate::scan::{behind, gap_at};
 use crate::taking::{int_at, mark_at, text_at, word_at};

@@ -5,7 +5,7 @@ ghost use Rattle.std.specs.Str.{IsUtf8};
 ghost use Rattle.pie_lexer.specs.Bytes.{is_letter, is_digit, is_word_byte};
 ghost use Rattle.pie_lexer.specs.Words.{word_kind};
 ghost use Rattle.pie_lexer.specs.Tokens.{narrow, number_of};
-ghost use Rattle.pie_lexer.specs.Answers.{IsTokenAt, TakesToken};
+ghost use Rattle.pie_lexer.specs.inner.Answers.{IsTokenAt, TakesToken};
 
 use crate::mark::{mark_of_one, mark_of_two};
 use crate::scan::{behind, digits_len, word_len};

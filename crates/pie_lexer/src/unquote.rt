@@ -1,7 +1,7 @@
 //! Texts in quotes.
 ghost use Rattle.std.specs.Prelude.{◌≡◌, ◌<◌, false, [], length, drop, IfOk};
 ghost use Rattle.pie_lexer.specs.Quotes.{escape_of};
-ghost use Rattle.pie_lexer.specs.Scanning.{scan, step_of, end_of};
+ghost use Rattle.pie_lexer.specs.inner.Scanning.{scan, step_of, end_of};
 
 use pie_base::OutOfMemory;
 use std::alloc::Global;

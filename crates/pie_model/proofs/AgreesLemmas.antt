@@ -5,12 +5,12 @@ use Rattle.pie_model.specs.Tasks.{Task, Look}
 use Rattle.pie_model.specs.Seen.{first_write}
 use Rattle.pie_model.specs.Evaluation.{World, Project}
 use Rattle.pie_model.specs.Records.{Record, Observation, Query, Looked, Listed, Required, task_asked, needs_of}
-use Rattle.pie_model.specs.StampNow.{Told, Teller, by_evaluation, by_records, recorded_outcome, told_stamp, own_told, look_now, outcome_now, stamp_now, StampsAgree}
-use Rattle.pie_model.specs.StampNow.{asked_before}
-use Rattle.pie_model.specs.Present.{Reaches, WroteByRecords, IsTold}
-use Rattle.pie_model.specs.Consistent.{IsRecorded}
+use Rattle.pie_model.specs.inner.StampNow.{Told, Teller, by_evaluation, by_records, recorded_outcome, told_stamp, own_told, look_now, outcome_now, stamp_now, StampsAgree}
+use Rattle.pie_model.specs.inner.StampNow.{asked_before}
+use Rattle.pie_model.specs.inner.Present.{Reaches, WroteByRecords, IsTold}
+use Rattle.pie_model.specs.inner.Consistent.{IsRecorded}
 use Rattle.pie_model.proofs.Basics.{among_here, among_either, among_left, among_right}
-use Rattle.pie_model.specs.RecordLaws.{HasItsRecord}
+use Rattle.pie_model.specs.inner.RecordLaws.{HasItsRecord}
 use Rattle.pie_model.proofs.Views.{told_is_seen}
 
 pub asked_either : (u : Task) (before : List Task) (q : Query) → among u (asked_before before q) ≡ true
@@ -61,7 +61,7 @@ module _ (w : World) (P Q : Project) (R : Task → Option Record) (told : List T
   stamp_same before (Looked l p) b n = look_same before l p (kind_of p) b
   stamp_same before (Listed d) b n = refl
   stamp_same before (Required h u) b n =
-      ap (λ o. outcome_now w h (recorded_outcome o)) ((n u (among_here u [])).right u Rattle.pie_model.specs.Present.Way.here).is
+      ap (λ o. outcome_now w h (recorded_outcome o)) ((n u (among_here u [])).right u Rattle.pie_model.specs.inner.Present.Way.here).is
 
   pub agrees_by_evaluation : (os : List Observation) (before : List Task) → ((u : Task) → among u before ≡ true → IsKnown w P R u)
       → ((u : Task) → among u (needs_of os) ≡ true → IsKnown w P R u)

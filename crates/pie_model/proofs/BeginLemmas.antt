@@ -5,17 +5,17 @@ use Rattle.pie_model.specs.Tasks.{Task, Look}
 use Rattle.pie_model.specs.Trees.{Node, node, Trace, ends, looks, lists, writes, needs, outcome_of, is_plain, trace_of, levels, levels_below, required_by}
 use Rattle.pie_model.specs.Evaluation.{World, Project, evaluation}
 use Rattle.pie_model.specs.Records.{Record, Observation, Query, Looked, Listed, Required, needs_of, look_stamp}
-use Rattle.pie_model.specs.StampNow.{Told, Teller, by_evaluation, look_now, stamp_now, StampsAgree, RecordAgrees, asked_before}
-use Rattle.pie_model.specs.Separate.{NeverWritesWhatItSaw}
-use Rattle.pie_model.specs.Present.{Reaches, WroteByRecords, IsTold}
-use Rattle.pie_model.specs.Present.Way.{here, along}
-use Rattle.pie_model.specs.Consistent.{IsRecorded, IsConsistent}
-use Rattle.pie_model.specs.Still.{SourceStampStill, SourcesStill, WasDone}
+use Rattle.pie_model.specs.inner.StampNow.{Told, Teller, by_evaluation, look_now, stamp_now, StampsAgree, RecordAgrees, asked_before}
+use Rattle.pie_model.specs.inner.Separate.{NeverWritesWhatItSaw}
+use Rattle.pie_model.specs.inner.Present.{Reaches, WroteByRecords, IsTold}
+use Rattle.pie_model.specs.inner.Present.Way.{here, along}
+use Rattle.pie_model.specs.inner.Consistent.{IsRecorded, IsConsistent}
+use Rattle.pie_model.specs.inner.Still.{SourceStampStill, SourcesStill, WasDone}
 use Rattle.pie_model.proofs.Basics.{clash}
 use Rattle.pie_model.proofs.Kids.{Kids, required_kid, kids_both}
 use Rattle.pie_model.proofs.Rooms.{IsOwn}
 use Rattle.pie_model.proofs.SecondLaw.{done_plain}
-use Rattle.pie_model.specs.RecordLaws.{HasItsRecord}
+use Rattle.pie_model.specs.inner.RecordLaws.{HasItsRecord}
 use Rattle.pie_model.proofs.Ways.{needs_right, kids_own}
 use Rattle.pie_model.proofs.AgreesLemmas.{IsKnown, agrees_by_records}
 use Rattle.pie_model.proofs.ItselfLemmas.{agrees_itself}

@@ -7,8 +7,8 @@ use Rattle.pie_model.specs.Trees.{Node, node, Trace, ends, looks, lists, writes,
 use Rattle.pie_model.specs.Trees.{outcome_of, end_of, is_plain, HasTask, HasBelow, levels, levels_below}
 use Rattle.pie_model.specs.Seen.{visible_at}
 use Rattle.pie_model.specs.Evaluation.{World, Project, Progress, start, listing, on_seen, on_listing, on_outcome, on_event, follow, round, evaluation_with}
-use Rattle.pie_model.specs.Moved.{Moved}
-use Rattle.pie_model.specs.Moved.Moved.{same as same_tree, no_room as no_room_tree, through as through_tree}
+use Rattle.pie_model.specs.inner.Moved.{Moved}
+use Rattle.pie_model.specs.inner.Moved.Moved.{same as same_tree, no_room as no_room_tree, through as through_tree}
 use Rattle.pie_model.proofs.Basics.{clash, cases, among_split, apart_rest, apart_prefix}
 
 -- as `Moved`, of traces; the task of the cycle does not stand above the old one

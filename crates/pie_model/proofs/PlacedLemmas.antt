@@ -5,8 +5,8 @@ use Rattle.pie_model.specs.Tasks.{Task}
 use Rattle.pie_model.specs.Trees.{levels, HasTask}
 use Rattle.pie_model.specs.Evaluation.{World, Project, evaluation_with, evaluation}
 use Rattle.pie_model.specs.Records.{Record}
-use Rattle.pie_model.specs.Present.{Reaches}
-use Rattle.pie_model.specs.Present.Way.{here}
+use Rattle.pie_model.specs.inner.Present.{Reaches}
+use Rattle.pie_model.specs.inner.Present.Way.{here}
 use Rattle.pie_model.specs.Running.{IsDistinct}
 use Rattle.pie_model.proofs.Basics.{clash, among_here, among_there}
 use Rattle.pie_model.proofs.Rooms.{Standing, standing, few_levels, plain_not_round, placed, without, without_less, among_without}

@@ -4,10 +4,10 @@ use Rattle.std.proofs.Common.{refl, arith}
 use Rattle.pie_model.specs.Paths.{among}
 use Rattle.pie_model.specs.Tasks.{Task}
 use Rattle.pie_model.specs.Records.{Record, needs_of}
-use Rattle.pie_model.specs.Present.{Reaches}
-use Rattle.pie_model.specs.Present.Way.{here, along}
-use Rattle.pie_model.specs.Consistent.{IsRecorded}
-use Rattle.pie_model.specs.Ranks.{required_in, above_all, rank_within, HasNoCycle}
+use Rattle.pie_model.specs.inner.Present.{Reaches}
+use Rattle.pie_model.specs.inner.Present.Way.{here, along}
+use Rattle.pie_model.specs.inner.Consistent.{IsRecorded}
+use Rattle.pie_model.specs.inner.Ranks.{required_in, above_all, rank_within, HasNoCycle}
 use Rattle.pie_model.proofs.Basics.{clash, among_here, among_there, among_split}
 use Rattle.pie_model.proofs.Rooms.{without, without_less, among_without}
 

@@ -5,15 +5,15 @@ use Rattle.pie_model.specs.Tasks.{Task}
 use Rattle.pie_model.specs.Trees.{is_plain, levels, HasTask}
 use Rattle.pie_model.specs.Evaluation.{World, Project, evaluation}
 use Rattle.pie_model.specs.Records.{Record, record_of, needs_of}
-use Rattle.pie_model.specs.StampNow.{Told, by_evaluation, RecordAgrees}
-use Rattle.pie_model.specs.Separate.{StampsSeparate, ListingsDiffer, NeverWritesWhatItSaw}
-use Rattle.pie_model.specs.Present.{Reaches}
-use Rattle.pie_model.specs.Present.Way.{here, along}
-use Rattle.pie_model.specs.Consistent.{IsRecorded, IsUpToDate, IsConsistent, IsSettled}
+use Rattle.pie_model.specs.inner.StampNow.{Told, by_evaluation, RecordAgrees}
+use Rattle.pie_model.specs.inner.Separate.{StampsSeparate, ListingsDiffer, NeverWritesWhatItSaw}
+use Rattle.pie_model.specs.inner.Present.{Reaches}
+use Rattle.pie_model.specs.inner.Present.Way.{here, along}
+use Rattle.pie_model.specs.inner.Consistent.{IsRecorded, IsUpToDate, IsConsistent, IsSettled}
 use Rattle.pie_model.proofs.Basics.{clash}
 use Rattle.pie_model.proofs.Rooms.{Standing, standing, few_levels, plain_not_round, without, without_less, among_without}
 use Rattle.pie_model.proofs.SecondLaw.{second_law}
-use Rattle.pie_model.specs.RecordLaws.{HasItsRecord}
+use Rattle.pie_model.specs.inner.RecordLaws.{HasItsRecord}
 use Rattle.pie_model.proofs.Ways.{Reached, stands_reached, further}
 use Rattle.pie_model.proofs.AgreesLemmas.{IsKnown, agrees_by_evaluation}
 

@@ -6,8 +6,8 @@ use Rattle.pie_model.specs.Tasks.{Task}
 use Rattle.pie_model.specs.Trees.{Node, node, Trace, ends, looks, lists, writes, needs, Outcome, outcome_of, is_done, entered, entered_below, enter}
 use Rattle.pie_model.specs.Evaluation.{World, Project, evaluation_with, evaluation_under, evaluation, on_outcome}
 use Rattle.pie_model.specs.Running.{rest_of_run}
-use Rattle.pie_model.specs.Stack.{Frame, tasks_of, entered_by, IsWaiting, Begins}
-use Rattle.pie_model.specs.Stack.IsWaiting.{nobody, waits}
+use Rattle.pie_model.specs.inner.Stack.{Frame, tasks_of, entered_by, IsWaiting, Begins}
+use Rattle.pie_model.specs.inner.Stack.IsWaiting.{nobody, waits}
 use Rattle.pie_model.proofs.RunningLemmas.{ends_as_required, enters_stopped, enters_required}
 
 pub begins_itself : (xs : List Task) → Begins xs xs

@@ -8,12 +8,12 @@ use Rattle.pie_model.specs.Trees.{StandsIn, StandsBelow}
 use Rattle.pie_model.specs.Seen.{first_write, writer, writers, writers_below, writers_in, all_by, by_writers, provided}
 use Rattle.pie_model.specs.Evaluation.{World, Project, evaluation}
 use Rattle.pie_model.specs.Records.{Record, record_of, hashed}
-use Rattle.pie_model.specs.StampNow.{Told, Untold, ToldHash, ToldClash, told_of}
-use Rattle.pie_model.specs.Present.{Way, Reaches, WroteByRecords, WroteInTrees, IsTold}
+use Rattle.pie_model.specs.inner.StampNow.{Told, Untold, ToldHash, ToldClash, told_of}
+use Rattle.pie_model.specs.inner.Present.{Way, Reaches, WroteByRecords, WroteInTrees, IsTold}
 use Rattle.pie_model.proofs.Basics.{clash, among_here, among_there, among_split, same_bytes, bytes_same}
 use Rattle.pie_model.proofs.Rooms.{node_alone, all_plain}
 use Rattle.pie_model.proofs.LooksLemmas.{first_write-hashed, some_same}
-use Rattle.pie_model.specs.RecordLaws.{HasItsRecord}
+use Rattle.pie_model.specs.inner.RecordLaws.{HasItsRecord}
 use Rattle.pie_model.proofs.Ways.{record_right, reached_stands, Reached, stands_reached, task_of-evaluation}
 
 -- ---- one meaning is told in one way

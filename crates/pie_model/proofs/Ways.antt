@@ -6,9 +6,9 @@ use Rattle.pie_model.specs.Trees.{Node, node, Trace, ends, looks, lists, writes,
 use Rattle.pie_model.specs.Trees.{required_by}
 use Rattle.pie_model.specs.Evaluation.{World, Project, evaluation_with, evaluation}
 use Rattle.pie_model.specs.Records.{Record, record_of, needs_of, observations_of}
-use Rattle.pie_model.specs.Present.{Reaches}
-use Rattle.pie_model.specs.Present.Way.{here, along}
-use Rattle.pie_model.specs.RecordLaws.{HasItsRecord}
+use Rattle.pie_model.specs.inner.Present.{Reaches}
+use Rattle.pie_model.specs.inner.Present.Way.{here, along}
+use Rattle.pie_model.specs.inner.RecordLaws.{HasItsRecord}
 use Rattle.pie_model.proofs.Basics.{among_here, among_there}
 use Rattle.pie_model.proofs.Kids.{Kids, required_kid}
 use Rattle.pie_model.proofs.Rooms.{IsOwn, own_kids}

@@ -1,8 +1,8 @@
 //! A core that takes, starts and finishes tasks: its records stay consistent, and settled tasks are right.
 
-ghost use Rattle.pie_model.specs.CoreLaws.{SettledTasksAreRight, OldRecordsBegin, TakesKeepConsistent, StartsKeepConsistent, FinishesKeepConsistent};
-ghost use Rattle.pie_model.specs.CoreLaws.{FinishesKeepSettled, StampsByRecordsAreRight, TakesKeepSettled};
-ghost use Rattle.pie_model.specs.Ranks.{RecordsHaveRanks};
+ghost use Rattle.pie_model.specs.inner.CoreLaws.{SettledTasksAreRight, OldRecordsBegin, TakesKeepConsistent, StartsKeepConsistent, FinishesKeepConsistent};
+ghost use Rattle.pie_model.specs.inner.CoreLaws.{FinishesKeepSettled, StampsByRecordsAreRight, TakesKeepSettled};
+ghost use Rattle.pie_model.specs.inner.Ranks.{RecordsHaveRanks};
 
 /// The settled law: a recorded task that reaches no busy task has the record of its evaluation.
 pub fn settled_tasks_are_right()

@@ -1,6 +1,6 @@
 //! Records and stamps: equal stamps give equal records.
 
-ghost use Rattle.pie_model.specs.RecordLaws.{EqualStampsGiveEqualRecords, RecordsAgreeWithThemselves, RecordsTellWhatTreesShow, ReachedTasksStand};
+ghost use Rattle.pie_model.specs.inner.RecordLaws.{EqualStampsGiveEqualRecords, RecordsAgreeWithThemselves, RecordsTellWhatTreesShow, ReachedTasksStand};
 
 /// The second law: an old record with today's stamps is the record of today's evaluation.
 pub fn equal_stamps_give_equal_records()

@@ -1,9 +1,9 @@
 //! Running tasks: event by event each stays at the front of its evaluation, and its end is its evaluation's.
 
-ghost use Rattle.pie_model.specs.RunLaws.{RunsStart, RunsSeeNothing, RunsSeeContents, RunsList, RunsWrite, RequiredTasksStand, RunsAreAnswered};
-ghost use Rattle.pie_model.specs.RunLaws.{RecordsAnswerRequires};
-ghost use Rattle.pie_model.specs.EndLaws.{RunsEndDone, RunsEndFailed, RunsEndClashing, RunsEndTooBig, RunsEndAsRequired, AnsweredRunsEndPlain, RunsEndInCycle};
-ghost use Rattle.pie_model.specs.EndLaws.{EndedRunsAreAlone, OutcomesSink, EnteredTasksSink, EnteredTasksComeFirst};
+ghost use Rattle.pie_model.specs.inner.RunLaws.{RunsStart, RunsSeeNothing, RunsSeeContents, RunsList, RunsWrite, RequiredTasksStand, RunsAreAnswered};
+ghost use Rattle.pie_model.specs.inner.RunLaws.{RecordsAnswerRequires};
+ghost use Rattle.pie_model.specs.inner.EndLaws.{RunsEndDone, RunsEndFailed, RunsEndClashing, RunsEndTooBig, RunsEndAsRequired, AnsweredRunsEndPlain, RunsEndInCycle};
+ghost use Rattle.pie_model.specs.inner.EndLaws.{EndedRunsAreAlone, OutcomesSink, EnteredTasksSink, EnteredTasksComeFirst};
 
 /// A task starts at the front of its evaluation, and looks, listings and writes keep it there.
 pub fn runs_go_on()

@@ -1,7 +1,7 @@
 //! Trees of evaluations: what ended with a value or by a fault does not depend on what stands above it.
 
-ghost use Rattle.pie_model.specs.TreeLaws.{PlainNodesAreAlone, PlainNodesAreOne, PlainTreesArePlain, PlainTreesMove, PlainTreesAreApart, ManyEntersTooMany};
-ghost use Rattle.pie_model.specs.TreeLaws.{TreesAreEntered, EnteredTreesAddNothing};
+ghost use Rattle.pie_model.specs.inner.TreeLaws.{PlainNodesAreAlone, PlainNodesAreOne, PlainTreesArePlain, PlainTreesMove, PlainTreesAreApart, ManyEntersTooMany};
+ghost use Rattle.pie_model.specs.inner.TreeLaws.{TreesAreEntered, EnteredTreesAddNothing};
 
 /// The first law: an evaluation that ended with a value or by a fault is the same wherever it stands.
 pub fn plain_nodes_are_one()

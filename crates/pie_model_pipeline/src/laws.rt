@@ -1,5 +1,5 @@
 //! The laws by which the model of building speaks of the tasks and values of the language.
-ghost use Rattle.pie_model_pipeline.specs.Laws.{TasksMeanThemselves, BytesTellTasks, BytesTellValues, AnswersComeBack};
+ghost use Rattle.pie_model_pipeline.specs.inner.Laws.{TasksMeanThemselves, BytesTellTasks, BytesTellValues, AnswersComeBack};
 
 /// The canonical bytes of a task mean in the model what the task means in its pipeline. Rule: docs/MODEL.md.
 pub fn tasks_mean_themselves()

@@ -1,7 +1,7 @@
 //! Why an operator gives no value.
 ghost use Rattle.std.specs.Prelude.{◌≡◌, Err};
 ghost use Rattle.pie_value.specs.Values.{tree_of};
-ghost use Rattle.pie_value.specs.BuiltinForms.{made as spec_made};
+ghost use Rattle.pie_value.specs.inner.BuiltinForms.{made as spec_made};
 ghost use Rattle.pie_operators.specs.Agreement.{ResultAgrees};
 
 use pie_base::{FaultKind, OutOfMemory};

@@ -9,9 +9,9 @@ use Rattle.pie_graph.specs.declared.edges.TaskNo.{TaskNo}
 use Rattle.pie_graph.specs.Numbers.{numbers, IsMarked}
 use Rattle.pie_graph.specs.Rows.{Row, Calls}
 use Rattle.pie_graph.proofs.Among.{contains_here}
-use Rattle.pie_reach.specs.Reaches.{Leads, Reaches}
-use Rattle.pie_reach.specs.Reaches.Leads.{itself, step}
-use Rattle.pie_reach.specs.Walks.{IsClosure}
+use Rattle.pie_reach.specs.inner.Reaches.{Leads, Reaches}
+use Rattle.pie_reach.specs.inner.Reaches.Leads.{itself, step}
+use Rattle.pie_reach.specs.inner.Walks.{IsClosure}
 use Rattle.pie_reach.proofs.Meets.{alone}
 use Rattle.pie_reach.proofs.WalkSteps.{turned}
 use Rattle.pie_order.specs.Places.{PlacesAgree}

@@ -4,7 +4,7 @@ use Rattle.std.proofs.lemmas.Bool.{cases_lt}
 use Rattle.std.proofs.lemmas.List.Elements.{All-head, All-tail}
 use Rattle.std.proofs.Common.{ne_eqb, eq-eqb}
 use Rattle.pie_graph.specs.Numbers.{AllBelow, IsMarked}
-use Rattle.pie_reach.specs.Walks.{unmarked}
+use Rattle.pie_reach.specs.inner.Walks.{unmarked}
 
 -- stamps of earlier rounds are no marks
 pub no_marks : (stamps : List ℕ) (round : ℕ) → AllBelow round stamps → map (λ stamp. stamp == round) stamps ≡ replicate (length stamps) false

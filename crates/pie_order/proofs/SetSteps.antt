@@ -15,10 +15,10 @@ use Rattle.pie_graph.specs.declared.edges.TaskNo.{TaskNo}
 use Rattle.pie_graph.specs.Numbers.{numbers}
 use Rattle.pie_graph.specs.Rows.{Row, Calls}
 use Rattle.pie_graph.proofs.Among.{contains_here}
-use Rattle.pie_reach.specs.Reaches.{Leads, Reaches, ReachesNone}
-use Rattle.pie_reach.specs.Reaches.Leads.{itself, step}
-use Rattle.pie_reach.specs.Walks.{IsClosure}
-use Rattle.pie_reach.specs.LeastKey.{IsBest}
+use Rattle.pie_reach.specs.inner.Reaches.{Leads, Reaches, ReachesNone}
+use Rattle.pie_reach.specs.inner.Reaches.Leads.{itself, step}
+use Rattle.pie_reach.specs.inner.Walks.{IsClosure}
+use Rattle.pie_reach.specs.inner.LeastKey.{IsBest}
 use Rattle.pie_reach.proofs.Meets.{alone}
 use Rattle.pie_reach.proofs.HeightFacts.{leads_trans}
 use Rattle.pie_order.specs.Places.{PlacesAgree}

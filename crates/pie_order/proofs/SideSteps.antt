@@ -11,9 +11,9 @@ use Rattle.pie_graph.specs.declared.edges.TaskNo.{TaskNo}
 use Rattle.pie_graph.specs.Numbers.{numbers, IsMarked, AllBelow}
 use Rattle.pie_graph.specs.Rows.{Row, Calls}
 use Rattle.pie_graph.proofs.Among.{contains_here}
-use Rattle.pie_reach.specs.Reaches.{Leads, Reaches}
-use Rattle.pie_reach.specs.Reaches.Leads.{itself}
-use Rattle.pie_reach.specs.Walks.{Walked, meet, meet_all, unmarked, GoesTo}
+use Rattle.pie_reach.specs.inner.Reaches.{Leads, Reaches}
+use Rattle.pie_reach.specs.inner.Reaches.Leads.{itself}
+use Rattle.pie_reach.specs.inner.Walks.{Walked, meet, meet_all, unmarked, GoesTo}
 use Rattle.pie_reach.proofs.Meets.{Meets, all_met, alone}
 use Rattle.pie_reach.proofs.WalkSteps.{leads_on, all_below, turned}
 use Rattle.pie_order.specs.Sides.{Searched, begun, met_one, met_all, Bounded, Searching, Completed, IsSide}

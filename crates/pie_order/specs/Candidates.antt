@@ -2,7 +2,7 @@
 use Rattle.std.specs.Prelude.{◌≡◌, ◌≢◌, ◌⊎◌, ℕ, ◌≤◌, List, slice_index}
 use Rattle.std.specs.List.{Contains}
 use Rattle.pie_graph.specs.Rows.{Row}
-use Rattle.pie_reach.specs.Reaches.{Reaches}
+use Rattle.pie_reach.specs.inner.Reaches.{Reaches}
 
 -- one number joins the members
 pub record Joins (old new : List ℕ) (task : ℕ) : Type 0 where

@@ -2,7 +2,7 @@
 use Rattle.std.specs.Prelude.{ℕ, List, length}
 use Rattle.pie_graph.specs.Numbers.{numbers}
 use Rattle.pie_graph.specs.Rows.{Row, Calls}
-use Rattle.pie_reach.specs.Reaches.{Reaches}
+use Rattle.pie_reach.specs.inner.Reaches.{Reaches}
 use Rattle.pie_order.specs.declared.search.Found.{Found}
 use Rattle.pie_order.specs.declared.search.Found.TheVariants.{Below, Above, Cycle}
 use Rattle.pie_order.specs.Sides.{IsSide}

@@ -2,8 +2,8 @@
 use Rattle.std.specs.Prelude.{◌≡◌, ℕ, ◌+◌, ◌<◌, ◌≤◌, Bool, true, false, cond, List, [], ◌∷◌, ◌++◌, length, replicate, slice_set, slice_index, slice_index_or}
 use Rattle.std.specs.List.{Contains}
 use Rattle.pie_graph.specs.Numbers.{IsMarked}
-use Rattle.pie_reach.specs.Reaches.{Leads}
-use Rattle.pie_reach.specs.Walks.{unmarked}
+use Rattle.pie_reach.specs.inner.Reaches.{Leads}
+use Rattle.pie_reach.specs.inner.Walks.{unmarked}
 
 -- which tasks were met, these in the order in which they were, and from how many of them the search went on
 pub record Searched : Type 0 where

@@ -2,7 +2,7 @@
 ghost use Rattle.std.specs.Prelude.{◌≡◌, ◌<◌, ◌↔◌, [], length, IfOk, OnOk, OnErr, IsTrue, MatchOption};
 ghost use Rattle.std.specs.List.{Contains};
 ghost use Rattle.pie_graph.specs.Numbers.{numbers, AllBelow};
-ghost use Rattle.pie_reach.specs.Reaches.{ReachesNone};
+ghost use Rattle.pie_reach.specs.inner.Reaches.{ReachesNone};
 ghost use Rattle.pie_order.specs.Places.{PlacesAgree};
 ghost use Rattle.pie_order.specs.Candidates.{Joins, Leaves, StandsFirst};
 

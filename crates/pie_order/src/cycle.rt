@@ -3,8 +3,8 @@ ghost use Rattle.std.specs.Prelude.{◌≡◌, ℕ, ◌<◌, ◌≤◌, ◌↔�
 ghost use Rattle.std.specs.List.{Contains};
 ghost use Rattle.pie_graph.specs.Numbers.{numbers, IsMarked};
 ghost use Rattle.pie_graph.specs.Rows.{Calls};
-ghost use Rattle.pie_reach.specs.Reaches.{Reaches};
-ghost use Rattle.pie_reach.specs.Walks.{IsClosure};
+ghost use Rattle.pie_reach.specs.inner.Reaches.{Reaches};
+ghost use Rattle.pie_reach.specs.inner.Walks.{IsClosure};
 ghost use Rattle.pie_order.specs.Places.{PlacesAgree};
 ghost use Rattle.pie_order.specs.Cycles.{WouldCall, IsCycle, IsLeastAt, IsTrail};
 

@@ -1,7 +1,7 @@
 //! An order that is kept under insertion.
 ghost use Rattle.std.specs.Prelude.{◌≡◌, ◌+◌, ◌<◌, ◌≤◌, ◌++◌, ◌∷◌, [], ◌↔◌, IsTrue, length, slice_index, IfOk, IfSome, OnOk, OnErr, MatchOption};
 ghost use Rattle.pie_graph.specs.Numbers.{numbers};
-ghost use Rattle.pie_reach.specs.Reaches.{Reaches};
+ghost use Rattle.pie_reach.specs.inner.Reaches.{Reaches};
 ghost use Rattle.pie_order.specs.Cycles.{IsCycle, WouldCall};
 ghost use Rattle.pie_order.specs.Places.{StandsBefore, AreApart, PlacesAgree, numbers_below};
 

@@ -7,7 +7,7 @@ use Rattle.pie_parser.specs.declared.tree.Pipeline.{Pipeline}
 use Rattle.pie_parser.specs.FunctionTrees.{FunctionTree}
 use Rattle.pie_parser.specs.FunctionReading.{Reads}
 use Rattle.pie_parser.specs.FunctionGrammar.{IsPipeline}
-use Rattle.pie_parser.specs.Whole.{functions_of, Finds, FindsAll}
+use Rattle.pie_parser.specs.inner.Whole.{functions_of, Finds, FindsAll}
 use Rattle.pie_parser.proofs.Hits.{Hits}
 use Rattle.pie_parser.proofs.FunctionsSound.{pipeline_sound}
 use Rattle.pie_parser.proofs.FunctionsComplete.{pipeline_hits}

@@ -32,8 +32,8 @@ use Rattle.pie_parser.specs.Plain.{Tree, TLiteral, TEffect, TPrefix, TCompare, T
 use Rattle.pie_parser.specs.TreeView.{trees_of}
 use Rattle.pie_parser.specs.At.{At}
 use Rattle.pie_parser.specs.Places.{Parsed, Got, Miss, Parser, then_on, Passed, done, first_kind, next, start, passed, want, open_bracket, name, index}
-use Rattle.pie_parser.specs.Turns.{Turn, Stop, Part, on_turn, many, onto, all_behind}
-use Rattle.pie_parser.specs.Pieces.{Piece, ALine, TheLast, on_piece, onto_lines}
+use Rattle.pie_parser.specs.inner.Turns.{Turn, Stop, Part, on_turn, many, onto, all_behind}
+use Rattle.pie_parser.specs.inner.Pieces.{Piece, ALine, TheLast, on_piece, onto_lines}
 use Rattle.pie_parser.specs.TypeReading.{plain_type, written_type, inner_type}
 use Rattle.pie_parser.specs.ExprReading as reads
 use Rattle.pie_parser.specs.ExprReading.{Around, around, by_conditions, expr_at, inner_at, test_at, nowhere, chain, projection}

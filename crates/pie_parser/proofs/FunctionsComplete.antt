@@ -11,7 +11,7 @@ use Rattle.pie_parser.specs.declared.reader.Room.{Room}
 use Rattle.pie_parser.specs.Kinds.{is}
 use Rattle.pie_parser.specs.At.{At}
 use Rattle.pie_parser.specs.Places.{Parsed, Got, Miss, then_on, Passed, done, next, start, passed, want, open_bracket, name}
-use Rattle.pie_parser.specs.Turns.{Turn, Stop, Part, on_turn, many, onto, all_behind}
+use Rattle.pie_parser.specs.inner.Turns.{Turn, Stop, Part, on_turn, many, onto, all_behind}
 use Rattle.pie_parser.specs.TypeReading.{written_type, inner_type}
 use Rattle.pie_parser.specs.ExprReading.{block, around}
 use Rattle.pie_parser.specs.FunctionTrees.{FunctionTree}

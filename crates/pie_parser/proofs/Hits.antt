@@ -9,7 +9,7 @@ use Rattle.pie_parser.specs.declared.error.ParseFault.TheVariants.{Expected, Too
 use Rattle.pie_parser.specs.Kinds.{is}
 use Rattle.pie_parser.specs.At.{At}
 use Rattle.pie_parser.specs.Places.{Parsed, Got, Miss, Parser, then_on, Passed, done, first_kind, next, behind, passed, want, open_bracket}
-use Rattle.pie_parser.specs.Turns.{many, onto}
+use Rattle.pie_parser.specs.inner.Turns.{many, onto}
 use Rattle.pie_parser.specs.TypeGrammar.{Eats}
 use Rattle.pie_parser.proofs.Strength.{is_one}
 

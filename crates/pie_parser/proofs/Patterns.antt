@@ -6,8 +6,8 @@ use Rattle.pie_parser.specs.declared.block.Piece.TheVariants as code
 use Rattle.pie_parser.specs.Plain.{Tree}
 use Rattle.pie_parser.specs.At.{At}
 use Rattle.pie_parser.specs.Places.{Got}
-use Rattle.pie_parser.specs.Turns.{Turn, Part, Turns}
-use Rattle.pie_parser.specs.Pieces.{Piece, ALine, TheLast, PieceTurns}
+use Rattle.pie_parser.specs.inner.Turns.{Turn, Part, Turns}
+use Rattle.pie_parser.specs.inner.Pieces.{Piece, ALine, TheLast, PieceTurns}
 
 pub some_turn : {A : Type 0} (o : Option A) (x : A) (s m : At) (t : Turn A) → o ≡ Some x → Turns {A = A} (Ok o) s m t → t ≡ Part (Got x m)
 some_turn {A = A} o x s m t e h = let T : Option A → Type 0 = λ i. Turns {A = A} (Ok i) s m t in subst T e h

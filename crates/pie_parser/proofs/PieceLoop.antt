@@ -7,8 +7,8 @@ use Rattle.pie_parser.specs.declared.tree.Line.{Line}
 use Rattle.pie_parser.specs.Plain.{Tree}
 use Rattle.pie_parser.specs.At.{At}
 use Rattle.pie_parser.specs.Places.{Parsed, Got, Miss, then_on, ParseAgrees}
-use Rattle.pie_parser.specs.Turns.{Turn, Stop, Part}
-use Rattle.pie_parser.specs.Pieces.{Piece, ALine, TheLast, PieceTurns, pieces_of, on_piece, onto_lines}
+use Rattle.pie_parser.specs.inner.Turns.{Turn, Stop, Part}
+use Rattle.pie_parser.specs.inner.Pieces.{Piece, ALine, TheLast, PieceTurns, pieces_of, on_piece, onto_lines}
 use Rattle.pie_parser.specs.ExprReading.{Around, piece, pieces}
 
 onto_more : (ls : List Line) (l : Line) (p : Parsed (List Line × Option Tree))

@@ -9,7 +9,7 @@ use Rattle.pie_parser.specs.declared.error.ParseFault.TheVariants.{Expected, Too
 use Rattle.pie_parser.specs.Kinds.{is}
 use Rattle.pie_parser.specs.At.{At}
 use Rattle.pie_parser.specs.Places.{Parsed, Got, Miss, Parser, then_on, Passed, done, next, passed, want, open_bracket}
-use Rattle.pie_parser.specs.Turns.{Turn, Stop, Part, on_turn, many, onto, all_behind}
+use Rattle.pie_parser.specs.inner.Turns.{Turn, Stop, Part, on_turn, many, onto, all_behind}
 use Rattle.pie_parser.specs.TypeGrammar.{Eats}
 
 pub is_same : (k j : Kind) → is k j ≡ true → k ≡ j

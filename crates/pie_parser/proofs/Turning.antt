@@ -5,7 +5,7 @@ use Rattle.pie_parser.specs.declared.error.ParseFault.{ParseFault}
 use Rattle.pie_parser.specs.declared.error.ParseFault.TheVariants.{Expected, TooDeep, OutOfMemory}
 use Rattle.pie_parser.specs.At.{At}
 use Rattle.pie_parser.specs.Places.{Parsed, Got, Miss, then_on, ParseAgrees}
-use Rattle.pie_parser.specs.Turns.{Turn, Stop, Part, Turns, on_turn, many, onto}
+use Rattle.pie_parser.specs.inner.Turns.{Turn, Stop, Part, Turns, on_turn, many, onto}
 
 onto_more : {A : Type 0} (xs : List A) (x : A) (p : Parsed (List A)) → onto xs (then_on p (λ ys k. Got (x ∷ ys) k)) ≡ onto (xs ++ x ∷ []) p
 onto_more xs x (Got ys m) = ap (λ zs. Got zs m) (sym (append_assoc xs (x ∷ []) ys))

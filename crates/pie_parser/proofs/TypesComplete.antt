@@ -15,7 +15,7 @@ use Rattle.pie_parser.specs.TypeView.{types_of}
 use Rattle.pie_parser.specs.At.{At}
 use Rattle.pie_parser.specs.Places.{Parsed, Got, Miss, Parser, then_on, Passed, done, first_kind, next, start, passed, want, open_bracket, name, name_in}
 use Rattle.pie_parser.specs.Places.{name_by}
-use Rattle.pie_parser.specs.Turns.{Turn, Stop, Part, on_turn, many, onto, all_behind}
+use Rattle.pie_parser.specs.inner.Turns.{Turn, Stop, Part, on_turn, many, onto, all_behind}
 use Rattle.pie_parser.specs.TypeReading.{plain_at, keyword_by, keyword_type, named_type, list_type, another_type, tuple_type, plain_by, plain_type}
 use Rattle.pie_parser.specs.TypeReading.{written_type, type_at, inner_type}
 use Rattle.pie_parser.specs.TypeGrammar as types

@@ -10,7 +10,7 @@ use Rattle.pie_parser.specs.PlainTypes.{TypeTree, PlainT, NamedT, ListT, TupleT,
 use Rattle.pie_parser.specs.TypeView.{types_of}
 use Rattle.pie_parser.specs.At.{At}
 use Rattle.pie_parser.specs.Places.{Parsed, Got, Miss, Parser, then_on, next, start, passed, want, open_bracket, name}
-use Rattle.pie_parser.specs.Turns.{Turn, Stop, Part, all_behind}
+use Rattle.pie_parser.specs.inner.Turns.{Turn, Stop, Part, all_behind}
 use Rattle.pie_parser.specs.TypeReading.{plain_at, keyword_by, keyword_type, named_type, list_type, another_type, tuple_type, plain_by, plain_type}
 use Rattle.pie_parser.specs.TypeReading.{written_type, type_at, inner_type}
 use Rattle.pie_parser.specs.TypeGrammar.{Eats, IsName, IsType, plain, nullable, IsPlain, keyword, named, listed, tuple, MoreTypes, no_more, one_more}

@@ -30,8 +30,8 @@ use Rattle.pie_parser.specs.Plain.{TFail, Trees, BlockTree, TBlock, ElseTree, No
 use Rattle.pie_parser.specs.TreeView.{trees_of, steps_of, lines_of, last_of}
 use Rattle.pie_parser.specs.At.{At}
 use Rattle.pie_parser.specs.Places.{Parsed, Got, Miss, Parser, then_on, Passed, done, next, start, passed, want, open_bracket, name, index}
-use Rattle.pie_parser.specs.Turns.{Turn, Stop, Part, all_behind}
-use Rattle.pie_parser.specs.Pieces.{Piece, ALine, TheLast, on_piece, onto_lines}
+use Rattle.pie_parser.specs.inner.Turns.{Turn, Stop, Part, all_behind}
+use Rattle.pie_parser.specs.inner.Pieces.{Piece, ALine, TheLast, on_piece, onto_lines}
 use Rattle.pie_parser.specs.TypeReading.{plain_type, written_type, inner_type}
 
 -- the literal that a token is

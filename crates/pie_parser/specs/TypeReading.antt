@@ -11,7 +11,7 @@ use Rattle.pie_parser.specs.PlainTypes.{TypeTree, PlainT, NamedT, ListT, TupleT,
 use Rattle.pie_parser.specs.TypeView.{types_of}
 use Rattle.pie_parser.specs.At.{At}
 use Rattle.pie_parser.specs.Places.{Parsed, Got, Miss, Parser, then_on, next, start, passed, want, open_bracket, name}
-use Rattle.pie_parser.specs.Turns.{Turn, Stop, Part, all_behind}
+use Rattle.pie_parser.specs.inner.Turns.{Turn, Stop, Part, all_behind}
 
 -- the type that is this keyword
 abbrev pub plain_at : Kind → Option PlainType

@@ -4,7 +4,7 @@ ghost use Rattle.pie_parser.specs.Places.{ParseAgrees};
 ghost use Rattle.pie_parser.specs.ExprReading as reads;
 ghost use Rattle.pie_parser.specs.ExprReading.{around};
 ghost use Rattle.pie_parser.specs.TreeView.{block_of};
-ghost use Rattle.pie_parser.specs.Pieces.{PieceTurns, pieces_of};
+ghost use Rattle.pie_parser.specs.inner.Pieces.{PieceTurns, pieces_of};
 
 use crate::error::ParseFault;
 use crate::kind::{Kind, is};

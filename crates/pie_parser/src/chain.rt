@@ -4,7 +4,7 @@ ghost use Rattle.pie_parser.specs.Places.{ParseAgrees};
 ghost use Rattle.pie_parser.specs.ExprReading as reads;
 ghost use Rattle.pie_parser.specs.ExprReading.{around};
 ghost use Rattle.pie_parser.specs.Tests.{operator_at, comparison_at, prefix_at};
-ghost use Rattle.pie_parser.specs.Turns.{Turns, all_behind};
+ghost use Rattle.pie_parser.specs.inner.Turns.{Turns, all_behind};
 
 use crate::error::ParseFault;
 use crate::kind::{Kind, is};

@@ -1,7 +1,7 @@
 //! Reading functions and whole pipelines.
 ghost use Rattle.std.specs.Prelude.{◌≡◌, ◌<◌};
 ghost use Rattle.pie_parser.specs.Places.{ParseAgrees};
-ghost use Rattle.pie_parser.specs.Turns.{Turns};
+ghost use Rattle.pie_parser.specs.inner.Turns.{Turns};
 ghost use Rattle.pie_parser.specs.TreeView.{block_of};
 ghost use Rattle.pie_parser.specs.FunctionReading as reads;
 

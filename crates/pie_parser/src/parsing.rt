@@ -2,7 +2,7 @@
 ghost use Rattle.std.specs.Prelude.{◌≡◌, IfOk};
 ghost use Rattle.pie_parser.specs.FunctionReading.{Reads, offset, last_end};
 ghost use Rattle.pie_parser.specs.FunctionGrammar.{IsPipeline};
-ghost use Rattle.pie_parser.specs.Whole.{functions_of, FindsAll};
+ghost use Rattle.pie_parser.specs.inner.Whole.{functions_of, FindsAll};
 
 use crate::error::ParseFault;
 use crate::reader::{Reader, Room};

@@ -3,7 +3,7 @@ ghost use Rattle.std.specs.Prelude.{◌≡◌, ◌<◌, [], ◌∷◌};
 ghost use Rattle.pie_parser.specs.Places.{ParseAgrees};
 ghost use Rattle.pie_parser.specs.ExprReading as reads;
 ghost use Rattle.pie_parser.specs.ExprReading.{around};
-ghost use Rattle.pie_parser.specs.Turns.{Turns};
+ghost use Rattle.pie_parser.specs.inner.Turns.{Turns};
 
 use crate::error::ParseFault;
 use crate::kind::{Kind, is};

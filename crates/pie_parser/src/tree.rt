@@ -25,7 +25,7 @@ pub struct Function {
 
 impl Model for Function {
     ghost use Rattle.pie_parser.specs.FunctionTrees.{FunctionTree};
-    ghost use Rattle.pie_parser.specs.FunctionCodes.{coded_function};
+    ghost use Rattle.pie_parser.specs.inner.FunctionCodes.{coded_function};
 
     ghost Value = { FunctionTree };
 
@@ -215,7 +215,7 @@ pub enum EffectKind {
 impl Model for Expr {
     ghost use Rattle.std.specs.Prelude.{ℕ};
     ghost use Rattle.pie_parser.specs.Plain.{Tree};
-    ghost use Rattle.pie_parser.specs.Codes.{coded_tree};
+    ghost use Rattle.pie_parser.specs.inner.Codes.{coded_tree};
 
     ghost Value = { Tree };
 
@@ -227,7 +227,7 @@ impl Model for Expr {
 
     ghost size = { mass };
 
-    ghost use Rattle.pie_parser.specs.TreeFalls.{deep_le};
+    ghost use Rattle.pie_parser.specs.inner.TreeFalls.{deep_le};
 
     ghost size_decreases = { λ e h. deep_le e.at e.end e.form };
 }

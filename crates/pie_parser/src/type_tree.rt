@@ -42,7 +42,7 @@ pub enum PlainType {
 impl Model for Type {
     ghost use Rattle.std.specs.Prelude.{ℕ};
     ghost use Rattle.pie_parser.specs.PlainTypes.{TypeTree};
-    ghost use Rattle.pie_parser.specs.TypeCodes.{coded_type};
+    ghost use Rattle.pie_parser.specs.inner.TypeCodes.{coded_type};
 
     ghost Value = { TypeTree };
 
@@ -54,7 +54,7 @@ impl Model for Type {
 
     ghost size = { type_mass };
 
-    ghost use Rattle.pie_parser.specs.TypeFalls.{type_deep_le};
+    ghost use Rattle.pie_parser.specs.inner.TypeFalls.{type_deep_le};
 
     ghost size_decreases = { λ t h. type_deep_le t.at t.end t.form };
 }

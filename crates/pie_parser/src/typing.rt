@@ -1,7 +1,7 @@
 //! Reading types.
 ghost use Rattle.std.specs.Prelude.{◌≡◌, ◌<◌, [], ◌∷◌};
 ghost use Rattle.pie_parser.specs.Places.{ParseAgrees};
-ghost use Rattle.pie_parser.specs.Turns.{Turns, all_behind};
+ghost use Rattle.pie_parser.specs.inner.Turns.{Turns, all_behind};
 ghost use Rattle.pie_parser.specs.TypeReading as reads;
 
 use crate::error::ParseFault;

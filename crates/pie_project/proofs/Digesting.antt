@@ -7,7 +7,7 @@ use Rattle.std.proofs.lemmas.List.Sorted.{All-permutation, length_permutation}
 use Rattle.std.proofs.lemmas.Map.Keys.{IsDistinct-IsPermutation}
 use Rattle.pie_digest.specs.Digests.{digests_of, row_names, function_names, HasNames}
 use Rattle.pie_files.specs.Directory.{Directory, file_at}
-use Rattle.pie_files.specs.Within.{IsWithin}
+use Rattle.pie_files.specs.inner.Within.{IsWithin}
 use Rattle.pie_files.specs.declared.files.Found.{Found}
 use Rattle.pie_files.specs.declared.files.Within.{Within}
 use Rattle.pie_files.specs.declared.files.Within.TheVariants.{Whole}

@@ -4,7 +4,7 @@ use Rattle.std.specs.Prelude.{IfSome}
 use Rattle.std.specs.Option.{option_map}
 use Rattle.std.specs.Str.{IsUtf8}
 use Rattle.pie_files.specs.Directory.{Directory, file_at}
-use Rattle.pie_files.specs.Within.{IsWithin}
+use Rattle.pie_files.specs.inner.Within.{IsWithin}
 use Rattle.pie_files.specs.declared.files.Found.{Found}
 use Rattle.pie_files.specs.declared.files.Within.{Within}
 use Rattle.pie_files.specs.declared.files.Within.TheVariants.{Long, Whole}
@@ -14,7 +14,7 @@ use Rattle.pie_files.specs.declared.files.FilesError.TheVariants as files
 use Rattle.pie_lexer.specs.declared.token.Token.{Token}
 use Rattle.pie_lexer.specs.declared.error.LexError.{LexError}
 use Rattle.pie_lexer.specs.declared.error.LexError.TheVariants as lexer
-use Rattle.pie_lexer.specs.Answers.{IsAnswer}
+use Rattle.pie_lexer.specs.inner.Answers.{IsAnswer}
 use Rattle.pie_lexer.specs.Tokens.{Lexes}
 use Rattle.pie_parser.specs.declared.error.ParseError.{ParseError}
 use Rattle.pie_parser.specs.declared.error.ParseError.TheVariants as parser
@@ -28,7 +28,7 @@ use Rattle.pie_roots.specs.declared.roots_fault.RootsFault.TheVariants as roots
 use Rattle.pie_roots.specs.RootLists as lists
 use Rattle.pie_project.specs.declared.fault.BuildError.{BuildError}
 use Rattle.pie_project.specs.declared.fault.BuildError.TheVariants as errors
-use Rattle.pie_project.specs.Errors.{files_error, lexer_error, parser_error, reader_error}
+use Rattle.pie_project.specs.inner.Errors.{files_error, lexer_error, parser_error, reader_error}
 use Rattle.pie_project.specs.Refusals.{Refusal, OfPipeline, OfRoots, Absent, TooLong, Says}
 use Rattle.pie_project.specs.Fronts.{most, Checked, Front, tree_says, TokensSay, tree, expected, too_deep, TextSays, tokens, no_token}
 use Rattle.pie_project.specs.Fronts.{BytesSay, pipeline_text, pipeline_too_long}

@@ -6,12 +6,12 @@ use Rattle.std.proofs.lemmas.List.{append-nil}
 use Rattle.pie_files.specs.declared.files.Call.{Call}
 use Rattle.pie_files.specs.declared.files.FilesError.{FilesError}
 use Rattle.pie_files.specs.declared.files.FilesError.TheVariants as files
-use Rattle.pie_files.specs.Calls.{Called, Notes, NotesUnlessMemory}
+use Rattle.pie_files.specs.inner.Calls.{Called, Notes, NotesUnlessMemory}
 use Rattle.pie_files.specs.Directory.{Directory}
 use Rattle.pie_files.specs.Faults.{Rose}
 use Rattle.pie_project.specs.declared.fault.BuildError.{BuildError}
 use Rattle.pie_project.specs.declared.fault.BuildError.TheVariants as errors
-use Rattle.pie_project.specs.Errors.{files_error}
+use Rattle.pie_project.specs.inner.Errors.{files_error}
 use Rattle.pie_project.specs.Looking.{Asks, AsksAll, Looks}
 use Rattle.pie_project.specs.Refusals.{IsVerdict}
 

@@ -7,7 +7,7 @@ use Rattle.std.proofs.lemmas.Cmp.{nat_list_eq_equiv}
 use Rattle.pie_digest.specs.Digests.{function_names}
 use Rattle.pie_parser.specs.FunctionTrees.{FunctionTree}
 use Rattle.pie_types.specs.Headings.{Heading, function_in}
-use Rattle.pie_types.specs.WholeRules.{AreDeclared, no_function, a_function, IsTyped, typed}
+use Rattle.pie_types.specs.inner.WholeRules.{AreDeclared, no_function, a_function, IsTyped, typed}
 
 -- no heading has a name that isn't found
 other_names : (n : List ℕ) (hs : List Heading) → function_in n hs ≡ None → All (λ (h : Heading). bytes_eq n h.name ≡ false) hs

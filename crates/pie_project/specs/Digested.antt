@@ -5,7 +5,7 @@ use Rattle.pie_files.specs.Directory.{Directory}
 use Rattle.pie_lexer.specs.declared.token.Token.{Token}
 use Rattle.pie_lexer.specs.Tokens.{Lexes}
 use Rattle.pie_parser.specs.FunctionTrees.{FunctionTree}
-use Rattle.pie_types.specs.WholeRules.{IsTyped}
+use Rattle.pie_types.specs.inner.WholeRules.{IsTyped}
 use Rattle.pie_project.specs.Looking.{file_bytes, pipeline_path}
 use Rattle.pie_store.specs.Canonical.{AreFuncs}
 

@@ -1,7 +1,6 @@
 pub mod Digested
-pub mod Errors
 pub mod Fronts
 pub mod Looking
-pub mod Projects
 pub mod Refusals
 pub mod Stops
+pub mod inner

@@ -3,7 +3,7 @@ ghost use Rattle.std.specs.Prelude.{◌≡◌, Ok, IfSome, IsErrOf};
 ghost use Rattle.pie_files.specs.Reading.{LeavesAsBefore};
 ghost use Rattle.pie_project.specs.Fronts.{CheckSays, counts_of};
 ghost use Rattle.pie_project.specs.Looking.{Looks, prefix_calls};
-ghost use Rattle.pie_project.specs.Projects.{front_of};
+ghost use Rattle.pie_project.specs.inner.Projects.{front_of};
 ghost use Rattle.pie_project.specs.Refusals.{Only, Says};
 ghost use Rattle.pie_project.specs.Stops.{OnParse, PipelineStops};
 

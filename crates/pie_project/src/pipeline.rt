@@ -1,10 +1,10 @@
 //! The pipeline of a project, from its bytes.
 ghost use Rattle.std.specs.Prelude.{◌≡◌, ◌≤◌, length, Ok, IfOk, IsErrOf};
 ghost use Rattle.pie_parser.specs.FunctionGrammar.{IsPipeline};
-ghost use Rattle.pie_types.specs.WholeRules.{IsTyped};
+ghost use Rattle.pie_types.specs.inner.WholeRules.{IsTyped};
 ghost use Rattle.pie_project.specs.Digested.{AreRows, IsDigested};
 ghost use Rattle.pie_project.specs.Fronts.{most, BytesSay, TextSays, TokensSay, tree_says};
-ghost use Rattle.pie_project.specs.Errors.{lexer_error, parser_error};
+ghost use Rattle.pie_project.specs.inner.Errors.{lexer_error, parser_error};
 ghost use Rattle.pie_project.specs.Refusals.{Says};
 
 use crate::{BuildError, PipelineFault};

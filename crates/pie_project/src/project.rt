@@ -6,7 +6,7 @@ ghost use Rattle.pie_files.specs.declared.files.Call.TheVariants as calls;
 ghost use Rattle.pie_project.specs.Digested.{HasDigests, IsDigested};
 ghost use Rattle.pie_project.specs.Fronts.{ProjectSays, TypedSays, PipelineSays};
 ghost use Rattle.pie_project.specs.Looking.{Looks, prefix_calls, roots_path};
-ghost use Rattle.pie_project.specs.Projects.{front_of};
+ghost use Rattle.pie_project.specs.inner.Projects.{front_of};
 ghost use Rattle.pie_project.specs.Refusals.{Only, Says};
 ghost use Rattle.pie_project.specs.Stops.{OnParse, PipelineStops};
 ghost use Rattle.pie_store.specs.Canonical.{AreFuncs};

@@ -1,8 +1,8 @@
 //! The roots of a project, from their bytes.
 ghost use Rattle.std.specs.Prelude.{◌≡◌, IfOk, IsErrOf};
-ghost use Rattle.pie_project.specs.Errors.{reader_error};
+ghost use Rattle.pie_project.specs.inner.Errors.{reader_error};
 ghost use Rattle.pie_project.specs.Fronts.{RootsSay};
-ghost use Rattle.pie_project.specs.Projects.{front_of};
+ghost use Rattle.pie_project.specs.inner.Projects.{front_of};
 ghost use Rattle.pie_project.specs.Refusals.{Says};
 
 use crate::pipeline::Digested;

@@ -10,9 +10,9 @@ use Rattle.pie_graph.proofs.Among.{contains_here, contains_later, contains_cases
 use Rattle.pie_reach.specs.declared.descent.State.{State}
 use Rattle.pie_reach.specs.declared.descent.State.TheVariants.{New, Open, Done}
 use Rattle.pie_reach.specs.declared.descent.Visit.{Visit}
-use Rattle.pie_reach.specs.Reaches.{Reaches, height_over}
-use Rattle.pie_reach.specs.Reaches.Leads.{itself}
-use Rattle.pie_reach.specs.Descents.{state_of, height_of, height_at, IsDone, needs_of, IsFrame, IsAwaited, AreFrames, Holds, HasCycle, KeepsMet}
+use Rattle.pie_reach.specs.inner.Reaches.{Reaches, height_over}
+use Rattle.pie_reach.specs.inner.Reaches.Leads.{itself}
+use Rattle.pie_reach.specs.inner.Descents.{state_of, height_of, height_at, IsDone, needs_of, IsFrame, IsAwaited, AreFrames, Holds, HasCycle, KeepsMet}
 use Rattle.pie_reach.proofs.WalkSteps.{leads_on}
 
 -- a task that isn't done

@@ -9,11 +9,11 @@ use Rattle.pie_graph.specs.Rows.{Row, row_at, Calls}
 use Rattle.pie_graph.proofs.Among.{contains_here, contains_cases}
 use Rattle.pie_reach.specs.declared.descent.State.{State}
 use Rattle.pie_reach.specs.declared.descent.State.TheVariants.{New, Open, Done}
-use Rattle.pie_reach.specs.Reaches.{Leads, Reaches, IsAcyclic, height_over, AreHeights, IsLowest, ReachesNone}
-use Rattle.pie_reach.specs.Reaches.Leads.{itself, step}
-use Rattle.pie_reach.specs.Walks.{IsClosure}
-use Rattle.pie_reach.specs.LeastKey.{IsBest}
-use Rattle.pie_reach.specs.Descents.{state_of, height_of, height_at, Holds, AllDone, HasCycle}
+use Rattle.pie_reach.specs.inner.Reaches.{Leads, Reaches, IsAcyclic, height_over, AreHeights, IsLowest, ReachesNone}
+use Rattle.pie_reach.specs.inner.Reaches.Leads.{itself, step}
+use Rattle.pie_reach.specs.inner.Walks.{IsClosure}
+use Rattle.pie_reach.specs.inner.LeastKey.{IsBest}
+use Rattle.pie_reach.specs.inner.Descents.{state_of, height_of, height_at, Holds, AllDone, HasCycle}
 use Rattle.pie_reach.proofs.Meets.{alone}
 use Rattle.pie_reach.proofs.WalkSteps.{caller_below}
 

@@ -7,7 +7,7 @@ use Rattle.std.proofs.lemmas.List.{take_more, take-map, map-append, take_all}
 use Rattle.std.proofs.lemmas.List.Elements.{Contains-append_left, Contains-push, Contains-push_cases, All-contains, All-take}
 use Rattle.pie_graph.specs.declared.edges.TaskNo.{TaskNo}
 use Rattle.pie_graph.specs.Numbers.{numbers, AllBelow, IsMarked}
-use Rattle.pie_reach.specs.LeastKey.{best_of, IsBest}
+use Rattle.pie_reach.specs.inner.LeastKey.{best_of, IsBest}
 
 unmarked_task : (marks : List Bool) (task n : ℕ) → get_or marks task false ≡ false → task ≡ n → IsMarked marks n → ⊥
 unmarked_task marks task n e same is = let clash : false ≡ true = sym e ∙ ap (λ m. get_or marks m false) same ∙ is in absurd (cc)

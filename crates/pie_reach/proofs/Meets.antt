@@ -7,7 +7,7 @@ use Rattle.std.proofs.lemmas.List.{get_or-set_same, get_or-set_other, length_pus
 use Rattle.std.proofs.lemmas.List.Elements.{Contains-append_left, Contains-push, Contains-push_cases, All-head, All-tail}
 use Rattle.pie_graph.specs.Numbers.{IsMarked, AllBelow}
 use Rattle.pie_graph.proofs.Among.{contains_here, contains_later, contains_cases}
-use Rattle.pie_reach.specs.Walks.{Walked, meet, meet_all, unmarked}
+use Rattle.pie_reach.specs.inner.Walks.{Walked, meet, meet_all, unmarked}
 
 pub record Meets (ns : List ℕ) (w v : Walked) : Type 0 where
   pub sized : length v.marks ≡ length w.marks

@@ -11,9 +11,9 @@ use Rattle.std.proofs.lemmas.List.{drop_more, drop_all}
 use Rattle.std.proofs.lemmas.Map.Lookups.{exact_bytes}
 use Rattle.std.proofs.lemmas.Map.Views.{btree_set_contains_iff, Contains-from_any, list_any-from_Contains}
 use Rattle.pie_graph.specs.Numbers.{IsMarked, Exactly}
-use Rattle.pie_reach.specs.Walks.{IsClosure, LedTo}
+use Rattle.pie_reach.specs.inner.Walks.{IsClosure, LedTo}
 use Rattle.pie_reach.specs.Plan.{path_cmp, IsPlan}
-use Rattle.pie_reach.specs.Listed.{listed}
+use Rattle.pie_reach.specs.inner.Listed.{listed}
 
 pub exactly_closed : (count : ℕ) (goes : ℕ → ℕ → Type 0) (starts : List ℕ) (marks now : List Bool) (found : List ℕ) → IsClosure count goes starts marks
     → now ≡ marks → Exactly (IsMarked now) found → Exactly (LedTo goes starts) found

@@ -8,8 +8,8 @@ use Rattle.pie_graph.specs.Rows.{Row, row_at}
 use Rattle.pie_reach.specs.declared.descent.State.{State}
 use Rattle.pie_reach.specs.declared.descent.State.TheVariants.{New, Open, Done}
 use Rattle.pie_reach.specs.declared.descent.Visit.{Visit}
-use Rattle.pie_reach.specs.Reaches.{height_over}
-use Rattle.pie_reach.specs.Descents.{state_of, height_at, needs_of, Holds, HasCycle, KeepsMet, left_new, left_open}
+use Rattle.pie_reach.specs.inner.Reaches.{height_over}
+use Rattle.pie_reach.specs.inner.Descents.{state_of, height_at, needs_of, Holds, HasCycle, KeepsMet, left_new, left_open}
 use Rattle.pie_reach.proofs.DescentSteps.{finish, advance, enter, cycle, met_stays}
 
 -- the work that is left, of states and of a stack with its top last

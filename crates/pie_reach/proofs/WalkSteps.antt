@@ -10,9 +10,9 @@ use Rattle.std.proofs.Math.ListN as at
 use Rattle.pie_graph.specs.declared.edges.TaskNo.{TaskNo}
 use Rattle.pie_graph.specs.Numbers.{numbers, IsMarked, AllBelow, Exactly}
 use Rattle.pie_graph.specs.Rows.{Row, no_edges, Calls}
-use Rattle.pie_reach.specs.Reaches.{Leads}
-use Rattle.pie_reach.specs.Reaches.Leads.{itself, step}
-use Rattle.pie_reach.specs.Walks.{Walked, meet_all, unmarked, GoesTo, Ready, Walking, IsClosure}
+use Rattle.pie_reach.specs.inner.Reaches.{Leads}
+use Rattle.pie_reach.specs.inner.Reaches.Leads.{itself, step}
+use Rattle.pie_reach.specs.inner.Walks.{Walked, meet_all, unmarked, GoesTo, Ready, Walking, IsClosure}
 use Rattle.std.proofs.Common.{set}
 use Rattle.std.proofs.lemmas.List.{get_or-set_same, get_or-set_other}
 use Rattle.pie_graph.proofs.Among.{contains_here}

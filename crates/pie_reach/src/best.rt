@@ -1,7 +1,7 @@
 //! The marked number with the least key.
 ghost use Rattle.std.specs.Prelude.{◌≡◌, ◌<◌, ◌≤◌, length, IfSome};
 ghost use Rattle.pie_graph.specs.Numbers.{numbers, AllBelow};
-ghost use Rattle.pie_reach.specs.LeastKey.{best_of, IsBest};
+ghost use Rattle.pie_reach.specs.inner.LeastKey.{best_of, IsBest};
 
 use pie_graph::TaskNo;
 

@@ -1,7 +1,7 @@
 //! The tasks that the roots reach.
 ghost use Rattle.std.specs.Prelude.{length, IfOk};
 ghost use Rattle.pie_graph.specs.Numbers.{numbers, AllBelow, Exactly};
-ghost use Rattle.pie_reach.specs.Reaches.{ReachedFrom};
+ghost use Rattle.pie_reach.specs.inner.Reaches.{ReachedFrom};
 
 use crate::{Down, closure};
 use pie_base::OutOfMemory;

@@ -1,8 +1,8 @@
 //! A walk down from each task that finishes a task after all that it requires.
 ghost use Rattle.std.specs.Prelude.{◌≡◌, ℕ, ◌+◌, ◌<◌, MatchOption, [], ◌∷◌, ◌++◌, length, map, max, IfOk, OnOk, slice_set};
 ghost use Rattle.pie_graph.specs.Numbers.{numbers, AllBelow};
-ghost use Rattle.pie_reach.specs.Reaches.{height_over};
-ghost use Rattle.pie_reach.specs.Descents.{state_of, height_of, height_at, Descends, Turns, Finds, Visits, HasCycle, AllDone};
+ghost use Rattle.pie_reach.specs.inner.Reaches.{height_over};
+ghost use Rattle.pie_reach.specs.inner.Descents.{state_of, height_of, height_at, Descends, Turns, Finds, Visits, HasCycle, AllDone};
 ghost use Rattle.pie_reach.specs.declared.descent.State.TheVariants.{New, Open};
 
 use pie_base::OutOfMemory;

@@ -1,8 +1,8 @@
 //! Which tasks reach which.
 ghost use Rattle.std.specs.Prelude.{◌≡◌, ◌≢◌, ◌<◌, ◌↔◌, length, map, IfOk, IsTrue, MatchOption};
 ghost use Rattle.pie_graph.specs.Numbers.{numbers, AllBelow, Exactly};
-ghost use Rattle.pie_reach.specs.Reaches.{Reaches, IsAcyclic, AreHeights, ReachesNone, IsLowest};
-ghost use Rattle.pie_reach.specs.Descents.{height_of};
+ghost use Rattle.pie_reach.specs.inner.Reaches.{Reaches, IsAcyclic, AreHeights, ReachesNone, IsLowest};
+ghost use Rattle.pie_reach.specs.inner.Descents.{height_of};
 
 use crate::descent::{State, descend};
 use crate::{Down, Up, closure, least};

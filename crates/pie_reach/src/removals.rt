@@ -2,7 +2,7 @@
 ghost use Rattle.std.specs.Prelude.{◌≡◌, ◌&&◌, ◌||◌, not, ℕ, List, IfOk, OnOk};
 ghost use Rattle.std.specs.BTreeSet.{contains, IsOrdered};
 ghost use Rattle.pie_reach.specs.Plan.{path_cmp, IsPlan};
-ghost use Rattle.pie_reach.specs.Listed.{listed};
+ghost use Rattle.pie_reach.specs.inner.Listed.{listed};
 
 use pie_base::{OutOfMemory, Path};
 use std::alloc::Global;

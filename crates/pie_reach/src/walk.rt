@@ -1,7 +1,7 @@
 //! A walk from some numbers to all to which they lead.
 ghost use Rattle.std.specs.Prelude.{◌≡◌, ℕ, ◌+◌, ◌<◌, List, [], true, false, length, IfOk, OnOk, IsTrue, ◌↔◌};
 ghost use Rattle.pie_graph.specs.Numbers.{numbers, AllBelow, IsMarked};
-ghost use Rattle.pie_reach.specs.Walks.{meet, meet_all, Ready, Walking, IsClosure, unmarked};
+ghost use Rattle.pie_reach.specs.inner.Walks.{meet, meet_all, Ready, Walking, IsClosure, unmarked};
 
 use crate::Ways;
 use pie_base::OutOfMemory;
@@ -18,7 +18,7 @@ pub struct Walk {
 
 impl Model for Walk {
     ghost use Rattle.pie_graph.specs.Numbers.{numbers};
-    ghost use Rattle.pie_reach.specs.Walks.{Walked};
+    ghost use Rattle.pie_reach.specs.inner.Walks.{Walked};
 
     ghost Value = { Walked };
 

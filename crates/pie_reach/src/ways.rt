@@ -2,7 +2,7 @@
 ghost use Rattle.std.specs.Prelude.{◌≡◌, ℕ, ◌<◌, ◌≤◌, length, IfOk};
 ghost use Rattle.pie_graph.specs.Numbers.{numbers};
 ghost use Rattle.pie_graph.specs.Rows.{Calls};
-ghost use Rattle.pie_reach.specs.Walks.{GoesTo};
+ghost use Rattle.pie_reach.specs.inner.Walks.{GoesTo};
 
 use pie_base::{MAX_TASKS, OutOfMemory};
 use pie_graph::{TaskNo, TaskRows};

@@ -1,9 +1,3 @@
 pub mod Kinds
-pub mod Codes
-pub mod RecordCodes
-pub mod Parts
 pub mod Canonical
-pub mod Reading
-pub mod Agreement
-pub mod Names
-pub mod Records
+pub mod inner

@@ -15,7 +15,7 @@ pub struct Deps {
 impl Model for Deps {
     ghost use Rattle.std.specs.Prelude.{List};
     ghost use Rattle.pie_record.specs.declared.dep.Dep.{Dep};
-    ghost use Rattle.pie_record.specs.Codes.{coded_deps};
+    ghost use Rattle.pie_record.specs.inner.Codes.{coded_deps};
 
     ghost Value = { List Dep };
 

@@ -1,7 +1,7 @@
 //! Numbers for tasks.
 ghost use Rattle.std.specs.Prelude.{◌≡◌, ◌+◌, ◌<◌, ◌^◌, length, List, [], ◌∷◌, ◌++◌, All, Contains, Some, slice_get, IfOk, OnOk, OnErr};
 ghost use Rattle.pie_value.specs.Canonical.{enc_task, IsCanonicalTask, IsEncodableTask};
-ghost use Rattle.pie_record.specs.Names.{Numbers, AreDistinct, IsPlace, IsFree};
+ghost use Rattle.pie_record.specs.inner.Names.{Numbers, AreDistinct, IsPlace, IsFree};
 
 use indexmap::IndexSet;
 use pie_base::OutOfMemory;
@@ -22,8 +22,8 @@ pub struct TaskNames {
 impl Model for TaskNames {
     ghost use Rattle.std.specs.Prelude.{List};
     ghost use Rattle.pie_value.specs.declared.task.Task.{Task};
-    ghost use Rattle.pie_value.specs.TaskCodes.{coded_tasks};
-    ghost use Rattle.pie_record.specs.Names.{AreNamed};
+    ghost use Rattle.pie_value.specs.inner.TaskCodes.{coded_tasks};
+    ghost use Rattle.pie_record.specs.inner.Names.{AreNamed};
 
     ghost Value = { List Task };
 

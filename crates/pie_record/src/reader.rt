@@ -1,11 +1,11 @@
 //! A reader of canonical parts, which goes once from the left.
 ghost use Rattle.std.specs.Prelude.{◌≡◌, ◌-◌, ◌<◌, ◌^◌, List, length, IfOk, MatchOption, true, false};
 ghost use Rattle.std.specs.Str.{is_utf8};
-ghost use Rattle.pie_value.specs.Reading.{is_path_text};
+ghost use Rattle.pie_value.specs.inner.Reading.{is_path_text};
 ghost use Rattle.pie_value.specs.Canonical.{enc_task, IsCanonicalTask};
 ghost use Rattle.pie_record.specs.Canonical.{enc_record, IsCanonicalRecord};
-ghost use Rattle.pie_record.specs.Agreement.{RowAgrees};
-ghost use Rattle.pie_record.specs.Reading.{told_fault, byte_at, bytes_at, number_at, mark_at, counted_at, path_at, text_at, task_at, value_at, record_at};
+ghost use Rattle.pie_record.specs.inner.Agreement.{RowAgrees};
+ghost use Rattle.pie_record.specs.inner.Reading.{told_fault, byte_at, bytes_at, number_at, mark_at, counted_at, path_at, text_at, task_at, value_at, record_at};
 
 use crate::{RecordFault, TaskRecord, decode_record};
 use pie_base::{Path, PathError, Text};

@@ -1,8 +1,8 @@
 //! Reading records.
 ghost use Rattle.std.specs.Prelude.{◌≡◌};
 ghost use Rattle.pie_record.specs.Kinds.{calls as specs_calls};
-ghost use Rattle.pie_record.specs.Agreement.{RowAgrees};
-ghost use Rattle.pie_record.specs.Reading.{kind_at, on_at, any_tag_at, tag_at, stamped, dep_at, out_path_at, write_at, list_at, record_at};
+ghost use Rattle.pie_record.specs.inner.Agreement.{RowAgrees};
+ghost use Rattle.pie_record.specs.inner.Reading.{kind_at, on_at, any_tag_at, tag_at, stamped, dep_at, out_path_at, write_at, list_at, record_at};
 
 use crate::reader::Reader;
 use crate::tag::{Tag, allows, calls, known_kind, known_tag};

@@ -1,7 +1,7 @@
 //! The record of each task.
 ghost use Rattle.std.specs.Prelude.{◌≡◌, ℕ, None, OnOk, OnErr};
 ghost use Rattle.std.specs.Option.{option_copied};
-ghost use Rattle.pie_record.specs.Records.{record_of, Puts};
+ghost use Rattle.pie_record.specs.inner.Records.{record_of, Puts};
 
 use crate::TaskRecord;
 use pie_base::OutOfMemory;

@@ -8,7 +8,7 @@ use Rattle.std.specs.Ordering.{is_lt}
 use Rattle.pie_value.specs.declared.task.Task.{Task}
 use Rattle.pie_value.specs.Canonical.{enc_task}
 use Rattle.pie_value.specs.Order.{byte_order}
-use Rattle.pie_report.specs.Keys.{key_of, plain_key, InKeyOrder}
+use Rattle.pie_report.specs.inner.Keys.{key_of, plain_key, InKeyOrder}
 use Rattle.pie_report.specs.Order.{InTaskOrder}
 
 abbrev Keyed : Type 0

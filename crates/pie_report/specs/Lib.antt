@@ -1,7 +1,7 @@
 pub mod Causes
-pub mod Keys
 pub mod Objects
 pub mod Order
 pub mod Refused
 pub mod Texts
 pub mod Verdicts
+pub mod inner

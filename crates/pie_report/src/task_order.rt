@@ -2,7 +2,7 @@
 ghost use Rattle.std.specs.Prelude.{◌≡◌, All, IfOk, OnOk, map};
 ghost use Rattle.pie_value.specs.Canonical.{IsEncodableTask};
 ghost use Rattle.pie_report.specs.Order.{InTaskOrder};
-ghost use Rattle.pie_report.specs.Keys.{key_of, plain_key, InKeyOrder};
+ghost use Rattle.pie_report.specs.inner.Keys.{key_of, plain_key, InKeyOrder};
 
 use pie_base::OutOfMemory;
 use pie_value::{Task, encode_task};

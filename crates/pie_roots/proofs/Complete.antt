@@ -16,9 +16,9 @@ use Rattle.pie_value.specs.Size.{depth_of, deepest_of}
 use Rattle.pie_value.proofs.Elements.{list_of_items}
 use Rattle.pie_roots.specs.declared.lead.Sign.{Sign}
 use Rattle.pie_roots.specs.declared.lead.Sign.TheVariants.{Comma, OpenRound, CloseRound, CloseSquare}
-use Rattle.pie_roots.specs.Leads.{same_text, starts}
-use Rattle.pie_roots.specs.Reading.{Parsed, then_on, kept, want, done, text, text_inside, spelled_path, digits_say, spelled_bytes, path, blob, tuple, more}
-use Rattle.pie_roots.specs.Reading.{listed, items, value_within, ended, task_of, name}
+use Rattle.pie_roots.specs.inner.Leads.{same_text, starts}
+use Rattle.pie_roots.specs.inner.Reading.{Parsed, then_on, kept, want, done, text, text_inside, spelled_path, digits_say, spelled_bytes, path, blob, tuple, more}
+use Rattle.pie_roots.specs.inner.Reading.{listed, items, value_within, ended, task_of, name}
 use Rattle.pie_roots.specs.Written.{bracketed, value_tokens, items_tokens, more_tokens, task_tokens, IsProper, AreProper}
 use Rattle.pie_roots.proofs.Readings.{after, kind_of, starts_so, want_so}
 

@@ -6,7 +6,7 @@ use Rattle.pie_lexer.specs.declared.token.TokenKind.TheVariants as kinds
 use Rattle.pie_value.specs.declared.task.Task.{Task}
 use Rattle.pie_value.specs.Tree.{Tree, TUnit, TBool, TInt, TText, TPath, TList, TTuple, TNull, Nil, Cons}
 use Rattle.pie_roots.specs.Written.{value_tokens, task_tokens}
-use Rattle.pie_roots.specs.Reading.{Parsed, task_of, value_within}
+use Rattle.pie_roots.specs.inner.Reading.{Parsed, task_of, value_within}
 
 -- f of these values
 abbrev f_of : List Tree → Task

@@ -16,10 +16,10 @@ use Rattle.pie_roots.specs.declared.fault.RootFault.{RootFault}
 use Rattle.pie_roots.specs.declared.fault.RootFault.TheVariants as faults
 use Rattle.pie_roots.specs.declared.root.Root.{Root}
 use Rattle.pie_roots.specs.declared.root.Root.TheVariants as roots
-use Rattle.pie_roots.specs.Agreement.{RootsAgree}
+use Rattle.pie_roots.specs.inner.Agreement.{RootsAgree}
 use Rattle.pie_roots.specs.Kinds.{kinds_of}
 use Rattle.pie_roots.specs.Written.{task_tokens, Writes}
-use Rattle.pie_roots.specs.Reading.{task_of}
+use Rattle.pie_roots.specs.inner.Reading.{task_of}
 use Rattle.pie_roots.specs.Roots.{IsBlank, Names, IsRoot, IsOnlyRoot, IsRootOf, limited}
 use Rattle.pie_roots.proofs.Readings.{missed, got}
 use Rattle.pie_roots.proofs.Sound.{task_sound}

@@ -4,8 +4,8 @@ use Rattle.pie_lexer.specs.declared.token.TokenKind.{TokenKind}
 use Rattle.pie_lexer.specs.declared.token.TokenKind.TheVariants as kinds
 use Rattle.pie_roots.specs.declared.lead.Sign.{Sign}
 use Rattle.pie_roots.specs.declared.lead.Sign.TheVariants.{Comma, OpenRound, CloseRound, CloseSquare}
-use Rattle.pie_roots.specs.Leads.{is_sign, starts}
-use Rattle.pie_roots.specs.Reading.{Parsed, then_on, kept, Passed, done, want, first, name_of, text_of, name, text, text_inside}
+use Rattle.pie_roots.specs.inner.Leads.{is_sign, starts}
+use Rattle.pie_roots.specs.inner.Reading.{Parsed, then_on, kept, Passed, done, want, first, name_of, text_of, name, text, text_inside}
 use Rattle.pie_roots.specs.Written.{bracketed}
 
 -- nothing read isn't something read

@@ -18,9 +18,9 @@ use Rattle.pie_roots.specs.declared.lead.Lead.{Lead}
 use Rattle.pie_roots.specs.declared.lead.Lead.TheVariants as leads
 use Rattle.pie_roots.specs.declared.lead.Sign.{Sign}
 use Rattle.pie_roots.specs.declared.lead.Sign.TheVariants.{Comma, OpenRound, CloseRound, CloseSquare}
-use Rattle.pie_roots.specs.Leads.{same_text, lead_of, digits_lead, word_lead, starts}
-use Rattle.pie_roots.specs.Reading.{Parsed, then_on, kept, want, first, negated, below_of, below_zero, lead, text_inside, spelled_path, digits_say}
-use Rattle.pie_roots.specs.Reading.{spelled_bytes, path, blob, tuple, more, listed, items, value_by, value_within, ended, task_of, name}
+use Rattle.pie_roots.specs.inner.Leads.{same_text, lead_of, digits_lead, word_lead, starts}
+use Rattle.pie_roots.specs.inner.Reading.{Parsed, then_on, kept, want, first, negated, below_of, below_zero, lead, text_inside, spelled_path, digits_say}
+use Rattle.pie_roots.specs.inner.Reading.{spelled_bytes, path, blob, tuple, more, listed, items, value_by, value_within, ended, task_of, name}
 use Rattle.pie_roots.specs.Written.{bracketed, value_tokens, items_tokens, more_tokens, task_tokens, IsProper, AreProper}
 use Rattle.pie_roots.proofs.Readings.{missed, some_same, chosen, got, bound, kept_is, kind_of, starts_is, want_is, name_is, inside_is}
 

@@ -5,8 +5,8 @@ use Rattle.pie_lexer.specs.declared.token.TokenKind.{TokenKind}
 use Rattle.pie_value.specs.Tree.{Tree}
 use Rattle.pie_roots.specs.declared.lead.Lead.{Lead}
 use Rattle.pie_roots.specs.declared.lead.Sign.TheVariants.{Comma}
-use Rattle.pie_roots.specs.Leads.{starts}
-use Rattle.pie_roots.specs.Reading.{Parsed, then_on, lead, more, value_by, value_within}
+use Rattle.pie_roots.specs.inner.Leads.{starts}
+use Rattle.pie_roots.specs.inner.Reading.{Parsed, then_on, lead, more, value_by, value_within}
 
 left_is : (n i : ℕ) → i < n → n - i ≡ suc (n - (i + 1))
 left_is n i h = omega arith

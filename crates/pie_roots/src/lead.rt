@@ -1,7 +1,7 @@
 //! What a value begins with.
 ghost use Rattle.std.specs.Prelude.{◌≡◌};
-ghost use Rattle.pie_roots.specs.Leads.{lead_of, digits_lead, word_lead, is_sign};
-ghost use Rattle.pie_roots.specs.Agreement.{Says};
+ghost use Rattle.pie_roots.specs.inner.Leads.{lead_of, digits_lead, word_lead, is_sign};
+ghost use Rattle.pie_roots.specs.inner.Agreement.{Says};
 
 use crate::fault::RootFault;
 use pie_base::Text;

@@ -1,11 +1,11 @@
 //! A reader of values and tasks over the tokens of a line, which goes once from the left.
 ghost use Rattle.std.specs.Prelude.{◌≡◌, ◌<◌, ◌-◌, ◌∷◌, [], length, drop};
 ghost use Rattle.pie_value.specs.Values.{tree_of};
-ghost use Rattle.pie_roots.specs.Agreement.{RootsAgree, Says};
+ghost use Rattle.pie_roots.specs.inner.Agreement.{RootsAgree, Says};
 ghost use Rattle.pie_roots.specs.Kinds.{kinds_of};
-ghost use Rattle.pie_roots.specs.Leads.{starts};
-ghost use Rattle.pie_roots.specs.Reading as reads;
-ghost use Rattle.pie_roots.specs.Reading.{value_within};
+ghost use Rattle.pie_roots.specs.inner.Leads.{starts};
+ghost use Rattle.pie_roots.specs.inner.Reading as reads;
+ghost use Rattle.pie_roots.specs.inner.Reading.{value_within};
 
 use crate::fault::RootFault;
 use crate::lead::{Lead, Sign, is, lead_in};

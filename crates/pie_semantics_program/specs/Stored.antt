@@ -1,6 +1,6 @@
 -- How the logic stores names with their values.
 use Rattle.std.specs.Coded.{Coded, coded×, coded_ℕ, coded_list}
-use Rattle.pie_value.specs.Codes.{coded_tree}
+use Rattle.pie_value.specs.inner.Codes.{coded_tree}
 use Rattle.pie_semantics.specs.Words.{Env}
 
 -- names with their values

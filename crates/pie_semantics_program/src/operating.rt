@@ -1,6 +1,6 @@
 //! Operators and built-in functions, as parts of an evaluation.
 ghost use Rattle.std.specs.Prelude.{◌≡◌, pos, negsuc};
-ghost use Rattle.pie_value.specs.Builtins.{answer_of};
+ghost use Rattle.pie_value.specs.inner.Builtins.{answer_of};
 ghost use Rattle.pie_value.specs.Values.{tree_of};
 ghost use Rattle.pie_operators.specs.Agreement.{ResultAgrees};
 ghost use Rattle.pie_operators.specs.Domain.{by_answer};

@@ -7,12 +7,12 @@ use Rattle.pie_model.specs.Trees.{outcome_of, is_done, HasTask, entered}
 use Rattle.pie_model.specs.declared.words.Outcome.{Outcome}
 use Rattle.pie_model.specs.Evaluation.{World, Project, evaluation}
 use Rattle.pie_model.specs.Records.{Record, record_of, needs_of}
-use Rattle.pie_model.specs.RecordLaws.{HasItsRecord}
+use Rattle.pie_model.specs.inner.RecordLaws.{HasItsRecord}
 use Rattle.pie_model.specs.Running.{entered_all}
 use Rattle.pie_model.specs.Forest.{only_if, forest, entered_tasks}
-use Rattle.pie_model.specs.Present.{Reaches}
-use Rattle.pie_model.specs.Present.Way.{here, along}
-use Rattle.pie_model.specs.Consistent.{IsRecorded}
+use Rattle.pie_model.specs.inner.Present.{Reaches}
+use Rattle.pie_model.specs.inner.Present.Way.{here, along}
+use Rattle.pie_model.specs.inner.Consistent.{IsRecorded}
 use Rattle.pie_model.proofs.Basics.{clash, among_here, among_there}
 use Rattle.pie_model.proofs.Rooms.{Standing, standing, has_task}
 use Rattle.pie_model.proofs.Ways.{further, task_of-evaluation, record_right, reached_stands, stands_reached}

@@ -12,10 +12,10 @@ use Rattle.pie_model.specs.declared.words.Outcome.TheVariants.{Ended}
 use Rattle.pie_model.specs.Seen.{visible_at}
 use Rattle.pie_model.specs.Evaluation.{World, Project, Progress, required, output_answer, listing, evaluation_with, evaluation}
 use Rattle.pie_model.specs.Records.{Record, Absent, Hash, Looked, Listed, Required, Observation, observed, contents_stamp, value_stamp, needs_of}
-use Rattle.pie_model.specs.Consistent.{IsSettled}
+use Rattle.pie_model.specs.inner.Consistent.{IsSettled}
 use Rattle.pie_model.specs.Running.{IsRunning}
-use Rattle.pie_model.specs.Stack.{Frame, tasks_of}
-use Rattle.pie_model.specs.Stack.IsWaiting.{nobody, waits}
+use Rattle.pie_model.specs.inner.Stack.{Frame, tasks_of}
+use Rattle.pie_model.specs.inner.Stack.IsWaiting.{nobody, waits}
 use Rattle.pie_model.proofs.Basics.{clash, among_here, among_either}
 use Rattle.pie_model.proofs.RunningLemmas.{starts, sees_nothing, sees_contents, lists_entries, writes_contents, is_answered}
 use Rattle.pie_model.proofs.PlacedLemmas.{known_placed}

@@ -12,10 +12,10 @@ use Rattle.pie_model.specs.declared.words.Outcome.{Outcome}
 use Rattle.pie_model.specs.declared.words.Outcome.TheVariants.{Ended, Failed, Cycled, Many}
 use Rattle.pie_model.specs.Evaluation.{World, Project, Progress, on_seen, on_listing, on_outcome, on_event, evaluation_with, evaluation}
 use Rattle.pie_model.specs.Records.{Record, Absent, Required, Observation, observed, observations_of, outcome_stamp, record_of, hashed}
-use Rattle.pie_model.specs.Consistent.{IsSettled}
+use Rattle.pie_model.specs.inner.Consistent.{IsSettled}
 use Rattle.pie_model.specs.Running.{rest_of_run, IsRunning}
-use Rattle.pie_model.specs.Stack.{Frame, tasks_of}
-use Rattle.pie_model.specs.Stack.IsWaiting.{waits}
+use Rattle.pie_model.specs.inner.Stack.{Frame, tasks_of}
+use Rattle.pie_model.specs.inner.Stack.IsWaiting.{waits}
 use Rattle.pie_model.proofs.Basics.{clash}
 use Rattle.pie_model.proofs.Rooms.{room_of_none, alone}
 use Rattle.pie_model.proofs.Ways.{task_of-evaluation_with}

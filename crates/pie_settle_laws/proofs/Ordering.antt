@@ -1,8 +1,8 @@
 -- A task that is reached stands no later than the one that reaches it.
 use Rattle.std.proofs.Common.{ℕ, ◌≤◌, ◌<◌, List, slice_index, arith}
 use Rattle.pie_graph.specs.Rows.{Row}
-use Rattle.pie_reach.specs.Reaches.{Reaches, IsAcyclic}
-use Rattle.pie_reach.specs.Reaches.Leads.{itself, step}
+use Rattle.pie_reach.specs.inner.Reaches.{Reaches, IsAcyclic}
+use Rattle.pie_reach.specs.inner.Reaches.Leads.{itself, step}
 use Rattle.pie_order.specs.Places.{PlacesAgree}
 
 module _ (rows : List Row) (places : List ℕ) (agrees : PlacesAgree rows places) where

@@ -8,10 +8,10 @@ use Rattle.pie_model.specs.declared.words.Seen.TheVariants.{Nothing, Holds, Clas
 use Rattle.pie_model.specs.Seen.{first_write, provided}
 use Rattle.pie_model.specs.Evaluation.{World, Project, evaluation}
 use Rattle.pie_model.specs.Records.{Record}
-use Rattle.pie_model.specs.RecordLaws.{HasItsRecord}
+use Rattle.pie_model.specs.inner.RecordLaws.{HasItsRecord}
 use Rattle.pie_model.specs.Running.{entered_all}
-use Rattle.pie_model.specs.Present.{Reaches}
-use Rattle.pie_model.specs.Present.Way.{here, along}
+use Rattle.pie_model.specs.inner.Present.{Reaches}
+use Rattle.pie_model.specs.inner.Present.Way.{here, along}
 use Rattle.pie_model.proofs.Ways.{further, record_right}
 use Rattle.pie_model.proofs.LooksLemmas.{first_write-hashed, some_same}
 use Rattle.pie_step_laws.specs.Contents.{KeepsContents, WroteContents, IsShown}

@@ -3,8 +3,8 @@ use Rattle.std.proofs.Common.{ℕ, suc, ◌-◌, ◌≡◌, List, [], ◌∷◌,
 use Rattle.pie_model.specs.Tasks.{Task}
 use Rattle.pie_model.specs.Trees.{Node, node, Trace, ends, looks, lists, writes, needs, HasTask, StandsIn, StandsBelow}
 use Rattle.pie_model.specs.Evaluation.{World, Project, evaluation_with, evaluation_under, evaluation}
-use Rattle.pie_model.specs.Stack.{Frame, tasks_of, IsWaiting}
-use Rattle.pie_model.specs.Stack.IsWaiting.{nobody, waits}
+use Rattle.pie_model.specs.inner.Stack.{Frame, tasks_of, IsWaiting}
+use Rattle.pie_model.specs.inner.Stack.IsWaiting.{nobody, waits}
 use Rattle.pie_model.proofs.Ways.{stands_itself, task_of-evaluation_with}
 use Rattle.pie_model.proofs.Rooms.{has_task}
 use Rattle.pie_model.proofs.RunningLemmas.{required_stands}

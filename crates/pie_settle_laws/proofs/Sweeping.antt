@@ -4,11 +4,11 @@ use Rattle.pie_model.specs.Paths.{Path, among}
 use Rattle.pie_model.specs.Tasks.{Task}
 use Rattle.pie_model.specs.Evaluation.{World, Project}
 use Rattle.pie_model.specs.Records.{Record, Stamp, Query, Looked, Listed, Required, Observation, task_asked, needs_of}
-use Rattle.pie_model.specs.StampNow.{Told, by_records, recorded_outcome, outcome_now, stamp_now, asked_before, StampsAgree, RecordAgrees}
-use Rattle.pie_model.specs.Present.{Reaches}
-use Rattle.pie_model.specs.Present.Way.{along}
-use Rattle.pie_model.specs.Consistent.{IsRecorded, IsSettled}
-use Rattle.pie_model.specs.Steps.{Each, StampStill, SameShape, ChangesAt, IsUntouched}
+use Rattle.pie_model.specs.inner.StampNow.{Told, by_records, recorded_outcome, outcome_now, stamp_now, asked_before, StampsAgree, RecordAgrees}
+use Rattle.pie_model.specs.inner.Present.{Reaches}
+use Rattle.pie_model.specs.inner.Present.Way.{along}
+use Rattle.pie_model.specs.inner.Consistent.{IsRecorded, IsSettled}
+use Rattle.pie_model.specs.inner.Steps.{Each, StampStill, SameShape, ChangesAt, IsUntouched}
 use Rattle.pie_model.proofs.Basics.{among_here, among_left, among_right}
 use Rattle.pie_step_laws.proofs.Tables.{none_some}
 use Rattle.pie_settle_laws.specs.Sweeps.{IsSwept}

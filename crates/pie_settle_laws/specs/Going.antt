@@ -13,9 +13,9 @@ use Rattle.pie_model.specs.declared.words.Outcome.TheVariants.{Ended, Failed}
 use Rattle.pie_model.specs.Seen.{visible_at}
 use Rattle.pie_model.specs.Evaluation.{World, Project, listing, evaluation}
 use Rattle.pie_model.specs.Records.{Record, Absent, Looked, Listed, Observation, observed, record_of, hashed, needs_of}
-use Rattle.pie_model.specs.Consistent.{IsSettled}
+use Rattle.pie_model.specs.inner.Consistent.{IsSettled}
 use Rattle.pie_model.specs.Running.{IsRunning, IsDistinct}
-use Rattle.pie_model.specs.Stack.{Frame, tasks_of, IsWaiting}
+use Rattle.pie_model.specs.inner.Stack.{Frame, tasks_of, IsWaiting}
 use Rattle.pie_step_laws.specs.Frames.{gone_on}
 
 -- `f` runs above the new tasks `fs` that wait for it, the newest first, down to `base`, which was scheduled or is a root:

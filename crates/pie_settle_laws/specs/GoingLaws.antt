@@ -12,9 +12,9 @@ use Rattle.pie_model.specs.declared.words.Outcome.TheVariants.{Ended}
 use Rattle.pie_model.specs.Seen.{visible_at}
 use Rattle.pie_model.specs.Evaluation.{World, Project, listing, evaluation}
 use Rattle.pie_model.specs.Records.{Record, Absent, Required, Observation, observed}
-use Rattle.pie_model.specs.RecordLaws.{Passes}
-use Rattle.pie_model.specs.Consistent.{IsSettled}
-use Rattle.pie_model.specs.Stack.{Frame, tasks_of}
+use Rattle.pie_model.specs.inner.RecordLaws.{Passes}
+use Rattle.pie_model.specs.inner.Consistent.{IsSettled}
+use Rattle.pie_model.specs.inner.Stack.{Frame, tasks_of}
 use Rattle.pie_step_laws.specs.Frames.{begun, saw_nothing, saw_contents, has_listed, has_written, was_answered, set_aside}
 use Rattle.pie_settle_laws.specs.Known.{IsKnown, AreCounted}
 use Rattle.pie_settle_laws.specs.Going.{IsGoing, before_wait, AreBusy, Ends, HasLeft}

@@ -5,9 +5,9 @@ use Rattle.pie_model.specs.Tasks.{Task}
 use Rattle.pie_model.specs.Trees.{outcome_of, is_done}
 use Rattle.pie_model.specs.Evaluation.{World, Project, evaluation}
 use Rattle.pie_model.specs.Records.{Record}
-use Rattle.pie_model.specs.RecordLaws.{HasItsRecord}
-use Rattle.pie_model.specs.Present.{Reaches}
-use Rattle.pie_model.specs.Consistent.{IsRecorded}
+use Rattle.pie_model.specs.inner.RecordLaws.{HasItsRecord}
+use Rattle.pie_model.specs.inner.Present.{Reaches}
+use Rattle.pie_model.specs.inner.Consistent.{IsRecorded}
 
 -- a task is known: it has a record, and all that it reaches by the records have the records of their evaluations
 pub record IsKnown (w : World) (P : Project) (R : Task → Option Record) (t : Task) : Type 0 where

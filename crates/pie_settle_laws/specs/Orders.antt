@@ -1,7 +1,7 @@
 -- What an order of the tasks tells of their rows.
 use Rattle.std.specs.Prelude.{ℕ, List}
 use Rattle.pie_graph.specs.Rows.{Row}
-use Rattle.pie_reach.specs.Reaches.{IsAcyclic}
+use Rattle.pie_reach.specs.inner.Reaches.{IsAcyclic}
 use Rattle.pie_order.specs.Places.{PlacesAgree}
 
 -- where each required task stands before those that require it, no required task reaches its requirer

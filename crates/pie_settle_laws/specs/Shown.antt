@@ -7,7 +7,7 @@ use Rattle.pie_model.specs.declared.words.Seen.{Seen}
 use Rattle.pie_model.specs.Seen.{first_write, provided}
 use Rattle.pie_model.specs.Evaluation.{World, Project, evaluation}
 use Rattle.pie_model.specs.Records.{Record}
-use Rattle.pie_model.specs.RecordLaws.{HasItsRecord}
+use Rattle.pie_model.specs.inner.RecordLaws.{HasItsRecord}
 use Rattle.pie_step_laws.specs.Contents.{WroteContents, IsShown}
 use Rattle.pie_settle_laws.specs.Known.{AreDone, AreCounted, ReachedFrom}
 

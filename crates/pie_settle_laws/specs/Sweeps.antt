@@ -4,11 +4,11 @@ use Rattle.pie_model.specs.Paths.{Path, among}
 use Rattle.pie_model.specs.Tasks.{Task}
 use Rattle.pie_model.specs.Evaluation.{World, Project}
 use Rattle.pie_model.specs.Records.{Record, needs_of}
-use Rattle.pie_model.specs.StampNow.{Told, by_records, recorded_outcome, RecordAgrees}
-use Rattle.pie_model.specs.RecordLaws.{Passes}
-use Rattle.pie_model.specs.Present.{Reaches}
-use Rattle.pie_model.specs.Consistent.{IsRecorded, IsSettled}
-use Rattle.pie_model.specs.Steps.{Each, LooksElsewhere, SameShape, ChangesAt, IsUntouched}
+use Rattle.pie_model.specs.inner.StampNow.{Told, by_records, recorded_outcome, RecordAgrees}
+use Rattle.pie_model.specs.inner.RecordLaws.{Passes}
+use Rattle.pie_model.specs.inner.Present.{Reaches}
+use Rattle.pie_model.specs.inner.Consistent.{IsRecorded, IsSettled}
+use Rattle.pie_model.specs.inner.Steps.{Each, LooksElsewhere, SameShape, ChangesAt, IsUntouched}
 
 -- a task was found by a sweep up from another, or not: one that wasn't requires nothing that reaches it, and one that was looks at no path under `out`
 pub record IsSwept (R : Task → Option Record) (t : Task) (r : Record) (swept : Bool) : Type 0 where

@@ -14,8 +14,8 @@ use Rattle.pie_parser.specs.Tests.{effect_at}
 use Rattle.pie_parser.specs.Plain.{Tree, TLiteral, TEffect, TPrefix, TCompare, BlockTree}
 use Rattle.pie_parser.specs.At.{At}
 use Rattle.pie_parser.specs.Places.{Parsed, Got, Miss, Parser, then_on, done, next, start, passed, want, open_bracket, name}
-use Rattle.pie_parser.specs.Turns.{Stop, Part, on_turn, many, all_behind}
-use Rattle.pie_parser.specs.Pieces.{Piece, ALine, TheLast, on_piece, onto_lines}
+use Rattle.pie_parser.specs.inner.Turns.{Stop, Part, on_turn, many, all_behind}
+use Rattle.pie_parser.specs.inner.Pieces.{Piece, ALine, TheLast, on_piece, onto_lines}
 use Rattle.pie_parser.specs.TypeReading.{plain_type, written_type, inner_type}
 use Rattle.pie_parser.specs.ExprReading as reads
 use Rattle.pie_parser.specs.ExprReading.{Around, nowhere, chain, projection}

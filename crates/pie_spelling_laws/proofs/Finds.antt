@@ -6,7 +6,7 @@ use Rattle.pie_parser.specs.declared.error.ParseFault.TheVariants.{Expected, Too
 use Rattle.pie_parser.specs.Kinds.{is}
 use Rattle.pie_parser.specs.At.{At}
 use Rattle.pie_parser.specs.Places.{Parsed, Got, Miss, then_on, done, next, passed, want, open_bracket}
-use Rattle.pie_parser.specs.Turns.{onto}
+use Rattle.pie_parser.specs.inner.Turns.{onto}
 use Rattle.pie_parser.specs.TypeGrammar.{Eats}
 use Rattle.pie_parser.proofs.Strength.{is_one}
 

@@ -23,7 +23,7 @@ use Rattle.pie_parser.specs.Tests.{prefix_at, effect_at}
 use Rattle.pie_parser.specs.Plain.{Tree, BlockTree}
 use Rattle.pie_parser.specs.At.{At}
 use Rattle.pie_parser.specs.Places.{Got, Miss, done, first_kind, next, passed, want, index}
-use Rattle.pie_parser.specs.Turns.{Stop, Part, on_turn, many}
+use Rattle.pie_parser.specs.inner.Turns.{Stop, Part, on_turn, many}
 use Rattle.pie_parser.specs.ExprReading as reads
 use Rattle.pie_parser.specs.ExprReading.{Around, nowhere, chain, projection}
 use Rattle.pie_parser.specs.TypeGrammar.{Eats}

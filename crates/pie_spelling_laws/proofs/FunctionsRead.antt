@@ -6,7 +6,7 @@ use Rattle.pie_parser.specs.declared.tree.Param.{Param}
 use Rattle.pie_parser.specs.Kinds.{is}
 use Rattle.pie_parser.specs.At.{At}
 use Rattle.pie_parser.specs.Places.{Got, Parser, then_on, done, next, start, passed, want, open_bracket, name}
-use Rattle.pie_parser.specs.Turns.{Stop, Part, on_turn, many}
+use Rattle.pie_parser.specs.inner.Turns.{Stop, Part, on_turn, many}
 use Rattle.pie_parser.specs.TypeReading.{written_type, inner_type}
 use Rattle.pie_parser.specs.FunctionTrees.{FunctionTree}
 use Rattle.pie_parser.specs.FunctionReading as reads

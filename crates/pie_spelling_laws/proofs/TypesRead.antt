@@ -8,7 +8,7 @@ use Rattle.pie_parser.specs.Kinds.{is}
 use Rattle.pie_parser.specs.PlainTypes.{TypeTree, PlainT, NullableT}
 use Rattle.pie_parser.specs.At.{At}
 use Rattle.pie_parser.specs.Places.{Got, Miss, Parser, done, next, start, passed, want, open_bracket, name}
-use Rattle.pie_parser.specs.Turns.{Stop, Part, on_turn, many, all_behind}
+use Rattle.pie_parser.specs.inner.Turns.{Stop, Part, on_turn, many, all_behind}
 use Rattle.pie_parser.specs.TypeReading.{plain_at, keyword_by, keyword_type, another_type, plain_by, plain_type, written_type, type_at, inner_type}
 use Rattle.pie_parser.specs.TypeGrammar as types
 use Rattle.pie_parser.specs.TypeGrammar.{Eats, IsName, IsType, IsPlain, MoreTypes}

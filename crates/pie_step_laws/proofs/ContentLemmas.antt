@@ -12,11 +12,11 @@ use Rattle.pie_model.specs.Seen.{own_first, seen_file, visible_by, visible_at, f
 use Rattle.pie_model.specs.Seen.{provided}
 use Rattle.pie_model.specs.Evaluation.{World, Project, evaluation}
 use Rattle.pie_model.specs.Records.{Record, hashed, needs_of}
-use Rattle.pie_model.specs.StampNow.{Untold, ToldHash, ToldClash, told_of}
-use Rattle.pie_model.specs.RecordLaws.{HasItsRecord}
-use Rattle.pie_model.specs.Present.{Reaches, WroteByRecords, OneWriter, IsTold}
-use Rattle.pie_model.specs.Consistent.{IsRecorded}
-use Rattle.pie_model.specs.Stack.{Frame, tasks_of}
+use Rattle.pie_model.specs.inner.StampNow.{Untold, ToldHash, ToldClash, told_of}
+use Rattle.pie_model.specs.inner.RecordLaws.{HasItsRecord}
+use Rattle.pie_model.specs.inner.Present.{Reaches, WroteByRecords, OneWriter, IsTold}
+use Rattle.pie_model.specs.inner.Consistent.{IsRecorded}
+use Rattle.pie_model.specs.inner.Stack.{Frame, tasks_of}
 use Rattle.pie_model.proofs.Basics.{clash, among_here, among_there, same_bytes, bytes_same}
 use Rattle.pie_model.proofs.LooksLemmas.{first_write-hashed, some_same}
 use Rattle.pie_model.proofs.Ways.{Reached, stands_reached}
@@ -24,7 +24,7 @@ use Rattle.pie_model.proofs.Views.{told_is_seen}
 use Rattle.pie_step_laws.specs.Table.{IsTable}
 use Rattle.pie_step_laws.specs.UnderWay.{UnderWay}
 use Rattle.pie_step_laws.specs.Contents.{KeepsContents, WroteContents, IsShown}
-use Rattle.pie_model.specs.Steps.{ChangesAt}
+use Rattle.pie_model.specs.inner.Steps.{ChangesAt}
 use Rattle.pie_model.specs.Tasks.{Value}
 use Rattle.pie_model.specs.declared.words.Event.TheVariants.{Done}
 use Rattle.pie_step_laws.specs.Frames.{record_left}

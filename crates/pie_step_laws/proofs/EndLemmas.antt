@@ -19,11 +19,11 @@ use Rattle.pie_model.specs.Seen.{visible_at}
 use Rattle.pie_model.specs.Evaluation.{World, Project, required, output_answer, listing, round, on_seen, on_listing, on_outcome, on_event, evaluation_with}
 use Rattle.pie_model.specs.Evaluation.{evaluation_under, evaluation}
 use Rattle.pie_model.specs.Records.{Record, record_of, Required, observed, value_stamp, needs_of}
-use Rattle.pie_model.specs.Consistent.{IsRecorded}
-use Rattle.pie_model.specs.Steps.{ChangesAt}
+use Rattle.pie_model.specs.inner.Consistent.{IsRecorded}
+use Rattle.pie_model.specs.inner.Steps.{ChangesAt}
 use Rattle.pie_model.specs.Running.{IsRunning, rest_of_run}
-use Rattle.pie_model.specs.Stack.{Frame, tasks_of, entered_by, IsWaiting, Begins}
-use Rattle.pie_model.specs.Stack.IsWaiting.{nobody, waits}
+use Rattle.pie_model.specs.inner.Stack.{Frame, tasks_of, entered_by, IsWaiting, Begins}
+use Rattle.pie_model.specs.inner.Stack.IsWaiting.{nobody, waits}
 use Rattle.pie_model.proofs.Basics.{clash, apart_rest, front_or, among_here, among_there, among_split, same_bytes, bytes_same}
 use Rattle.pie_model.proofs.LooksLemmas.{some_same}
 use Rattle.pie_model.proofs.MovedLemmas.{opened_among}

@@ -5,7 +5,7 @@ use Rattle.pie_model.specs.Tasks.{Task}
 use Rattle.pie_model.specs.Trees.{Node, node, Trace, ends, looks, lists, writes, needs, outcome_of, trace_of, levels, levels_below, required_by}
 use Rattle.pie_model.specs.Evaluation.{World, Project, evaluation}
 use Rattle.pie_model.specs.Records.{Record, record_of, needs_of}
-use Rattle.pie_model.specs.Consistent.{IsRecorded}
+use Rattle.pie_model.specs.inner.Consistent.{IsRecorded}
 use Rattle.pie_model.specs.Built.{height}
 use Rattle.pie_model.proofs.Basics.{clash, among_here, among_there, among_split}
 use Rattle.pie_model.proofs.Kids.{Kids}

@@ -14,7 +14,7 @@ use Rattle.pie_model.specs.Paths.{among}
 use Rattle.pie_model.specs.Tasks.{Task}
 use Rattle.pie_model.specs.Evaluation.{World, Project, evaluation}
 use Rattle.pie_model.specs.Records.{Record, record_of, needs_of}
-use Rattle.pie_model.specs.Consistent.{IsRecorded}
+use Rattle.pie_model.specs.inner.Consistent.{IsRecorded}
 use Rattle.pie_model.specs.Built.{height, row_before, put_row, in_row_order, store_rows}
 use Rattle.pie_model.proofs.Basics.{clash, among_here, among_there, among_split}
 use Rattle.pie_model.proofs.LooksLemmas.{some_same}

@@ -13,10 +13,10 @@ use Rattle.pie_model.specs.Seen.{visible_at}
 use Rattle.pie_model.specs.Evaluation.{World, Project, Progress, required, output_answer, listing, evaluation_with, evaluation}
 use Rattle.pie_model.specs.Records.{Record, Absent, Hash, Query, Stamp, Looked, Listed, Required, Observation, observed, contents_stamp, value_stamp}
 use Rattle.pie_model.specs.Records.{task_asked, needs_of}
-use Rattle.pie_model.specs.Consistent.{IsRecorded}
+use Rattle.pie_model.specs.inner.Consistent.{IsRecorded}
 use Rattle.pie_model.specs.Running.{IsRunning, entered_all}
-use Rattle.pie_model.specs.Stack.{Frame, tasks_of, entered_by}
-use Rattle.pie_model.specs.Stack.IsWaiting.{nobody, waits}
+use Rattle.pie_model.specs.inner.Stack.{Frame, tasks_of, entered_by}
+use Rattle.pie_model.specs.inner.Stack.IsWaiting.{nobody, waits}
 use Rattle.pie_model.proofs.Basics.{clash, among_here, among_there, among_left, among_right, among_either, among_split}
 use Rattle.pie_model.proofs.RunningLemmas.{entered_all-end, starts, sees_nothing, sees_contents, lists_entries, writes_contents, is_answered}
 use Rattle.pie_model.proofs.PlacedLemmas.{known_placed}

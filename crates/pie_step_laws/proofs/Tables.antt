@@ -8,11 +8,11 @@ use Rattle.pie_model.specs.declared.words.Outcome.{Outcome}
 use Rattle.pie_model.specs.declared.words.Outcome.TheVariants.{Ended, Failed, Cycled, Many}
 use Rattle.pie_model.specs.Evaluation.{World, Project, evaluation}
 use Rattle.pie_model.specs.Records.{Record}
-use Rattle.pie_model.specs.Present.{Reaches}
-use Rattle.pie_model.specs.Present.Way.{here, along}
-use Rattle.pie_model.specs.Consistent.{IsRecorded}
+use Rattle.pie_model.specs.inner.Present.{Reaches}
+use Rattle.pie_model.specs.inner.Present.Way.{here, along}
+use Rattle.pie_model.specs.inner.Consistent.{IsRecorded}
 use Rattle.pie_model.specs.Running.{IsDistinct}
-use Rattle.pie_model.specs.RecordLaws.{HasItsRecord}
+use Rattle.pie_model.specs.inner.RecordLaws.{HasItsRecord}
 use Rattle.pie_model.proofs.Basics.{clash, among_here, among_left, among_either, among_split, apart_rest}
 use Rattle.pie_model.specs.Trees.{HasTask, entered}
 use Rattle.pie_model.proofs.Rooms.{Standing, standing, nothing_new}

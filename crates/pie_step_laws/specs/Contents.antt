@@ -10,10 +10,10 @@ use Rattle.pie_model.specs.declared.words.Seen.TheVariants.{Nothing, Holds, Clas
 use Rattle.pie_model.specs.Seen.{first_write, provided, seen_file, visible_at}
 use Rattle.pie_model.specs.Evaluation.{World, Project, evaluation}
 use Rattle.pie_model.specs.Records.{Record, needs_of}
-use Rattle.pie_model.specs.Present.{Reaches, OneWriter, TwoWriters}
-use Rattle.pie_model.specs.Consistent.{IsRecorded}
-use Rattle.pie_model.specs.Stack.{Frame}
-use Rattle.pie_model.specs.Steps.{ChangesAt}
+use Rattle.pie_model.specs.inner.Present.{Reaches, OneWriter, TwoWriters}
+use Rattle.pie_model.specs.inner.Consistent.{IsRecorded}
+use Rattle.pie_model.specs.inner.Stack.{Frame}
+use Rattle.pie_model.specs.inner.Steps.{ChangesAt}
 use Rattle.pie_step_laws.specs.Frames.{record_left}
 use Rattle.pie_step_laws.specs.Table.{IsTable}
 use Rattle.pie_step_laws.specs.UnderWay.{UnderWay}

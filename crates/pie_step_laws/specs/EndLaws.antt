@@ -13,8 +13,8 @@ use Rattle.pie_model.specs.declared.words.Outcome.TheVariants.{Ended, Failed, Cy
 use Rattle.pie_model.specs.Seen.{visible_at}
 use Rattle.pie_model.specs.Evaluation.{World, Project, listing, round, evaluation}
 use Rattle.pie_model.specs.Records.{Record}
-use Rattle.pie_model.specs.Steps.{ChangesAt}
-use Rattle.pie_model.specs.Stack.{Frame, tasks_of, Begins}
+use Rattle.pie_model.specs.inner.Steps.{ChangesAt}
+use Rattle.pie_model.specs.inner.Stack.{Frame, tasks_of, Begins}
 use Rattle.pie_step_laws.specs.Table.{Rests}
 use Rattle.pie_step_laws.specs.Frames.{was_answered, record_left}
 use Rattle.pie_step_laws.specs.UnderWay.{UnderWay, HasEnded}

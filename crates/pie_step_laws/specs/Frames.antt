@@ -8,8 +8,8 @@ use Rattle.pie_model.specs.declared.words.Answer.TheVariants.{Entries}
 use Rattle.pie_model.specs.declared.words.Outcome.TheVariants.{Ended}
 use Rattle.pie_model.specs.Evaluation.{World, Project, Progress, start, answered, wrote, required, absent_answer, present_answer, output_answer, evaluation}
 use Rattle.pie_model.specs.Records.{Record, Absent, Hash, Looked, Listed, Required, Observation, observed, contents_stamp, value_stamp, hashed, needs_of}
-use Rattle.pie_model.specs.Consistent.{IsRecorded}
-use Rattle.pie_model.specs.Stack.{Frame}
+use Rattle.pie_model.specs.inner.Consistent.{IsRecorded}
+use Rattle.pie_model.specs.inner.Stack.{Frame}
 
 -- a task before its first event
 abbrev pub begun : World → Task → Frame

@@ -10,7 +10,7 @@ use Rattle.pie_model.specs.declared.words.Outcome.TheVariants.{Ended}
 use Rattle.pie_model.specs.Seen.{visible_at}
 use Rattle.pie_model.specs.Evaluation.{World, Project, listing}
 use Rattle.pie_model.specs.Records.{Record}
-use Rattle.pie_model.specs.Stack.{Frame}
+use Rattle.pie_model.specs.inner.Stack.{Frame}
 use Rattle.pie_step_laws.specs.Table.{Rests}
 use Rattle.pie_step_laws.specs.Frames.{begun, saw_nothing, saw_contents, has_listed, has_written, was_answered, set_aside}
 use Rattle.pie_step_laws.specs.UnderWay.{UnderWay}

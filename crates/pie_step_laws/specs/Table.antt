@@ -5,7 +5,7 @@ use Rattle.pie_model.specs.Tasks.{Task}
 use Rattle.pie_model.specs.Trees.{outcome_of, is_done}
 use Rattle.pie_model.specs.Evaluation.{World, Project, evaluation}
 use Rattle.pie_model.specs.Records.{Record, record_of, needs_of}
-use Rattle.pie_model.specs.Consistent.{IsRecorded}
+use Rattle.pie_model.specs.inner.Consistent.{IsRecorded}
 use Rattle.pie_model.specs.Running.{IsDistinct}
 
 -- each recorded task was entered, ended with a value and has the record of its evaluation; the tasks that it requires are recorded too

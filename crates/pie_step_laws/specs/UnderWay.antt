@@ -6,9 +6,9 @@ use Rattle.pie_model.specs.Trees.{outcome_of, entered}
 use Rattle.pie_model.specs.declared.words.Outcome.{Outcome}
 use Rattle.pie_model.specs.Evaluation.{World, Project, evaluation}
 use Rattle.pie_model.specs.Records.{Record}
-use Rattle.pie_model.specs.Consistent.{IsRecorded}
+use Rattle.pie_model.specs.inner.Consistent.{IsRecorded}
 use Rattle.pie_model.specs.Running.{IsRunning, IsDistinct}
-use Rattle.pie_model.specs.Stack.{Frame, tasks_of, entered_by, IsWaiting}
+use Rattle.pie_model.specs.inner.Stack.{Frame, tasks_of, entered_by, IsWaiting}
 use Rattle.pie_step_laws.specs.Table.{IsTable}
 use Rattle.pie_step_laws.specs.Frames.{HaveTheirKids}
 

@@ -18,7 +18,7 @@ use Rattle.pie_record.specs.declared.task_record.TaskRecord.{TaskRecord}
 use Rattle.pie_record.proofs.Steps.{both_true, both_on}
 use Rattle.pie_store.specs.Canonical.{tasks_in, required_on, over, AreInOrder}
 use Rattle.pie_store.specs.Ranks.{Ranked, same_task, rank_in, on_some, above_one, above, is_before, follows, comes_last, height_after, IsStored, IsStoredOn}
-use Rattle.pie_store.specs.Reading.{rows_of}
+use Rattle.pie_store.specs.inner.Reading.{rows_of}
 use Rattle.pie_store.proofs.Ranking.{same_refl, same_is}
 use Rattle.pie_store.proofs.Pairs.{pairs_push, last_is, Ahead, ahead_is, ahead_trans}
 

@@ -2,12 +2,12 @@
 use Rattle.std.proofs.Common.{◌≡◌, ℕ, ◌-◌, ◌<◌, Bool, List, [], ◌∷◌, length, Ok, Err, refl, sym, ap, ◌∙◌, arith}
 use Rattle.std.specs.Prelude.{Option, Some, None}
 use Rattle.pie_value.specs.declared.task.Task.{Task}
-use Rattle.pie_record.specs.Reading.{Parsed as Part, bytes_at}
+use Rattle.pie_record.specs.inner.Reading.{Parsed as Part, bytes_at}
 use Rattle.pie_store.specs.declared.image.StoreImage.{StoreImage}
 use Rattle.pie_store.specs.declared.store_fault.StoreFault.TheVariants.{Rest as More}
 use Rattle.pie_store.specs.Ranks.{Ranked, knows}
-use Rattle.pie_store.specs.Reading.{Parsed, placed, list_at, next_func, next_root, next_row, first_missing, closed, then_image, image_of, tail_of}
-use Rattle.pie_store.specs.Reading.{contents_1, contents_2}
+use Rattle.pie_store.specs.inner.Reading.{Parsed, placed, list_at, next_func, next_root, next_row, first_missing, closed, then_image, image_of, tail_of}
+use Rattle.pie_store.specs.inner.Reading.{contents_1, contents_2}
 
 pub left_over : (rest : List ℕ) (image : StoreImage) → 0 < length rest → closed None rest image ≡ Err More
 left_over [] image h = absurd (omega (arith, h))

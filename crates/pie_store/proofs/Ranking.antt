@@ -14,7 +14,7 @@ use Rattle.pie_value.specs.Canonical.{enc_task}
 use Rattle.pie_record.specs.declared.task_record.TaskRecord.{TaskRecord}
 use Rattle.pie_record.proofs.Naming.{bytes_tell}
 use Rattle.pie_store.specs.Ranks.{Ranked, same_task, rank_in, IsStored, AreRanked}
-use Rattle.pie_store.specs.Reading.{rows_of}
+use Rattle.pie_store.specs.inner.Reading.{rows_of}
 
 abbrev pub task_of : TaskRecord → Task
 task_of r = r.task

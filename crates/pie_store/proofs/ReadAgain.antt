@@ -13,14 +13,14 @@ use Rattle.pie_record.specs.declared.dep.DepOn.{DepOn}
 use Rattle.pie_record.specs.declared.dep.DepOn.TheVariants.{File, Called}
 use Rattle.pie_record.specs.declared.task_record.TaskRecord.{TaskRecord}
 use Rattle.pie_record.specs.Canonical.{listed}
-use Rattle.pie_record.specs.Reading.{Parsed as Part, then_on as then_part, bytes_at, number_at, task_at}
+use Rattle.pie_record.specs.inner.Reading.{Parsed as Part, then_on as then_part, bytes_at, number_at, task_at}
 use Rattle.pie_record.proofs.Steps.{Codec, step, last}
 use Rattle.pie_record.proofs.Codecs.{number_codec, bytes_codec, text_codec, task_codec}
 use Rattle.pie_store.specs.Canonical.{enc_func, name_before, tasks_in, required_on, over, AreFuncs}
 use Rattle.pie_store.specs.Ranks.{Ranked, same_task, rank_in, on_some, above_one, above, IsStored}
 use Rattle.pie_store.specs.Texts.{IsFunc}
-use Rattle.pie_store.specs.Reading.{Parsed, then_on, placed, part_at, ordered, some_at, list_at, func_at, name_follows, name_last, next_func, next_root}
-use Rattle.pie_store.specs.Reading.{tasks_of, rows_of}
+use Rattle.pie_store.specs.inner.Reading.{Parsed, then_on, placed, part_at, ordered, some_at, list_at, func_at, name_follows, name_last, next_func, next_root}
+use Rattle.pie_store.specs.inner.Reading.{tasks_of, rows_of}
 use Rattle.pie_store.proofs.Turns.{pair}
 use Rattle.pie_store.proofs.Ranking.{same_refl, same_is}
 use Rattle.pie_store.proofs.Pairs.{last_is}

@@ -14,8 +14,8 @@ use Rattle.pie_store.specs.declared.image.StoreImage.{StoreImage}
 use Rattle.pie_store.specs.Canonical.{tasks_in, AreInOrder}
 use Rattle.pie_store.specs.Ranks.{Ranked, is_before, follows, comes_last, height_after, IsStored}
 use Rattle.pie_store.specs.Texts.{IsRow, IsStore}
-use Rattle.pie_store.specs.Reading.{Parsed, then_on, list_at, ranked_as, next_row}
-use Rattle.pie_store.specs.Reading.{first_missing, closed, tasks_of, rows_of, then_image, image_of, tail_of}
+use Rattle.pie_store.specs.inner.Reading.{Parsed, then_on, list_at, ranked_as, next_row}
+use Rattle.pie_store.specs.inner.Reading.{first_missing, closed, tasks_of, rows_of, then_image, image_of, tail_of}
 use Rattle.pie_store.proofs.Pairs.{last_is, ahead_on}
 use Rattle.pie_store.proofs.Admitted.{Admits, AreAdmitted, admits_on}
 use Rattle.pie_store.proofs.StoreParts.{row_bytes, row_stored, rows_stored}

@@ -14,7 +14,7 @@ use Rattle.pie_record.specs.declared.dep.Dep.{Dep}
 use Rattle.pie_record.specs.declared.dep.DepOn.{DepOn}
 use Rattle.pie_record.specs.declared.dep.DepOn.TheVariants.{File, Called}
 use Rattle.pie_record.specs.Canonical.{listed, enc_record, IsStorableOn, IsTrueOn}
-use Rattle.pie_record.specs.Reading.{Parsed as Part, then_on as then_part, text_at, bytes_at, number_at, task_at, record_at}
+use Rattle.pie_record.specs.inner.Reading.{Parsed as Part, then_on as then_part, text_at, bytes_at, number_at, task_at, record_at}
 use Rattle.pie_record.proofs.Steps.{then_ok as part_then, last_ok}
 use Rattle.pie_record.proofs.Codecs.{number_codec, bytes_codec, text_codec, task_codec}
 use Rattle.pie_record.proofs.RecordCodec.{record_codec}
@@ -23,9 +23,9 @@ use Rattle.pie_store.specs.declared.store_fault.StoreFault.{StoreFault}
 use Rattle.pie_store.specs.Canonical.{enc_func, tasks_in, AreFuncs}
 use Rattle.pie_store.specs.Ranks.{Ranked, rank_in, height_after, IsStored, IsStoredOn}
 use Rattle.pie_store.specs.Texts.{IsFunc, IsRow}
-use Rattle.pie_store.specs.Reading.{Parsed, then_on, placed, part_at, ordered, some_at, list_at, func_at, name_follows, name_last, next_func, next_root}
-use Rattle.pie_store.specs.Reading.{ranked_as, next_row}
-use Rattle.pie_store.specs.Reading.{first_missing, rows_of, then_image}
+use Rattle.pie_store.specs.inner.Reading.{Parsed, then_on, placed, part_at, ordered, some_at, list_at, func_at, name_follows, name_last, next_func, next_root}
+use Rattle.pie_store.specs.inner.Reading.{ranked_as, next_row}
+use Rattle.pie_store.specs.inner.Reading.{first_missing, rows_of, then_image}
 use Rattle.pie_store.proofs.Turns.{same_value, same_rest}
 use Rattle.pie_store.proofs.Pairs.{pairs_push, last_is, Ahead, ahead_is, ahead_on, ahead_trans}
 use Rattle.pie_store.proofs.Admitted.{AreKept, kept_push, rank_contains}

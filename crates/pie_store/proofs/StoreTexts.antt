@@ -14,7 +14,7 @@ use Rattle.pie_value.specs.Canonical.{be32, enc_task}
 use Rattle.pie_value.proofs.Taking.{IsBytes}
 use Rattle.pie_record.specs.declared.task_record.TaskRecord.{TaskRecord}
 use Rattle.pie_record.specs.Canonical.{listed, enc_record}
-use Rattle.pie_record.specs.Reading.{bytes_at}
+use Rattle.pie_record.specs.inner.Reading.{bytes_at}
 use Rattle.pie_record.proofs.Codecs.{bytes_codec}
 use Rattle.pie_store.specs.declared.image.StoreImage.{StoreImage}
 use Rattle.pie_store.specs.declared.store_fault.StoreFault.{StoreFault}
@@ -23,10 +23,10 @@ use Rattle.pie_store.specs.Frame.{magic, sealed, versioned, framed}
 use Rattle.pie_store.specs.Canonical.{enc_func, enc_head, enc_body, names_of, tasks_in, AreFuncs, AreInOrder}
 use Rattle.pie_store.specs.Ranks.{knows, IsStored}
 use Rattle.pie_store.specs.Texts.{IsFunc, IsRow, IsFormat, AreKnown, IsStore, IsStoreText}
-use Rattle.pie_store.specs.Agreement.{AgreesWhole}
-use Rattle.pie_store.specs.Reading.{part_at, list_at, next_func, next_root, next_row}
-use Rattle.pie_store.specs.Reading.{first_missing, closed, tasks_of, rows_of, then_image, image_of, tail_of, contents_1, contents_2, body_says, on_body}
-use Rattle.pie_store.specs.Reading.{store_says}
+use Rattle.pie_store.specs.inner.Agreement.{AgreesWhole}
+use Rattle.pie_store.specs.inner.Reading.{part_at, list_at, next_func, next_root, next_row}
+use Rattle.pie_store.specs.inner.Reading.{first_missing, closed, tasks_of, rows_of, then_image, image_of, tail_of, contents_1, contents_2, body_says, on_body}
+use Rattle.pie_store.specs.inner.Reading.{store_says}
 use Rattle.pie_store.proofs.Admitted.{AreKept, kept_none, kept_in_order}
 use Rattle.pie_store.proofs.StoreParts.{FuncBefore, IsRankedRow, IsRoot, deps_stored, funcs_push}
 use Rattle.pie_store.proofs.StoreParts.{funcs_taker, list_kept, list_taken, placed_ok, root_bytes, roots_found, roots_taker}

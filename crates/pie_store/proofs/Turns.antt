@@ -1,11 +1,11 @@
 -- Reading things one after another.
 use Rattle.std.proofs.Common.{◌≡◌, ℕ, suc, ◌+◌, ◌-◌, ◌<◌, List, [], ◌∷◌, ◌++◌, length, Ok, Err, sym, ap, ◌∙◌, arith}
 use Rattle.std.proofs.lemmas.List.{length_push}
-use Rattle.pie_record.specs.Reading.{number_at}
+use Rattle.pie_record.specs.inner.Reading.{number_at}
 use Rattle.pie_store.specs.declared.store_fault.StoreFault.{StoreFault}
 use Rattle.pie_store.specs.declared.store_fault.StoreFault.TheVariants.{Short, Magic, Version, Digest, Row, Order, Rest, OutOfMemory}
-use Rattle.pie_store.specs.Agreement.{StoreAgrees}
-use Rattle.pie_store.specs.Reading.{Parsed, then_on, part_at, some_at, grown, list_at}
+use Rattle.pie_store.specs.inner.Agreement.{StoreAgrees}
+use Rattle.pie_store.specs.inner.Reading.{Parsed, then_on, part_at, some_at, grown, list_at}
 
 abbrev pub pair : {A : Type 0} → A → List ℕ → Parsed A
 pair a rest = Ok (a, rest)

@@ -19,9 +19,9 @@ use Rattle.pie_store.specs.Frame.{magic, sealed, versioned, framed}
 use Rattle.pie_store.specs.Canonical.{enc_func, enc_head, enc_body, names_of, IsStorableStore}
 use Rattle.pie_store.specs.Ranks.{knows, IsStored}
 use Rattle.pie_store.specs.Texts.{IsFunc, IsFormat, AreKnown, IsStore, IsStoreText}
-use Rattle.pie_store.specs.Agreement.{AgreesWhole, Refuses}
-use Rattle.pie_store.specs.Reading.{Parsed, next_func}
-use Rattle.pie_store.specs.Reading.{then_image, tail_of, contents_1, contents_2, body_says, on_body, store_says}
+use Rattle.pie_store.specs.inner.Agreement.{AgreesWhole, Refuses}
+use Rattle.pie_store.specs.inner.Reading.{Parsed, next_func}
+use Rattle.pie_store.specs.inner.Reading.{then_image, tail_of, contents_1, contents_2, body_says, on_body, store_says}
 use Rattle.pie_store.proofs.ReadAgain.{part_again, list_again, funcs_read}
 use Rattle.pie_store.proofs.RowsAgain.{tail_again}
 

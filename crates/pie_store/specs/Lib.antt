@@ -1,12 +1,5 @@
 pub mod Frame
 pub mod Ranks
 pub mod Canonical
-pub mod Reading
-pub mod Agreement
-pub mod RankCodes
-pub mod Known
-pub mod Pending
 pub mod Texts
-pub mod Offers
-pub mod ListFaults
-pub mod Faults
+pub mod inner

@@ -12,7 +12,7 @@ use Rattle.pie_record.specs.declared.dep.Dep.{Dep}
 use Rattle.pie_record.specs.declared.dep.DepOn.{DepOn}
 use Rattle.pie_record.specs.declared.dep.DepOn.TheVariants.{File, Called}
 use Rattle.pie_record.specs.declared.task_record.TaskRecord.{TaskRecord}
-use Rattle.pie_record.specs.Names.{AreDistinct}
+use Rattle.pie_record.specs.inner.Names.{AreDistinct}
 
 -- records, each with the height of its task
 abbrev pub Ranked : Type 0

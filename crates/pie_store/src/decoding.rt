@@ -4,10 +4,10 @@ ghost use Rattle.pie_store.specs.declared.image.StoreImage.{StoreImage};
 ghost use Rattle.pie_store.specs.Canonical.{IsStorableStore};
 ghost use Rattle.pie_store.specs.Texts.{IsStoreText};
 ghost use Rattle.pie_store.specs.declared.store_fault.StoreFault.{StoreFault};
-ghost use Rattle.pie_store.specs.Faults.{HasFault, RefusesWith, TellsFault};
-ghost use Rattle.pie_store.specs.Agreement.{StoreAgrees, AgreesWhole, Refuses};
-ghost use Rattle.pie_store.specs.Reading.{store_says, body_says, contents_1, contents_2, tail_of};
-ghost use Rattle.pie_store.specs.Known.{known_in};
+ghost use Rattle.pie_store.specs.inner.Faults.{HasFault, RefusesWith, TellsFault};
+ghost use Rattle.pie_store.specs.inner.Agreement.{StoreAgrees, AgreesWhole, Refuses};
+ghost use Rattle.pie_store.specs.inner.Reading.{store_says, body_says, contents_1, contents_2, tail_of};
+ghost use Rattle.pie_store.specs.inner.Known.{known_in};
 
 use crate::frame::body_of;
 use crate::known::Known;

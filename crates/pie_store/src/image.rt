@@ -64,7 +64,7 @@ pub struct Rows {
 impl Model for Rows {
     ghost use Rattle.std.specs.Prelude.{List};
     ghost use Rattle.pie_record.specs.declared.task_record.TaskRecord.{TaskRecord};
-    ghost use Rattle.pie_record.specs.RecordCodes.{coded_records};
+    ghost use Rattle.pie_record.specs.inner.RecordCodes.{coded_records};
 
     ghost Value = { List TaskRecord };
 

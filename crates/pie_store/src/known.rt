@@ -3,7 +3,7 @@ ghost use Rattle.std.specs.Prelude.{◌≡◌, ℕ, List, IfOk};
 ghost use Rattle.std.specs.List.{list_any};
 ghost use Rattle.std.specs.Str.{bytes_eq};
 ghost use Rattle.pie_store.specs.Ranks.{knows};
-ghost use Rattle.pie_store.specs.Known.{known_in, set_has};
+ghost use Rattle.pie_store.specs.inner.Known.{known_in, set_has};
 
 use indexmap::IndexSet;
 use pie_base::{OutOfMemory, Text};

@@ -3,7 +3,7 @@ ghost use Rattle.std.specs.Prelude.{◌≡◌, [], All, map, IfSome, IfOk};
 ghost use Rattle.pie_value.specs.Canonical.{IsEncodableTask};
 ghost use Rattle.pie_files.specs.Streams.{Counted};
 ghost use Rattle.pie_files.specs.Images.{MayLeave, Stays};
-ghost use Rattle.pie_store.specs.Offers.{offered, IsOffer};
+ghost use Rattle.pie_store.specs.inner.Offers.{offered, IsOffer};
 
 use pie_files::{Files, FilesError};
 use pie_record::TaskRecord;
@@ -23,7 +23,7 @@ pub trait Offers {
     ghost use Rattle.std.specs.Prelude.{List, ℕ};
     ghost use Rattle.pie_value.specs.declared.task.Task.{Task};
     ghost use Rattle.pie_files.specs.Directory.{Directory};
-    ghost use Rattle.pie_store.specs.Offers.{Offered};
+    ghost use Rattle.pie_store.specs.inner.Offers.{Offered};
 
     /// The offers for a task whose function has a digest, over files that hold a directory, in order.
     ghost told: { Self → Directory → Task → List ℕ → List Offered };

@@ -2,8 +2,8 @@
 ghost use Rattle.std.specs.Prelude.{◌≡◌, ◌≤◌, ◌<◌, ◌^◌, ◌∷◌, [], ◌++◌, ◌+◌, length, map, max, All, None, IfOk, OnOk, IfSome, slice_index_or};
 ghost use Rattle.pie_value.specs.Canonical.{IsEncodableTask};
 ghost use Rattle.pie_store.specs.Ranks.{rank_in, above_one, above as specs_above, comes_last, is_before as specs_is_before, height_after, IsStored, IsStoredOn};
-ghost use Rattle.pie_store.specs.Reading.{rows_of};
-ghost use Rattle.pie_store.specs.Known.{known_in};
+ghost use Rattle.pie_store.specs.inner.Reading.{rows_of};
+ghost use Rattle.pie_store.specs.inner.Known.{known_in};
 ghost use Rattle.pie_record.specs.declared.dep.Dep.{Dep};
 
 use crate::known::Known;
@@ -26,7 +26,7 @@ impl Model for RankedRows {
     ghost use Rattle.std.specs.Prelude.{List, ℕ};
     ghost use Rattle.std.specs.List.{zip};
     ghost use Rattle.pie_record.specs.declared.task_record.TaskRecord.{TaskRecord};
-    ghost use Rattle.pie_store.specs.RankCodes.{coded_ranked};
+    ghost use Rattle.pie_store.specs.inner.RankCodes.{coded_ranked};
     ghost use Rattle.pie_store.specs.Ranks.{AreRanked};
 
     ghost Value = { List (TaskRecord × ℕ) };

@@ -1,13 +1,13 @@
 //! Reading what a store says, once from the left. `end` is the length of the body, so that what is left tells
 //! the offset.
 ghost use Rattle.std.specs.Prelude.{◌≡◌, ◌-◌, ◌≤◌, ◌<◌, ◌^◌, length, List, ℕ, All, IfOk, None};
-ghost use Rattle.pie_record.specs.Agreement.{RowAgrees as PartAgrees};
-ghost use Rattle.pie_record.specs.Reading.{number_at};
-ghost use Rattle.pie_store.specs.Agreement.{StoreAgrees};
+ghost use Rattle.pie_record.specs.inner.Agreement.{RowAgrees as PartAgrees};
+ghost use Rattle.pie_record.specs.inner.Reading.{number_at};
+ghost use Rattle.pie_store.specs.inner.Agreement.{StoreAgrees};
 ghost use Rattle.pie_store.specs.Ranks.{rank_in, IsStored};
-ghost use Rattle.pie_store.specs.Known.{known_in};
-ghost use Rattle.pie_store.specs.Reading.{row_fault, part_at, grown, list_at, func_at, name_follows, name_last, next_func, next_root, next_row, first_missing};
-ghost use Rattle.pie_store.specs.Reading.{tasks_of as specs_tasks_of};
+ghost use Rattle.pie_store.specs.inner.Known.{known_in};
+ghost use Rattle.pie_store.specs.inner.Reading.{row_fault, part_at, grown, list_at, func_at, name_follows, name_last, next_func, next_root, next_row, first_missing};
+ghost use Rattle.pie_store.specs.inner.Reading.{tasks_of as specs_tasks_of};
 ghost use Rattle.pie_store.specs.Canonical.{name_before as specs_name_before};
 
 use crate::StoreFault;

@@ -6,7 +6,7 @@ ghost use Rattle.pie_record.specs.Canonical.{listed, enc_record, IsStorable, IsT
 ghost use Rattle.pie_store.specs.Canonical.{enc_func, enc_body, IsStorableStore};
 ghost use Rattle.pie_store.specs.Ranks.{IsStored};
 ghost use Rattle.pie_store.specs.Texts.{IsFunc, IsStore, IsStoreText};
-ghost use Rattle.pie_store.specs.Reading.{store_says};
+ghost use Rattle.pie_store.specs.inner.Reading.{store_says};
 
 use crate::StoreImage;
 use crate::frame::{MAGIC, hash_of};

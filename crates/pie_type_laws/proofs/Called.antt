@@ -9,7 +9,7 @@ use Rattle.pie_value.specs.declared.event.How.TheVariants.{Whole, Hashed, Ran}
 use Rattle.pie_value.specs.Tree.{Tree as Val, items_of}
 use Rattle.pie_value.specs.Types.{TyTree, TextTy, PathTy, NullableTy, BytesTy, parts_of}
 use Rattle.pie_value.specs.HasType.{has_type, have_types}
-use Rattle.pie_value.specs.Builtins.{answer_of}
+use Rattle.pie_value.specs.inner.Builtins.{answer_of}
 use Rattle.pie_signature.specs.Names.{builtin_of}
 use Rattle.pie_signature.specs.Signatures.{arity_of}
 use Rattle.pie_operators.specs.declared.asking.Observation.TheVariants as observations
@@ -23,7 +23,7 @@ use Rattle.pie_types.specs.Scope.{Entry}
 use Rattle.pie_types.specs.Headings.{Heading, function_in}
 use Rattle.pie_types.specs.Operators.{same_type, effect_takes, effect_gives}
 use Rattle.pie_types.specs.Calls.{Callee, ReadBytes, OfBuiltin, OfFunction, callee_of, taken, other_than, other_than_param, answer}
-use Rattle.pie_types.specs.Rules.{Fit, an_argument}
+use Rattle.pie_types.specs.inner.Rules.{Fit, an_argument}
 use Rattle.pie_types.specs.Whole.{types_in}
 use Rattle.pie_types.proofs.SameType.{same_true}
 use Rattle.pie_semantics.specs.Words.{called, called_plainly, callee_by, ABuiltin, effect_of}

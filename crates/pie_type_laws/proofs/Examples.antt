@@ -19,11 +19,11 @@ use Rattle.pie_parser.specs.PlainTypes.{PlainT}
 use Rattle.pie_parser.specs.Plain.{Tree, TLiteral, TName, TChain, TCall, Nil, Cons, NoStep, AStep, TBlock, NoLine, ALast}
 use Rattle.pie_parser.specs.FunctionTrees.{FunctionTree}
 use Rattle.pie_types.specs.Headings.{Heading}
-use Rattle.pie_types.specs.Rules as rule
-use Rattle.pie_types.specs.Rules.{HasType, BlockHas}
+use Rattle.pie_types.specs.inner.Rules as rule
+use Rattle.pie_types.specs.inner.Rules.{HasType, BlockHas}
 use Rattle.pie_types.specs.Calls.{OfFunction}
-use Rattle.pie_types.specs.WrittenRules.{plain}
-use Rattle.pie_types.specs.WholeRules.{no_param, a_param, Declares, AreDeclared, no_function, a_function, typed_function, nothing, one_more, IsTyped, typed}
+use Rattle.pie_types.specs.inner.WrittenRules.{plain}
+use Rattle.pie_types.specs.inner.WholeRules.{no_param, a_param, Declares, AreDeclared, no_function, a_function, typed_function, nothing, one_more, IsTyped, typed}
 use Rattle.pie_semantics.specs.Meaning.{value_of, next_of}
 use Rattle.pie_type_laws.specs.Fitting.{AnswerFits}
 use Rattle.pie_type_laws.specs.NeverStuck.{Takes}

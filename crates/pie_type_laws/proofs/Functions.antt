@@ -7,8 +7,8 @@ use Rattle.pie_value.specs.Types.{TyTree, parts_of}
 use Rattle.pie_operators.specs.Domain.{Outcome, done, fails, wants, at_start}
 use Rattle.pie_parser.specs.FunctionTrees.{FunctionTree}
 use Rattle.pie_types.specs.Headings.{Heading}
-use Rattle.pie_types.specs.Rules.{BlockHas}
-use Rattle.pie_types.specs.WholeRules.{ParamsBring}
+use Rattle.pie_types.specs.inner.Rules.{BlockHas}
+use Rattle.pie_types.specs.inner.WholeRules.{ParamsBring}
 use Rattle.pie_semantics.specs.Meaning.{bound, block_value}
 use Rattle.pie_type_laws.specs.Fitting.{IsOf}
 use Rattle.pie_type_laws.specs.NeverStuck.{Takes, RunsWell, IsNeverStuck}

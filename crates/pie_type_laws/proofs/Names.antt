@@ -9,8 +9,8 @@ use Rattle.pie_value.specs.HasType.{has_type, have_types}
 use Rattle.pie_parser.specs.declared.tree.Param.{Param}
 use Rattle.pie_types.specs.Scope.{Entry, type_in, with_name}
 use Rattle.pie_types.specs.Whole.{types_in}
-use Rattle.pie_types.specs.Rules.{IsFresh, fresh}
-use Rattle.pie_types.specs.WholeRules.{ParamsBring, no_param, a_param}
+use Rattle.pie_types.specs.inner.Rules.{IsFresh, fresh}
+use Rattle.pie_types.specs.inner.WholeRules.{ParamsBring, no_param, a_param}
 use Rattle.pie_semantics.specs.Words.{Env, look_up}
 use Rattle.pie_semantics.specs.Meaning.{bound}
 use Rattle.pie_type_laws.specs.Fitting.{IsOf}

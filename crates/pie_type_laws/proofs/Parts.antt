@@ -17,7 +17,7 @@ use Rattle.pie_parser.specs.declared.tree.Operator.TheVariants as operators
 use Rattle.pie_parser.specs.Plain.{Trees, Nil, Cons, Steps, NoStep, AStep}
 use Rattle.pie_types.specs.Headings.{Heading}
 use Rattle.pie_types.specs.Operators.{literal_type, is_plus, all_plus, is_addable, operands_type}
-use Rattle.pie_types.specs.Rules.{Leads, stays, goes, OperandsHave, in_sum, in_other}
+use Rattle.pie_types.specs.inner.Rules.{Leads, stays, goes, OperandsHave, in_sum, in_other}
 use Rattle.pie_semantics.specs.Words.{Env, found, literal_value, branch, Logic, Neither, by_logic, logic_by, logic_of, infix_of, projected, over}
 use Rattle.pie_semantics.specs.Meaning.{turns, value_of, either_value, both_value, steps_value, items_onto, values_of}
 use Rattle.pie_type_laws.specs.Fitting.{IsOf}

@@ -13,8 +13,8 @@ use Rattle.pie_types.specs.Headings.{Heading}
 use Rattle.pie_types.specs.Operators.{literal_type, prefix_type, effect_takes, effect_gives}
 use Rattle.pie_types.specs.Calls.{answer}
 use Rattle.pie_types.specs.Checking.{count}
-use Rattle.pie_types.specs.Rules as rule
-use Rattle.pie_types.specs.Rules.{HasType, StepsHave, AllHave, HaveTypes, BlockHas, LinesBring}
+use Rattle.pie_types.specs.inner.Rules as rule
+use Rattle.pie_types.specs.inner.Rules.{HasType, StepsHave, AllHave, HaveTypes, BlockHas, LinesBring}
 use Rattle.pie_semantics.specs.Words.{Env, look_up, branch, literal_value, comparison_of, prefix_of, projected, over, called, effect_of}
 use Rattle.pie_semantics.specs.Meaning.{turns, value_of, values_of, block_value, lines_value, last_value, else_value}
 use Rattle.pie_type_laws.specs.Fitting.{IsOf}

@@ -12,9 +12,9 @@ use Rattle.pie_types.specs.Faults.{TypingResult}
 use Rattle.pie_types.specs.Scope.{Entry, with_name}
 use Rattle.pie_types.specs.Headings.{Heading, function_in, params_from, signature_of, headings_from}
 use Rattle.pie_types.specs.Whole.{types_in, takes, number_from}
-use Rattle.pie_types.specs.Rules.{BlockHas}
-use Rattle.pie_types.specs.WholeRules.{ParamsBring, no_param, a_param, Declares, AreDeclared, no_function, a_function, IsTypedFunction, typed_function}
-use Rattle.pie_types.specs.WholeRules.{AreTyped, nothing, one_more, IsTyped, typed}
+use Rattle.pie_types.specs.inner.Rules.{BlockHas}
+use Rattle.pie_types.specs.inner.WholeRules.{ParamsBring, no_param, a_param, Declares, AreDeclared, no_function, a_function, IsTypedFunction, typed_function}
+use Rattle.pie_types.specs.inner.WholeRules.{AreTyped, nothing, one_more, IsTyped, typed}
 use Rattle.pie_types.proofs.WrittenLaw.{written_complete}
 use Rattle.pie_types.proofs.Complete.{may_enter_is}
 use Rattle.pie_value.specs.declared.event.Answer.{Answer}

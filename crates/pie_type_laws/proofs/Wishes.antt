@@ -5,13 +5,13 @@ use Rattle.pie_value.specs.declared.builtin.Builtin.{Builtin}
 use Rattle.pie_value.specs.Tree.{Tree as Val, Trees as Vals, TInt, TText, TPath, TList, TBytes, items_of}
 use Rattle.pie_value.specs.Types.{TyTree, IntTy, TextTy, PathTy, ListTy, NullableTy, BytesTy, parts_of}
 use Rattle.pie_value.specs.HasType.{has_type}
-use Rattle.pie_value.specs.BuiltinForms.{Answered, of_one, of_two, of_three}
+use Rattle.pie_value.specs.inner.BuiltinForms.{Answered, of_one, of_two, of_three}
 use Rattle.pie_signature.specs.declared.wanted.Wanted.{Wanted}
 use Rattle.pie_signature.specs.declared.wanted.Wanted.TheVariants as wants
 use Rattle.pie_signature.specs.Wanted.{fits, named, is_nullable}
 use Rattle.pie_signature.specs.Signatures.{wanted_of, arity_of, misfit_at}
 use Rattle.pie_types.specs.Calls.{OfBuiltin, first}
-use Rattle.pie_types.specs.Rules.{Fit, an_argument}
+use Rattle.pie_types.specs.inner.Rules.{Fit, an_argument}
 use Rattle.pie_type_laws.specs.Fitting.{IsOf}
 use Rattle.pie_type_laws.proofs.Acts.{Good}
 use Rattle.pie_type_laws.proofs.Inhabitants.{AllOf, EachOf, both, of_int, of_text, of_path, of_bytes, of_list}

@@ -13,7 +13,7 @@ use Rattle.pie_operators.specs.Domain.{Outcome, done, fails, wants}
 use Rattle.pie_parser.specs.FunctionTrees.{FunctionTree}
 use Rattle.pie_types.specs.Headings.{Heading, function_in}
 use Rattle.pie_types.specs.Whole.{types_in, number_from}
-use Rattle.pie_types.specs.WholeRules.{AreDeclared, IsTyped}
+use Rattle.pie_types.specs.inner.WholeRules.{AreDeclared, IsTyped}
 use Rattle.pie_semantics.specs.Meaning.{next_of}
 use Rattle.pie_type_laws.specs.Fitting.{IsOf, AnswerFits}
 

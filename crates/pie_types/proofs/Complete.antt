@@ -17,9 +17,9 @@ use Rattle.pie_types.specs.Operators.{is_writable}
 use Rattle.pie_types.specs.Calls.{Callee, taken, right_number}
 use Rattle.pie_types.specs.Forms.{fitting, block_fitting}
 use Rattle.pie_types.specs.Checking.{type_of, operands, types_of, more_items, arguments, block_type, after_lines, count}
-use Rattle.pie_types.specs.Rules as rule
-use Rattle.pie_types.specs.Rules.{HasType, StepsHave, AllHave, HaveTypes, Fit, BlockHas, LinesBring, Leads, stays, goes, IsFresh, fresh, OperandsHave, in_sum}
-use Rattle.pie_types.specs.Rules.{in_other, LeftHas, of_any, by_size}
+use Rattle.pie_types.specs.inner.Rules as rule
+use Rattle.pie_types.specs.inner.Rules.{HasType, StepsHave, AllHave, HaveTypes, Fit, BlockHas, LinesBring, Leads, stays, goes, IsFresh, fresh, OperandsHave, in_sum}
+use Rattle.pie_types.specs.inner.Rules.{in_other, LeftHas, of_any, by_size}
 use Rattle.pie_types.proofs.SameType.{same_self}
 use Rattle.pie_types.proofs.WrittenLaw.{written_complete}
 use Rattle.pie_types.proofs.Inversions.{ok_inj}

@@ -6,13 +6,13 @@ use Rattle.std.specs.BTreeMap.{BTreeMap, get_by_text}
 use Rattle.std.proofs.lemmas.List.{length-map, map-append}
 use Rattle.std.proofs.lemmas.Slice.Eq.{bytes_eq-Decides}
 use Rattle.pie_value.specs.Types.{parts_of}
-use Rattle.pie_value.specs.TypeTrees.{ty_tree, ty_trees}
+use Rattle.pie_value.specs.inner.TypeTrees.{ty_tree, ty_trees}
 use Rattle.pie_value.specs.declared.ty.Ty.{Ty}
 use Rattle.pie_types.specs.declared.headings.Heading.{Heading as DHeading}
 use Rattle.pie_types.specs.Headings.{Heading, place_from, function_in}
-use Rattle.pie_types.specs.Shown.{heading_tree, heading_trees}
+use Rattle.pie_types.specs.inner.Shown.{heading_tree, heading_trees}
 use Rattle.pie_types.specs.Operators.{part_at}
-use Rattle.pie_types.specs.Noted.{kept}
+use Rattle.pie_types.specs.inner.Noted.{kept}
 
 none_by : (b : Bool) (k n : ℕ) (q : List ℕ) (h : Heading) (hs : List Heading) → (place_from n q hs ≡ None → function_in q hs ≡ None)
     → cond b (Some k) (place_from n q hs) ≡ None → cond b (Some h) (function_in q hs) ≡ None

@@ -14,7 +14,7 @@ use Rattle.pie_types.specs.Operators.{same_type, where_fits, matched, passing, n
 use Rattle.pie_types.specs.Operators.{is_ordered, left_operand, found_item, item_of, numbered, later_items, projected, items_type}
 use Rattle.pie_types.specs.Forms.{fitting, block_fitting}
 use Rattle.pie_types.specs.Calls.{Callee, known, taken, right_number, unless}
-use Rattle.pie_types.specs.Rules.{Leads, stays, goes, IsFresh, fresh, OperandsHave, in_sum, in_other, LeftHas, of_any, by_size}
+use Rattle.pie_types.specs.inner.Rules.{Leads, stays, goes, IsFresh, fresh, OperandsHave, in_sum, in_other, LeftHas, of_any, by_size}
 use Rattle.pie_types.proofs.SameType.{same_true}
 use Rattle.pie_types.proofs.Steps.{then_inv}
 

@@ -10,7 +10,7 @@ use Rattle.pie_parser.specs.declared.tree.Line.{Line}
 use Rattle.pie_parser.specs.declared.tree.Line.TheVariants as lines
 use Rattle.pie_parser.specs.TreeView.{trees_of, steps_of, lines_of, line_before, mass, trees_mass, steps_mass, lines_mass}
 use Rattle.pie_types.specs.declared.scope.Bound.{Bound}
-use Rattle.pie_types.specs.Shown.{entry_of, entries_of}
+use Rattle.pie_types.specs.inner.Shown.{entry_of, entries_of}
 use Rattle.pie_types.specs.Scope.{Entry}
 use Rattle.pie_types.specs.Checking.{count}
 

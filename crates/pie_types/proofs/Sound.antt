@@ -15,8 +15,8 @@ use Rattle.pie_types.specs.Operators.{effect_gives, is_writable}
 use Rattle.pie_types.specs.Calls.{Callee, callee_of, known, right_number, misfit, unless, answer}
 use Rattle.pie_types.specs.Forms.{fitting, within}
 use Rattle.pie_types.specs.Checking.{type_of, operands, types_of, list_items, more_items, arguments, branches, block_type, after_lines, last_type, count}
-use Rattle.pie_types.specs.Rules as rules
-use Rattle.pie_types.specs.Rules.{HasType, StepsHave, AllHave, HaveTypes, Fit, BlockHas, LinesBring}
+use Rattle.pie_types.specs.inner.Rules as rules
+use Rattle.pie_types.specs.inner.Rules.{HasType, StepsHave, AllHave, HaveTypes, Fit, BlockHas, LinesBring}
 use Rattle.pie_types.proofs.Steps.{then_inv}
 use Rattle.pie_types.proofs.WrittenLaw.{written_sound}
 use Rattle.pie_types.proofs.Inversions.{ok_inj, matched_inv, passing_inv, fitting_inv, block_fitting_inv, name_inv, first_inv, left_inv, projected_sound}

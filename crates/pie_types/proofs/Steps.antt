@@ -25,7 +25,7 @@ use Rattle.pie_types.specs.Operators.{item_of, later_items}
 use Rattle.pie_types.specs.Calls.{Callee, misfit, unless}
 use Rattle.pie_types.specs.Spans.{at_of, end_of}
 use Rattle.pie_types.specs.Checking as spec
-use Rattle.pie_types.specs.Blocks.{after_line}
+use Rattle.pie_types.specs.inner.Blocks.{after_line}
 use Rattle.pie_types.specs.Whole.{bodies, body_type}
 use Rattle.pie_types.proofs.Left.{list_left, trees_left, steps_left, lines_left, types_left}
 

@@ -13,9 +13,9 @@ use Rattle.pie_types.specs.Headings.{Heading, is_builtin, function_in, may_be_na
 use Rattle.pie_types.specs.Forms.{block_fitting}
 use Rattle.pie_types.specs.Checking.{block_type}
 use Rattle.pie_types.specs.Whole.{body_type, bodies, checked}
-use Rattle.pie_types.specs.WholeRules.{ParamsBring, no_param, a_param, Declares, AreDeclared, no_function, a_function, typed_function}
-use Rattle.pie_types.specs.WholeRules.{AreTyped, nothing, one_more, IsTyped, typed}
-use Rattle.pie_types.specs.Law.{NotRefused}
+use Rattle.pie_types.specs.inner.WholeRules.{ParamsBring, no_param, a_param, Declares, AreDeclared, no_function, a_function, typed_function}
+use Rattle.pie_types.specs.inner.WholeRules.{AreTyped, nothing, one_more, IsTyped, typed}
+use Rattle.pie_types.specs.inner.Law.{NotRefused}
 use Rattle.pie_types.proofs.Steps.{then_inv}
 use Rattle.pie_types.proofs.Inversions.{ok_inj, cond_other, none_of, may_enter_sound, block_fitting_inv}
 use Rattle.pie_types.proofs.WrittenLaw.{written_sound, written_complete}

@@ -6,7 +6,7 @@ use Rattle.pie_value.specs.Types.{TyTree, ListTy, TupleTy, NullableTy, BytesTy, 
 use Rattle.pie_parser.specs.PlainTypes.{TypeTree, PlainT, NamedT, ListT, TupleT, NullableT, TypeTrees, NilT, ConsT}
 use Rattle.pie_types.specs.Faults.{then_on}
 use Rattle.pie_types.specs.Written.{plain_type, written, written_each}
-use Rattle.pie_types.specs.WrittenRules.{Denotes, plain, bytes, list, tuple, nullable, DenoteEach, none, one_more}
+use Rattle.pie_types.specs.inner.WrittenRules.{Denotes, plain, bytes, list, tuple, nullable, DenoteEach, none, one_more}
 use Rattle.pie_types.proofs.Steps.{then_inv}
 use Rattle.pie_types.proofs.Inversions.{ok_inj, cond_ok}
 

@@ -1,11 +1,11 @@
 //! Blocks, and the choice between them.
 ghost use Rattle.std.specs.Prelude.{◌≡◌, OnOk};
-ghost use Rattle.pie_value.specs.TypeTrees.{ty_tree};
+ghost use Rattle.pie_value.specs.inner.TypeTrees.{ty_tree};
 ghost use Rattle.pie_parser.specs.Plain.{AnElse, NoElse};
 ghost use Rattle.pie_parser.specs.TreeView.{block_of, last_of, lines_of};
 ghost use Rattle.pie_types.specs.Faults.{TypingAgrees};
 ghost use Rattle.pie_types.specs.Checking as spec;
-ghost use Rattle.pie_types.specs.Blocks as blocks;
+ghost use Rattle.pie_types.specs.inner.Blocks as blocks;
 
 use crate::TypeError;
 use crate::expr::{expected, type_of};

@@ -1,11 +1,11 @@
 //! Calls by name.
 ghost use Rattle.std.specs.Prelude.{◌≡◌, OnOk};
-ghost use Rattle.pie_value.specs.TypeTrees.{ty_tree, ty_trees};
+ghost use Rattle.pie_value.specs.inner.TypeTrees.{ty_tree, ty_trees};
 ghost use Rattle.pie_parser.specs.TreeView.{trees_of};
 ghost use Rattle.pie_types.specs.Faults.{TypingAgrees};
 ghost use Rattle.pie_types.specs.Spans.{at_of, end_of};
 ghost use Rattle.pie_types.specs.Calls as calls;
-ghost use Rattle.pie_types.specs.Callees.{callee_tree};
+ghost use Rattle.pie_types.specs.inner.Callees.{callee_tree};
 ghost use Rattle.pie_types.specs.Checking as spec;
 
 use crate::callee::{Callee, callee_of};

@@ -1,12 +1,12 @@
 //! What a call by name calls.
 ghost use Rattle.std.specs.Prelude.{◌≡◌, IfOk, option_map, slice_get};
-ghost use Rattle.pie_value.specs.TypeTrees.{ty_tree, ty_trees};
+ghost use Rattle.pie_value.specs.inner.TypeTrees.{ty_tree, ty_trees};
 ghost use Rattle.pie_types.specs.Faults.{TypingAgrees};
 ghost use Rattle.pie_signature.specs.Signatures.{answer_type_of};
 ghost use Rattle.pie_types.specs.Headings.{function_in};
-ghost use Rattle.pie_types.specs.Shown.{entries_of, heading_tree};
+ghost use Rattle.pie_types.specs.inner.Shown.{entries_of, heading_tree};
 ghost use Rattle.pie_types.specs.Calls as calls;
-ghost use Rattle.pie_types.specs.Callees.{callee_tree};
+ghost use Rattle.pie_types.specs.inner.Callees.{callee_tree};
 
 use crate::headings::{Heading, Headings};
 use crate::matching::{refusal, same_type};

@@ -1,7 +1,7 @@
 //! The headings of functions, as a pipeline declares them.
 ghost use Rattle.std.specs.Prelude.{◌≡◌, [], Ok};
 ghost use Rattle.pie_types.specs.Faults.{TypingAgrees};
-ghost use Rattle.pie_types.specs.Shown.{heading_tree};
+ghost use Rattle.pie_types.specs.inner.Shown.{heading_tree};
 ghost use Rattle.pie_types.specs.Headings as spec;
 
 use crate::headings::{Heading, Headings};

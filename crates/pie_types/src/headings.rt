@@ -3,8 +3,8 @@ ghost use Rattle.std.specs.Prelude.{◌≡◌, [], ◌∷◌, ◌++◌, IfOk, On
 ghost use Rattle.pie_types.specs.Headings.{function_in, place_from};
 ghost use Rattle.std.specs.Prelude.{ℕ, List};
 ghost use Rattle.std.specs.BTreeMap.{get_by_text};
-ghost use Rattle.pie_types.specs.Shown.{heading_tree};
-ghost use Rattle.pie_types.specs.Noted.{kept};
+ghost use Rattle.pie_types.specs.inner.Shown.{heading_tree};
+ghost use Rattle.pie_types.specs.inner.Noted.{kept};
 
 use crate::scope::Scope;
 use pie_base::{OutOfMemory, Text};
@@ -33,13 +33,13 @@ impl Model for Headings {
     ghost use Rattle.std.specs.Prelude.{◌≡◌, ℕ, List};
     ghost use Rattle.std.specs.BTreeMap.{get_by_text};
     ghost use Rattle.pie_types.specs.Headings.{Heading, place_from};
-    ghost use Rattle.pie_types.specs.Stored.{coded_headings};
+    ghost use Rattle.pie_types.specs.inner.Stored.{coded_headings};
 
     ghost Value = { List Heading };
 
     ghost coded = { coded_headings };
 
-    ghost use Rattle.pie_types.specs.Shown.{heading_trees};
+    ghost use Rattle.pie_types.specs.inner.Shown.{heading_trees};
 
     ghost view = { λ h. heading_trees h.rows.items };
 

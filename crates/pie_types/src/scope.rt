@@ -1,9 +1,9 @@
 //! The names in scope, each with its type.
 ghost use Rattle.std.specs.Prelude.{◌≡◌, [], OnOk, length, take, option_map};
-ghost use Rattle.pie_value.specs.TypeTrees.{ty_tree};
+ghost use Rattle.pie_value.specs.inner.TypeTrees.{ty_tree};
 ghost use Rattle.pie_types.specs.Faults.{TypingAgrees};
 ghost use Rattle.pie_types.specs.Scope.{entered, may_enter, type_in, with_name};
-ghost use Rattle.pie_types.specs.Shown.{entries_of};
+ghost use Rattle.pie_types.specs.inner.Shown.{entries_of};
 
 use crate::matching::refusal;
 use crate::room::{MAX_TYPE_PARTS, room_after};
@@ -30,13 +30,13 @@ pub struct Scope {
 impl Model for Scope {
     ghost use Rattle.std.specs.Prelude.{List};
     ghost use Rattle.pie_types.specs.Scope.{Entry};
-    ghost use Rattle.pie_types.specs.Stored.{coded_scope};
+    ghost use Rattle.pie_types.specs.inner.Stored.{coded_scope};
 
     ghost Value = { List Entry };
 
     ghost coded = { coded_scope };
 
-    ghost use Rattle.pie_types.specs.Shown.{entries_of};
+    ghost use Rattle.pie_types.specs.inner.Shown.{entries_of};
 
     ghost view = { λ s. entries_of s.bound.items };
 }

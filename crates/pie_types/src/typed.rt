@@ -4,9 +4,9 @@ ghost use Rattle.pie_value.specs.HasType.{have_types};
 ghost use Rattle.pie_value.specs.Tree.{items_of};
 ghost use Rattle.pie_value.specs.Types.{parts_of};
 ghost use Rattle.pie_value.specs.Values.{trees_of};
-ghost use Rattle.pie_types.specs.Shown.{entries_of, heading_tree};
+ghost use Rattle.pie_types.specs.inner.Shown.{entries_of, heading_tree};
 ghost use Rattle.pie_types.specs.Whole as spec;
-ghost use Rattle.pie_types.specs.WholeRules.{IsTyped};
+ghost use Rattle.pie_types.specs.inner.WholeRules.{IsTyped};
 
 use crate::headings::{Heading, Headings};
 use crate::scope::Bound;
@@ -24,7 +24,7 @@ pub struct Typed {
 impl Model for Typed {
     ghost use Rattle.std.specs.Prelude.{List};
     ghost use Rattle.pie_parser.specs.FunctionTrees.{FunctionTree};
-    ghost use Rattle.pie_types.specs.Stored.{coded_functions};
+    ghost use Rattle.pie_types.specs.inner.Stored.{coded_functions};
 
     ghost Value = { List FunctionTree };
 

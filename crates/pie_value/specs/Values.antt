@@ -2,7 +2,7 @@
 use Rattle.std.specs.Prelude.{List, map, Option}
 use Rattle.std.specs.declared.rc.Rc.{Rc}
 use Rattle.std.proofs.Common.{Vec, Global}
-use Rattle.pie_value.specs.Shared.{behind}
+use Rattle.pie_value.specs.inner.Shared.{behind}
 use Rattle.pie_value.specs.declared.value.Value.{Value}
 use Rattle.pie_value.specs.declared.value.Value.TheVariants.{Unit as VUnit, Bool as VBool, Int as VInt, Text as VText, Path as VPath}
 use Rattle.pie_value.specs.declared.value.Value.TheVariants.{List as VList, Tuple as VTuple, Null as VNull, Bytes as VBytes}

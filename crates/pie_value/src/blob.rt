@@ -25,7 +25,7 @@ impl Model for Blob {
 
     ghost Value = { List ℕ };
 
-    ghost use Rattle.pie_value.specs.Held.{held_bytes};
+    ghost use Rattle.pie_value.specs.inner.Held.{held_bytes};
 
     ghost view = { λ b. held_bytes b.bytes };
 }

@@ -2,9 +2,9 @@
 ghost use Rattle.std.specs.Prelude.{◌≡◌, ◌-◌, ◌==◌, [], length, MatchOption, true, false};
 ghost use Rattle.std.specs.Str.{is_utf8};
 ghost use Rattle.pie_value.specs.Values.{tree_of};
-ghost use Rattle.pie_value.specs.Agreement.{ValueAgrees, ValueAgreesOnPrefix};
-ghost use Rattle.pie_value.specs.Reading.{byte_of, bytes_of, number_of, int_of, counted_of, tested_of, is_path_text, tag_at, tag_of};
-ghost use Rattle.pie_value.specs.Reading.{flag_of, tagged, items_prefix, value_within, value_prefix, value_whole, task_prefix};
+ghost use Rattle.pie_value.specs.inner.Agreement.{ValueAgrees, ValueAgreesOnPrefix};
+ghost use Rattle.pie_value.specs.inner.Reading.{byte_of, bytes_of, number_of, int_of, counted_of, tested_of, is_path_text, tag_at, tag_of};
+ghost use Rattle.pie_value.specs.inner.Reading.{flag_of, tagged, items_prefix, value_within, value_prefix, value_whole, task_prefix};
 
 use crate::{Blob, Items, Task, Value, ValueFault};
 use pie_base::{MAX_DEPTH, Path, PathError, Text};

@@ -1,6 +1,6 @@
 //! The types of the language.
 ghost use Rattle.std.specs.Prelude.{◌≡◌, IfOk};
-ghost use Rattle.pie_value.specs.TypeTrees.{ty_tree, ty_trees};
+ghost use Rattle.pie_value.specs.inner.TypeTrees.{ty_tree, ty_trees};
 
 use pie_base::OutOfMemory;
 use std::alloc::Global;
@@ -38,19 +38,19 @@ pub struct Parts {
 
 impl Model for Part {
     ghost use Rattle.pie_value.specs.Types.{TyTree, part_weight};
-    ghost use Rattle.pie_value.specs.TypeCodes.{coded_ty};
+    ghost use Rattle.pie_value.specs.inner.TypeCodes.{coded_ty};
 
     ghost Value = { TyTree };
 
     ghost coded = { coded_ty };
 
-    ghost use Rattle.pie_value.specs.TypeTrees.{ty_tree};
+    ghost use Rattle.pie_value.specs.inner.TypeTrees.{ty_tree};
 
     ghost view = { λ a. ty_tree a.ty.value };
 
     ghost size = { part_weight };
 
-    ghost use Rattle.pie_value.specs.TypeFalls.{part_le_weight};
+    ghost use Rattle.pie_value.specs.inner.TypeFalls.{part_le_weight};
 
     ghost size_decreases = { λ a h. part_le_weight a };
 }
@@ -58,19 +58,19 @@ impl Model for Part {
 impl Model for Parts {
     ghost use Rattle.std.specs.Prelude.{List};
     ghost use Rattle.pie_value.specs.Types.{TyTree, parts_weight};
-    ghost use Rattle.pie_value.specs.TypeCodes.{coded_tys};
+    ghost use Rattle.pie_value.specs.inner.TypeCodes.{coded_tys};
 
     ghost Value = { List TyTree };
 
     ghost coded = { coded_tys };
 
-    ghost use Rattle.pie_value.specs.TypeTrees.{ty_trees};
+    ghost use Rattle.pie_value.specs.inner.TypeTrees.{ty_trees};
 
     ghost view = { λ a. ty_trees a.types.value.items };
 
     ghost size = { parts_weight };
 
-    ghost use Rattle.pie_value.specs.TypeFalls.{parts_le_weight};
+    ghost use Rattle.pie_value.specs.inner.TypeFalls.{parts_le_weight};
 
     ghost size_decreases = { λ a h. parts_le_weight a };
 }

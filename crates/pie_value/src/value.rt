@@ -42,7 +42,7 @@ pub struct Items {
 impl Model for Items {
     ghost use Rattle.std.specs.Prelude.{List};
     ghost use Rattle.pie_value.specs.Tree.{Tree, weight};
-    ghost use Rattle.pie_value.specs.Codes.{coded_trees};
+    ghost use Rattle.pie_value.specs.inner.Codes.{coded_trees};
     ghost use Rattle.pie_value.specs.Size.{Measures};
 
     ghost Value = { List Tree };
@@ -57,7 +57,7 @@ impl Model for Items {
 
     ghost size = { weight };
 
-    ghost use Rattle.pie_value.specs.Falls.{inside_le_weight};
+    ghost use Rattle.pie_value.specs.inner.Falls.{inside_le_weight};
 
     ghost size_decreases = { λ a h. inside_le_weight a };
 }

@@ -32,7 +32,7 @@ pub struct Tasks {
 impl Model for Tasks {
     ghost use Rattle.std.specs.Prelude.{List};
     ghost use Rattle.pie_value.specs.declared.task.Task.{Task};
-    ghost use Rattle.pie_value.specs.TaskCodes.{coded_tasks};
+    ghost use Rattle.pie_value.specs.inner.TaskCodes.{coded_tasks};
 
     ghost Value = { List Task };
 

@@ -3,8 +3,8 @@ use Rattle.std.proofs.Common.{◌≡◌, ℕ, Bool, List, [], length}
 use Rattle.std.specs.Prelude.{IsTrue, ◌↔◌}
 use Rattle.pie_graph.specs.Numbers.{IsMarked}
 use Rattle.pie_graph.specs.Rows.{Row, Calls}
-use Rattle.pie_reach.specs.Reaches.{ReachedFrom}
-use Rattle.pie_reach.specs.Walks.{Walked, Walking}
+use Rattle.pie_reach.specs.inner.Reaches.{ReachedFrom}
+use Rattle.pie_reach.specs.inner.Walks.{Walked, Walking}
 use Rattle.pie_reach.proofs.WalkSteps.{walk_ends}
 
 pub met_is : (rows : List Row) (starts : List ℕ) (to : ℕ) (w : Walked) (met : Bool) → Walking (length rows) (Calls rows) starts w → w.work ≡ []

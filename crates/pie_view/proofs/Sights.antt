@@ -11,8 +11,8 @@ use Rattle.pie_graph.specs.declared.edges.TaskNo.{TaskNo}
 use Rattle.pie_graph.specs.Numbers.{numbers, AllBelow, Exactly}
 use Rattle.pie_graph.specs.Rows.{Row, no_edges, Calls, Writes}
 use Rattle.pie_graph.proofs.Among.{contains_here, contains_later, contains_cases}
-use Rattle.pie_reach.specs.Reaches.{ReachedFrom}
-use Rattle.pie_reach.specs.Walks.{IsClosure}
+use Rattle.pie_reach.specs.inner.Reaches.{ReachedFrom}
+use Rattle.pie_reach.specs.inner.Walks.{IsClosure}
 use Rattle.pie_reach.proofs.WalkSteps.{all_below}
 use Rattle.pie_view.specs.declared.seen.Seen.{Seen}
 use Rattle.pie_view.specs.declared.seen.Seen.TheVariants.{Absent}

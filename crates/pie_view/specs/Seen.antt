@@ -5,7 +5,7 @@ use Rattle.pie_base.specs.Path.{same_text}
 use Rattle.pie_graph.specs.declared.edges.TaskNo.{TaskNo}
 use Rattle.pie_graph.specs.Numbers.{IsMarked}
 use Rattle.pie_graph.specs.Rows.{Row, Writes}
-use Rattle.pie_reach.specs.Reaches.{ReachedFrom}
+use Rattle.pie_reach.specs.inner.Reaches.{ReachedFrom}
 use Rattle.pie_view.specs.declared.seen.Seen.{Seen}
 use Rattle.pie_view.specs.declared.seen.Seen.TheVariants.{Absent, By, Clash}
 

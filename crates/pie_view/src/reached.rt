@@ -1,7 +1,7 @@
 //! Whether a task is reached from the tasks that were required.
 ghost use Rattle.std.specs.Prelude.{◌<◌, length, IfOk, IsTrue, ◌↔◌};
 ghost use Rattle.pie_graph.specs.Numbers.{numbers, AllBelow};
-ghost use Rattle.pie_reach.specs.Reaches.{ReachedFrom};
+ghost use Rattle.pie_reach.specs.inner.Reaches.{ReachedFrom};
 
 use pie_base::OutOfMemory;
 use pie_graph::{TaskNo, TaskRows};

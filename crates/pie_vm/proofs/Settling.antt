@@ -4,7 +4,7 @@ use Rattle.pie_base.specs.declared.memory.OutOfMemory.{OutOfMemory}
 use Rattle.pie_value.specs.declared.value.Value.{Value}
 use Rattle.pie_value.specs.Tree.{Tree}
 use Rattle.pie_value.specs.Values.{tree_of}
-use Rattle.pie_value.specs.BuiltinForms.{Answered}
+use Rattle.pie_value.specs.inner.BuiltinForms.{Answered}
 use Rattle.pie_operators.specs.declared.fault.OperatorFault.{OperatorFault}
 use Rattle.pie_operators.specs.declared.fault.OperatorFault.TheVariants.{Fault, OutOfMemory as NoMemory}
 use Rattle.pie_operators.specs.Agreement.{ResultAgrees}

@@ -4,7 +4,7 @@ use Rattle.std.specs.Coded.{Coded, code_by, coded×, coded_ℕ, coded_list}
 use Rattle.pie_value.specs.contracts.event.Answer.{the_row}
 use Rattle.pie_value.specs.declared.event.Answer.{Answer}
 use Rattle.pie_value.specs.Tree.{Tree}
-use Rattle.pie_value.specs.Codes.{coded_trees}
+use Rattle.pie_value.specs.inner.Codes.{coded_trees}
 use Rattle.pie_operators.specs.Domain.{State}
 use Rattle.pie_code.specs.Running.{Config}
 use Rattle.pie_vm.specs.contracts.machine.MachineState.{the_row as state_row}

@@ -1,6 +1,6 @@
 //! The call of a built-in function.
 ghost use Rattle.std.specs.Prelude.{◌≡◌, List, length, ◌≤◌, take, drop, reverse};
-ghost use Rattle.pie_value.specs.Builtins.{answer_of};
+ghost use Rattle.pie_value.specs.inner.Builtins.{answer_of};
 ghost use Rattle.pie_signature.specs.Signatures.{arity_of};
 ghost use Rattle.pie_operators.specs.Agreement.{ResultAgrees};
 ghost use Rattle.pie_operators.specs.Domain.{by_answer};

@@ -2,7 +2,7 @@
 ghost use Rattle.std.specs.Prelude.{◌≡◌, slice_get};
 ghost use Rattle.pie_value.specs.Tree.{TText};
 ghost use Rattle.pie_value.specs.Values.{tree_of};
-ghost use Rattle.pie_value.specs.BuiltinForms.{made};
+ghost use Rattle.pie_value.specs.inner.BuiltinForms.{made};
 ghost use Rattle.pie_operators.specs.Agreement.{ResultAgrees};
 ghost use Rattle.pie_operators.specs.Domain.{by_answer};
 ghost use Rattle.pie_operators.specs.Effects.{fail};

@@ -19,7 +19,7 @@ pub struct Slots {
 impl Model for Slots {
     ghost use Rattle.std.specs.Prelude.{List};
     ghost use Rattle.pie_value.specs.Tree.{Tree};
-    ghost use Rattle.pie_value.specs.Codes.{coded_trees};
+    ghost use Rattle.pie_value.specs.inner.Codes.{coded_trees};
     ghost use Rattle.pie_value.specs.Values.{trees_of};
 
     ghost Value = { List Tree };

@@ -19,7 +19,7 @@ pub struct Stack {
 impl Model for Stack {
     ghost use Rattle.std.specs.Prelude.{List};
     ghost use Rattle.pie_value.specs.Tree.{Tree};
-    ghost use Rattle.pie_value.specs.Codes.{coded_trees};
+    ghost use Rattle.pie_value.specs.inner.Codes.{coded_trees};
     ghost use Rattle.pie_vm.specs.Stacks.{flipped};
 
     ghost Value = { List Tree };

@@ -1,8 +1,8 @@
 use Rattle.std.proofs.Common.{◌≡◌, ◌++◌, ◌∷◌, [], Some, None, sym, ap, ◌∙◌}
 use Rattle.std.proofs.lemmas.List.{map-append}
-use Rattle.pie_value.specs.TypeTrees.{ty_tree, ty_trees}
+use Rattle.pie_value.specs.inner.TypeTrees.{ty_tree, ty_trees}
 use Rattle.pie_parser.specs.declared.tree.Form.TheVariants as forms
-use Rattle.pie_types.specs.Callees.{callee_tree}
+use Rattle.pie_types.specs.inner.Callees.{callee_tree}
 use Rattle.pie_types.proofs.Steps.{arguments_next}
 use Rattle.pie_types.proofs.+types.Goals as goal
 

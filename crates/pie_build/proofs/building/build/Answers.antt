@@ -1,5 +1,5 @@
 use Rattle.pie_build.proofs.Cleaning.{clean_by}
-use Rattle.pie_build.specs.Projects.{LeavesFor}
+use Rattle.pie_build.specs.inner.Projects.{LeavesFor}
 use Rattle.pie_build.proofs.Crashing.{withstands_still, withstands_then}
 use Rattle.pie_build.proofs.OwnPaths.{same_keeps}
 use Rattle.pie_build.proofs.Ran.{still_there, ran_is, ran_encodable, left_before, rest_before}

@@ -1,5 +1,5 @@
-use Rattle.pie_build.specs.Projects.{LeavesFor}
-use Rattle.pie_build.specs.Reported.{PutsMade}
+use Rattle.pie_build.specs.inner.Projects.{LeavesFor}
+use Rattle.pie_build.specs.inner.Reported.{PutsMade}
 use Rattle.pie_build.proofs.Cleaning.{IsMadeOf, made_left, put_left, ran_of, refused_left}
 use Rattle.pie_build.proofs.Crashing.{rests_none, withstands_as}
 use Rattle.pie_build.proofs.Storing.{may_stand}

@@ -1,7 +1,7 @@
 use Rattle.pie_build.proofs.OwnPaths.{same_keeps}
 use Rattle.pie_build.proofs.Storing.{project_leaves, project_left}
 use Rattle.pie_build.specs.Left.{Leaves}
-use Rattle.pie_build.specs.Projects.{LeavesFor}
+use Rattle.pie_build.specs.inner.Projects.{LeavesFor}
 use Rattle.pie_build.proofs.Cleaning.{is_ready}
 use Rattle.pie_build.proofs.Crashing.{withstands_as, withstands_then}
 use Rattle.pie_build.proofs.building.rebuild.Goals as goal

@@ -4,8 +4,8 @@ use Rattle.std.specs.Prelude.{Option}
 use Rattle.pie_files.specs.Directory.{Directory, files_under}
 use Rattle.pie_reach.specs.Plan.{IsPlan}
 use Rattle.pie_build.specs.Left.{KeepsRest}
-use Rattle.pie_build.specs.Plans.{IsPlanOf}
-use Rattle.pie_build.specs.Reported.{PutsMade}
+use Rattle.pie_build.specs.inner.Plans.{IsPlanOf}
+use Rattle.pie_build.specs.inner.Reported.{PutsMade}
 use Rattle.pie_build.proofs.Cleaning.{report_of}
 use Rattle.pie_build.proofs.Crashing.{rests_commit, rests_ok, withstands_commit, withstands_still, withstands_then}
 use Rattle.pie_files.proofs.Reading.{both_before}

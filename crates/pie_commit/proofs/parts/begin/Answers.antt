@@ -1,5 +1,5 @@
 use Rattle.std.proofs.Common.{[], inr, refl}
-use Rattle.pie_commit.specs.Plans.{Bytes, at}
+use Rattle.pie_commit.specs.inner.Plans.{Bytes, at}
 use Rattle.pie_commit.proofs.Bringing.{in_any_case, write_brought, brought_still}
 use Rattle.pie_files.specs.Images.{MayWrite}
 use Rattle.pie_commit.specs.Outcomes.{IsEarly}

@@ -1,4 +1,4 @@
-use Rattle.pie_commit.specs.Plans.{Gone, at}
+use Rattle.pie_commit.specs.inner.Plans.{Gone, at}
 use Rattle.pie_commit.proofs.Bringing.{in_any_case, removal_brought, brought_still}
 use Rattle.std.proofs.Common.{inl, refl}
 use Rattle.pie_files.specs.Images.{MayRemove}

@@ -1,5 +1,5 @@
 use Rattle.std.proofs.Common.{ap, ◌∙◌, refl}
-use Rattle.pie_commit.specs.Plans.{pended, at}
+use Rattle.pie_commit.specs.inner.Plans.{pended, at}
 use Rattle.pie_commit.proofs.Bringing.{brought_none, at_same}
 use Rattle.pie_commit.proofs.Members.{names_inner}
 use Rattle.pie_commit.proofs.Standing.{none_marked}

@@ -1,5 +1,5 @@
 use Rattle.std.proofs.Common.{ap, ◌∙◌, refl}
-use Rattle.pie_commit.specs.Plans.{stored, at}
+use Rattle.pie_commit.specs.inner.Plans.{stored, at}
 use Rattle.pie_commit.proofs.Bringing.{brought_none, at_same}
 use Rattle.pie_commit.proofs.Members.{place_inner}
 use Rattle.pie_commit.proofs.Standing.{none_marked}

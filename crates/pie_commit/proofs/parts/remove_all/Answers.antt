@@ -1,6 +1,6 @@
 use Rattle.std.proofs.Common.{◌≡◌, ◌+◌, ◌∷◌, ◌∙◌, ℕ, List, drop, length, refl, ap, sym, subst, arith}
 use Rattle.std.proofs.lemmas.List.{drop_more, drop_all}
-use Rattle.pie_commit.specs.Plans.{removed, at, Gone}
+use Rattle.pie_commit.specs.inner.Plans.{removed, at, Gone}
 use Rattle.pie_commit.proofs.Bringing.{removed_more, removed_none, brought_none}
 use Rattle.pie_commit.proofs.Members.{AllInner, removals_inner}
 use Rattle.pie_commit.proofs.Standing.{none_marked, both_marked, told_by, told_both, told_itself}

@@ -1,5 +1,5 @@
 use Rattle.std.proofs.Common.{drop}
-use Rattle.pie_commit.specs.Plans.{removed}
+use Rattle.pie_commit.specs.inner.Plans.{removed}
 use Rattle.pie_commit.proofs.Bringing.{Going}
 use Rattle.pie_commit.proofs.Members.{AllInner}
 use Rattle.pie_commit.proofs.Standing.{Marking}

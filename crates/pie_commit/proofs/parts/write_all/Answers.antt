@@ -1,6 +1,6 @@
 use Rattle.std.proofs.Common.{◌≡◌, ◌+◌, ◌∷◌, ◌∙◌, ℕ, List, drop, length, refl, ap, sym, subst, arith, Vec, Global}
 use Rattle.std.proofs.lemmas.List.{drop_more, drop_all}
-use Rattle.pie_commit.specs.Plans.{written, at, Bytes}
+use Rattle.pie_commit.specs.inner.Plans.{written, at, Bytes}
 use Rattle.pie_commit.specs.Outcomes.{HasBrought}
 use Rattle.pie_commit.proofs.Bringing.{written_more, written_none, brought_none}
 use Rattle.pie_commit.proofs.Members.{AllInnerWrites, writes_inner}

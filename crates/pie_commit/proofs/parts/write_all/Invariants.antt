@@ -1,5 +1,5 @@
 use Rattle.std.proofs.Common.{drop}
-use Rattle.pie_commit.specs.Plans.{written}
+use Rattle.pie_commit.specs.inner.Plans.{written}
 use Rattle.pie_commit.proofs.Bringing.{Going}
 use Rattle.pie_commit.proofs.Members.{AllInnerWrites}
 use Rattle.pie_commit.proofs.Standing.{Marking}

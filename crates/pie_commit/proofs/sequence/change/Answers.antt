@@ -1,5 +1,5 @@
 use Rattle.std.proofs.Common.{ℕ, List}
-use Rattle.pie_commit.specs.Plans.{changes, removed, written, at, pended, stored, later}
+use Rattle.pie_commit.specs.inner.Plans.{changes, removed, written, at, pended, stored, later}
 use Rattle.pie_commit.proofs.Bringing.{brought_both, brought_still, in_any_case}
 use Rattle.pie_commit.proofs.Standing.{both_marked, sync_marked, told_by, told_both, rests}
 use Rattle.pie_commit.proofs.Others.{keeps_both, keeps_same}

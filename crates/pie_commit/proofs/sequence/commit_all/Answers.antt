@@ -1,5 +1,5 @@
 use Rattle.std.proofs.Common.{ℕ, List, []}
-use Rattle.pie_commit.specs.Plans.{Bytes, Gone, changes, at, later, wanted_by}
+use Rattle.pie_commit.specs.inner.Plans.{Bytes, Gone, changes, at, later, wanted_by}
 use Rattle.pie_commit.proofs.Bringing.{brought_both, brought_as, marked_then, on_ok}
 use Rattle.pie_commit.proofs.Standing.{told_by}
 use Rattle.pie_commit.proofs.Ending.{in_any_err, begin_failed, three_changed, three_ended, crash_of, failed_of}

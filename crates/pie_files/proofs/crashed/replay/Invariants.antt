@@ -1,5 +1,5 @@
 use Rattle.std.proofs.Common.{◌≡◌, drop}
-use Rattle.pie_files.specs.Story.{picked_all}
+use Rattle.pie_files.specs.inner.Story.{picked_all}
 use Rattle.pie_files.proofs.crashed.replay.Given as goal
 
 abbrev pub invariant-loop-logged : goal.invariant-loop-logged

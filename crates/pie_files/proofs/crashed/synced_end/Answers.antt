@@ -1,7 +1,7 @@
 use Rattle.std.proofs.Common.{◌≡◌, ◌∷◌, ◌+◌, ◌∙◌, ap, sym, subst, drop, cond, ◌≤◌, refl, arith, List}
 use Rattle.std.proofs.lemmas.List.{drop_more}
 use Rattle.pie_files.specs.declared.sure_files.Logged.{Logged}
-use Rattle.pie_files.specs.Story.{has_sync, synced, is_sync}
+use Rattle.pie_files.specs.inner.Story.{has_sync, synced, is_sync}
 use Rattle.pie_files.proofs.Picking.{end_at_first, end_goes_on, no_later}
 use Rattle.pie_files.proofs.crashed.synced_end.Goals as goal
 

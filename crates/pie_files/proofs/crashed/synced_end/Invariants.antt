@@ -1,5 +1,5 @@
 use Rattle.std.proofs.Common.{◌≡◌, ◌≤◌, ◌+◌, drop, cond}
-use Rattle.pie_files.specs.Story.{has_sync, synced}
+use Rattle.pie_files.specs.inner.Story.{has_sync, synced}
 use Rattle.pie_files.proofs.crashed.synced_end.Given as goal
 
 abbrev pub invariant-loop-i : goal.invariant-loop-i

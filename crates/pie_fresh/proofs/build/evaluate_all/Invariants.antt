@@ -1,7 +1,7 @@
 use Rattle.std.proofs.Common.{◌≡◌, take}
 use Rattle.pie_files.specs.Reading.{LeavesAsBefore}
-use Rattle.pie_fresh.specs.Ledgers.{Enters, Starts}
-use Rattle.pie_fresh.specs.Frames.{AreEntered, IsIdle}
+use Rattle.pie_fresh.specs.inner.Ledgers.{Enters, Starts}
+use Rattle.pie_fresh.specs.inner.Frames.{AreEntered, IsIdle}
 use Rattle.pie_fresh.specs.Cleans.{DoesRoots}
 use Rattle.pie_fresh.proofs.build.evaluate_all.Given as goal
 

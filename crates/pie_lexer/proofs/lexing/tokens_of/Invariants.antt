@@ -1,6 +1,6 @@
 use Rattle.std.proofs.Common.{◌-◌, length, drop, List, Result}
 use Rattle.pie_lexer.specs.Tokens.{Lexes}
-use Rattle.pie_lexer.specs.Answers.{after}
+use Rattle.pie_lexer.specs.inner.Answers.{after}
 use Rattle.pie_lexer.specs.declared.token.Token.{Token}
 use Rattle.pie_lexer.specs.declared.error.LexError.{LexError}
 use Rattle.pie_lexer.proofs.lexing.tokens_of.Given as goal

@@ -1,5 +1,5 @@
 use Rattle.std.proofs.Common.{drop, ap, arith, length-drop}
-use Rattle.pie_lexer.specs.Scanning.{Closes, Opens, Fails, end_of}
+use Rattle.pie_lexer.specs.inner.Scanning.{Closes, Opens, Fails, end_of}
 use Rattle.pie_lexer.proofs.Takes.{text_taken, open_refused, escape_refused, quote_first, closes_within, fails_within, ends_as}
 use Rattle.pie_lexer.proofs.Utf8.{quoted_is_utf8}
 use Rattle.pie_lexer.proofs.taking.text_at.Goals as goal

@@ -1,5 +1,5 @@
 use Rattle.std.proofs.Common.{◌≡◌, false, [], drop}
-use Rattle.pie_lexer.specs.Scanning.{scan}
+use Rattle.pie_lexer.specs.inner.Scanning.{scan}
 use Rattle.pie_lexer.proofs.unquote.unquote.Given as goal
 
 abbrev pub invariant-loop-i : goal.invariant-loop-i

@@ -1,4 +1,4 @@
-use Rattle.pie_model.specs.RecordLaws.{Passes}
+use Rattle.pie_model.specs.inner.RecordLaws.{Passes}
 use Rattle.pie_model.proofs.BeginLemmas.{begins_consistent}
 use Rattle.pie_model.proofs.core_laws.old_records_begin_consistent.Goals as goal
 

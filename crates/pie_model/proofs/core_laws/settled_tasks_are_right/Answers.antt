@@ -1,4 +1,4 @@
-use Rattle.pie_model.specs.RecordLaws.{Passes}
+use Rattle.pie_model.specs.inner.RecordLaws.{Passes}
 use Rattle.pie_model.proofs.SettledLaw.{settled_right}
 use Rattle.pie_model.proofs.core_laws.settled_tasks_are_right.Goals as goal
 

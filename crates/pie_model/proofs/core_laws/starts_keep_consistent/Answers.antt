@@ -1,4 +1,4 @@
-use Rattle.pie_model.specs.RecordLaws.{Passes}
+use Rattle.pie_model.specs.inner.RecordLaws.{Passes}
 use Rattle.pie_model.proofs.StepsLemmas.{more_busy}
 use Rattle.pie_model.proofs.core_laws.starts_keep_consistent.Goals as goal
 

@@ -1,4 +1,4 @@
-use Rattle.pie_model.specs.RecordLaws.{Passes}
+use Rattle.pie_model.specs.inner.RecordLaws.{Passes}
 use Rattle.pie_model.proofs.StepsLemmas.{take_consistent, take_settled}
 use Rattle.pie_model.proofs.core_laws.takes_keep_consistent.Goals as goal
 

@@ -1,5 +1,5 @@
 use Rattle.std.proofs.Common.{◌-◌, length, arith}
-use Rattle.pie_model.specs.RecordLaws.{Passes}
+use Rattle.pie_model.specs.inner.RecordLaws.{Passes}
 use Rattle.pie_model.proofs.SecondLaw.{second_law}
 use Rattle.pie_model.proofs.record_laws.equal_stamps_give_equal_records.Goals as goal
 

@@ -1,7 +1,7 @@
 use Rattle.std.proofs.Common.{ℕ, Ok}
 use Rattle.pie_project.specs.declared.project.Project.{Project}
 use Rattle.pie_project.specs.Looking.{prefix_calls}
-use Rattle.pie_project.specs.Projects.{front_of}
+use Rattle.pie_project.specs.inner.Projects.{front_of}
 use Rattle.pie_project.proofs.Finding.{counts_good, counts_bad}
 use Rattle.pie_project.proofs.Lookings.{looks_as, looks_err}
 use Rattle.pie_project.proofs.check.counts_in.Goals as goal

@@ -3,7 +3,7 @@ use Rattle.pie_files.specs.declared.files.Call.TheVariants.{Read}
 use Rattle.pie_project.specs.declared.fault.BuildError.TheVariants as errors
 use Rattle.pie_project.specs.declared.fault.PipelineFault.TheVariants as faults
 use Rattle.pie_project.specs.Looking.{pipeline_path, roots_path}
-use Rattle.pie_project.specs.Projects.{front_of}
+use Rattle.pie_project.specs.inner.Projects.{front_of}
 use Rattle.pie_project.proofs.Finding.{pipeline_there, pipeline_long, pipeline_away}
 use Rattle.pie_project.proofs.Digesting.{digests_there, names_of_digested, funcs_of_digested}
 use Rattle.pie_project.proofs.Lookings.{looks_here, looks_then, looks_failed}

@@ -1,4 +1,4 @@
-use Rattle.pie_project.specs.Projects.{front_of}
+use Rattle.pie_project.specs.inner.Projects.{front_of}
 use Rattle.pie_project.proofs.OneFront.{only_project}
 use Rattle.pie_project.proofs.Stopping.{read_stops}
 use Rattle.pie_project.proofs.project.read_project.Goals as goal

@@ -3,7 +3,7 @@ use Rattle.pie_files.specs.declared.files.Call.TheVariants.{Read}
 use Rattle.pie_project.specs.declared.fault.BuildError.TheVariants as errors
 use Rattle.pie_project.specs.declared.fault.RootsReason.TheVariants as reasons
 use Rattle.pie_project.specs.Looking.{roots_path}
-use Rattle.pie_project.specs.Projects.{front_of}
+use Rattle.pie_project.specs.inner.Projects.{front_of}
 use Rattle.pie_project.proofs.Finding.{roots_there, roots_long, roots_away}
 use Rattle.pie_project.proofs.Lookings.{looks_here, looks_failed, always_none}
 use Rattle.pie_project.proofs.project.with_digested.Goals as goal

@@ -1,7 +1,7 @@
 use Rattle.std.proofs.Common.{refl}
 use Rattle.pie_project.specs.declared.pipeline.Digested.{Digested}
 use Rattle.pie_project.specs.declared.project.Project.{Project}
-use Rattle.pie_project.specs.Projects.{front_of}
+use Rattle.pie_project.specs.inner.Projects.{front_of}
 use Rattle.pie_project.proofs.Finding.{pipeline_good, pipeline_bad}
 use Rattle.pie_project.proofs.Digesting.{digested_project}
 use Rattle.pie_project.proofs.project.with_pipeline.Goals as goal

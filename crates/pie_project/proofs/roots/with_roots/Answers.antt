@@ -1,7 +1,7 @@
 use Rattle.std.proofs.Common.{Vec, Global}
 use Rattle.pie_value.specs.declared.task.Task.{Task}
 use Rattle.pie_project.specs.Fronts.{roots_found}
-use Rattle.pie_project.specs.Projects.{front_of}
+use Rattle.pie_project.specs.inner.Projects.{front_of}
 use Rattle.pie_project.proofs.Finding.{reader_refuses}
 use Rattle.pie_project.proofs.roots.with_roots.Goals as goal
 

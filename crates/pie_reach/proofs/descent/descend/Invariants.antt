@@ -1,6 +1,6 @@
 use Rattle.std.proofs.Common.{◌≡◌, ℕ, ◌<◌, []}
 use Rattle.pie_reach.specs.declared.descent.State.TheVariants.{New}
-use Rattle.pie_reach.specs.Descents.{state_of, Descends}
+use Rattle.pie_reach.specs.inner.Descents.{state_of, Descends}
 use Rattle.pie_reach.proofs.descent.descend.Given as goal
 
 abbrev pub invariant-loop-i : goal.invariant-loop-i

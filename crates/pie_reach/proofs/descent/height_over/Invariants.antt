@@ -1,7 +1,7 @@
 use Rattle.std.proofs.Common.{◌≡◌, map, max, drop}
 use Rattle.pie_graph.specs.Numbers.{numbers}
-use Rattle.pie_reach.specs.Reaches.{height_over}
-use Rattle.pie_reach.specs.Descents.{height_at}
+use Rattle.pie_reach.specs.inner.Reaches.{height_over}
+use Rattle.pie_reach.specs.inner.Descents.{height_at}
 use Rattle.pie_reach.proofs.descent.height_over.Given as goal
 
 abbrev pub invariant-loop-callee : goal.invariant-loop-callee

@@ -1,6 +1,6 @@
 use Rattle.std.proofs.Common.{◌∙◌, ap, map}
 use Rattle.std.proofs.lemmas.Option.{MatchOption-at_some}
-use Rattle.pie_reach.specs.Descents.{height_of}
+use Rattle.pie_reach.specs.inner.Descents.{height_of}
 use Rattle.pie_reach.proofs.HeightFacts.{heights_are}
 use Rattle.pie_reach.proofs.reach.heights.Goals as goal
 

@@ -1,6 +1,6 @@
 use Rattle.std.proofs.Common.{Bool, ℕ, List, subst}
 use Rattle.pie_graph.specs.Numbers.{numbers}
-use Rattle.pie_reach.specs.LeastKey.{IsBest}
+use Rattle.pie_reach.specs.inner.LeastKey.{IsBest}
 use Rattle.pie_reach.proofs.HeightFacts.{lowest_found}
 use Rattle.pie_reach.proofs.reach.lowest.Goals as goal
 

@@ -1,5 +1,5 @@
 use Rattle.std.proofs.Common.{◌∙◌, ◌&&◌, not, ap}
-use Rattle.pie_reach.specs.Listed.{listed}
+use Rattle.pie_reach.specs.inner.Listed.{listed}
 use Rattle.pie_reach.proofs.Removing.{plan}
 use Rattle.pie_reach.proofs.removals.plan_removals.Goals as goal
 

@@ -1,7 +1,7 @@
 use Rattle.std.proofs.Common.{◌≡◌, ◌&&◌, not, ℕ, List, drop}
 use Rattle.std.specs.BTreeSet.{contains}
 use Rattle.pie_reach.specs.Plan.{path_cmp}
-use Rattle.pie_reach.specs.Listed.{listed}
+use Rattle.pie_reach.specs.inner.Listed.{listed}
 use Rattle.pie_reach.proofs.removals.take_out.Given as goal
 
 abbrev pub invariant-loop-path : goal.invariant-loop-path

@@ -1,6 +1,6 @@
 use Rattle.std.proofs.Common.{Bool, List, sym, subst}
 use Rattle.pie_graph.specs.Numbers.{numbers}
-use Rattle.pie_reach.specs.Walks.{IsClosure}
+use Rattle.pie_reach.specs.inner.Walks.{IsClosure}
 use Rattle.pie_reach.proofs.WalkSteps.{walk_ends}
 use Rattle.pie_reach.proofs.walk.closure.Goals as goal
 

@@ -1,5 +1,5 @@
 use Rattle.std.proofs.Common.{◌≡◌, ◌++◌, drop, map}
-use Rattle.pie_report.specs.Keys.{key_of, plain_key}
+use Rattle.pie_report.specs.inner.Keys.{key_of, plain_key}
 use Rattle.pie_report.proofs.task_order.with_keys.Given as goal
 
 abbrev pub invariant-loop-task : goal.invariant-loop-task

@@ -1,4 +1,4 @@
-use Rattle.pie_model.specs.RecordLaws.{Passes}
+use Rattle.pie_model.specs.inner.RecordLaws.{Passes}
 use Rattle.pie_settle_laws.proofs.Leaving.{going_ends, going_stops}
 use Rattle.pie_settle_laws.proofs.going.running_tasks_end.Goals as goal
 

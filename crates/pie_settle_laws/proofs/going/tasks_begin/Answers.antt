@@ -1,4 +1,4 @@
-use Rattle.pie_model.specs.RecordLaws.{Passes}
+use Rattle.pie_model.specs.inner.RecordLaws.{Passes}
 use Rattle.pie_settle_laws.proofs.Goings.{base_begins, new_begins, still_waits}
 use Rattle.pie_settle_laws.proofs.going.tasks_begin.Goals as goal
 

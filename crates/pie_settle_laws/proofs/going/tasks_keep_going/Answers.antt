@@ -1,4 +1,4 @@
-use Rattle.pie_model.specs.RecordLaws.{Passes}
+use Rattle.pie_model.specs.inner.RecordLaws.{Passes}
 use Rattle.pie_settle_laws.proofs.Goings.{absent_look, present_look, listing_made, write_made, is_told, still_going}
 use Rattle.pie_settle_laws.proofs.going.tasks_keep_going.Goals as goal
 

@@ -1,4 +1,4 @@
-use Rattle.pie_model.specs.RecordLaws.{Passes}
+use Rattle.pie_model.specs.inner.RecordLaws.{Passes}
 use Rattle.pie_settle_laws.proofs.Settling.{closed_settled}
 use Rattle.pie_settle_laws.proofs.settled.closed_tasks_are_settled.Goals as goal
 

@@ -1,4 +1,4 @@
-use Rattle.pie_model.specs.RecordLaws.{Passes}
+use Rattle.pie_model.specs.inner.RecordLaws.{Passes}
 use Rattle.pie_settle_laws.proofs.Settling.{is_known}
 use Rattle.pie_settle_laws.proofs.settled.settled_tasks_are_known.Goals as goal
 

@@ -1,4 +1,4 @@
-use Rattle.pie_model.specs.RecordLaws.{Passes}
+use Rattle.pie_model.specs.inner.RecordLaws.{Passes}
 use Rattle.pie_settle_laws.proofs.Settling.{finish_spares, start_spares}
 use Rattle.pie_settle_laws.proofs.settled.settled_tasks_stay.Goals as goal
 

@@ -1,4 +1,4 @@
-use Rattle.pie_model.specs.RecordLaws.{Passes}
+use Rattle.pie_model.specs.inner.RecordLaws.{Passes}
 use Rattle.pie_settle_laws.proofs.Sweeping.{untouched, new_unreached}
 use Rattle.pie_settle_laws.proofs.sweeps.finishes_leave_untouched.Goals as goal
 

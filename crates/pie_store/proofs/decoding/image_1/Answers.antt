@@ -1,6 +1,6 @@
 use Rattle.std.proofs.Common.{subst, sym}
-use Rattle.pie_store.specs.Agreement.{AgreesWhole}
-use Rattle.pie_store.specs.Known.{known_in}
+use Rattle.pie_store.specs.inner.Agreement.{AgreesWhole}
+use Rattle.pie_store.specs.inner.Known.{known_in}
 use Rattle.pie_store.proofs.Closing.{contents_1_is}
 use Rattle.pie_store.proofs.decoding.image_1.Goals as goal
 

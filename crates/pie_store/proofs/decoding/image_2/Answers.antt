@@ -1,8 +1,8 @@
 use Rattle.std.proofs.Common.{ℕ, List, subst, sym, ap, ◌∙◌}
 use Rattle.std.specs.Prelude.{Some}
-use Rattle.pie_store.specs.Agreement.{AgreesWhole}
+use Rattle.pie_store.specs.inner.Agreement.{AgreesWhole}
 use Rattle.pie_store.specs.Ranks.{knows}
-use Rattle.pie_store.specs.Known.{known_in}
+use Rattle.pie_store.specs.inner.Known.{known_in}
 use Rattle.pie_store.proofs.Closing.{contents_2_is}
 use Rattle.pie_store.proofs.decoding.image_2.Goals as goal
 

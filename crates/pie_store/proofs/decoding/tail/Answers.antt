@@ -1,7 +1,7 @@
 use Rattle.std.proofs.Common.{◌≡◌, ℕ, List, sym, ap, ◌∙◌, arith}
 use Rattle.std.specs.Prelude.{None}
 use Rattle.pie_value.specs.declared.task.Task.{Task}
-use Rattle.pie_store.specs.Reading.{first_missing}
+use Rattle.pie_store.specs.inner.Reading.{first_missing}
 use Rattle.pie_store.proofs.Closing.{tail_more}
 use Rattle.pie_store.proofs.decoding.tail.Goals as goal
 

@@ -1,7 +1,7 @@
 use Rattle.std.proofs.Common.{◌≡◌, ◌||◌, ℕ, List, drop}
 use Rattle.std.specs.List.{list_any}
 use Rattle.std.specs.Str.{bytes_eq}
-use Rattle.pie_store.specs.Known.{set_has}
+use Rattle.pie_store.specs.inner.Known.{set_has}
 use Rattle.pie_store.proofs.known.names_of.Given as goal
 
 abbrev pub invariant-loop-name : goal.invariant-loop-name

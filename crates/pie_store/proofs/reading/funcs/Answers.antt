@@ -1,5 +1,5 @@
 use Rattle.std.proofs.Common.{◌≡◌, ℕ, List, Vec, Global, sym, ap, ◌∙◌}
-use Rattle.pie_store.specs.Reading.{next_func, list_at}
+use Rattle.pie_store.specs.inner.Reading.{next_func, list_at}
 use Rattle.pie_store.proofs.Turns.{list_fails, fault_goes}
 use Rattle.pie_store.proofs.reading.funcs.Goals as goal
 

@@ -1,5 +1,5 @@
 use Rattle.std.proofs.Common.{◌≡◌, ◌-◌, []}
-use Rattle.pie_store.specs.Reading.{some_at, next_func}
+use Rattle.pie_store.specs.inner.Reading.{some_at, next_func}
 use Rattle.pie_store.proofs.reading.funcs.Given as goal
 
 abbrev pub invariant-loop : goal.invariant-loop

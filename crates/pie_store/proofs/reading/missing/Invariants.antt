@@ -1,5 +1,5 @@
 use Rattle.std.proofs.Common.{◌≡◌, drop}
-use Rattle.pie_store.specs.Reading.{first_missing}
+use Rattle.pie_store.specs.inner.Reading.{first_missing}
 use Rattle.pie_store.proofs.reading.missing.Given as goal
 
 abbrev pub invariant-loop-task : goal.invariant-loop-task

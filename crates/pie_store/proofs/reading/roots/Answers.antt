@@ -2,7 +2,7 @@ use Rattle.std.proofs.Common.{◌≡◌, ℕ, List, Vec, Global, sym, ap, ◌∙
 use Rattle.pie_value.specs.declared.task.Task.{Task}
 use Rattle.std.proofs.lemmas.List.Elements.{All-push}
 use Rattle.pie_store.specs.Ranks.{IsStored}
-use Rattle.pie_store.specs.Reading.{next_root, list_at}
+use Rattle.pie_store.specs.inner.Reading.{next_root, list_at}
 use Rattle.pie_store.proofs.Turns.{one_more, list_fails, fault_goes}
 use Rattle.pie_store.proofs.reading.roots.Goals as goal
 

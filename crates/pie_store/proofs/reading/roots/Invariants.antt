@@ -2,7 +2,7 @@ use Rattle.std.proofs.Common.{◌≡◌, ◌-◌, ℕ, []}
 use Rattle.std.specs.Prelude.{All}
 use Rattle.pie_value.specs.declared.task.Task.{Task}
 use Rattle.pie_store.specs.Ranks.{IsStored}
-use Rattle.pie_store.specs.Reading.{some_at, next_root}
+use Rattle.pie_store.specs.inner.Reading.{some_at, next_root}
 use Rattle.pie_store.proofs.reading.roots.Given as goal
 
 abbrev pub invariant-loop : goal.invariant-loop

@@ -1,6 +1,6 @@
 use Rattle.std.proofs.Common.{arith, sym, ◌∙◌}
-use Rattle.pie_store.specs.Reading.{next_row, list_at, grown}
-use Rattle.pie_store.specs.Known.{known_in}
+use Rattle.pie_store.specs.inner.Reading.{next_row, list_at, grown}
+use Rattle.pie_store.specs.inner.Known.{known_in}
 use Rattle.pie_store.proofs.Turns.{one_grown, grown_fails, grown_long, fault_goes}
 use Rattle.pie_store.proofs.reading.rows.Goals as goal
 

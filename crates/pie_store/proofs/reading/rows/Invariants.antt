@@ -1,6 +1,6 @@
 use Rattle.std.proofs.Common.{◌≡◌, ◌-◌, length, []}
-use Rattle.pie_store.specs.Reading.{some_at, next_row}
-use Rattle.pie_store.specs.Known.{known_in}
+use Rattle.pie_store.specs.inner.Reading.{some_at, next_row}
+use Rattle.pie_store.specs.inner.Known.{known_in}
 use Rattle.pie_store.proofs.reading.rows.Given as goal
 
 abbrev pub invariant-loop : goal.invariant-loop

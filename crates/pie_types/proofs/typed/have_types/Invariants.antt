@@ -3,7 +3,7 @@ use Rattle.pie_value.specs.Tree.{items_of}
 use Rattle.pie_value.specs.Values.{trees_of}
 use Rattle.pie_value.specs.Types.{parts_of}
 use Rattle.pie_value.specs.HasType.{have_types}
-use Rattle.pie_types.specs.Shown.{entries_of}
+use Rattle.pie_types.specs.inner.Shown.{entries_of}
 use Rattle.pie_types.specs.Whole.{types_in}
 use Rattle.pie_types.proofs.Params.{fit_from}
 use Rattle.pie_types.proofs.typed.have_types.Given as goal

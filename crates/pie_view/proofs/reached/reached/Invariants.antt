@@ -1,6 +1,6 @@
 use Rattle.std.proofs.Common.{◌+◌, length}
 use Rattle.pie_graph.specs.Numbers.{numbers}
-use Rattle.pie_reach.specs.Walks.{Walking, unmarked}
+use Rattle.pie_reach.specs.inner.Walks.{Walking, unmarked}
 use Rattle.pie_graph.specs.Rows.{Calls}
 use Rattle.pie_view.proofs.reached.reached.Given as goal
 

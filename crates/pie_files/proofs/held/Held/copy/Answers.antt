@@ -3,7 +3,7 @@ use Rattle.std.specs.FinMap as fin
 use Rattle.std.specs.Map.{keys_of}
 use Rattle.std.specs.Map.Iter.{deref}
 use Rattle.std.proofs.lemmas.Map.Iter.{rest_all}
-use Rattle.pie_files.specs.Held.{with_all}
+use Rattle.pie_files.specs.inner.Held.{with_all}
 use Rattle.pie_files.proofs.Copies.{same_files}
 use Rattle.pie_files.proofs.held.Held.copy.Goals as goal
 

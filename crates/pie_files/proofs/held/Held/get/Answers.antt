@@ -1,7 +1,7 @@
 use Rattle.std.proofs.Common.{sym, ap, ◌∙◌}
 use Rattle.std.specs.Option.{option_map}
 use Rattle.std.specs.FinMap as fin
-use Rattle.pie_files.specs.Held.{content_of}
+use Rattle.pie_files.specs.inner.Held.{content_of}
 use Rattle.pie_files.proofs.HeldLemmas.{get_held}
 use Rattle.pie_files.proofs.held.Held.get.Goals as goal
 

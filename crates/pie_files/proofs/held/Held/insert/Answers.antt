@@ -1,6 +1,6 @@
 use Rattle.std.proofs.Common.{ap, ◌∙◌}
 use Rattle.std.specs.FinMap as fin
-use Rattle.pie_files.specs.Held.{content_of}
+use Rattle.pie_files.specs.inner.Held.{content_of}
 use Rattle.pie_files.proofs.HeldLemmas.{one_set}
 use Rattle.pie_files.proofs.held.Held.insert.Goals as goal
 

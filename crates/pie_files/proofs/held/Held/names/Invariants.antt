@@ -2,7 +2,7 @@ use Rattle.std.proofs.Common.{◌≡◌, ℕ, List}
 use Rattle.std.specs.Prelude.{◌||◌}
 use Rattle.std.specs.List.{filter_map}
 use Rattle.pie_base.specs.Path.{entry_on_way}
-use Rattle.pie_files.specs.Held.{is_among}
+use Rattle.pie_files.specs.inner.Held.{is_among}
 use Rattle.pie_files.proofs.held.Held.names.Given as goal
 
 abbrev pub invariant-loop-path : goal.invariant-loop-path

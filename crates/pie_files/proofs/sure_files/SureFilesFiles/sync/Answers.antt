@@ -1,6 +1,6 @@
 use Rattle.std.proofs.Common.{ap, refl, ◌∙◌}
 use Rattle.pie_files.specs.declared.sure_files.Logged.TheVariants.{Synced}
-use Rattle.pie_files.specs.Memory.{asked_of}
+use Rattle.pie_files.specs.inner.Memory.{asked_of}
 use Rattle.pie_files.proofs.Asked.{infallible_called, asked_push}
 use Rattle.pie_files.proofs.Moving.{look_unnoted, sync_done, sync_only}
 use Rattle.pie_files.proofs.sure_files.SureFilesFiles.sync.Goals as goal

@@ -1,7 +1,7 @@
 use Rattle.std.proofs.Common.{ap, subst, ◌∙◌, ◌++◌, ◌∷◌, []}
 use Rattle.std.specs.Prelude.{◌≡◌, IfSome}
-use Rattle.pie_fresh.specs.Kept.{IsKeptAs}
-use Rattle.pie_fresh.specs.Cycles.{tasks_from}
+use Rattle.pie_fresh.specs.inner.Kept.{IsKeptAs}
+use Rattle.pie_fresh.specs.inner.Cycles.{tasks_from}
 use Rattle.pie_fresh.proofs.Giving.{given_turn, cycle_means}
 use Rattle.pie_fresh.proofs.builder.Builder.answer.Goals as goal
 

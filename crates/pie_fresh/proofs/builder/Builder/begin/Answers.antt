@@ -2,9 +2,9 @@ use Rattle.std.proofs.Common.{◌≡◌, None, sym, subst}
 use Rattle.std.specs.Prelude.{Contains}
 use Rattle.std.proofs.lemmas.Result.{IfOk-weaker}
 use Rattle.std.proofs.lemmas.List.Elements.{Contains-push}
-use Rattle.pie_fresh.specs.Frames.{IsIdle}
-use Rattle.pie_fresh.specs.Turns.{Begins, Begun}
-use Rattle.pie_fresh.specs.Means.{NewAs}
+use Rattle.pie_fresh.specs.inner.Frames.{IsIdle}
+use Rattle.pie_fresh.specs.inner.Turns.{Begins, Begun}
+use Rattle.pie_fresh.specs.inner.Means.{NewAs}
 use Rattle.pie_fresh.proofs.Growing.{enters_then, starts_then}
 use Rattle.pie_fresh.proofs.Entering.{begun_runs}
 use Rattle.pie_fresh.proofs.Leaving.{if_ok}

@@ -1,5 +1,5 @@
 use Rattle.std.proofs.Common.{◌≡◌, ◌++◌, drop}
-use Rattle.pie_fresh.specs.Cycles.{tasks_from}
+use Rattle.pie_fresh.specs.inner.Cycles.{tasks_from}
 use Rattle.pie_fresh.proofs.builder.Builder.cycle.Given as goal
 
 -- the tasks so far and those of the callers that are left are those of all callers

@@ -1,6 +1,6 @@
 use Rattle.std.proofs.Common.{refl, subst}
-use Rattle.pie_fresh.specs.Turns.{Begins}
-use Rattle.pie_fresh.specs.Means.{EntersAs}
+use Rattle.pie_fresh.specs.inner.Turns.{Begins}
+use Rattle.pie_fresh.specs.inner.Means.{EntersAs}
 use Rattle.pie_fresh.proofs.Entering.{descended, descended_nearer}
 use Rattle.pie_fresh.proofs.Starting.{descended_means, refused_means}
 use Rattle.pie_fresh.proofs.builder.Builder.descend.Goals as goal

@@ -1,7 +1,7 @@
 use Rattle.std.proofs.Common.{Some, None, refl, ap, ◌∙◌, ◌++◌, ◌∷◌, [], arith}
 use Rattle.pie_base.specs.declared.fault.FaultKind.TheVariants as faults
 use Rattle.pie_value.specs.declared.verdict.Refusal.TheVariants.{Fault}
-use Rattle.pie_fresh.specs.Noted.{begun}
+use Rattle.pie_fresh.specs.inner.Noted.{begun}
 use Rattle.pie_fresh.proofs.Entering.{begun_is}
 use Rattle.pie_fresh.proofs.Starting.{added, begun_frame, function_there, no_room, unknown_new}
 use Rattle.pie_fresh.proofs.builder.Builder.enter.Goals as goal

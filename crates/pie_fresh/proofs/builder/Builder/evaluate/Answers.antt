@@ -1,5 +1,5 @@
 use Rattle.std.proofs.Common.{subst}
-use Rattle.pie_record.specs.Names.{Numbers}
+use Rattle.pie_record.specs.inner.Names.{Numbers}
 use Rattle.pie_fresh.proofs.Rooting.{known_rests}
 use Rattle.pie_fresh.proofs.builder.Builder.evaluate.Goals as goal
 

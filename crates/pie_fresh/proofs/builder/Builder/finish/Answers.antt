@@ -1,6 +1,6 @@
 use Rattle.std.proofs.Common.{refl, sym, ap, ◌∙◌}
 use Rattle.pie_fresh.specs.contracts.notes.Notes.{the_view}
-use Rattle.pie_fresh.specs.Noted.{Noted}
+use Rattle.pie_fresh.specs.inner.Noted.{Noted}
 use Rattle.pie_fresh.proofs.Finishing.{ended_stands_as}
 use Rattle.pie_fresh.proofs.Leaving.{too_big, finishes_as, if_ok}
 use Rattle.pie_fresh.proofs.builder.Builder.finish.Goals as goal

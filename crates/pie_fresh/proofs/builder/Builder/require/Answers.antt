@@ -1,7 +1,7 @@
 use Rattle.std.proofs.Common.{sym, subst, ◌∙◌}
 use Rattle.std.proofs.lemmas.Option.{slice_get_within}
 use Rattle.pie_base.specs.declared.fault.FaultKind.TheVariants as faults
-use Rattle.pie_record.specs.Names.{Numbers}
+use Rattle.pie_record.specs.inner.Names.{Numbers}
 use Rattle.pie_fresh.proofs.Telling.{stops_turn}
 use Rattle.pie_fresh.proofs.Giving.{require_fails}
 use Rattle.pie_fresh.proofs.builder.Builder.require.Goals as goal

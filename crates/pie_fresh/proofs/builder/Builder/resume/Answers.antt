@@ -1,6 +1,6 @@
 use Rattle.std.proofs.Common.{Some, refl, sym, ◌∙◌}
 use Rattle.std.proofs.lemmas.List.Elements.{All-pop}
-use Rattle.pie_fresh.specs.Frames.{IsCaller}
+use Rattle.pie_fresh.specs.inner.Frames.{IsCaller}
 use Rattle.pie_fresh.proofs.Finishing.{resumed, resumed_nearer}
 use Rattle.pie_fresh.proofs.Resuming.{resumed_means, rested, nothing_left}
 use Rattle.pie_fresh.proofs.builder.Builder.resume.Goals as goal

@@ -1,6 +1,6 @@
 use Rattle.std.proofs.Common.{◌∙◌, subst}
 use Rattle.pie_files.proofs.Reading.{both_before}
-use Rattle.pie_fresh.specs.Turns.{GoesOn}
+use Rattle.pie_fresh.specs.inner.Turns.{GoesOn}
 use Rattle.pie_fresh.proofs.Growing.{enters_then, starts_then}
 use Rattle.pie_fresh.proofs.Rooting.{runs_on, runs_out, runs_stop}
 use Rattle.pie_fresh.proofs.builder.Builder.run.Goals as goal

@@ -1,9 +1,9 @@
 use Rattle.std.proofs.Common.{◌≡◌, ◌+◌}
 use Rattle.pie_files.specs.Reading.{LeavesAsBefore}
-use Rattle.pie_fresh.specs.Ledgers.{Enters, Starts}
-use Rattle.pie_fresh.specs.Frames.{Running}
-use Rattle.pie_fresh.specs.Turns.{below_left}
-use Rattle.pie_fresh.specs.Means.{RunsOn}
+use Rattle.pie_fresh.specs.inner.Ledgers.{Enters, Starts}
+use Rattle.pie_fresh.specs.inner.Frames.{Running}
+use Rattle.pie_fresh.specs.inner.Turns.{below_left}
+use Rattle.pie_fresh.specs.inner.Means.{RunsOn}
 use Rattle.pie_fresh.proofs.builder.Builder.run.Given as goal
 
 -- the build stands with the task that runs, and the pipeline and the files are as they were

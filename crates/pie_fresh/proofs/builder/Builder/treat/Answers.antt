@@ -1,5 +1,5 @@
 use Rattle.std.proofs.Common.{subst}
-use Rattle.pie_fresh.specs.Means.{IsAsking}
+use Rattle.pie_fresh.specs.inner.Means.{IsAsking}
 use Rattle.pie_fresh.proofs.builder.Builder.treat.Goals as goal
 
 pub returns-in-Write-clause-means : goal.returns-in-Write-clause-means

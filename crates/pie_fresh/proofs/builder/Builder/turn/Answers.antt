@@ -1,5 +1,5 @@
 use Rattle.std.proofs.Common.{subst}
-use Rattle.pie_fresh.specs.Turns.{Comes}
+use Rattle.pie_fresh.specs.inner.Turns.{Comes}
 use Rattle.pie_fresh.proofs.Leaving.{if_ok}
 use Rattle.pie_fresh.proofs.Turning.{ComesWith, turns_asking, turns_ending, turns_failing}
 use Rattle.pie_fresh.proofs.builder.Builder.turn.Goals as goal

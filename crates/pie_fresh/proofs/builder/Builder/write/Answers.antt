@@ -2,7 +2,7 @@ use Rattle.std.proofs.Common.{sym, ap, subst, ◌∙◌}
 use Rattle.sha2.specs.Sha256.{sha256}
 use Rattle.pie_base.specs.declared.fault.FaultKind.TheVariants as faults
 use Rattle.pie_fresh.specs.declared.frame.Waiting.{Waiting}
-use Rattle.pie_fresh.specs.Told.{KeepsFirst}
+use Rattle.pie_fresh.specs.inner.Told.{KeepsFirst}
 use Rattle.pie_fresh.proofs.Telling.{stops_turn}
 use Rattle.pie_fresh.proofs.Writing.{write_goes, write_fails}
 use Rattle.pie_fresh.proofs.builder.Builder.write.Goals as goal

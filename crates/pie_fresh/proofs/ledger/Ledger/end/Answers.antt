@@ -1,6 +1,6 @@
 use Rattle.std.proofs.Common.{◌+◌, set, ap, refl, subst}
 use Rattle.pie_record.specs.declared.task_record.TaskRecord.{TaskRecord}
-use Rattle.pie_record.specs.Records.{Puts}
+use Rattle.pie_record.specs.inner.Records.{Puts}
 use Rattle.pie_record.specs.declared.task_record.Outcome.TheVariants.{Done}
 use Rattle.std.specs.Vec.{with_item}
 use Rattle.pie_fresh.specs.contracts.notes.Notes.{the_view}

@@ -1,5 +1,5 @@
-use Rattle.pie_fresh.specs.Builds.{OnlyOut}
-use Rattle.pie_fresh.specs.Collected.{AreOfTasks, HasAllBelow}
+use Rattle.pie_fresh.specs.inner.Builds.{OnlyOut}
+use Rattle.pie_fresh.specs.inner.Collected.{AreOfTasks, HasAllBelow}
 use Rattle.pie_fresh.proofs.ledger.Ledger.files.Given as goal
 
 -- the files so far lie under `out/`, and are those of the tasks with lower numbers

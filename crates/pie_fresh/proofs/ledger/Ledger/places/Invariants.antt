@@ -1,4 +1,4 @@
-use Rattle.pie_fresh.specs.Ordered.{ArePlaces}
+use Rattle.pie_fresh.specs.inner.Ordered.{ArePlaces}
 use Rattle.pie_fresh.proofs.ledger.Ledger.places.Given as goal
 
 -- the places so far are those of the tasks with lower numbers

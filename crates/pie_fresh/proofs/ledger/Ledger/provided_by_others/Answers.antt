@@ -1,7 +1,7 @@
 use Rattle.std.proofs.Common.{ap, subst, ◌∙◌}
 use Rattle.pie_graph.specs.Numbers.{numbers}
 use Rattle.pie_view.specs.Seen.{Visible, IsOnly}
-use Rattle.pie_fresh.specs.Noted.{Noted}
+use Rattle.pie_fresh.specs.inner.Noted.{Noted}
 use Rattle.pie_fresh.proofs.Seeing.{none_own}
 use Rattle.pie_fresh.proofs.ledger.Ledger.provided_by_others.Goals as goal
 

@@ -1,7 +1,7 @@
 use Rattle.std.proofs.Common.{ℕ, List, take}
 use Rattle.std.specs.Prelude.{All}
-use Rattle.pie_fresh.specs.Builds.{OnlyOut}
-use Rattle.pie_fresh.specs.Collected.{AreOfTasks, HasStaged, KeepsPaths}
+use Rattle.pie_fresh.specs.inner.Builds.{OnlyOut}
+use Rattle.pie_fresh.specs.inner.Collected.{AreOfTasks, HasStaged, KeepsPaths}
 use Rattle.pie_fresh.proofs.ledger.Ledger.put_all.Given as goal
 
 -- the files so far lie under `out/` and are those of tasks; those from before are among them, and those at the paths so far

@@ -1,6 +1,6 @@
 use Rattle.std.proofs.Common.{ℕ, List, sym, subst}
 use Rattle.std.specs.Prelude.{All}
-use Rattle.pie_fresh.specs.Collected.{HasStaged}
+use Rattle.pie_fresh.specs.inner.Collected.{HasStaged}
 use Rattle.pie_fresh.proofs.FileLemmas.{written_at}
 use Rattle.pie_fresh.proofs.ledger.Ledger.put_files.Goals as goal
 

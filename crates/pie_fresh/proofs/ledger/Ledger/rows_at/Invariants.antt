@@ -1,7 +1,7 @@
 use Rattle.std.proofs.Common.{◌≡◌, ◌++◌}
 use Rattle.std.specs.Prelude.{All}
 use Rattle.pie_record.specs.Canonical.{IsStorable}
-use Rattle.pie_fresh.specs.Ordered.{recorded}
+use Rattle.pie_fresh.specs.inner.Ordered.{recorded}
 use Rattle.pie_fresh.proofs.ledger.Ledger.rows_at.Given as goal
 
 -- each record so far can be stored, and those so far and those at the places that are left are those at all places

@@ -3,7 +3,7 @@ use Rattle.std.proofs.lemmas.Result.{err_from_is_err_and}
 use Rattle.pie_parser.specs.declared.tree.Expr.{Expr}
 use Rattle.pie_parser.specs.declared.tree.Step.{Step}
 use Rattle.pie_parser.specs.Places.{ParseAgrees}
-use Rattle.pie_parser.specs.Turns.{all_behind}
+use Rattle.pie_parser.specs.inner.Turns.{all_behind}
 use Rattle.pie_parser.specs.ExprReading.{around, another, another_step, operand, all_pieces}
 use Rattle.pie_parser.proofs.Nesting.{inner_is, test_is}
 use Rattle.pie_parser.proofs.Turning.{fails_so, goes_on}

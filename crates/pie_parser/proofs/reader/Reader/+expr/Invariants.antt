@@ -1,7 +1,7 @@
 -- What is read inside a bracket or a condition has less room, and each level of operators stands below the one before.
 use Rattle.std.proofs.Common.{◌≡◌, ◌+◌, ◌*◌, ◌-◌, [], ◌∷◌}
-use Rattle.pie_parser.specs.Turns.{many, onto, all_behind}
-use Rattle.pie_parser.specs.Pieces.{onto_lines}
+use Rattle.pie_parser.specs.inner.Turns.{many, onto, all_behind}
+use Rattle.pie_parser.specs.inner.Pieces.{onto_lines}
 use Rattle.pie_parser.specs.ExprReading.{around, another, another_step, operand, pieces, all_pieces}
 use Rattle.pie_parser.proofs.Ranks.{rank_of}
 use Rattle.pie_parser.proofs.reader.Reader.+expr.Given as goal

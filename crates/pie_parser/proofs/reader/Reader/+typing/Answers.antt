@@ -2,7 +2,7 @@ use Rattle.std.proofs.Common.{Vec, Global, [], ◌∷◌, ◌-◌, sym, subst}
 use Rattle.std.proofs.lemmas.Result.{err_from_is_err_and}
 use Rattle.pie_parser.specs.declared.type_tree.Type.{«Type»}
 use Rattle.pie_parser.specs.Places.{ParseAgrees}
-use Rattle.pie_parser.specs.Turns.{all_behind}
+use Rattle.pie_parser.specs.inner.Turns.{all_behind}
 use Rattle.pie_parser.specs.TypeReading.{another_type, inner_type}
 use Rattle.pie_parser.proofs.Nesting.{inner_type_is}
 use Rattle.pie_parser.proofs.Turning.{fails_so}

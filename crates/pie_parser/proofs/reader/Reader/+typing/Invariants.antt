@@ -1,6 +1,6 @@
 -- What is read inside a bracket has less room.
 use Rattle.std.proofs.Common.{◌≡◌, ◌+◌, ◌*◌, ◌-◌, ◌<◌, [], ◌∷◌, length}
-use Rattle.pie_parser.specs.Turns.{many, onto, all_behind}
+use Rattle.pie_parser.specs.inner.Turns.{many, onto, all_behind}
 use Rattle.pie_parser.specs.TypeReading.{another_type, inner_type}
 use Rattle.pie_parser.proofs.reader.Reader.+typing.Given as goal
 

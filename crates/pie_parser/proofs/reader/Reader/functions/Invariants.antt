@@ -1,5 +1,5 @@
 use Rattle.std.proofs.Common.{◌≡◌, ◌-◌}
-use Rattle.pie_parser.specs.Turns.{many, onto}
+use Rattle.pie_parser.specs.inner.Turns.{many, onto}
 use Rattle.pie_parser.specs.FunctionReading.{another_function, functions}
 use Rattle.pie_parser.proofs.reader.Reader.functions.Given as goal
 

@@ -1,5 +1,5 @@
 use Rattle.std.proofs.Common.{◌≡◌, ◌-◌}
-use Rattle.pie_parser.specs.Turns.{many, onto}
+use Rattle.pie_parser.specs.inner.Turns.{many, onto}
 use Rattle.pie_parser.specs.ExprReading.{another_index, indices}
 use Rattle.pie_parser.proofs.reader.Reader.indices.Given as goal
 

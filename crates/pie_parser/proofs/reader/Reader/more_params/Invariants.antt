@@ -1,5 +1,5 @@
 use Rattle.std.proofs.Common.{◌≡◌, ◌-◌}
-use Rattle.pie_parser.specs.Turns.{many, onto}
+use Rattle.pie_parser.specs.inner.Turns.{many, onto}
 use Rattle.pie_parser.specs.FunctionReading.{another_param, more_params}
 use Rattle.pie_parser.proofs.reader.Reader.more_params.Given as goal
 

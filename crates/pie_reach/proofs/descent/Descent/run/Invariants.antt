@@ -1,4 +1,4 @@
-use Rattle.pie_reach.specs.Descents.{Descends, KeepsMet, left}
+use Rattle.pie_reach.specs.inner.Descents.{Descends, KeepsMet, left}
 use Rattle.pie_reach.proofs.descent.Descent.run.Given as goal
 
 abbrev pub invariant-loop : goal.invariant-loop

@@ -3,8 +3,8 @@ use Rattle.pie_graph.specs.declared.edges.TaskNo.{TaskNo}
 use Rattle.pie_graph.specs.Numbers.{numbers}
 use Rattle.pie_reach.specs.declared.descent.State.{State}
 use Rattle.pie_reach.specs.declared.descent.Visit.{Visit}
-use Rattle.pie_reach.specs.Reaches.{height_over}
-use Rattle.pie_reach.specs.Descents.{height_at}
+use Rattle.pie_reach.specs.inner.Reaches.{height_over}
+use Rattle.pie_reach.specs.inner.Descents.{height_at}
 use Rattle.pie_reach.proofs.WalkSteps.{number_below}
 use Rattle.pie_reach.proofs.Turning.{turn_finish, turn_advance, turn_enter, turn_cycle, state_read}
 use Rattle.pie_reach.proofs.descent.Descent.turn.Goals as goal

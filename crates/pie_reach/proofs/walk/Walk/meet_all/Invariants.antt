@@ -1,6 +1,6 @@
 use Rattle.std.proofs.Common.{◌≡◌, length, drop}
 use Rattle.pie_graph.specs.Numbers.{numbers, AllBelow}
-use Rattle.pie_reach.specs.Walks.{meet_all}
+use Rattle.pie_reach.specs.inner.Walks.{meet_all}
 use Rattle.pie_reach.proofs.walk.Walk.meet_all.Given as goal
 
 abbrev pub invariant-loop-no : goal.invariant-loop-no

@@ -1,5 +1,5 @@
 use Rattle.std.proofs.Common.{◌+◌, List, ℕ, length}
-use Rattle.pie_reach.specs.Walks.{Ready, Walking, unmarked}
+use Rattle.pie_reach.specs.inner.Walks.{Ready, Walking, unmarked}
 use Rattle.pie_reach.proofs.walk.Walk.run.Given as goal
 
 abbrev pub invariant-loop : goal.invariant-loop

@@ -1,6 +1,6 @@
 use Rattle.std.proofs.Common.{◌∙◌, sym, subst}
 use Rattle.pie_graph.specs.Numbers.{numbers}
-use Rattle.pie_reach.specs.Walks.{Walked, Walking}
+use Rattle.pie_reach.specs.inner.Walks.{Walked, Walking}
 use Rattle.pie_reach.proofs.WalkSteps.{walk_starts}
 use Rattle.pie_reach.proofs.walk.Walk.start.Goals as goal
 

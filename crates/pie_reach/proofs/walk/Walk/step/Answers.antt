@@ -3,7 +3,7 @@ use Rattle.std.proofs.lemmas.List.Elements.{Contains-push}
 use Rattle.std.specs.List.{Contains}
 use Rattle.pie_graph.specs.declared.edges.TaskNo.{TaskNo}
 use Rattle.pie_graph.specs.Numbers.{numbers, AllBelow}
-use Rattle.pie_reach.specs.Walks.{Walked, Walking, Ready, meet_all, unmarked}
+use Rattle.pie_reach.specs.inner.Walks.{Walked, Walking, Ready, meet_all, unmarked}
 use Rattle.pie_reach.proofs.WalkSteps.{walk_steps, ready_steps, nearer_step, all_below, popped_last}
 use Rattle.pie_reach.proofs.walk.Walk.step.Goals as goal
 

@@ -1,5 +1,5 @@
 use Rattle.std.proofs.Common.{◌≡◌, ◌-◌, ◌+◌, ◌*◌}
-use Rattle.pie_roots.specs.Reading.{listed, more, value_within}
+use Rattle.pie_roots.specs.inner.Reading.{listed, more, value_within}
 use Rattle.pie_roots.proofs.reader.Reader.+reading.Given as goal
 
 abbrev pub decreases-value : goal.decreases-value

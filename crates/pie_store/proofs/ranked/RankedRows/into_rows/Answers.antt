@@ -1,5 +1,5 @@
 use Rattle.std.proofs.Common.{sym, ap, ◌∙◌}
-use Rattle.pie_store.specs.Reading.{rows_of}
+use Rattle.pie_store.specs.inner.Reading.{rows_of}
 use Rattle.pie_store.proofs.Ranking.{zip_firsts}
 use Rattle.pie_store.proofs.ranked.RankedRows.into_rows.Goals as goal
 

@@ -1,6 +1,6 @@
 use Rattle.std.proofs.Common.{List, ℕ, get_or, subst, sym, ap, ◌∙◌}
 use Rattle.std.specs.Prelude.{Some}
-use Rattle.pie_record.specs.Names.{Numbers}
+use Rattle.pie_record.specs.inner.Names.{Numbers}
 use Rattle.pie_store.specs.Ranks.{Ranked, rank_in}
 use Rattle.pie_store.proofs.Ranking.{rank_some, rank_none, rank_low, place_low, height_small}
 use Rattle.pie_store.proofs.ranked.RankedRows.rank.Goals as goal

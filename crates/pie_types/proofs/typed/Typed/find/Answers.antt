@@ -1,5 +1,5 @@
 use Rattle.std.proofs.Common.{◌∙◌}
-use Rattle.pie_types.specs.Shown.{heading_tree}
+use Rattle.pie_types.specs.inner.Shown.{heading_tree}
 use Rattle.pie_types.proofs.Find.{find_none, find_other, find_same}
 use Rattle.pie_types.proofs.typed.Typed.find.Goals as goal
 

@@ -1,5 +1,5 @@
 use Rattle.std.proofs.Common.{subst}
-use Rattle.pie_types.specs.WholeRules.{IsTyped}
+use Rattle.pie_types.specs.inner.WholeRules.{IsTyped}
 use Rattle.pie_types.proofs.WholeLaw.{checked_sound}
 use Rattle.pie_types.proofs.typed.Typed.pipeline.Goals as goal
 
