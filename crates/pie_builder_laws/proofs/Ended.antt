@@ -23,7 +23,7 @@ use Rattle.pie_model.specs.Records.{record_of as record_of_evaluation}
 use Rattle.pie_model.specs.Forest.{entered_tasks}
 use Rattle.pie_model.specs.inner.Stack.{Begins}
 use Rattle.pie_model.specs.Built.{provided_at}
-use Rattle.pie_model.specs.inner.Verdict.{final_checks}
+use Rattle.pie_model.specs.Verdict.{final_checks}
 use Rattle.pie_step_laws.specs.Table.{Rests}
 use Rattle.pie_step_laws.specs.UnderWay.{HasEnded}
 use Rattle.pie_step_laws.specs.Roots.{Between, EvaluatesTo}

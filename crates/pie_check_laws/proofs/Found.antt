@@ -10,7 +10,7 @@ use Rattle.pie_model.specs.declared.words.Check.TheVariants.{Overlapping, Nestin
 use Rattle.pie_model.specs.declared.words.Finding.{Finding}
 use Rattle.pie_model.specs.declared.words.Verdict.{Verdict}
 use Rattle.pie_model.specs.declared.words.Verdict.TheVariants.{Accepted, Many, Fault, Cycle, Overlap, Nested, Hidden}
-use Rattle.pie_model.specs.inner.Verdict.{comes_before, lesser, least, is_found, finding_of, found_by, findings, by_findings, checked}
+use Rattle.pie_model.specs.Verdict.{comes_before, lesser, least, is_found, finding_of, found_by, findings, by_findings, checked}
 use Rattle.pie_model.proofs.Basics.{same_bytes, bytes_same, clash}
 use Rattle.pie_check_laws.specs.Findings.{IsLeast, BothWrote, StandBelow, SawAbsent, Places, NoPlace, IsFirstPlace, IsJudged, listed}
 use Rattle.pie_check_laws.proofs.Members.{none_in, here, there, only_one, here_or_there, into_flat, from_flat}

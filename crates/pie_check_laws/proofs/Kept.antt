@@ -26,7 +26,7 @@ use Rattle.pie_model.specs.declared.words.Look.TheVariants as looks
 use Rattle.pie_model.specs.Trees.{Node, task_of, trace_of, outcome_of, is_done, writes_of}
 use Rattle.pie_model.specs.Evaluation.{World, Project, evaluation}
 use Rattle.pie_model.specs.Records.{Record, Looked, record_of as record_of_evaluation}
-use Rattle.pie_model.specs.inner.Verdict.{written_by, found_absent, missed_by, final_checks}
+use Rattle.pie_model.specs.Verdict.{written_by, found_absent, missed_by, final_checks}
 use Rattle.pie_model.proofs.Ways.{task_of-evaluation}
 use Rattle.pie_model.proofs.LooksLemmas.{some_same}
 use Rattle.pie_check_laws.specs.Verdicts.{evaluation_of, AreRecorded, verdict_by}

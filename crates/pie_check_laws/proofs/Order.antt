@@ -8,7 +8,7 @@ use Rattle.std.specs.Ordering.{nat_cmp, is_lt, is_gt, ordering_then, ordering_re
 use Rattle.std.proofs.lemmas.Cmp.{upto, tied_itself, on_total, then_total, nat_list_cmp_total}
 use Rattle.std.proofs.lemmas.Map.Lookups.{exact_bytes}
 use Rattle.pie_model.specs.declared.words.Finding.{Finding}
-use Rattle.pie_model.specs.inner.Verdict.{comes_before}
+use Rattle.pie_model.specs.Verdict.{comes_before}
 
 -- the order of findings
 abbrev pub finding_order : Finding → Finding → Ordering

@@ -13,7 +13,7 @@ use Rattle.pie_value.specs.declared.verdict.Refusal.TheVariants as refusals
 use Rattle.pie_value.specs.Canonical.{enc_task, IsCanonicalTask}
 use Rattle.pie_checks.specs.Refusals.{Paths, Overlaps, IsProvided, Nests, Hides, place_order, pair_order, IsLeastPlace, IsLeastPair, FindsFirst}
 use Rattle.pie_checks.specs.Refusals.{NoPlace as NoPlaceOf, NoPair}
-use Rattle.pie_model.specs.inner.Verdict.{comes_before}
+use Rattle.pie_model.specs.Verdict.{comes_before}
 use Rattle.pie_check_laws.specs.Findings.{BothWrote, IsWritten, StandBelow, SawAbsent, Places, NoPlace, IsFirstPlace, IsJudged, listed}
 use Rattle.pie_check_laws.specs.Verdicts.{AreTheSame, verdict_by}
 use Rattle.pie_model_pipeline.proofs.Joining.{tasks_told}

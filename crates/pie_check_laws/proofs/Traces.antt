@@ -21,7 +21,7 @@ use Rattle.pie_model.specs.Evaluation.{World, Project, Progress, start, listing,
 use Rattle.pie_model.specs.Evaluation.{on_listing, on_outcome, on_event, follow, round, evaluation_with, evaluation}
 use Rattle.pie_model.specs.Records.{Stamp, Absent, Present, Hash, Mark, WholeValue, Success, Query}
 use Rattle.pie_model.specs.Records.{Looked, Listed, Required, Observation, mark_stamp, contents_stamp, observations_of, hashed}
-use Rattle.pie_model.specs.inner.Verdict.{absent_here, found_absent}
+use Rattle.pie_model.specs.Verdict.{absent_here, found_absent}
 use Rattle.pie_check_laws.specs.Recorded.{HasNoClash}
 use Rattle.pie_check_laws.proofs.PathKinds.{is_kind_out, kind_is}
 

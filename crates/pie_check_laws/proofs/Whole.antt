@@ -15,7 +15,7 @@ use Rattle.pie_model.specs.Trees.{Node, node, task_of, outcome_of, is_done, HasT
 use Rattle.pie_model.specs.Evaluation.{World, Project, evaluation}
 use Rattle.pie_model.specs.Running.{entered_all}
 use Rattle.pie_model.specs.Forest.{only_if, forest, entered_tasks, live_evaluations, unless_done, first_stop}
-use Rattle.pie_model.specs.inner.Verdict.{by_stop, final_checks, verdict}
+use Rattle.pie_model.specs.Verdict.{by_stop, final_checks, verdict}
 use Rattle.pie_model.proofs.Basics.{among_split, clash}
 use Rattle.pie_model.proofs.Rooms.{entered_keeps, stands_entered}
 use Rattle.pie_model.proofs.Ways.{task_of-evaluation}

@@ -8,7 +8,7 @@ use Rattle.pie_model.specs.Tasks.{Task}
 use Rattle.pie_model.specs.declared.words.Finding.{Finding}
 use Rattle.pie_model.specs.declared.words.Verdict.{Verdict}
 use Rattle.pie_model.specs.declared.words.Verdict.TheVariants.{Accepted, Many, Fault, Cycle, Overlap, Nested, Hidden}
-use Rattle.pie_model.specs.inner.Verdict.{comes_before, least, checked}
+use Rattle.pie_model.specs.Verdict.{comes_before, least, checked}
 
 -- one of these findings, before which none of them comes
 pub record IsLeast (found : List Finding) (a : Finding) : Type 0 where

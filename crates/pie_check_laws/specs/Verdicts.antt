@@ -16,7 +16,7 @@ use Rattle.pie_model.specs.Trees.{Node, outcome_of, is_done}
 use Rattle.pie_model.specs.Evaluation.{World, Project, evaluation}
 use Rattle.pie_model.specs.Records.{record_of as record_of_evaluation}
 use Rattle.pie_model.specs.Forest.{entered_tasks}
-use Rattle.pie_model.specs.inner.Verdict.{written_by, missed_by, final_checks, verdict}
+use Rattle.pie_model.specs.Verdict.{written_by, missed_by, final_checks, verdict}
 
 -- the evaluation of a task of the language
 abbrev pub evaluation_of : World → Project → Task → Node

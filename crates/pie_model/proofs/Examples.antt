@@ -10,7 +10,7 @@ use Rattle.pie_model.specs.Records.{record_of, Present, Hash, Mark, WholeValue, 
 use Rattle.pie_model.specs.inner.StampNow.{by_evaluation, stamp_now}
 use Rattle.pie_model.specs.Seen.{provided}
 use Rattle.pie_model.specs.Forest.{entered_tasks, live_evaluations}
-use Rattle.pie_model.specs.inner.Verdict.{Accepted, Many, Fault, Cycle, Overlap, Nested, Hidden, verdict}
+use Rattle.pie_model.specs.Verdict.{Accepted, Many, Fault, Cycle, Overlap, Nested, Hidden, verdict}
 use Rattle.pie_model.specs.Built.{provided_at, store_rows}
 use Rattle.pie_model.specs.inner.Changes.{strings_in}
 

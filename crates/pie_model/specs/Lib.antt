@@ -7,4 +7,5 @@ pub mod Records
 pub mod Running
 pub mod Forest
 pub mod Built
+pub mod Verdict
 pub mod inner

@@ -12,7 +12,6 @@ pub mod RecordLaws
 pub mod CoreLaws
 pub mod RunLaws
 pub mod EndLaws
-pub mod Verdict
 pub mod Changes
 pub mod Reasons
 pub mod Ranks

@@ -14,7 +14,7 @@ use Rattle.pie_model.specs.declared.words.Outcome.TheVariants.{Ended, Failed, Cy
 use Rattle.pie_model.specs.Trees.{outcome_of}
 use Rattle.pie_model.specs.Evaluation.{evaluation}
 use Rattle.pie_model.specs.Forest.{entered_tasks, live_evaluations}
-use Rattle.pie_model.specs.inner.Verdict.{verdict}
+use Rattle.pie_model.specs.Verdict.{verdict}
 use Rattle.pie_model.specs.Built.{store_rows, provided_at}
 use Rattle.pie_model_pipeline.specs.World.{world, project}
 use Rattle.pie_model_pipeline.specs.Rows.{record_of, verdict_of}

@@ -4,7 +4,7 @@ use Rattle.pie_model.specs.Paths.{Path}
 use Rattle.pie_model.specs.Tasks.{Task}
 use Rattle.pie_model.specs.declared.words.Outcome.{Outcome}
 use Rattle.pie_model.specs.Evaluation.{World, Project, evaluation}
-use Rattle.pie_model.specs.inner.Verdict.{written_by, missed_by}
+use Rattle.pie_model.specs.Verdict.{written_by, missed_by}
 use Rattle.pie_model.proofs.Ways.{task_of-evaluation}
 use Rattle.pie_model_program.specs.Steps.{Row, IsEvaluated}
 

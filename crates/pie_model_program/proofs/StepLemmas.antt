@@ -13,7 +13,7 @@ use Rattle.pie_model.specs.declared.words.Seen.TheVariants.{Nothing, Holds, Clas
 use Rattle.pie_model.specs.declared.words.Outcome.{Outcome}
 use Rattle.pie_model.specs.declared.words.Outcome.TheVariants.{Ended, Failed, Cycled, Many}
 use Rattle.pie_model.specs.Evaluation.{World, Project, Progress, start, listing, on_seen, on_listing, on_outcome, on_event, follow}
-use Rattle.pie_model.specs.inner.Verdict.{found_absent, absent_here}
+use Rattle.pie_model.specs.Verdict.{found_absent, absent_here}
 use Rattle.pie_model_program.specs.Written.{written_in, written_below, written_in_all, seen_by}
 use Rattle.pie_model_program.specs.Steps.{Row, by_seen, by_listing, with_kid, by_outcome, by_event, step, IsStage, IsWhole, Keeps}
 use Rattle.pie_model_program.proofs.SeenLemmas.{seen_visible}

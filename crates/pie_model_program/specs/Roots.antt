@@ -6,7 +6,7 @@ use Rattle.pie_model.specs.Tasks.{Task}
 use Rattle.pie_model.specs.Evaluation.{World, Project, evaluation}
 use Rattle.pie_model.specs.Running.{entered_all}
 use Rattle.pie_model.specs.Forest.{forest, first_stop}
-use Rattle.pie_model.specs.inner.Verdict.{written_by, missed_by}
+use Rattle.pie_model.specs.Verdict.{written_by, missed_by}
 use Rattle.pie_model_program.specs.declared.roots.Forest.{Forest}
 use Rattle.pie_model_program.specs.declared.run.Summary.{Summary}
 use Rattle.pie_model_program.specs.Runs.{row_of}

@@ -4,7 +4,7 @@ use Rattle.pie_model.specs.Paths.{Path, kind_of}
 use Rattle.pie_model.specs.Tasks.{Task}
 use Rattle.pie_model.specs.Trees.{outcome_of}
 use Rattle.pie_model.specs.Evaluation.{World, Project, start, follow, listing, evaluation_with}
-use Rattle.pie_model.specs.inner.Verdict.{absent_here}
+use Rattle.pie_model.specs.Verdict.{absent_here}
 use Rattle.pie_model.specs.declared.words.How.{How}
 use Rattle.pie_model.specs.declared.words.Look.{Look}
 use Rattle.pie_model.specs.declared.words.Outcome.{Outcome}

@@ -15,7 +15,7 @@ use Rattle.pie_model.specs.declared.words.Seen.TheVariants.{Nothing, Holds, Clas
 use Rattle.pie_model.specs.declared.words.Outcome.{Outcome}
 use Rattle.pie_model.specs.declared.words.Outcome.TheVariants.{Ended, Failed, Cycled, Many}
 use Rattle.pie_model.specs.Evaluation.{World, Project, absent_answer, present_answer, output_answer, listing, follow}
-use Rattle.pie_model.specs.inner.Verdict.{found_absent, absent_here}
+use Rattle.pie_model.specs.Verdict.{found_absent, absent_here}
 use Rattle.pie_model_program.specs.Written.{written_in, written_below, written_in_all, seen_by}
 
 -- how far a task has come: its answers, its writes, the paths it found absent, all writes of what it required, and the tasks entered

@@ -5,7 +5,7 @@ ghost use Rattle.std.specs.List.{flat_map};
 ghost use Rattle.std.specs.Ordering.{nat_cmp, is_lt};
 ghost use Rattle.std.specs.Cmp.Lexicographic.{slice_cmp};
 ghost use Rattle.pie_model.specs.Paths.{after_prefix};
-ghost use Rattle.pie_model.specs.inner.Verdict.{is_found, finding_of, found_by, findings, least, comes_before};
+ghost use Rattle.pie_model.specs.Verdict.{is_found, finding_of, found_by, findings, least, comes_before};
 
 use pie_model::bytes::Bytes;
 use pie_model::words::{Check, Finding};

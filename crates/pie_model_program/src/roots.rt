@@ -2,7 +2,7 @@
 
 ghost use Rattle.std.specs.Prelude.{◌≡◌, ℕ, [], ◌∷◌, ◌++◌, IfOk, OnOk, map, Some, None};
 ghost use Rattle.pie_model.specs.Evaluation.{evaluation};
-ghost use Rattle.pie_model.specs.inner.Verdict.{written_by, missed_by};
+ghost use Rattle.pie_model.specs.Verdict.{written_by, missed_by};
 ghost use Rattle.pie_model_program.specs.Roots.{IsAlone, IsForest, written_by_all, missed_by_all};
 
 use crate::evaluation::evaluate;

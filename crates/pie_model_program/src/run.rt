@@ -35,7 +35,7 @@ pub struct Summary {
 impl Run {
     ghost use Rattle.pie_model.specs.Evaluation.{absent_answer, present_answer, output_answer, listing};
     ghost use Rattle.pie_model.specs.Paths.{kind_of};
-    ghost use Rattle.pie_model.specs.inner.Verdict.{absent_here};
+    ghost use Rattle.pie_model.specs.Verdict.{absent_here};
     ghost use Rattle.pie_model.specs.declared.words.Answer.TheVariants.{Wrote};
     ghost use Rattle.pie_model.specs.declared.words.Seen.TheVariants.{Nothing};
     ghost use Rattle.pie_model_program.specs.Runs.{row_of, turn_of, IsListing, IsLook, IsSight, Misses};

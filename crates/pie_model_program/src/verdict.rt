@@ -1,7 +1,7 @@
 //! The verdict on a project and its roots.
 
 ghost use Rattle.std.specs.Prelude.{◌≡◌, ℕ, IfOk, map};
-ghost use Rattle.pie_model.specs.inner.Verdict.{checked, by_findings, by_stop, final_checks, findings, least, verdict};
+ghost use Rattle.pie_model.specs.Verdict.{checked, by_findings, by_stop, final_checks, findings, least, verdict};
 ghost use Rattle.pie_model.specs.Evaluation.{evaluation};
 
 use crate::checks::{find_all, least_of};

@@ -76,7 +76,7 @@ impl<'a> Reader<'a> {
     }
 
     /// A number in four bytes.
-    #[tactic(auto, unfolding(pie_value::specs::Reading::number_of))]
+    #[tactic(auto, unfolding(pie_value::specs::inner::Reading::number_of))]
     pub fn number(&mut self) -> Result<usize, RecordFault>
         ensures read { RowAgrees (λ n. n) result self.new (number_at self.old) }
         ensures small { IfOk result (λ n. n < 2 ^ 32) }
@@ -89,7 +89,7 @@ impl<'a> Reader<'a> {
     }
 
     /// A number in eight bytes.
-    #[tactic(auto, unfolding(crate::specs::Reading::mark_at))]
+    #[tactic(auto, unfolding(crate::specs::inner::Reading::mark_at))]
     pub fn mark(&mut self) -> Result<u64, RecordFault>
         ensures { RowAgrees (λ n. n) result self.new (mark_at self.old) }
     {

@@ -72,7 +72,7 @@ impl<'a> Reader<'a> {
         }
     }
 
-    #[tactic(auto, unfolding(crate::specs::Reading::dep_at))]
+    #[tactic(auto, unfolding(crate::specs::inner::Reading::dep_at))]
     fn dep(&mut self, alloc: Global) -> Result<Dep, RecordFault>
         ensures { RowAgrees (λ d. d) result self.new (dep_at self.old) }
     {
@@ -108,7 +108,7 @@ impl<'a> Reader<'a> {
         Ok(path)
     }
 
-    #[tactic(auto, unfolding(crate::specs::Reading::write_at))]
+    #[tactic(auto, unfolding(crate::specs::inner::Reading::write_at))]
     fn write(&mut self, alloc: Global) -> Result<(Path, [u8; 32]), RecordFault>
         ensures { RowAgrees (λ w. w) result self.new (write_at self.old) }
     {

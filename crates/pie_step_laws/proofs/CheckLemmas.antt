@@ -21,7 +21,7 @@ use Rattle.pie_model.specs.Evaluation.{World, Project, Progress, start, listing,
 use Rattle.pie_model.specs.Records.{Record, record_of, observations_of, hashed, mark_stamp, contents_stamp, look_stamp}
 use Rattle.pie_model.specs.inner.Consistent.{IsRecorded}
 use Rattle.pie_model.specs.Forest.{live_evaluations}
-use Rattle.pie_model.specs.inner.Verdict.{absent_here, found_absent, written_by, missed_by, final_checks, checked}
+use Rattle.pie_model.specs.Verdict.{absent_here, found_absent, written_by, missed_by, final_checks, checked}
 use Rattle.pie_model.specs.Built.{provided_at}
 use Rattle.pie_model.proofs.Basics.{clash, cases, among_here, among_there}
 use Rattle.pie_model.proofs.MovedLemmas.{opened_apart, opened_among}

@@ -11,7 +11,7 @@ use Rattle.pie_model.specs.Records.{Record}
 use Rattle.pie_model.specs.inner.Steps.{ChangesAt}
 use Rattle.pie_model.specs.inner.Stack.{Frame}
 use Rattle.pie_model.specs.Forest.{entered_tasks}
-use Rattle.pie_model.specs.inner.Verdict.{verdict}
+use Rattle.pie_model.specs.Verdict.{verdict}
 use Rattle.pie_model.specs.declared.words.Verdict.TheVariants.{Accepted}
 use Rattle.pie_model.proofs.Basics.{same_bytes}
 use Rattle.pie_step_laws.specs.Frames.{begun, has_written, was_answered, set_aside, record_left}

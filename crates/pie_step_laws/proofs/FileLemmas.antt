@@ -10,7 +10,7 @@ use Rattle.pie_model.specs.Seen.{first_write}
 use Rattle.pie_model.specs.Evaluation.{World, Project, evaluation}
 use Rattle.pie_model.specs.Records.{Record}
 use Rattle.pie_model.specs.Forest.{live_evaluations}
-use Rattle.pie_model.specs.inner.Verdict.{least, written_by, missed_by, is_found, finding_of, found_by, findings, by_findings, checked, final_checks, verdict}
+use Rattle.pie_model.specs.Verdict.{least, written_by, missed_by, is_found, finding_of, found_by, findings, by_findings, checked, final_checks, verdict}
 use Rattle.pie_model.specs.declared.words.Verdict.TheVariants.{Accepted}
 use Rattle.pie_model.specs.Built.{provided_at}
 use Rattle.pie_model.specs.declared.words.Check.TheVariants.{Overlapping}

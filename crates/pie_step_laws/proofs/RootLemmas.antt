@@ -15,7 +15,7 @@ use Rattle.pie_model.specs.Records.{Record, record_of}
 use Rattle.pie_model.specs.Running.{entered_all}
 use Rattle.pie_model.specs.inner.Stack.{Begins}
 use Rattle.pie_model.specs.Forest.{only_if, forest, entered_tasks, live_evaluations, unless_done, first_stop}
-use Rattle.pie_model.specs.inner.Verdict.{final_checks, by_stop, verdict}
+use Rattle.pie_model.specs.Verdict.{final_checks, by_stop, verdict}
 use Rattle.pie_model.specs.declared.words.Verdict.{Verdict}
 use Rattle.pie_model.specs.declared.words.Verdict.TheVariants.{Many, Fault, Cycle}
 use Rattle.pie_model.proofs.Basics.{clash, among_here, among_there, among_split, among_either}

@@ -9,7 +9,7 @@ use Rattle.pie_model.specs.Seen.{first_write}
 use Rattle.pie_model.specs.Evaluation.{World, Project}
 use Rattle.pie_model.specs.Records.{Stamp, Absent, Present, Hash, Mark, WholeValue, Success, Query, Looked, Listed, Required, Observation, Record}
 use Rattle.pie_model.specs.Forest.{live_evaluations}
-use Rattle.pie_model.specs.inner.Verdict.{checked}
+use Rattle.pie_model.specs.Verdict.{checked}
 use Rattle.pie_model.specs.Built.{provided_at}
 use Rattle.pie_step_laws.specs.Roots.{Between, EvaluatesTo}
 use Rattle.pie_step_laws.specs.Contents.{KeepsContents}

@@ -6,7 +6,7 @@ use Rattle.pie_model.specs.Seen.{first_write}
 use Rattle.pie_model.specs.Evaluation.{World, Project}
 use Rattle.pie_model.specs.Records.{Record}
 use Rattle.pie_model.specs.Forest.{live_evaluations}
-use Rattle.pie_model.specs.inner.Verdict.{verdict}
+use Rattle.pie_model.specs.Verdict.{verdict}
 use Rattle.pie_model.specs.declared.words.Verdict.TheVariants.{Accepted}
 use Rattle.pie_model.specs.Built.{provided_at}
 use Rattle.pie_step_laws.specs.Roots.{Between}

@@ -9,7 +9,7 @@ use Rattle.pie_model.specs.Evaluation.{World, Project, evaluation}
 use Rattle.pie_model.specs.Records.{Record, record_of}
 use Rattle.pie_model.specs.inner.Stack.{Begins}
 use Rattle.pie_model.specs.Forest.{forest, entered_tasks, live_evaluations, first_stop}
-use Rattle.pie_model.specs.inner.Verdict.{final_checks, verdict}
+use Rattle.pie_model.specs.Verdict.{final_checks, verdict}
 use Rattle.pie_model.specs.declared.words.Verdict.{Verdict}
 use Rattle.pie_model.specs.declared.words.Verdict.TheVariants.{Many, Fault, Cycle}
 use Rattle.pie_step_laws.specs.Table.{Rests}

@@ -7,7 +7,7 @@ use Rattle.pie_model.specs.Evaluation.{World, Project, evaluation}
 use Rattle.pie_model.specs.Records.{Record}
 use Rattle.pie_model.specs.Running.{entered_all}
 use Rattle.pie_model.specs.Forest.{entered_tasks}
-use Rattle.pie_model.specs.inner.Verdict.{verdict}
+use Rattle.pie_model.specs.Verdict.{verdict}
 use Rattle.pie_model.specs.declared.words.Verdict.{Verdict}
 use Rattle.pie_step_laws.specs.Table.{Rests}
 

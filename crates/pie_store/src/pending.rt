@@ -45,7 +45,7 @@ fn put_lines(out: &mut Vec<u8>, paths: &BTreeSet<Path>) -> Result<(), OutOfMemor
     Ok(())
 }
 
-#[tactic(auto, unfolding(crate::specs::Pending::line))]
+#[tactic(auto, unfolding(crate::specs::inner::Pending::line))]
 fn put_line(out: &mut Vec<u8>, path: &Path) -> Result<(), OutOfMemory>
     ensures written { OnOk result (out.new.items ≡ out.old.items ++ line path.now) }
     ensures name { OnOk result (IsName path.now) }

@@ -47,7 +47,7 @@ fn number(end: usize, reader: &mut Reader<'_>) -> Result<usize, StoreFault>
     }
 }
 
-#[tactic(auto, unfolding(crate::specs::Reading::func_at))]
+#[tactic(auto, unfolding(crate::specs::inner::Reading::func_at))]
 fn func(reader: &mut Reader<'_>, alloc: Global) -> Result<(Text, [u8; 32]), RecordFault>
     ensures { PartAgrees (λ f. f) result reader.new (func_at reader.old) }
 {
@@ -77,7 +77,7 @@ fn name_is_last(funcs: &[(Text, [u8; 32])], name: &Text) -> bool
 }
 
 // A function that comes after those before it.
-#[tactic(auto, unfolding(crate::specs::Reading::next_func))]
+#[tactic(auto, unfolding(crate::specs::inner::Reading::next_func))]
 fn one_func(
     end: usize,
     reader: &mut Reader<'_>,
@@ -119,7 +119,7 @@ pub(crate) fn funcs(
 }
 
 // A root, with its offset.
-#[tactic(auto, unfolding(crate::specs::Reading::next_root))]
+#[tactic(auto, unfolding(crate::specs::inner::Reading::next_root))]
 fn one_root(
     end: usize,
     reader: &mut Reader<'_>,
@@ -168,7 +168,7 @@ pub(crate) fn tasks_of(alloc: Global, roots: &[(Task, usize)]) -> Result<Vec<Tas
 }
 
 // A record that may stand after those before it, with its height.
-#[tactic(auto, unfolding(crate::specs::Reading::next_row))]
+#[tactic(auto, unfolding(crate::specs::inner::Reading::next_row))]
 fn one_row(
     end: usize,
     reader: &mut Reader<'_>,

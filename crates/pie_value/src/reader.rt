@@ -95,7 +95,7 @@ impl<'a> Reader<'a> {
         Ok(front)
     }
 
-    #[tactic(auto, unfolding(crate::specs::Reading::number_of))]
+    #[tactic(auto, unfolding(crate::specs::inner::Reading::number_of))]
     fn number(&mut self) -> Result<usize, ValueFault>
         ensures { ValueAgrees (λ n. n) result self.new (number_of self.old) }
     {
@@ -106,7 +106,7 @@ impl<'a> Reader<'a> {
         Ok(u32::from_be_bytes(*digits) as usize)
     }
 
-    #[tactic(auto, unfolding(crate::specs::Reading::int_of))]
+    #[tactic(auto, unfolding(crate::specs::inner::Reading::int_of))]
     fn int(&mut self) -> Result<i64, ValueFault>
         ensures { ValueAgrees (λ n. n) result self.new (int_of self.old) }
     {
@@ -235,7 +235,7 @@ impl<'a> Reader<'a> {
         Ok(items)
     }
 
-    #[tactic(auto, unfolding(crate::specs::Reading::value_prefix))]
+    #[tactic(auto, unfolding(crate::specs::inner::Reading::value_prefix))]
     fn front(&mut self, alloc: Global) -> Result<Value, ValueFault>
         ensures { ValueAgrees tree_of result self.new (value_prefix self.old) }
     {
@@ -243,7 +243,7 @@ impl<'a> Reader<'a> {
         Ok(value)
     }
 
-    #[tactic(auto, unfolding(crate::specs::Reading::value_prefix))]
+    #[tactic(auto, unfolding(crate::specs::inner::Reading::value_prefix))]
     fn front_items(&mut self, alloc: Global) -> Result<Items, ValueFault>
         ensures { ValueAgrees (λ ts. ts) result self.new (items_prefix value_prefix self.old) }
     {
