@@ -51,8 +51,8 @@ impl Model for Machine {
 }
 
 impl Machine {
-    #[tactic(auto, using(crate::proofs::Leading::begun_stands))]
     /// A machine at the start of the code, with the task's arguments. The task is added to the runs.
+    #[tactic(auto, using(crate::proofs::Leading::begun_stands))]
     pub fn start(
         alloc: Global,
         code: &Checked,
@@ -75,8 +75,8 @@ impl Machine {
         })
     }
 
-    #[tactic(auto, using(crate::proofs::Walks::next_turn))]
     /// Runs up to the next effect or to the end. After out of memory the machine is over.
+    #[tactic(auto, using(crate::proofs::Walks::next_turn))]
     pub fn next(&mut self, code: &Checked) -> Result<Event, OutOfMemory>
         requires ready { self.old.phase ≡ MachineState.Ready }
         requires belongs { Belongs code.now self.old }
@@ -94,9 +94,9 @@ impl Machine {
         Ok(event)
     }
 
-    #[tactic(auto, using(crate::proofs::Leading::answer_leads, crate::proofs::Leading::answer_stands))]
     /// Gives the answer to the effect that the machine waits for. Where the answer is of another kind, the next
     /// event is the fault Unknown.
+    #[tactic(auto, using(crate::proofs::Leading::answer_leads, crate::proofs::Leading::answer_stands))]
     pub fn answer(&mut self, answer: Answer)
         requires { self.old.phase ≡ MachineState.Waiting }
         ensures follows { (code : Code) (args : List Tree) (answers : List Answer) → Follows code args answers self.old
