@@ -93,7 +93,7 @@ fn code_of<'a>(typed: &Typed, codes: &'a [Checked], task: &Task) -> Option<&'a C
     Some(code)
 }
 
-// What a machine evaluates to at its first event.
+// What a machine gives at its first event.
 fn ran(alloc: Global, code: &Checked, task: &Task) -> Result<FirstStop, OutOfMemory>
     requires { length task.now.args ≡ code.now.params }
 {

@@ -20,7 +20,7 @@ use Rattle.pie_code.specs.declared.instr.Instr.TheVariants.{Tick, Push, PushText
 use Rattle.pie_code.specs.declared.instr.Instr.TheVariants.{TuplePush, Proj, Call, Observe, Write, Require, Fail, Return}
 use Rattle.pie_code.specs.declared.code.Code.{Code}
 
--- where running stands: the place, the stack with its top first, the slots, and what running evaluated to
+-- where running stands: the place, the stack with its top first, the slots, and what running gave
 pub record Config : Type 0 where
   pub at : ℕ
   pub stack : List Tree

@@ -67,11 +67,11 @@ pub record Fits (m : ℕ) (sc : Scope) (low : List Val) (env : Env) (room : ℕ)
   pub small : m + room ≤ 65535
 
 module _ (code : Code) (ev : Outcome Val × State) where
-  -- running evaluates to the event from here
+  -- running gives the event from here
   abbrev pub Comes : ℕ → List Val → List Val → State → Type 0
   Comes a k l s = Ends code (at a k l s) ev
 
-  -- what is done goes on so that running evaluates to the event, or is the event
+  -- what is done goes on so that running gives the event, or is the event
   abbrev pub Then : {A : Type 0} → (A → State → Type 0) → Outcome A × State → Type 0
   Then K (done v, s) = K v s
   Then K (fails f, s) = (fails f, s) ≡ ev
@@ -102,7 +102,7 @@ module _ (code : Code) (ev : Outcome Val × State) where
       → Comes a k l s
   one i a k l s e h = by_turn (at a k l s) (act code.texts.items i (at a k l s)) (ap (λ o. act_found code.texts.items o (at a k l s)) e) h
 
-  -- what an operator evaluated to
+  -- what an operator gave
   pub into : (o : Outcome Val × State) (c : Config) → Then (λ v s. Comes (c.at + 1) (v ∷ c.stack) c.slots s) o → Leads (settle o c)
   into (done v, s) c h = h
   into (fails f, s) c h = h

@@ -56,7 +56,7 @@ impl Disk {
         }
     }
 
-    /// What it evaluates to at a call that may have changed something: a fault, even where the system has no memory.
+    /// What it is at a call that may have changed something: a fault, even where the system has no memory.
     pub(crate) fn failed(&self, call: &str, place: &str, error: &io::Error) -> FilesError {
         explain_refusal(self.rt, call, place, error);
         FilesError::Failed

@@ -1,4 +1,4 @@
--- What a machine evaluates to is what the task does next in the model.
+-- What a machine gives is what the task does next in the model.
 use Rattle.std.proofs.Common.{◌≡◌, inl, inr, ◌-◌, ◌<◌, Option, List, map, refl, sym, ap, subst, ◌∙◌}
 use Rattle.pie_base.specs.declared.fault.FaultKind.{FaultKind}
 use Rattle.pie_value.specs.declared.task.Task.{Task}
@@ -113,7 +113,7 @@ module _ (s : Site) (b : Builder) (f : RunningTask) (M : Means s b f.code.now f.
       subst (TurnMeans s b) (sym e) (subst (λ x. RefusesAs s b.ledger (Fault (record { task = x; kind = k }))) (sym h.0)
       (subst (λ x. HasEnded world (project_of s) s.root s.base (names_of b.ledger) (Failed x (fault_of k))) M.top.task (fails_as k h.1)))
 
--- what a machine evaluated to, with the answers so far
+-- what a machine gave, with the answers so far
 abbrev pub ComesWith : RunningTask → Paused → Type 0
 ComesWith f c = (answers : List Answer) → Follows f.code.now f.notes.task.args answers f.machine → ComesAs f.code.now f.notes answers c
 

@@ -39,7 +39,7 @@ pub(crate) struct Caller<'a> {
     pub(crate) how: How,
 }
 
-/// What the machine of a running task evaluated to.
+/// What the machine of a running task gave.
 #[derive(Drop)]
 pub(crate) enum Paused<'a> {
     /// An event that asks.

@@ -34,7 +34,7 @@ pub(crate) struct Ledger {
     pub(crate) ended: u32,
 }
 
-/// What a task evaluated to that is done.
+/// What a task gave that is done.
 #[derive(Drop)]
 pub(crate) struct Done {
     pub(crate) no: TaskNo,

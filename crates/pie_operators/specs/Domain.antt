@@ -1,4 +1,4 @@
--- What running evaluates to, of a tree and of code alike: a value, a fault, or an effect that waits for an answer.
+-- What running gives, of a tree and of code alike: a value, a fault, or an effect that waits for an answer.
 use Rattle.std.specs.Prelude.{ℕ, ◌+◌, Bool, cond, nat_lt, List, [], ◌∷◌, ◌++◌, Ok, Err}
 use Rattle.std.specs.List.{list_any}
 use Rattle.pie_base.specs.declared.fault.FaultKind.{FaultKind}
@@ -9,7 +9,7 @@ use Rattle.pie_value.specs.Tree.{Tree}
 use Rattle.pie_value.specs.inner.BuiltinForms.{Answered}
 use Rattle.pie_value.specs.inner.BuiltinTexts.{same_bytes}
 
--- what running evaluated to: a value, a fault, or the first effect that no answer is left for
+-- what running gave: a value, a fault, or the first effect that no answer is left for
 pub data Outcome (A : Type 0) : Type 0 where
   done : A → Outcome A
   fails : FaultKind → Outcome A

@@ -51,7 +51,7 @@ module _ (number : Task → Option ℕ) where
   adds_takes (Err TooLong) old new line n t m h = h
   adds_takes (Err NotText) old new line n t m h = h
 
-  -- what a line is, and what taking it evaluates to
+  -- what a line is, and what taking it gives
   pub taken_blank : (old : List Task) (line : List ℕ) (n : ℕ) (r : Root) → IsRoot line r → r ≡ roots.Nothing → Carries number old old line n
   taken_blank old line n r h e = blank_carries old line n (subst (IsRoot line) e h)
 

@@ -14,13 +14,13 @@ use Rattle.pie_semantics_program.specs.declared.function.EvaluatorOutcome.{Evalu
 use Rattle.pie_semantics_program.specs.Coming.{Comes, stopped}
 use Rattle.pie_semantics_program.specs.Whole.{outcome_of, IsTold}
 
--- what an operator gives is what the evaluation evaluates to
+-- what an operator gives is what the evaluation gives
 pub settled : (x : Result Value OperatorFault) (a : Answered) (s : State) → ResultAgrees x a → Comes tree_of (stopped x) s (by_answer a s)
 settled (Ok v) a s h = ap (λ b. by_answer b s) h
 settled (Err (Fault k)) a s h = ap (λ b. by_answer b s) h
 settled (Err OutOfMemory) a s h = tt
 
--- what an evaluation evaluated to is told as it is
+-- what an evaluation gave is told as it is
 pub told_so : (r : Result Value Stop) (o : Told) (s : State) (m : Outcome Tree × State) → IsTold r o → Comes tree_of r s m → (outcome_of o, s) ≡ m
 told_so (Ok v) o s m h k = cc
 told_so (Err (stops.Fault f)) o s m h k = cc

@@ -1,4 +1,4 @@
--- When what the evaluator evaluated to is what the meaning says.
+-- When what the evaluator gave is what the meaning says.
 use Rattle.std.specs.Prelude.{◌≡◌, ◌+◌, Bool, true, false, nat_lt, Result, Ok, Err}
 use Rattle.pie_base.specs.declared.fault.FaultKind.TheVariants.{Budget}
 use Rattle.pie_value.specs.declared.value.Value.{Value}
@@ -10,7 +10,7 @@ use Rattle.pie_semantics.specs.Words.{branch}
 use Rattle.pie_semantics_program.specs.declared.stop.Stop.{Stop}
 use Rattle.pie_semantics_program.specs.declared.stop.Stop.TheVariants as stops
 
--- a result and the state then are what running evaluates to; out of memory says nothing
+-- a result and the state then are what running gives; out of memory says nothing
 abbrev pub Comes : {A B : Type 0} → (A → B) → Result A Stop → State → Outcome B × State → Type 0
 Comes f (Ok a) new o = o ≡ (done (f a), new)
 Comes f (Err (stops.Fault k)) new o = o ≡ (fails k, new)
@@ -24,7 +24,7 @@ Ticks (Err (stops.Fault k)) old new = (nat_lt old.ticks 1000000 ≡ false) × ((
 Ticks (Err (stops.Wants e)) old new = ⊥
 Ticks (Err stops.OutOfMemory) old new = Unit {0}
 
--- what an operator answered, as what the evaluation evaluated to
+-- what an operator answered, as what the evaluation gave
 abbrev pub stopped : Result Value OperatorFault → Result Value Stop
 stopped (Ok v) = Ok v
 stopped (Err (operators.Fault k)) = Err (stops.Fault k)

@@ -15,7 +15,7 @@ outcome_of (outcomes.Done v) = done (tree_of v)
 outcome_of (outcomes.Fails k) = fails k
 outcome_of (outcomes.Wants e) = wants e
 
--- an evaluation evaluated to this
+-- an evaluation gave this
 abbrev pub IsTold : Result Value Stop → EvaluatorOutcome → Type 0
 IsTold (Ok v) o = o ≡ outcomes.Done v
 IsTold (Err (stops.Fault k)) o = o ≡ outcomes.Fails k

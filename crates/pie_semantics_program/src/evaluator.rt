@@ -12,7 +12,7 @@ use std::alloc::Global;
 use std::collections::VecDeque;
 use std::marker::Model;
 
-/// What an evaluation evaluated to: the answers that are left, the paths observed and written, and the ticks.
+/// What an evaluation gave: the answers that are left, the paths observed and written, and the ticks.
 /// Contracts see it as the meaning does.
 #[derive(Drop)]
 pub struct Evaluator {

@@ -23,7 +23,7 @@ pub enum EvaluatorOutcome {
     Wants(Event),
 }
 
-/// What a function evaluated to, and what the evaluation evaluated to with it: the ticks, the paths, the answers that are left.
+/// What a function evaluated to, and what the evaluation gave with it: the ticks, the paths, the answers that are left.
 #[derive(Drop)]
 pub struct Evaluated {
     pub outcome: EvaluatorOutcome,
@@ -67,7 +67,7 @@ fn bound(alloc: Global, params: &[Param], args: &[Value]) -> Result<Names, OutOf
     Ok(names)
 }
 
-// What an evaluation evaluated to.
+// What an evaluation gave.
 fn told(value: Result<Value, Stop>) -> Result<EvaluatorOutcome, OutOfMemory>
     ensures { IfOk result (λ outcome. IsTold value outcome) }
 {

@@ -48,7 +48,7 @@ impl<T: Drop> From<AllocFailed<T>> for Stop {
     }
 }
 
-/// What an operator or a built-in function answered, as what the evaluation evaluated to.
+/// What an operator or a built-in function answered, as what the evaluation gave.
 pub fn stopped(answer: Result<Value, OperatorFault>) -> Result<Value, Stop>
     ensures { result ≡ spec_stopped answer }
 {

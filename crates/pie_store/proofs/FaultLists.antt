@@ -30,7 +30,7 @@ use Rattle.pie_store.proofs.Stopping.{stop_place}
 
 -- ---- a part that isn't read
 
--- it evaluates to a fault, or to out of memory
+-- it ends in a fault, or out of memory
 abbrev pub Comes : {A : Type 0} → Result A StoreFault → StoreFault → Type 0
 Comes {A} r e = (r ≡ Err e) ⊎ (r ≡ Err OutOfMemory)
 

@@ -1,4 +1,4 @@
--- Worked examples of what a typed function evaluates to, and of what it would come to without each premise.
+-- Worked examples of what a typed function evaluates to, and of what it would evaluate to without each premise.
 use Rattle.std.proofs.Common.{◌≡◌, ℕ, true, List, [], ◌∷◌, codes, refl, arith}
 use Rattle.std.specs.Prelude.{pos}
 use Rattle.pie_base.specs.declared.fault.FaultKind.TheVariants.{Unknown}

@@ -63,7 +63,7 @@ unit_more xs n i h =
 pub no_unit : (xs : List Value) (n i : ℕ) → n ≤ i → trees_of xs ++ units (n - i) ≡ trees_of xs
 no_unit xs n i h = let e : n - i ≡ 0 = omega arith in ap (λ k. trees_of xs ++ units k) e ∙ append-nil (trees_of xs)
 
--- nor at what running evaluated to before
+-- nor at what running gave before
 pub settles_alike : (a : Answered) (s t : State) (c : Config) → settle (by_answer a s) (record c { state = t }) ≡ settle (by_answer a s) c
 settles_alike (Ok u) s t c = refl
 settles_alike (Err k) s t c = refl

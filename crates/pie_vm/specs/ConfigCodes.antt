@@ -15,7 +15,7 @@ use Rattle.pie_vm.specs.Machines.{Standing}
 abbrev pub coded_paths : Coded (List (List ℕ))
 coded_paths = coded_list (coded_list coded_ℕ)
 
--- what running evaluated to
+-- what running gave
 abbrev pub coded_state : Coded State
 coded_state =
     code_by ((List Answer × List (List ℕ)) × (List (List ℕ) × ℕ)) (coded× (coded× (coded_list the_row.coded) coded_paths) (coded× coded_paths coded_ℕ))

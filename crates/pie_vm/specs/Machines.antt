@@ -24,7 +24,7 @@ more rest s = record s { answers = s.answers ++ rest }
 abbrev pub more_for : List Answer → Config → Config
 more_for rest c = record c { state = more rest c.state }
 
--- running leads from one place to another: whatever answers come, what it evaluates to from the second it evaluates to from the first
+-- running leads from one place to another: whatever answers come, what it gives from the second it gives from the first
 pub record Leads (code : Code) (from to : Config) : Type 0 where
   pub ends : (rest : List Answer) (o : Outcome Tree × State) → Ends code (more_for rest to) o → Ends code (more_for rest from) o
 

@@ -21,13 +21,13 @@ abbrev pub answers_of : Option Answer → List Answer
 answers_of None = []
 answers_of (Some a) = a ∷ []
 
--- what running evaluated to, by the event that the machine gives
+-- what running gave, by the event that the machine gives
 abbrev pub outcome_of : Event → Outcome Tree
 outcome_of (Done v) = done (tree_of v)
 outcome_of (Fail k) = fails k
 outcome_of e = wants e
 
--- what running evaluated to at its end
+-- what running gave at its end
 abbrev pub ended : Ending → Outcome Tree
 ended (endings.Done v) = done (tree_of v)
 ended (endings.Fail k) = fails k

@@ -12,7 +12,7 @@ use pie_value::{Answer, Value};
 use std::alloc::Global;
 use std::marker::Model;
 
-/// Where running stands: the next instruction, the stack, the slots, and what running evaluated to. Contracts see it as the
+/// Where running stands: the next instruction, the stack, the slots, and what running gave. Contracts see it as the
 /// definition of running does.
 #[derive(Drop)]
 pub struct Frame {

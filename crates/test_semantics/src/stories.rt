@@ -136,7 +136,7 @@ fn compiled_story(
     }
 }
 
-// What the evaluator evaluates to with the first answers, so many.
+// What the evaluator gives with the first answers, so many.
 fn front(
     alloc: Global,
     function: &Function,
@@ -150,7 +150,7 @@ fn front(
     Ok(came)
 }
 
-// Tells what the evaluator evaluated to, and whether it asks.
+// Tells what the evaluator gave, and whether it asks.
 fn came_told(alloc: Global, came: &Evaluated, all: &mut String) -> Result<bool, Fail> {
     let event = outcome_told(alloc, &came.outcome)?;
     tell(alloc, event.as_str(), came.after.ticks(), all)?;
@@ -160,7 +160,7 @@ fn came_told(alloc: Global, came: &Evaluated, all: &mut String) -> Result<bool, 
     }
 }
 
-// Tells what the evaluator evaluates to with the first answers, so many, and whether it asks.
+// Tells what the evaluator gives with the first answers, so many, and whether it asks.
 fn front_told(
     alloc: Global,
     function: &Function,
@@ -173,7 +173,7 @@ fn front_told(
     came_told(alloc, &came, all)
 }
 
-// Tells what the evaluator evaluates to with each prefix of these answers.
+// Tells what the evaluator gives with each prefix of these answers.
 fn fronts_told(
     alloc: Global,
     function: &Function,

@@ -1,4 +1,4 @@
--- What a machine evaluates to, and what a task is told.
+-- What a machine gives, and what a task is told.
 use Rattle.std.specs.Prelude.{◌≡◌, ◌==◌, ◌⊎◌, ℕ, ◌<◌, Bool, true, false, cond, List, [], ◌∷◌, ◌++◌, map, Option, Some, None}
 use Rattle.sha2.specs.Sha256.{sha256}
 use Rattle.pie_base.specs.declared.fault.FaultKind.{FaultKind}
@@ -33,7 +33,7 @@ use Rattle.pie_fresh.specs.declared.turn.Turn.TheVariants.{Goes, Rests, Stops}
 use Rattle.pie_fresh.specs.inner.Noted.{Noted, file_dep, read_kind, observed}
 use Rattle.pie_fresh.specs.inner.Sights.{found_in}
 
--- ---- what a machine evaluates to
+-- ---- what a machine gives
 
 -- with these answers the code evaluates to this
 pub record EvaluatedTo (code : Code) (args : List Tree) (answers : List Answer) (o : Outcome Tree) : Type 0 where
@@ -44,7 +44,7 @@ pub record EvaluatedTo (code : Code) (args : List Tree) (answers : List Answer) 
 abbrev pub StopsFor : Code → Noted → List Answer → FaultKind → Type 0
 StopsFor code old answers k = ((old.left ≡ 0) × (k ≡ faults.Budget)) ⊎ ((0 < old.left) × EvaluatedTo code old.task.args answers (fails k))
 
--- what a machine evaluated to is what its code evaluates to, with the answers so far
+-- what a machine gave is what its code evaluates to, with the answers so far
 abbrev pub ComesAs : Code → Noted → List Answer → Paused → Type 0
 ComesAs code old answers (Asks w e) = (w.code.now ≡ code) × Follows code old.task.args answers w.machine × EvaluatedTo code old.task.args answers (wants e)
 ComesAs code old answers (Ends n v) = (0 < old.left) × EvaluatedTo code old.task.args answers (done (tree_of v))
