@@ -1,4 +1,4 @@
-//! Runs `main()` of the pipeline on standard input up to its first effect, and prints what it came to and its ticks.
+//! Runs `main()` of the pipeline on standard input up to its first effect, and prints what it gave and its ticks.
 //! Times are taken from outside, by bench/ticks.
 #![tactic(auto)]
 

@@ -63,7 +63,7 @@ impl From<TypeError> for Problem {
     }
 }
 
-/// What `main()` of a pipeline comes to, up to its first effect.
+/// What `main()` of a pipeline gives, up to its first effect.
 pub(crate) fn evaluated_to(alloc: Global, text: &str) -> Result<FirstStop, Problem> {
     let tokens = lex(alloc, text)?;
     let typed = check(alloc, parse(alloc, tokens.as_slice())?)?;

@@ -106,7 +106,7 @@ fn build<F: Files>(
     finish(alloc, files, project, built, ran)
 }
 
-// What the project comes to.
+// The result of the project.
 #[tactic(auto, using(pie_files::proofs::Reading::reads))]
 fn evaluate<F: Files>(
     alloc: Global,

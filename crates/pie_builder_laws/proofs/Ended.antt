@@ -1,4 +1,4 @@
--- A build that ends comes to the clean build of the model.
+-- A build that ends is the clean build of the model.
 use Rattle.std.proofs.Common.{◌≡◌, ℕ, ◌≤◌, Option, Some, None, List, [], ◌∷◌, ◌++◌, map, length, refl, sym, ap, subst, ◌∙◌, arith}
 use Rattle.std.specs.Prelude.{slice_get, option_map, take, Contains}
 use Rattle.std.proofs.lemmas.List.{length-map, map-append, take_all}

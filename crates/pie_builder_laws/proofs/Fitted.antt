@@ -105,7 +105,7 @@ more_answers fs hs codes t given e a c fits before_fit n f i j before after b d 
         subst (λ (z : Event × Answer). AnswerFits hs z.0 z.1) (λ x. (same x, sym s.1 x)) fits
     by (inr s) = before_fit n f i j before s.0 b d s.1 k
 
--- ---- what a task then comes to
+-- ---- what a task then gives
 
 runs_well : (fs : List FunctionTree) (hs : List Heading) (codes : List Code) (t : Task) (given : List Answer) (o : Outcome Tree) → HasHeadings fs hs
     → EvaluatesTo fs codes t given o → Fit fs hs t given → (h : Heading) × (function_in t.func hs ≡ Some h) × RunsWell hs h.result o

@@ -1,4 +1,4 @@
--- A build that ends comes to the clean build of the model.
+-- A build that ends is the clean build of the model.
 use Rattle.std.specs.Prelude.{◌≡◌, ℕ, ◌<◌, List, [], ◌∷◌, ◌++◌, map, length, All, Contains, Option, Some, None, slice_get}
 use Rattle.pie_base.specs.declared.fault.FaultKind.{FaultKind}
 use Rattle.pie_value.specs.declared.task.Task.{Task}

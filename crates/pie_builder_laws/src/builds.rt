@@ -1,4 +1,4 @@
-//! What a build comes to.
+//! The result of a build.
 ghost use Rattle.pie_builder_laws.specs.Builds.{NoneAreDoneAtFirst, KnownRootsAreDone, EndedRootsAreDone, AcceptedBuildsAreClean, CheckedBuildsAreClean};
 ghost use Rattle.pie_builder_laws.specs.Builds.{FailedBuildsAreClean, CyclesAreClean, FullBuildsAreClean};
 

@@ -1,4 +1,4 @@
-//! The laws by which the last checks of a build come to the verdict of the model.
+//! The laws by which the last checks of a build give the verdict of the model.
 ghost use Rattle.pie_check_laws.specs.Findings.{TheLeastIsFound, NothingIsFound, TheFirstRefusalIsTheVerdict};
 ghost use Rattle.pie_check_laws.specs.Recorded.{PathsUnderOutAgree, PathsBelowAgree, ValuesMeetNoClash};
 ghost use Rattle.pie_check_laws.specs.Verdicts.{RecordsTellWrites, RecordsTellMisses, LastChecksAreTheModels, LastChecksAreTheVerdict};

@@ -1,10 +1,10 @@
-//! What a build comes to.
+//! The result of a build.
 
 use pie_base::Path;
 use pie_record::TaskRecord;
 use pie_value::{Task, Value, Verdict};
 
-/// What a build comes to. All lists are empty where it is refused.
+/// The result of a build. All lists are empty where it is refused.
 #[derive(Drop)]
 pub struct Built {
     pub verdict: Verdict,

@@ -1,4 +1,4 @@
-//! The last checks of a build: overlapping, nested and hidden writes; and what a build comes to.
+//! The last checks of a build: overlapping, nested and hidden writes; and the result of a build.
 #![tactic(auto)]
 
 mod built;

@@ -1,4 +1,4 @@
-//! What a command comes to.
+//! The result of a command.
 
 use pie_base::Status;
 

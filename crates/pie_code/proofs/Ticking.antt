@@ -81,7 +81,7 @@ keeps_require how f ts = elim (is_small_task (record { func = f; args = ts })) a
       | false ↦ keeps_fault Big
     ]
 
--- a task that says that it fails comes to no value
+-- a task that says that it fails gives no value
 pub fail_ends : (a v : Tree) (s t : State) → fail a s ≡ (done v, t) → ⊥
 fail_ends (TText m) v s t e = fails_done _ v s t e
 fail_ends a v s t e = fails_done _ v s t e

@@ -65,7 +65,7 @@ pop_two c go = pop c (λ b d. pop d (λ a e. go a b e))
 abbrev pub pop_many : ℕ → Config → (List Tree → Config → Turn) → Turn
 pop_many n c go = cond (nat_le n (length c.stack)) (go (reverse (take n c.stack)) (record c { stack = drop n c.stack })) (misfit c)
 
--- what an operator, a built-in function or an effect came to: a value goes on the stack
+-- what an operator, a built-in function or an effect gave: a value goes on the stack
 abbrev pub settle : Outcome Tree × State → Config → Turn
 settle (done t, s) c = push t (record c { state = s })
 settle (fails k, s) c = ends (fails k) s

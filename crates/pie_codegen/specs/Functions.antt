@@ -34,6 +34,6 @@ pub record IsCodeOf (f : FunctionTree) (code : Code) : Type 0 where
   pub texts : code.texts.items ≡ block_texts f.body
   pub instrs : code.instrs.items ≡ block_code f.body origin (length f.params) (scope_of f.params) ++ Return ∷ []
 
--- the code means what the function means: with as many arguments as parameters, and whatever answers, both come to the same
+-- the code means what the function means: with as many arguments as parameters, and whatever answers, both give the same
 pub record Means (f : FunctionTree) (code : Code) : Type 0 where
   pub comes : (args : List Val) (answers : List Answer) → length args ≡ length f.params → CodeNext code args answers (next_of f args answers)

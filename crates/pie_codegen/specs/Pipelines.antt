@@ -28,7 +28,7 @@ AllMean [] [] = Unit {0}
 AllMean (f ∷ fs) (c ∷ cs) = Means f c × AllMean fs cs
 AllMean fs cs = ⊥
 
--- the code of a task's function, on the task's arguments and with answers that fit, never comes to the fault Unknown, to a value of
+-- the code of a task's function, on the task's arguments and with answers that fit, never gives the fault Unknown, to a value of
 -- another type than the function's, or to a required task that isn't typed
 pub record NoTaskIsStuck (hs : List Heading) (t : Task) (f : FunctionTree) (h : Heading) (c : Code) : Type 0 where
   pub heading : function_in t.func hs ≡ Some h

@@ -48,7 +48,7 @@ impl Disk {
         Ok(format!(in self.alloc(); "{}.", self.root)?)
     }
 
-    /// What a refusal of the system comes to, at a call that looks.
+    /// What a refusal of the system is, at a call that looks.
     pub(crate) fn fault(&self, call: &str, place: &str, error: &io::Error) -> FilesError {
         match error.kind() {
             ErrorKind::OutOfMemory => FilesError::OutOfMemory,

@@ -1,4 +1,4 @@
--- From root to root a build comes to the clean build of the model.
+-- From root to root a build is the clean build of the model.
 use Rattle.std.proofs.Common.{get_or, ◌≡◌, ℕ, ◌+◌, ◌<◌, ◌≤◌, Option, Some, None, List, [], ◌∷◌, ◌++◌, take, drop, length, refl, sym, ap, subst, ◌∙◌}
 use Rattle.std.specs.Prelude.{All, IfSome}
 use Rattle.std.proofs.lemmas.List.{take-append-drop, take_all, take_more, drop_more}

@@ -59,7 +59,7 @@ one_off k n e = omega (arith, e)
 same_task : (h k : How) (t u : List ℕ) → Require h t ≡ Require k u → t ≡ u
 same_task h k t u e = cc
 
--- the newest task that waits is told what the one that has ended came to
+-- the newest task that waits is told what the one that has ended gave
 pub resumed_means : (s : Site) (b c : Builder) (w : Caller) (number height : ℕ) (v : Value) (f : RunningTask) → HasFinished s b number v
     → b.stack.items ≡ c.stack.items ++ w ∷ [] → c.ledger ≡ b.ledger → IsThere s c
     → IsTold w.waiting f (required (of_task w.how w.required v) number height w.waiting.notes) (requiring_answer w.how v)

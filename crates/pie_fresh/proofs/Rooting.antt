@@ -1,4 +1,4 @@
--- A root comes to an answer as in the model.
+-- A root gets an answer as in the model.
 use Rattle.std.proofs.Common.{◌≡◌, ℕ, true, Option, Some, None, List, refl, sym, subst, ◌∙◌}
 use Rattle.std.specs.Prelude.{slice_get}
 use Rattle.pie_value.specs.declared.task.Task.{Task}

@@ -1,4 +1,4 @@
--- What a clean build comes to in the model.
+-- The result of a clean build in the model.
 use Rattle.std.specs.Prelude.{◌≡◌, ℕ, true, List, [], ◌++◌, map, All, Option, Some, None, Vec}
 use Rattle.pie_value.specs.declared.task.Task.{Task}
 use Rattle.pie_value.specs.declared.verdict.Refusal.{Refusal}
@@ -50,7 +50,7 @@ abbrev pub NoRootsDone : List FunctionTree → List Code → Builder → Type 0
 NoRootsDone fs codes b =
     (s : Site) → s.functions ≡ fs → s.codes ≡ codes → AreCompiled s.functions s.codes → HasHeadings s.functions s.headings → RootsDone s b []
 
--- a root comes to an answer as in the model, if it is within the limits
+-- a root gets an answer as in the model, if it is within the limits
 abbrev pub EvaluatesRoot : Option Directory → Builder → Builder → Task → Option Refusal → Type 0
 EvaluatesRoot held old new root why = is_small_task root ≡ true → BeginsAs held old new root why
 

@@ -29,7 +29,7 @@ use pie_vm::Runs;
 use std::alloc::Global;
 
 impl<'a> Builder<'a> {
-    /// A task is required: it is answered from what it came to, or runs first.
+    /// A task is required: it is answered from what it gave, or runs first.
     pub(crate) fn require(
         &mut self,
         waiting: Waiting<'a>,
@@ -147,7 +147,7 @@ fn note(tasks: &mut Vec<Task>, caller: &Caller, no: TaskNo) -> Result<(), OutOfM
     Ok(())
 }
 
-/// A task is told what the task that it requires came to.
+/// A task is told what the task that it requires gave.
 pub(crate) fn give<'a>(
     alloc: Global,
     waiting: Waiting<'a>,

@@ -1,4 +1,4 @@
--- What a clean build of a pipeline over a directory comes to: said by the evaluation in which every required task is evaluated again.
+-- The result of a clean build of a pipeline over a directory: said by the evaluation in which every required task is evaluated again.
 use Rattle.std.specs.Prelude.{◌≡◌, ℕ, List, [], map, take, Some, Contains}
 use Rattle.pie_value.specs.declared.task.Task.{Task}
 use Rattle.pie_value.specs.declared.value.Value.{Value}
@@ -47,7 +47,7 @@ HasBuilt Accepted fs d roots rows files outputs =
     × (map output_bytes outputs ≡ map (with_output fs d) roots)
 HasBuilt (Refused r) fs d roots rows files outputs = (rows ≡ []) × (files ≡ []) × (outputs ≡ [])
 
--- what a clean build comes to, and the tasks that it started: the entered ones in their order, and of too many the first 50,000
+-- the result of a clean build, and the tasks that it started: the entered ones in their order, and of too many the first 50,000
 pub record IsCleanBuild (fs : List FunctionTree) (d : Directory) (roots runs : List Task) (said : Verdict) (rows : List TaskRecord)
     (files : List (List ℕ × List ℕ)) (outputs : List (Task × Value)) : Type 0 where
   pub verdict : verdict_of said ≡ verdict world (project fs d) (map enc_task roots)

@@ -38,7 +38,7 @@ abbrev pub outcome_by : Option FunctionTree → Task → List Answer → Outcome
 outcome_by None t answers = fails Unknown
 outcome_by (Some f) t answers = (next_of f t.args answers).0
 
--- what a task of a pipeline comes to with these answers: the function of its name, if that takes its arguments, decides
+-- what a task of a pipeline gives with these answers: the function of its name, if that takes its arguments, decides
 abbrev pub task_evaluates_to : List FunctionTree → Task → List Answer → Outcome Tree
 task_evaluates_to fs t answers = outcome_by (function_at fs (number_from 0 fs t)) t answers
 

@@ -27,7 +27,7 @@ pub(crate) struct Visit {
     pub(crate) next: usize,
 }
 
-/// What one turn came to.
+/// The result of one turn.
 #[derive(Clone, Copy)]
 pub(crate) enum Turn {
     /// It went on.

@@ -42,7 +42,7 @@ module _ (number : Task → Option ℕ) where
       → Carries number old new line n
   named_carries old new line n k t m e q lines r x = (before t r, named m e x, behind_one old t r ∙ ap (λ (ts : List Task). behind ts r) (sym q))
 
-  -- what a task on its line comes to
+  -- what a task on its line gives
   pub adds_takes : {A : Type 0} (result : Result A RootsFault) (old new : List Task) (line : List ℕ) (n : ℕ) (t : Task) → Names line t
       → Adds number result old new t n → Takes number result old new line n
   adds_takes (Ok a) old new line n t m h = named_carries old new line n h.0 t m h.1 h.2

@@ -9,7 +9,7 @@ use Rattle.pie_script.specs.Steps.{first_wrong, placed}
 abbrev pub most : ℕ
 most = 16777216
 
--- what reading lines answers: too many bytes, the first wrong line, or what the lines come to
+-- what reading lines answers: too many bytes, the first wrong line, or what the lines give
 abbrev pub Reads : {A B : Type 0} → (A → B) → (List Line → B) → Result A InputFault → List Line → ℕ → Type 0
 Reads value meaning (Ok found) lines size = (size ≤ most) × (first_wrong 1 lines ≡ None) × (value found ≡ meaning lines)
 Reads value meaning (Err OutOfMemory) lines size = Unit {0}

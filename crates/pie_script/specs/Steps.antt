@@ -1,4 +1,4 @@
--- What lines come to: names, steps, and the first that is wrong.
+-- What lines give: names, steps, and the first that is wrong.
 use Rattle.std.specs.Prelude.{ℕ, ◌+◌, Bool, true, false, List, [], ◌∷◌, ◌++◌, Option, Some, None}
 use Rattle.pie_script.specs.declared.fault.InputFault.{InputFault}
 use Rattle.pie_script.specs.declared.fault.InputFault.TheVariants as fault

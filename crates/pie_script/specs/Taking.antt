@@ -1,4 +1,4 @@
--- The steps that some lines came to, and the `put` whose content goes on.
+-- The steps that some lines gave, and the `put` whose content goes on.
 use Rattle.std.specs.Prelude.{ℕ, Bool, true, false, List, [], ◌∷◌, ◌++◌, Option, Some, None, drop}
 use Rattle.std.specs.Option.{option_map}
 use Rattle.pie_script.specs.Line.{Line, Blank, Content, Put, Del, Change, Build, Wrong, BadWord}

@@ -48,7 +48,7 @@ impl Evaluator {
         Ok(args)
     }
 
-    // What a call with these arguments comes to.
+    // What a call with these arguments gives.
     fn called(&mut self, kind: CallKind, name: &Text, args: Items) -> Result<Value, Stop>
         ensures { Comes tree_of result self.new (spec_called kind name.now args self.old) }
     {

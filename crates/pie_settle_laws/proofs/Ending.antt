@@ -1,4 +1,4 @@
--- What a build comes to by the records of what its roots reach.
+-- The result of a build by the records of what its roots reach.
 use Rattle.std.proofs.Common.{ℕ, ◌≤◌, ◌-◌, ◌≡◌, ◌↔◌, Bool, true, false, cond, Option, Some, None, List, [], ◌∷◌, map, length, ◌⊎◌, inl, inr, sym, ◌∙◌}
 use Rattle.std.proofs.Common.{ap, subst, refl, arith}
 use Rattle.pie_model.specs.Paths.{among}

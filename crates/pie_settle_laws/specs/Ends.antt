@@ -1,4 +1,4 @@
--- What a build comes to, where the tasks that its roots reach are known among others that have records too.
+-- The result of a build, where the tasks that its roots reach are known among others that have records too.
 use Rattle.std.specs.Prelude.{◌≡◌, ◌↔◌, true, cond, Option, None, List}
 use Rattle.pie_model.specs.Paths.{among}
 use Rattle.pie_model.specs.Tasks.{Task}

@@ -1,4 +1,4 @@
-//! What is settled while a build goes by what changed, and what the build comes to.
+//! What is settled while a build goes by what changed, and the result of the build.
 #![tactic(auto)]
 
 mod ends;

@@ -9,7 +9,7 @@ use Rattle.pie_spelling_laws.specs.Spans.{bare_function}
 use Rattle.pie_spelling_laws.specs.Spelling.{joined, tokens_within, function_spelling, kinds_of}
 use Rattle.pie_spelling_laws.specs.Standing.{IsStretch, IsIn, IsFunctionOf, ReachToNextFunc}
 
--- these two functions come to the same with any arguments and answers
+-- these two functions give the same with any arguments and answers
 abbrev pub MeanTheSame : FunctionTree → FunctionTree → Type 0
 MeanTheSame f g = (args : List Tree) (answers : List Answer) → next_of f args answers ≡ next_of g args answers
 

@@ -1,4 +1,4 @@
--- From root to root, and what a build comes to.
+-- From root to root, and the result of a build.
 use Rattle.std.proofs.Common.{ℕ, suc, ◌≤◌, ◌<◌, ◌+◌, ◌≡◌, true, false, cond, Option, Some, None, List, [], ◌∷◌, ◌++◌, map, length, take, ◌⊎◌, inl, inr, sym}
 use Rattle.std.proofs.Common.{◌∙◌, ap, subst, refl, arith, append_assoc, append-nil, le-leb}
 use Rattle.std.proofs.lemmas.Bool.{lt-leb}

@@ -1,4 +1,4 @@
--- Between two roots of a build, and what a build comes to.
+-- Between two roots of a build, and the result of a build.
 use Rattle.std.specs.Prelude.{◌≡◌, true, Option, List, [], map}
 use Rattle.pie_model.specs.Paths.{among}
 use Rattle.pie_model.specs.Tasks.{Task}
@@ -17,7 +17,7 @@ pub record Between (w : World) (P : Project) (done : List Task) (R : Task → Op
   pub ended : (t : Task) → among t done ≡ true → is_done (outcome_of (evaluation w P t)) ≡ true
   pub order : names ≡ entered_all (map (evaluation w P) done) []
 
--- the build of these roots enters these tasks, and comes to this verdict
+-- the build of these roots enters these tasks, and gets this verdict
 pub record EvaluatesTo (w : World) (P : Project) (roots names : List Task) (v : Verdict) : Type 0 where
   pub enters : entered_tasks w P roots ≡ names
   pub is : verdict w P roots ≡ v

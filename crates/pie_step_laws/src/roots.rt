@@ -1,4 +1,4 @@
-//! From root to root, and what a build comes to.
+//! From root to root, and the result of a build.
 ghost use Rattle.pie_step_laws.specs.RootLaws.{BuildsBegin, KnownRootsPass, EndedRootsPass, DoneRootsStopNowhere, AllRootsDone, FirstRootFails};
 ghost use Rattle.pie_step_laws.specs.RootLaws.{FirstRootEndsInCycle, TooManyTasks, FirstTasksEntered, RecordsAreLive, RecordsInOrder, RootsAreEntered};
 ghost use Rattle.pie_step_laws.specs.RootLaws.{RootsHaveValues, FewTasksAreTheFirst, SameTablesRest};

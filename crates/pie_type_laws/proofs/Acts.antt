@@ -12,7 +12,7 @@ use Rattle.pie_types.specs.Headings.{Heading}
 use Rattle.pie_type_laws.specs.Fitting.{IsOf}
 use Rattle.pie_type_laws.proofs.Safe.{IsSafe, IsKnown, AnswersFit, EventIsTyped}
 
--- what came to a value took some answers, and what stands behind them is left as it is
+-- what gave a value took some answers, and what stands behind them is left as it is
 pub record Took {A : Type 0} (m : Act A) (s : State) (v : A) (t : State) : Type 0 where
   pub used : List Answer
   pub split : s.answers ≡ used ++ t.answers

@@ -13,7 +13,7 @@ use pie_vm::Runs;
 use std::alloc::Global;
 use std::test::Fail;
 
-// A project, and what its build comes to.
+// A project, and the result of its build.
 struct Case {
     pipeline: &'static str,
     roots: &'static str,
@@ -58,7 +58,7 @@ fn build<F: Files>(
     ))
 }
 
-// What a build of a project over some files comes to, as text.
+// The result of a build of a project over some files, as text.
 fn said<F: Files>(
     alloc: Global,
     pipeline: &str,

@@ -216,7 +216,7 @@ abbrev pub RunsOn : Option Directory → Builder → RunningTask → Builder →
 RunsOn held old f new g =
     (s : Site) → held ≡ Some s.directory → Means s old f.code.now f.machine f.notes → Means s new g.code.now g.machine g.notes
 
--- a root comes to an answer as in the model: it is done, or refused
+-- a root gets an answer as in the model: it is done, or refused
 abbrev pub RootMeans : Site → Builder → Option Refusal → Type 0
 RootMeans s b None = RestsAs s b
 RootMeans s b (Some r) = RefusesAs s b.ledger r

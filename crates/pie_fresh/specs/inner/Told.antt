@@ -40,7 +40,7 @@ pub record EvaluatedTo (code : Code) (args : List Tree) (answers : List Answer) 
   pub state : State
   pub is : CodeNext code args answers (o, state)
 
--- a machine that was stopped had no answer left, or it came to a fault of its code
+-- a machine that was stopped had no answer left, or its code gave a fault
 abbrev pub StopsFor : Code → Noted → List Answer → FaultKind → Type 0
 StopsFor code old answers k = ((old.left ≡ 0) × (k ≡ faults.Budget)) ⊎ ((0 < old.left) × EvaluatedTo code old.task.args answers (fails k))
 
