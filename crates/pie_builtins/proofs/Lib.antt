@@ -1,6 +1,7 @@
 pub mod Joined
 pub mod Cuts
 pub mod Places
+pub mod Searches
 pub mod Listed
 pub mod Joining
 pub mod Counted

@@ -1,16 +1,16 @@
--- The first place of a text in another is what the search finds.
+-- The first place of a text in another.
 use Rattle.std.proofs.Common.{◌≡◌, ℕ, zero, suc, ◌<◌, ◌≤◌, Bool, true, false, List, [], ◌∷◌, ◌++◌, take, drop, length, refl, ap, sym, ◌∙◌, arith, add-one}
-use Rattle.std.specs.Prelude.{Option, Some, None, MatchOption}
+use Rattle.std.specs.Prelude.{Some, None}
 use Rattle.std.proofs.lemmas.List.{take-append-drop}
 use Rattle.std.proofs.lemmas.Slice.Eq.{bytes_eq-Decides}
-use Rattle.std.specs.Str.Pattern.{FindsText, LacksTextAt, MatchBeginsAt}
+use Rattle.std.specs.Str.Pattern.{LacksTextAt}
 use Rattle.pie_value.specs.inner.BuiltinTexts.{starts_with, first_place}
 
 not_true : (b : Bool) → (b ≡ true → ⊥) → b ≡ false
 not_true true h = absurd (h refl)
 not_true false h = refl
 
-take_front : (p rest : List ℕ) → take (length p) (p ++ rest) ≡ p
+pub take_front : (p rest : List ℕ) → take (length p) (p ++ rest) ≡ p
 take_front [] rest = refl
 take_front (b ∷ p) rest = ap (λ xs. b ∷ xs) (take_front p rest)
 
@@ -38,8 +38,3 @@ at_first [] p rest (suc k) lacks e = absurd (lacks 0 (omega arith) rest e)
 at_first (b ∷ bs) p rest (suc k) lacks e =
     let h : first_place bs p ≡ Some k = at_first bs p rest k (λ i le. lacks (suc i) (omega arith)) e in
     rw (starts_not (b ∷ bs) p (lacks 0 (omega arith)), h) (ap (λ n. Some n) (add-one k))
-
--- what a search for a text answers is its first place
-pub found_first : (s p : List ℕ) (r : Option ℕ) → MatchOption r (FindsText p s None) (MatchBeginsAt (FindsText p) s) → r ≡ first_place s p
-found_first s p None h = sym (nowhere s p h)
-found_first s p (Some k) h = sym (at_first s p (drop h.0 s) k h.1.0 h.1.1.split)

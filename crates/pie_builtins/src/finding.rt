@@ -8,6 +8,7 @@ ghost use Rattle.pie_builtins.specs.Agreement.{AnswerAgrees};
 
 use crate::BuiltinFault;
 use crate::fault::{made, made_length, refused};
+use memchr::memmem;
 use pie_base::FaultKind;
 use pie_value::Value;
 
@@ -63,9 +64,9 @@ pub fn ends(args: &[Value]) -> Result<Value, BuiltinFault>
 }
 
 // Where the second text first occurs in the first, in bytes from 0.
-#[tactic(auto, using(crate::proofs::Places::found_first))]
+#[tactic(auto, using(crate::proofs::Searches::found_first))]
 fn place_of(text: &str, part: &str) -> Option<usize>
     ensures { result ≡ first_place text.now part.now }
 {
-    text.find(part)
+    memmem::find(text.as_bytes(), part.as_bytes())
 }

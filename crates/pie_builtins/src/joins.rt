@@ -1,5 +1,5 @@
 //! The built-in functions that join the items of a list.
-ghost use Rattle.std.specs.Prelude.{◌≡◌, ◌++◌, OnOk};
+ghost use Rattle.std.specs.Prelude.{◌≡◌, ◌++◌, string_bytes, OnOk};
 ghost use Rattle.pie_value.specs.Tree.{TList, TText, items_of};
 ghost use Rattle.pie_value.specs.declared.builtin.Builtin.TheVariants.{Flatten, JoinText};
 ghost use Rattle.pie_value.specs.Values.{tree_of, trees_of};
@@ -75,10 +75,18 @@ fn each_joined(
         if out.len() as u64 > MAX_VALUE_BYTES {
             return refused(FaultKind::Big);
         }
-        out.push_str(between)?;
-        out.push_str(text_of(other))?;
+        push_after(&mut out, between, text_of(other))?;
     }
     made_text(alloc, out.as_str())
+}
+
+// One more text, after the text between.
+fn push_after(out: &mut String, between: &str, text: &str) -> Result<(), OutOfMemory>
+    ensures { OnOk result (string_bytes out.new ≡ string_bytes out.old ++ (between.now ++ text.now)) }
+{
+    out.push_str(between)?;
+    out.push_str(text)?;
+    Ok(())
 }
 
 // The lists one after another, where all items are lists.

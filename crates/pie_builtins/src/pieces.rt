@@ -1,6 +1,8 @@
 //! The built-in functions that take a text apart at the occurrences of another. Each goes through the text once,
 //! from the left, and takes no more memory than a value may have and an argument more.
-ghost use Rattle.std.specs.Prelude.{◌≡◌, ◌<◌, ◌++◌, ◌∷◌, [], codes, length, IfOk, OnOk};
+ghost use Rattle.std.specs.Prelude.{◌≡◌, ◌<◌, ◌++◌, ◌∷◌, [], codes, length, IfOk, MatchOption, None, OnOk};
+ghost use Rattle.std.specs.Str.{IsUtf8};
+ghost use Rattle.std.specs.Str.Pattern.{FindsText, SplitsAroundMatch};
 ghost use Rattle.pie_value.specs.Tree.{TText};
 ghost use Rattle.pie_value.specs.declared.builtin.Builtin.TheVariants.{Lines, Replace, Split};
 ghost use Rattle.pie_value.specs.Values.{tree_of, trees_of};
@@ -13,6 +15,7 @@ ghost use Rattle.pie_builtins.specs.Laws.{AreLines, AreSplit, IsReplaced, IsText
 
 use crate::BuiltinFault;
 use crate::fault::{made, made_text, refused};
+use memchr::memmem::Finder;
 use pie_base::{FaultKind, MAX_VALUE_BYTES, OutOfMemory, Text};
 use pie_value::{Items, Value};
 use std::alloc::Global;
@@ -61,7 +64,7 @@ fn split_at(alloc: Global, text: &str, part: &str) -> Result<Value, BuiltinFault
     if part.is_empty() {
         return refused(FaultKind::Range);
     }
-    all_pieces(alloc, text, part)
+    all_pieces(alloc, text, &Finder::new(part.as_bytes()))
 }
 
 // The pieces between newlines, without a last empty one.
@@ -69,7 +72,7 @@ fn lines_in(alloc: Global, text: &str) -> Result<Value, BuiltinFault>
     ensures answer { AnswerAgrees result (spec_made (text_list (lines_of text.now))) }
     ensures law { IfOk result (λ value. IsTexts (AreLines text.now (codes "\n")) (tree_of value)) }
 {
-    all_lines(alloc, text, "\n")
+    all_lines(alloc, text, &Finder::new(b"\n"))
 }
 
 // The first text, in which the occurrences of the second become the third.
@@ -81,18 +84,19 @@ fn replaced(alloc: Global, text: &str, part: &str, by: &str) -> Result<Value, Bu
     if part.is_empty() {
         return made_text(alloc, text);
     }
-    all_replaced(alloc, text, part, by)
+    all_replaced(alloc, text, &Finder::new(part.as_bytes()), by)
 }
 
 // The pieces between the occurrences of a text that isn't empty.
 #[tactic(auto, using(crate::proofs::Parting::grows, crate::proofs::Parting::ends, crate::proofs::Parting::shorter, crate::proofs::Joining::too_many_items))]
-fn all_pieces(alloc: Global, text: &str, part: &str) -> Result<Value, BuiltinFault>
-    requires { 0 < length part.now }
+fn all_pieces(alloc: Global, text: &str, part: &Finder<'_>) -> Result<Value, BuiltinFault>
+    requires some { 0 < length part.now }
+    requires utf8 { IsUtf8 part.now }
     ensures { AnswerAgrees result (spec_made (text_list (pieces text.now part.now))) }
 {
     let mut items = Items::new();
     let mut rest = text;
-    while let Some((front, back)) = rest.split_once(part) {
+    while let Some((front, back)) = parted(rest, part) {
         if items.bytes() > MAX_VALUE_BYTES {
             return refused(FaultKind::Big);
         }
@@ -105,13 +109,14 @@ fn all_pieces(alloc: Global, text: &str, part: &str) -> Result<Value, BuiltinFau
 
 // The same without a last piece that is empty.
 #[tactic(auto, using(crate::proofs::Walks::lines_walk))]
-fn all_lines(alloc: Global, text: &str, part: &str) -> Result<Value, BuiltinFault>
-    requires { 0 < length part.now }
+fn all_lines(alloc: Global, text: &str, part: &Finder<'_>) -> Result<Value, BuiltinFault>
+    requires some { 0 < length part.now }
+    requires utf8 { IsUtf8 part.now }
     ensures { AnswerAgrees result (spec_made (text_list (without_last_empty (pieces text.now part.now)))) }
 {
     let mut items = Items::new();
     let mut rest = text;
-    while let Some((front, back)) = rest.split_once(part) {
+    while let Some((front, back)) = parted(rest, part) {
         if items.bytes() > MAX_VALUE_BYTES {
             return refused(FaultKind::Big);
         }
@@ -127,13 +132,19 @@ fn all_lines(alloc: Global, text: &str, part: &str) -> Result<Value, BuiltinFaul
 
 // The text with another in place of the occurrences of one that isn't empty.
 #[tactic(auto, using(crate::proofs::Parting::puts, crate::proofs::Parting::puts_last, crate::proofs::Parting::shorter, crate::proofs::Joining::too_long))]
-fn all_replaced(alloc: Global, text: &str, part: &str, by: &str) -> Result<Value, BuiltinFault>
-    requires { 0 < length part.now }
+fn all_replaced(
+    alloc: Global,
+    text: &str,
+    part: &Finder<'_>,
+    by: &str,
+) -> Result<Value, BuiltinFault>
+    requires some { 0 < length part.now }
+    requires utf8 { IsUtf8 part.now }
     ensures { AnswerAgrees result (spec_made (TText (with_between by.now (pieces text.now part.now)))) }
 {
     let mut out = String::new(alloc);
     let mut rest = text;
-    while let Some((front, back)) = rest.split_once(part) {
+    while let Some((front, back)) = parted(rest, part) {
         if out.len() as u64 > MAX_VALUE_BYTES {
             return refused(FaultKind::Big);
         }
@@ -143,6 +154,17 @@ fn all_replaced(alloc: Global, text: &str, part: &str, by: &str) -> Result<Value
     }
     out.push_str(rest)?;
     made_text(alloc, out.as_str())
+}
+
+// What stands before the first occurrence of a text that isn't empty, and what stands after it.
+#[tactic(auto, using(crate::proofs::Searches::not_found, crate::proofs::Searches::cut_before, crate::proofs::Searches::cut_after))]
+fn parted<'t>(text: &'t str, part: &Finder<'_>) -> Option<(&'t str, &'t str)>
+    requires some { 0 < length part.now }
+    requires utf8 { IsUtf8 part.now }
+    ensures { MatchOption result (FindsText part.now text.now None) (λ x. SplitsAroundMatch (FindsText part.now) text.now x.0.now x.1.now) }
+{
+    let at = part.find(text.as_bytes())?;
+    Some((&text[..at], &text[at + part.needle().len()..]))
 }
 
 // One more text.

@@ -9,6 +9,7 @@ ghost use Rattle.pie_builtins.specs.Agreement.{AnswerAgrees};
 
 use crate::BuiltinFault;
 use crate::fault::{made_text, refused};
+use memchr::memrchr;
 use pie_base::FaultKind;
 use pie_value::Value;
 use std::alloc::Global;
@@ -24,17 +25,12 @@ pub fn name(alloc: Global, args: &[Value]) -> Result<Value, BuiltinFault>
 }
 
 // What stands after the last slash, or all where there is none.
-#[tactic(auto, using(crate::proofs::Walks::segments_walk))]
+#[tactic(auto, using(crate::proofs::LastSegments::after_it, crate::proofs::LastSegments::all_of_it, crate::proofs::LastSegments::cut_after_it))]
 fn last_segment(path: &str) -> &str
     ensures { result.now ≡ after_last is_slash path.now }
 {
-    let bytes = path.as_bytes();
-    let mut start = bytes.len();
-    while start > 0 {
-        if bytes[start - 1] == b'/' {
-            return &path[start..];
-        }
-        start -= 1;
+    match memrchr(b'/', path.as_bytes()) {
+        Some(at) => &path[at + 1..],
+        None => path,
     }
-    path
 }

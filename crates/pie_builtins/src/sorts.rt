@@ -58,9 +58,9 @@ fn all_ints(alloc: Global, items: &[Value]) -> Result<Option<Vec<i64>>, OutOfMem
 {
     let mut ints = Vec::new(alloc);
     for item in items {
-        match item {
-            Value::Int(n) => ints.push(*n)?,
-            _ => return Ok(None),
+        match int_in(item) {
+            Some(n) => ints.push(n)?,
+            None => return Ok(None),
         }
     }
     Ok(Some(ints))
@@ -72,9 +72,9 @@ fn all_texts(alloc: Global, items: &[Value]) -> Result<Option<Vec<&str>>, OutOfM
 {
     let mut texts = Vec::new(alloc);
     for item in items {
-        match item {
-            Value::Text(text) => texts.push(text.as_str())?,
-            _ => return Ok(None),
+        match text_in(item) {
+            Some(text) => texts.push(text)?,
+            None => return Ok(None),
         }
     }
     Ok(Some(texts))
@@ -86,12 +86,42 @@ fn all_paths(alloc: Global, items: &[Value]) -> Result<Option<Vec<Path>>, OutOfM
 {
     let mut paths = Vec::new(alloc);
     for item in items {
-        match item {
-            Value::Path(path) => paths.push(path.copy()?)?,
-            _ => return Ok(None),
+        match path_in(item) {
+            Some(path) => paths.push(path.copy()?)?,
+            None => return Ok(None),
         }
     }
     Ok(Some(paths))
+}
+
+// The integer that a value is.
+fn int_in(value: &Value) -> Option<i64>
+    ensures { result ≡ as_int (tree_of value.now) }
+{
+    match value {
+        Value::Int(n) => Some(*n),
+        _ => None,
+    }
+}
+
+// The text that a value is.
+fn text_in(value: &Value) -> Option<&str>
+    ensures { option_map (λ text. text.now) result ≡ as_text (tree_of value.now) }
+{
+    match value {
+        Value::Text(text) => Some(text.as_str()),
+        _ => None,
+    }
+}
+
+// The path that a value is.
+fn path_in(value: &Value) -> Option<&Path>
+    ensures { option_map (λ path. path.now) result ≡ as_path (tree_of value.now) }
+{
+    match value {
+        Value::Path(path) => Some(path),
+        _ => None,
+    }
 }
 
 fn sorted_ints(alloc: Global, mut ints: Vec<i64>) -> Result<Value, BuiltinFault>

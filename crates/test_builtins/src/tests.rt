@@ -133,6 +133,13 @@ fn one_text_is_looked_for_in_another(rt: HostRuntime) -> Result<(), Fail> {
         (Builtin::Find, "abab", "ba", "1"),
         (Builtin::Find, "ab", "", "0"),
         (Builtin::Find, "ab", "c", "null"),
+        (Builtin::Find, "a–b–c", "–", "1"),
+        (
+            Builtin::Find,
+            "abababababababababababababababababababac",
+            "ababababababababababababababababac",
+            "6",
+        ),
         (Builtin::Contains, "abab", "ba", "true"),
         (Builtin::Contains, "ab", "abc", "false"),
         (Builtin::Starts, "abc", "ab", "true"),
@@ -142,6 +149,13 @@ fn one_text_is_looked_for_in_another(rt: HostRuntime) -> Result<(), Fail> {
         (Builtin::Ends, "c", "bc", "false"),
         (Builtin::Split, "a,,b", ",", "[\"a\", \"\", \"b\"]"),
         (Builtin::Split, "", ",", "[\"\"]"),
+        (Builtin::Split, "–a–", "–", "[\"\", \"a\", \"\"]"),
+        (
+            Builtin::Split,
+            "x0123456789abcdef0123456789abcdef0y",
+            "0123456789abcdef0123456789abcdef0",
+            "[\"x\", \"y\"]",
+        ),
         (Builtin::Split, "a", "", "Range"),
     ];
     for (which, s, t, wanted) in cases {
@@ -263,6 +277,7 @@ fn occurrences_are_replaced_from_the_left(rt: HostRuntime) -> Result<(), Fail> {
         ("aaa", "aa", "b", "\"ba\""),
         ("ab", "", "x", "\"ab\""),
         ("a,b", ",", "", "\"ab\""),
+        ("abcabab", "ab", "–", "\"–c––\""),
     ];
     for (s, part, by, wanted) in cases {
         let args = [Sample::Text(s), Sample::Text(part), Sample::Text(by)];

@@ -4,4 +4,5 @@ use Rattle.pie_builtins.proofs.Splitting.{lines_law}
 use Rattle.pie_builtins.proofs.pieces.lines_in.Goals as goal
 
 pub returns-clause-law : goal.returns-clause-law
-returns-clause-law c = lines_law c.args.text.now (10 ∷ []) c.all_lines.result (omega arith) c.all_lines.ensures
+returns-clause-law c = lines_law c.args.text.now (10 ∷ []) c.all_lines-2.result (omega arith)
+    (rw c.new.ensures at c.all_lines-2.ensures)

@@ -1,5 +1,5 @@
 -- The parts between the occurrences, with the other text between them.
-use Rattle.std.proofs.Common.{◌≡◌, ◌<◌, length, rules}
+use Rattle.std.proofs.Common.{◌≡◌, ◌∙◌, ◌<◌, length, rules}
 use Rattle.pie_builtins.proofs.Splitting.{replace_law, replace_law_none}
 use Rattle.pie_builtins.proofs.pieces.replaced.Goals as goal
 
@@ -11,4 +11,5 @@ returns-then-is_empty-clause-law c =
 pub returns-clause-law : goal.returns-clause-law
 returns-clause-law c =
     let some : 0 < length c.args.part.now = search rules in
-    replace_law c.args.text.now c.args.part.now c.args.by.now c.all_replaced.result some c.all_replaced.ensures
+    let part : c.new.result ≡ c.args.part.now = c.new.ensures ∙ c.as_bytes.ensures.value in
+    replace_law c.args.text.now c.args.part.now c.args.by.now c.all_replaced-2.result some (rw part at c.all_replaced-2.ensures)
