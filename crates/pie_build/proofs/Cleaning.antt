@@ -205,10 +205,10 @@ report_of made ran report (Err e) is h = tt
 
 -- a refused build leaves all as it was
 pub refused_left : (held : Option Directory) (p : Project) (b : Built) (ran : Vec Task Global) (x : Refusal) (r : Report) → b.verdict ≡ Refused x
-    → r.verdict ≡ Refused x → r.fresh ≡ None → r.wrote.items ≡ [] → r.removed.items ≡ [] → r.outputs.items ≡ [] → r.ran ≡ ran
+    → r.verdict ≡ Refused x → r.fresh ≡ None → r.wrote.items ≡ [] → r.removed.items ≡ [] → r.outputs.items ≡ [] → r.live ≡ 0 → r.ran ≡ ran
     → IfSome held (λ d. IsCleanBy p.typed d p.roots.items ran.items b) → IfSome held (λ d. LeavesFor p d r held)
-refused_left None p b ran x r is v f w g o a clean = tt
-refused_left (Some d) p b ran x r is v f w g o a clean =
+refused_left None p b ran x r is v f w g o l a clean = tt
+refused_left (Some d) p b ran x r is v f w g o l a clean =
     let h : IsCleanBuild p.typed d p.roots.items r.ran.items (Refused x) b.rows.items (contents_in b.files.items) b.outputs.items =
     clean_as p.typed d p.roots.items ran.items r.ran.items b.verdict (Refused x) b.rows.items b.files.items b.files.items b.outputs.items b.outputs.items
     (ap (λ v. v.items) a) is refl refl clean in (
@@ -218,6 +218,7 @@ refused_left (Some d) p b ran x r is v f w g o a clean =
         wrote = w;
         removed = g;
         outputs = o;
+        live = l;
         clean = record { verdict = h.verdict; built = (refl, refl, refl); started = h.started };
       }),
     )

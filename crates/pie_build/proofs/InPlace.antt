@@ -6,6 +6,7 @@ use Rattle.std.specs.List.{list_all, list_any, filter}
 use Rattle.std.specs.Ordering.{nat_cmp, eq_by_cmp}
 use Rattle.std.specs.Cmp.{Equal-is}
 use Rattle.std.specs.Cmp.Lexicographic.{slice_cmp}
+use Rattle.std.specs.List.Sorted.{IsStrictlySortedBy}
 use Rattle.std.specs.Option.{option_map}
 use Rattle.std.specs.FinMap as fin
 use Rattle.std.proofs.lemmas.Bool.{false≢true}
@@ -14,7 +15,7 @@ use Rattle.pie_base.specs.Path.{is_out, is_below, same_text}
 use Rattle.pie_files.specs.declared.files.FilesError.{FilesError}
 use Rattle.pie_files.proofs.HeldLemmas.{antisymmetric}
 use Rattle.pie_files.specs.Directory.{Directory, file_at, files_under, paths_of}
-use Rattle.pie_reach.specs.Plan.{IsPlan}
+use Rattle.pie_reach.specs.Plan.{IsPlan, path_cmp}
 use Rattle.pie_commit.specs.declared.plan.Pending.{Pending}
 use Rattle.pie_commit.specs.declared.plan.Plan.{Plan}
 use Rattle.pie_commit.specs.inner.Plans.{Wanted, Same, Gone, Bytes, Meets, Brings, later, at, removed, written, pended, stored, changes, wanted_by, is_none, is_empty}
@@ -239,10 +240,11 @@ rest_is : (d e : Directory) (after : Option Directory) → after ≡ Some e → 
     → file_at e q ≡ file_at d q
 rest_is d e after is keeps q off = ap (λ o. file_in o q) (sym is ∙ keeps.kept.1) ∙ keeps.kept.2 q off
 
--- the files that are to be removed of a directory, and what becomes of its pending names
+-- the files that are to be removed of a directory, what becomes of its pending names, and files in path order
 pub record Fits (d : Directory) (gone : List (List ℕ)) (contents : List (List ℕ × Vec ℕ Global)) (pending : Pending) : Type 0 where
   pub removals : IsPlan (files_under d (codes "out")) (map (λ f. f.0) contents) gone
   pub names : pending ≡ gone_if (is_some (file_at d (codes ".pie/pending")))
+  pub ordered : IsStrictlySortedBy path_cmp (map (λ f. f.0) contents)
 
 -- what a plan that fits a directory leaves of it, with a report of it
 pub in_place : (d e : Directory) (after : Option Directory) (gone : List (List ℕ)) (contents : List (List ℕ × Vec ℕ Global)) (pending : Pending)
@@ -254,6 +256,7 @@ in_place d e after gone contents pending store p r fits plan is brings keeps w g
       (subst (λ x. Meets x (file_at d q) (file_at e q)) (wanted_out gone contents pending store p plan q on) (brings q));
   rest = λ q off. rest_is d e after is keeps q off;
   wrote = w;
+  ordered = subst (IsStrictlySortedBy path_cmp) (sym w) fits.ordered;
   removed = subst (λ (x : List (List ℕ)). IsPlan (files_under d (codes "out")) x r.removed.items) (sym w)
       (subst (λ (x : List (List ℕ)). IsPlan (files_under d (codes "out")) (map (λ f. f.0) contents) x) (sym g) fits.removals);
   store = (let m : Meets (Bytes store.items) (file_at d (codes ".pie/store")) (file_at e (codes ".pie/store")) =
@@ -293,10 +296,11 @@ puts_after (Some d) mid after gone contents pending store p report (Err e) same 
 
 -- what was found of a directory that stayed the same
 pub fits_before : (before mid : Option Directory) (gone : List (List ℕ)) (contents : List (List ℕ × Vec ℕ Global)) (pending : Pending) → mid ≡ before
-    → IfSome before (λ d. IsPlan (files_under d (codes "out")) (map (λ f. f.0) contents) gone)
+    → IsStrictlySortedBy path_cmp (map (λ f. f.0) contents) → IfSome before (λ d. IsPlan (files_under d (codes "out")) (map (λ f. f.0) contents) gone)
     → IfSome mid (λ d. pending ≡ gone_if (is_some (file_at d (codes ".pie/pending")))) → IfSome before (λ d. Fits d gone contents pending)
-fits_before None mid gone contents pending same removals names = tt
-fits_before (Some d) mid gone contents pending same removals names = record {
+fits_before None mid gone contents pending same ordered removals names = tt
+fits_before (Some d) mid gone contents pending same ordered removals names = record {
+  ordered = ordered;
   removals = removals;
   names = subst (λ m. IfSome m (λ d. pending ≡ gone_if (is_some (file_at d (codes ".pie/pending"))))) same names;
 }

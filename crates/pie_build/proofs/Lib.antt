@@ -1,3 +1,4 @@
+pub mod Changing
 pub mod Cleaning
 pub mod Crashing
 pub mod InPlace

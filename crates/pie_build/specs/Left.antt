@@ -1,23 +1,28 @@
 -- What a clean build leaves of a directory.
-use Rattle.std.specs.Prelude.{◌≡◌, ℕ, Bool, true, false, ◌||◌, cond, List, [], ◌∷◌, length, map, codes, Option, None, Some, IfSome, Ok}
+use Rattle.std.specs.Prelude.{◌≡◌, ℕ, Bool, true, false, ◌||◌, ◌⊎◌, cond, List, [], ◌∷◌, length, map, codes, Option, None, Some, IfSome, Ok}
+use Rattle.std.specs.List.Sorted.{IsStrictlySortedBy}
 use Rattle.std.specs.Option.{option_map}
 use Rattle.std.specs.declared.alloc.Global.{Global}
 use Rattle.std.proofs.Common.{Vec}
 use Rattle.pie_base.specs.Path.{is_out, same_text}
 use Rattle.pie_files.specs.Directory.{Directory, file_at, files_under}
 use Rattle.pie_parser.specs.FunctionTrees.{FunctionTree}
+use Rattle.pie_value.specs.Canonical.{enc_task}
 use Rattle.pie_value.specs.declared.task.Task.{Task}
 use Rattle.pie_value.specs.declared.verdict.Refusal.{Refusal}
 use Rattle.pie_value.specs.declared.verdict.Verdict.{Verdict}
 use Rattle.pie_value.specs.declared.verdict.Verdict.TheVariants.{Accepted, Refused}
 use Rattle.pie_record.specs.declared.task_record.TaskRecord.{TaskRecord}
-use Rattle.pie_reach.specs.Plan.{IsPlan}
+use Rattle.pie_reach.specs.Plan.{IsPlan, path_cmp}
 use Rattle.pie_digest.specs.Digests.{HasNames}
 use Rattle.pie_fresh.specs.Cleans.{contents_in}
 use Rattle.pie_project.specs.Digested.{HasDigests}
 use Rattle.pie_project.specs.Fronts.{ProjectSays}
 use Rattle.pie_report.specs.declared.report.Report.{Report}
+use Rattle.pie_model.specs.inner.Verdict.{verdict}
 use Rattle.pie_model_pipeline.specs.Clean.{IsCleanBuild}
+use Rattle.pie_model_pipeline.specs.Rows.{verdict_of}
+use Rattle.pie_model_pipeline.specs.World.{world, project}
 use Rattle.pie_build.specs.Stored.{IsStoreOf}
 
 -- a path that a build may change: one under `out/`, or one of the builder's own three
@@ -38,12 +43,13 @@ abbrev pub content_at : List (List ℕ × Vec ℕ Global) → List ℕ → Optio
 content_at [] q = None
 content_at (f ∷ fs) q = or_earlier (content_at fs q) (cond (same_text q f.0) (Some f.1.items) None)
 
--- an accepted build: under `out/` stand exactly these files, and the report tells them, and what was removed; of the builder's own files there is the
--- store alone, which has this text
+-- an accepted build: under `out/` stand exactly these files, and the report tells them, each once in path order, and what was removed; of the builder's
+-- own files there is the store alone, which has this text
 pub record IsInPlace (d e : Directory) (files : List (List ℕ × Vec ℕ Global)) (text : List ℕ) (r : Report) : Type 0 where
   pub provided : (q : List ℕ) → is_out q ≡ true → option_map (λ f. f.0) (file_at e q) ≡ content_at files q
   pub rest : (q : List ℕ) → may_change q ≡ false → file_at e q ≡ file_at d q
   pub wrote : r.wrote.items ≡ map (λ f. f.0) files
+  pub ordered : IsStrictlySortedBy path_cmp r.wrote.items
   pub removed : IsPlan (files_under d (codes "out")) r.wrote.items r.removed.items
   pub store : option_map (λ f. f.0) (file_at e (codes ".pie/store")) ≡ Some text
   pub no_marker : file_at e (codes ".pie/open") ≡ None
@@ -73,12 +79,13 @@ pub record LeavesBuilt (fs : List FunctionTree) (funcs : List (List ℕ × List 
   pub live : r.live ≡ length rows
   pub clean : IsCleanBuild fs d roots r.ran.items Accepted rows (contents_in files) r.outputs.items
 
--- a refused build of these functions and roots: it changed nothing, and the clean build of the model has this refusal and started the same tasks
+-- a refused build of these functions and roots: it changed nothing, no task is live, and the clean build of the model has this refusal and started the same tasks
 pub record LeavesAll (fs : List FunctionTree) (roots : List Task) (x : Refusal) (d : Directory) (r : Report) (after : Option Directory) : Type 0 where
   pub same : after ≡ Some d
   pub wrote : r.wrote.items ≡ []
   pub removed : r.removed.items ≡ []
   pub outputs : r.outputs.items ≡ []
+  pub live : r.live ≡ 0
   pub clean : IsCleanBuild fs d roots r.ran.items (Refused x) [] [] []
 
 -- what a build of these functions and roots with this verdict and report leaves
@@ -94,3 +101,12 @@ LeavesOf fs funcs roots d r after = (r.fresh ≡ None) × LeavesBy fs funcs root
 abbrev pub Leaves : Directory → Report → Option Directory → Type 0
 Leaves d r after =
     (funcs : List (List ℕ × List ℕ)) × (roots : List Task) × (project : IsProjectOf d funcs roots) × LeavesOf project.functions funcs roots d r after
+
+-- the model accepts the clean build of these functions and roots
+abbrev pub Accepts : List FunctionTree → List Task → Directory → Type 0
+Accepts fs roots d = verdict_of Accepted ≡ verdict world (project fs d) (map enc_task roots)
+
+-- whatever was answered: the directory is as it was, or the model accepts the project that it had
+abbrev pub ChangesIfAccepted : Directory → Option Directory → Type 0
+ChangesIfAccepted d after = (after ≡ Some d)
+    ⊎ ((funcs : List (List ℕ × List ℕ)) × (roots : List Task) × (found : IsProjectOf d funcs roots) × Accepts found.functions roots d)

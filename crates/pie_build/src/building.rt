@@ -8,8 +8,8 @@ ghost use Rattle.pie_fresh.specs.inner.Builds.{Gains, IsKept, StoredWhere};
 ghost use Rattle.pie_fresh.specs.Cleans.{IsCleanOf};
 ghost use Rattle.pie_project.specs.Refusals.{IsVerdict, Says};
 ghost use Rattle.pie_build.specs.Crashes.{StaysAtRest, Withstands};
-ghost use Rattle.pie_build.specs.Left.{KeepsRest, Leaves};
-ghost use Rattle.pie_build.specs.inner.Projects.{IsCleanBy, IsReady, LeavesFor};
+ghost use Rattle.pie_build.specs.Left.{ChangesIfAccepted, KeepsRest, Leaves};
+ghost use Rattle.pie_build.specs.inner.Projects.{ChangesFor, IsCleanBy, IsReady, LeavesFor};
 ghost use Rattle.pie_build.specs.inner.Rebuilt.{RebuildSays, IsReport, IsRefusal, Tells};
 ghost use Rattle.pie_build.specs.Stored.{MayStand, IsStoreOf};
 ghost use Rattle.pie_store.specs.Canonical.{AreFuncs};
@@ -43,6 +43,7 @@ pub fn rebuild<F: Files>(
     ensures says { IfSome (F.holds files.old) (λ d. Says (λ r. r) (RebuildSays d) result) }
     ensures left { IfSome (F.holds files.old) (λ d. IfOk result (λ r. Leaves d r (F.holds files.new))) }
     ensures refused { IsRefusal result → F.holds files.new ≡ F.holds files.old }
+    ensures changed { IfSome (F.holds files.old) (λ d. ChangesIfAccepted d (F.holds files.new)) }
     ensures rest { KeepsRest (F.holds files.old) (F.holds files.new) }
     ensures crash { Withstands F.holds F.moment F.left_since F.images Leaves files.old files.new }
     ensures durable { IsVerdict result → StaysAtRest F.holds F.images files.old files.new }
@@ -68,6 +69,7 @@ fn with_project<F: Files>(
     requires funcs { AreFuncs project.digests.items }
     ensures says { Says (λ r. r) IsReport result }
     ensures left { IfSome (F.holds files.old) (λ d. IfOk result (λ r. LeavesFor project d r (F.holds files.new))) }
+    ensures changed { IfSome (F.holds files.old) (λ d. ChangesFor project d (F.holds files.new)) }
     ensures rest { KeepsRest (F.holds files.old) (F.holds files.new) }
     ensures crash { Withstands F.holds F.moment F.left_since F.images (LeavesFor project) files.old files.new }
     ensures durable { IsVerdict result → StaysAtRest F.holds F.images files.old files.new }
@@ -93,6 +95,7 @@ fn build<F: Files>(
     requires names { HasNames project.typed project.digests.items }
     requires funcs { AreFuncs project.digests.items }
     ensures left { IfSome (F.holds files.old) (λ d. IfOk result (λ r. LeavesFor project d r (F.holds files.new))) }
+    ensures changed { IfSome (F.holds files.old) (λ d. ChangesFor project d (F.holds files.new)) }
     ensures rest { KeepsRest (F.holds files.old) (F.holds files.new) }
     ensures crash { Withstands F.holds F.moment F.left_since F.images (LeavesFor project) files.old files.new }
     ensures durable { OnOk result (StaysAtRest F.holds F.images files.old files.new) }
@@ -159,6 +162,7 @@ fn finish<F: Files>(
     requires stored { StoredWhere built.verdict project.typed project.roots.items built }
     requires clean { IfSome (F.holds files.old) (λ d. IsCleanBy project.typed d project.roots.items ran.items built) }
     ensures left { IfSome (F.holds files.old) (λ d. IfOk result (λ r. LeavesFor project d r (F.holds files.new))) }
+    ensures changed { IfSome (F.holds files.old) (λ d. ChangesFor project d (F.holds files.new)) }
     ensures rest { KeepsRest (F.holds files.old) (F.holds files.new) }
     ensures crash { Withstands F.holds F.moment F.left_since F.images (LeavesFor project) files.old files.new }
     ensures durable { OnOk result (StaysAtRest F.holds F.images files.old files.new) }

@@ -15,6 +15,7 @@ pub(crate) fn refused(alloc: Global, refusal: Refusal, ran: Vec<Task>) -> Report
     ensures wrote { result.wrote.items ≡ [] }
     ensures removed { result.removed.items ≡ [] }
     ensures outputs { result.outputs.items ≡ [] }
+    ensures live { result.live ≡ 0 }
 {
     Report {
         verdict: Verdict::Refused(refusal),

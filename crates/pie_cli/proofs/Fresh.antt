@@ -11,8 +11,8 @@ use Rattle.pie_report.specs.declared.report.Report.{Report}
 use Rattle.pie_words.specs.declared.command.Command.{Command}
 use Rattle.pie_words.specs.declared.command.Command.TheVariants as commands
 use Rattle.pie_report.specs.Refused.{refusal_line}
-use Rattle.pie_cli.specs.Fresh.{FreshSays, HasBuilt, PrintsPrefix, IsPrinted, verdict_status}
-use Rattle.pie_cli.specs.Run.{Gains, GainsPrefix, files_fault_text}
+use Rattle.pie_cli.specs.Fresh.{FreshSays, HasBuilt, IsFreshText, IsPrinted, verdict_status}
+use Rattle.pie_cli.specs.Run.{Gains, GainsAtMost, GainsPrefix, GainsSome}
 
 -- a report that is printed
 pub reported : (o after : Option Directory) (json : Bool) (report : Report) (text : List ℕ) (ended : Status)
@@ -37,17 +37,13 @@ built (Some d) after json text told ended held gained says is all =
     (text, subst (λ s. FreshSays d json after text s) (sym is) says, all)
 
 -- a prefix of it was printed
-pub prefixed : (o after : Option Directory) (json : Bool) (text : List ℕ) (told : Status) (held gained : Option (List ℕ))
+pub printed : (o after : Option Directory) (json : Bool) (text : List ℕ) (told ended : Status) (Failed : Type 0) (held gained : Option (List ℕ))
     → IfSome o (λ d. FreshSays d json after text told) → GainsPrefix held gained text
-    → IfSome o (λ d. PrintsPrefix d json after held gained)
-prefixed None after json text told held gained says front = tt
-prefixed (Some d) after json text told held gained says front = inl (text, told, says, front)
-
--- what is printed of a fault of the files is a prefix that may be printed
-pub fault_prefixed : (o after : Option Directory) (json : Bool) (held gained : Option (List ℕ)) → GainsPrefix held gained files_fault_text
-    → IfSome o (λ d. PrintsPrefix d json after held gained)
-fault_prefixed None after json held gained front = tt
-fault_prefixed (Some d) after json held gained front = inr front
+    → IfSome o (λ d. GainsAtMost (IsFreshText d json after) Failed held gained ended)
+printed None after json text told ended Failed held gained says gains = tt
+printed (Some d) after json text told ended Failed held gained says gains =
+    let some : GainsSome (IsFreshText d json after) Failed held gained = inl (text, (told, says), gains) in
+    record { prefix = inl some; cut = λ is. some }
 
 -- a command has one flag
 pub at_flag : (P : Bool → Type 0) (command : Command) (a b : Bool) → command ≡ commands.Fresh a → command ≡ commands.Fresh b → P a → P b

@@ -1,5 +1,6 @@
+pub mod Checking
 pub mod Fresh
+pub mod Gaining
 pub mod Printing
 pub mod Rest
 pub mod Statuses
-pub mod Stops

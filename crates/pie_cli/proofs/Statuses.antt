@@ -15,3 +15,6 @@ answer_is_told Files h = absurd (false≢true h)
 answer_is_told Input h = absurd (false≢true h)
 answer_is_told Output h = absurd (false≢true h)
 answer_is_told Memory h = absurd (false≢true h)
+
+pub memory_is_no_answer : is_answer Memory ≡ true → ⊥
+memory_is_no_answer h = false≢true h

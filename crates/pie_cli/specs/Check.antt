@@ -1,15 +1,18 @@
 -- What `check` prints of a directory, and the status that it ends with.
-use Rattle.std.specs.Prelude.{◌≡◌, ◌⊎◌, ℕ, List, ◌++◌, codes, Option, Result, Ok, Err, string_bytes}
+use Rattle.std.specs.Prelude.{◌≡◌, ℕ, true, List, ◌++◌, codes, Option, Result, Ok, Err, IfSome, string_bytes}
 use Rattle.std.specs.Fmt.{decimal}
 use Rattle.pie_base.specs.declared.status.Status.{Status}
 use Rattle.pie_base.specs.declared.status.Status.TheVariants as status
 use Rattle.pie_files.specs.Directory.{Directory}
+use Rattle.pie_files.specs.declared.files.Call.{Call}
+use Rattle.pie_files.specs.Faults.{Rose}
+use Rattle.pie_files.specs.Reading.{LeavesAsBefore}
 use Rattle.pie_project.specs.Refusals.{Refusal}
 use Rattle.pie_project.specs.Fronts.{CheckSays}
-use Rattle.pie_project.specs.Stops.{PipelineStops, OnParse}
+use Rattle.pie_project.specs.Looking.{Asks, prefix_calls}
 use Rattle.pie_report.specs.Refused.{refusal_line}
 use Rattle.pie_cli.specs.declared.told.CommandResult.{CommandResult}
-use Rattle.pie_cli.specs.Run.{Gains, GainsPrefix, files_fault_text}
+use Rattle.pie_cli.specs.Run.{is_answer, Gains, GainsAtMost}
 
 -- what is printed of counts
 abbrev pub counts_text : ℕ → ℕ → List ℕ
@@ -33,11 +36,15 @@ Tells d told = (r : Result (ℕ × ℕ) Refusal) × CheckSays d r × (string_byt
 abbrev pub HasChecked : Directory → Option (List ℕ) → Option (List ℕ) → Status → Type 0
 HasChecked d before after ended = (r : Result (ℕ × ℕ) Refusal) × CheckSays d r × (ended ≡ check_status r) × Gains before after (check_text r)
 
--- the output gained the prefix of a text that `check` may print of this directory: its counts or its refusal, or that a call on the files failed
-abbrev pub PrintsCheckPrefix : Directory → Option (List ℕ) → Option (List ℕ) → Type 0
-PrintsCheckPrefix d before after = ((r : Result (ℕ × ℕ) Refusal) × CheckSays d r × GainsPrefix before after (check_text r))
-    ⊎ GainsPrefix before after files_fault_text
+-- a text that `check` prints of this directory: its counts or its refusal
+abbrev pub IsCheckText : Directory → List ℕ → Type 0
+IsCheckText d text = (r : Result (ℕ × ℕ) Refusal) × CheckSays d r × (text ≡ check_text r)
 
--- a directory was refused: the output gained the line of the refusal, and where it is for the tokens, they stop at the place in that line
-abbrev pub PrintsRefusal : Directory → Option (List ℕ) → Option (List ℕ) → Type 0
-PrintsRefusal d before after = (e : Refusal) × CheckSays d (Err e) × OnParse {A = ℕ × ℕ} (PipelineStops d) (Err e) × Gains before after (check_text (Err e))
+-- what `check` says, whatever it ended with: an answer, what the output gained of one, and that it reads the two files of the project alone
+pub record RunsCheck {S : Type 0} (holds : S → Option Directory) (moment : S → ℕ) (left_since : S → ℕ → Directory → Type 0) (images : S → Directory → Type 0)
+    (asked : S → Option (List Call)) (faults : S → ℕ) (old new : S) (held gained : Option (List ℕ)) (ended : Status) : Type 0 where
+  pub checked : is_answer ended ≡ true → IfSome (holds old) (λ d. HasChecked d held gained ended)
+  pub printed : IfSome (holds old) (λ d. GainsAtMost (IsCheckText d) (Rose (faults old) (faults new)) held gained ended)
+  pub same : holds new ≡ holds old
+  pub crash : LeavesAsBefore holds moment left_since images old new
+  pub asks : Asks prefix_calls (asked old) (asked new)

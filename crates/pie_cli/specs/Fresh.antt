@@ -1,9 +1,11 @@
 -- What `fresh` prints of a directory, the status that it ends with, and what it leaves.
-use Rattle.std.specs.Prelude.{◌≡◌, ◌⊎◌, ℕ, Bool, true, false, List, Option, Some, Err}
+use Rattle.std.specs.Prelude.{◌≡◌, ◌⊎◌, ℕ, Bool, true, false, List, Option, Some, IfSome, Err}
 use Rattle.pie_base.specs.declared.status.Status.{Status}
 use Rattle.pie_base.specs.declared.status.Status.TheVariants as status
-use Rattle.pie_build.specs.Left.{Leaves}
+use Rattle.pie_build.specs.Crashes.{StaysAtRest, Withstands}
+use Rattle.pie_build.specs.Left.{ChangesIfAccepted, Leaves}
 use Rattle.pie_files.specs.Directory.{Directory}
+use Rattle.pie_files.specs.Faults.{Rose}
 use Rattle.pie_project.specs.Fronts.{ProjectSays}
 use Rattle.pie_project.specs.Refusals.{Refusal}
 use Rattle.pie_report.specs.declared.report.Report.{Report}
@@ -12,7 +14,7 @@ use Rattle.pie_report.specs.Texts.{IsText}
 use Rattle.pie_value.specs.declared.verdict.Verdict.{Verdict}
 use Rattle.pie_value.specs.declared.verdict.Verdict.TheVariants as verdicts
 use Rattle.pie_report.specs.Refused.{refusal_line}
-use Rattle.pie_cli.specs.Run.{Gains, GainsPrefix, files_fault_text}
+use Rattle.pie_cli.specs.Run.{is_answer, Gains, GainsAtMost}
 
 -- a text is that of a report: its lines, or its one line of JSON
 abbrev pub IsPrinted : Bool → Report → List ℕ → Type 0
@@ -41,7 +43,16 @@ FreshSays d json after text ended = IsRefused d after text ended ⊎ IsReported 
 abbrev pub HasBuilt : Directory → Bool → Option Directory → Option (List ℕ) → Option (List ℕ) → Status → Type 0
 HasBuilt d json after held gained ended = (text : List ℕ) × FreshSays d json after text ended × Gains held gained text
 
--- the output gained the prefix of a text that `fresh` prints of this directory, or that a call on the files failed
-abbrev pub PrintsPrefix : Directory → Bool → Option Directory → Option (List ℕ) → Option (List ℕ) → Type 0
-PrintsPrefix d json after held gained =
-    ((text : List ℕ) × (ended : Status) × FreshSays d json after text ended × GainsPrefix held gained text) ⊎ GainsPrefix held gained files_fault_text
+-- a text that `fresh` prints of this directory, which it left so
+abbrev pub IsFreshText : Directory → Bool → Option Directory → List ℕ → Type 0
+IsFreshText d json after text = (ended : Status) × FreshSays d json after text ended
+
+-- what `fresh` says, whatever it ended with: an answer, what the output gained of one, that no other project than one that the model accepts changes
+-- anything, and what a crash leaves
+pub record RunsFresh {S : Type 0} (holds : S → Option Directory) (moment : S → ℕ) (left_since : S → ℕ → Directory → Type 0) (images : S → Directory → Type 0)
+    (faults : S → ℕ) (json : Bool) (old new : S) (held gained : Option (List ℕ)) (ended : Status) : Type 0 where
+  pub built : is_answer ended ≡ true → IfSome (holds old) (λ d. HasBuilt d json (holds new) held gained ended)
+  pub printed : IfSome (holds old) (λ d. GainsAtMost (IsFreshText d json (holds new)) (Rose (faults old) (faults new)) held gained ended)
+  pub changed : IfSome (holds old) (λ d. ChangesIfAccepted d (holds new))
+  pub crash : Withstands holds moment left_since images Leaves old new
+  pub durable : is_answer ended ≡ true → StaysAtRest holds images old new

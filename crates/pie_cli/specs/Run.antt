@@ -1,8 +1,9 @@
 -- What a run of the program says.
-use Rattle.std.specs.Prelude.{◌≡◌, ◌≢◌, ℕ, Bool, true, false, List, ◌++◌, take, Option, Some, IfSome, codes}
+use Rattle.std.specs.Prelude.{◌≡◌, ◌≢◌, ◌⊎◌, ℕ, Bool, true, false, List, ◌++◌, take, Option, Some, IfSome, codes}
 use Rattle.pie_base.specs.declared.status.Status.{Status}
 use Rattle.pie_base.specs.declared.status.Status.TheVariants as status
-use Rattle.pie_words.specs.Commands.{words_of}
+use Rattle.pie_files.specs.Faults.{Rose}
+use Rattle.pie_words.specs.Commands.{words_of, usage_text}
 use Rattle.pie_words.specs.declared.command.Command.{Command}
 
 -- no command has these words
@@ -48,3 +49,27 @@ is_told status.Memory = false
 -- a status that says that a text was printed whole is the wanted one, and the output gained the text
 abbrev pub Shows : Option (List ℕ) → Option (List ℕ) → List ℕ → Status → Status → Type 0
 Shows before after text wanted ended = is_told ended ≡ true → (ended ≡ wanted) × Gains before after text
+
+-- why a run ended: a status that is no answer has its cause, out of memory alone has none; and the counts of faults rose only where it says so
+pub record Ends (asked_before asked_after printed_before printed_after : ℕ) (held gained : Option (List ℕ)) (ended : Status) : Type 0 where
+  pub files : ended ≡ status.Files → Rose asked_before asked_after × Gains held gained files_fault_text
+  pub output : ended ≡ status.Output → Rose printed_before printed_after
+  pub no_input : ended ≢ status.Input
+  pub steady : is_answer ended ≡ true → (asked_after ≡ asked_before) × (printed_after ≡ printed_before)
+  pub output_steady : ended ≡ status.Files → printed_after ≡ printed_before
+
+-- the output gained a prefix of a text that is allowed, or of the line of a fault of the files where a call on them failed
+abbrev pub GainsSome : (List ℕ → Type 0) → Type 0 → Option (List ℕ) → Option (List ℕ) → Type 0
+GainsSome Allowed Failed held gained =
+    ((text : List ℕ) × Allowed text × GainsPrefix held gained text) ⊎ (Failed × GainsPrefix held gained files_fault_text)
+
+-- the same, or it gained nothing; where it failed it gained some
+pub record GainsAtMost (Allowed : List ℕ → Type 0) (Failed : Type 0) (held gained : Option (List ℕ)) (ended : Status) : Type 0 where
+  pub prefix : GainsSome Allowed Failed held gained ⊎ (gained ≡ held)
+  pub cut : ended ≡ status.Output → GainsSome Allowed Failed held gained
+
+-- words that are no command: the usage line is printed, and nothing is asked of the files
+pub record PrintsUsage {S : Type 0} (old new : S) (held gained : Option (List ℕ)) (ended : Status) : Type 0 where
+  pub usage : is_answer ended ≡ true → (ended ≡ status.Usage) × Gains held gained usage_text
+  pub prefix : GainsPrefix held gained usage_text
+  pub nothing_asked : new ≡ old

@@ -1,7 +1,7 @@
 //! A clean build, and what is told of it.
 ghost use Rattle.std.specs.Prelude.{◌≡◌, true, All, IfSome, IfOk, OnOk, string_bytes};
 ghost use Rattle.pie_build.specs.Crashes.{StaysAtRest, Withstands};
-ghost use Rattle.pie_build.specs.Left.{KeepsRest, Leaves};
+ghost use Rattle.pie_build.specs.Left.{ChangesIfAccepted, KeepsRest, Leaves};
 ghost use Rattle.pie_files.specs.Streams.{Counted};
 ghost use Rattle.pie_value.specs.Canonical.{IsEncodableTask};
 ghost use Rattle.pie_cli.specs.Fresh.{FreshSays, IsPrinted, verdict_status};
@@ -27,6 +27,7 @@ pub(crate) fn fresh<F: Files>(
 ) -> Result<CommandResult, FilesError>
     ensures built { IfSome (F.holds files.old) (λ d. IfOk result (λ told. FreshSays d json (F.holds files.new) (string_bytes told.text) told.status)) }
     ensures answer { IfOk result (λ told. is_answer told.status ≡ true) }
+    ensures changed { IfSome (F.holds files.old) (λ d. ChangesIfAccepted d (F.holds files.new)) }
     ensures rest { KeepsRest (F.holds files.old) (F.holds files.new) }
     ensures crash { Withstands F.holds F.moment F.left_since F.images Leaves files.old files.new }
     ensures durable { OnOk result (StaysAtRest F.holds F.images files.old files.new) }

@@ -8,7 +8,7 @@ use pie_files::{Sink, SinkError};
 /// Puts a text whole, or a prefix of it where the output refuses the rest.
 pub(crate) fn print_text<K: Sink>(out: &mut K, text: &[u8]) -> Result<(), SinkError>
     ensures printed { OnOk result (Gains (K.held out.old) (K.held out.new) text.now) }
-    ensures front { GainsPrefix (K.held out.old) (K.held out.new) text.now }
+    ensures prefix { GainsPrefix (K.held out.old) (K.held out.new) text.now }
     ensures counted { Counted K.faults SinkError.Failed out.old out.new result }
     ensures infallible { StaysInfallible K.infallible K.faults out.old out.new }
 {

@@ -41,7 +41,7 @@ front_begins a d x (more, fs, k) =
 not_past : {a r s : List Token} (b : List Token) → CannotGoOn b s → BeginsPipeline a → Longer a r b s → ⊥
 not_past b e k l = subst (CannotGoOn b) l.3 e (front_begins b l.1 l.0 (subst BeginsPipeline l.2 k))
 
-stops_once : (ts : List Token) (i j : ℕ) → StopsAt ts i → StopsAt ts j → i ≡ j
+pub stops_once : (ts : List Token) (i j : ℕ) → StopsAt ts i → StopsAt ts j → i ≡ j
 stops_once ts i j x y = elim (two_prefixes x.before x.rest y.before y.rest (sym x.splits ∙ y.splits)) [
   | inl q ↦ x.place ∙ ap (start_of (last_end 0 ts)) q.1 ∙ sym y.place
   | inr q ↦ elim q [ inl l ↦ absurd (not_past y.before y.stops x.begins l) | inr l ↦ absurd (not_past x.before x.stops y.begins l) ]
@@ -62,7 +62,7 @@ deep_before {a = a} {x = x} b h o n l =
     let m = h b x l.1 e o in
     absurd (omega arith)
 
-deep_once : (ts : List Token) (i j : ℕ) → NestsTooDeepAt ts i → NestsTooDeepAt ts j → i ≡ j
+pub deep_once : (ts : List Token) (i j : ℕ) → NestsTooDeepAt ts i → NestsTooDeepAt ts j → i ≡ j
 deep_once ts i j x y = elim (two_prefixes x.before (x.bracket ∷ x.rest) y.before (y.bracket ∷ y.rest) (sym x.splits ∙ y.splits)) [
   | inl q ↦ x.place ∙ ap (λ (t : Token). t.at) (heads_same q.1).0 ∙ sym y.place
   | inr q ↦ elim q [
@@ -75,7 +75,7 @@ deep_once ts i j x y = elim (two_prefixes x.before (x.bracket ∷ x.rest) y.befo
 pub shallow_not_deep : (ts : List Token) (i : ℕ) → IsShallow ts → NestsTooDeepAt ts i → ⊥
 shallow_not_deep ts i h x = let l = h x.before x.bracket x.rest x.splits x.opening in let n = x.inside in absurd (omega arith)
 
-stops_not_deep : (ts : List Token) (i j : ℕ) → StopsAt ts i → NestsTooDeepAt ts j → ⊥
+pub stops_not_deep : (ts : List Token) (i j : ℕ) → StopsAt ts i → NestsTooDeepAt ts j → ⊥
 stops_not_deep ts i j x y = elim (two_prefixes x.before x.rest y.before (y.bracket ∷ y.rest) (sym x.splits ∙ y.splits)) [
   | inl q ↦ subst (CannotGoOn x.before) q.1 x.stops (subst (λ us. BeginsPipeline (us ++ y.bracket ∷ [])) (sym q.0) y.begins)
   | inr q ↦ elim q [

@@ -5,5 +5,4 @@ pub mod Lengths
 pub mod Lookings
 pub mod Once
 pub mod OneFront
-pub mod Stopping
 pub mod Told

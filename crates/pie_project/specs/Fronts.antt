@@ -8,7 +8,8 @@ use Rattle.pie_lexer.specs.Tokens.{Lexes}
 use Rattle.pie_parser.specs.declared.error.ParseError.TheVariants.{Expected, TooDeep}
 use Rattle.pie_parser.specs.FunctionTrees.{FunctionTree}
 use Rattle.pie_parser.specs.FunctionGrammar.{IsPipeline}
-use Rattle.pie_parser.specs.FunctionReading as parser
+use Rattle.pie_grammar_laws.specs.Brackets.{IsShallow}
+use Rattle.pie_grammar_laws.specs.Refusals.{StopsAt, NestsTooDeepAt}
 use Rattle.pie_types.specs.Faults.{TypingResult}
 use Rattle.pie_types.specs.Whole.{checked, number_from}
 use Rattle.pie_value.specs.declared.task.Task.{Task}
@@ -35,11 +36,11 @@ typed_or (Err e) = Err (OfPipeline (Types e))
 abbrev pub tree_says : List FunctionTree → Checked
 tree_says fs = typed_or (checked fs)
 
--- tokens are a pipeline, which is checked, or no token can stand at a place, or a bracket nests too deep there
+-- tokens are a pipeline whose brackets keep the limit, which is checked, or stop at a place to begin one, or nest a bracket too deep there
 pub data TokensSay (tokens : List Token) : Checked → Type 0 where
-  tree : {fs : List FunctionTree} → IsPipeline tokens fs → parser.Reads (Ok fs) tokens → TokensSay tokens (tree_says fs)
-  expected : {i : ℕ} → parser.Reads (Err (Expected i)) tokens → TokensSay tokens (Err (OfPipeline (Parse (Expected i))))
-  too_deep : {i : ℕ} → parser.Reads (Err (TooDeep i)) tokens → TokensSay tokens (Err (OfPipeline (Parse (TooDeep i))))
+  tree : {fs : List FunctionTree} → IsPipeline tokens fs → IsShallow tokens → TokensSay tokens (tree_says fs)
+  expected : {i : ℕ} → StopsAt tokens i → TokensSay tokens (Err (OfPipeline (Parse (Expected i))))
+  too_deep : {i : ℕ} → NestsTooDeepAt tokens i → TokensSay tokens (Err (OfPipeline (Parse (TooDeep i))))
 
 -- a text has tokens, or a first place where none can be taken
 pub data TextSays (text : List ℕ) : Checked → Type 0 where

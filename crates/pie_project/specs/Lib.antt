@@ -2,5 +2,4 @@ pub mod Digested
 pub mod Fronts
 pub mod Looking
 pub mod Refusals
-pub mod Stops
 pub mod inner

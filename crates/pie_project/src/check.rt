@@ -3,9 +3,9 @@ ghost use Rattle.std.specs.Prelude.{◌≡◌, Ok, IfSome, IsErrOf};
 ghost use Rattle.pie_files.specs.Reading.{LeavesAsBefore};
 ghost use Rattle.pie_project.specs.Fronts.{CheckSays, counts_of};
 ghost use Rattle.pie_project.specs.Looking.{Looks, prefix_calls};
+ghost use Rattle.pie_project.specs.inner.Only.{IsOnly};
 ghost use Rattle.pie_project.specs.inner.Projects.{front_of};
 ghost use Rattle.pie_project.specs.Refusals.{Only, Says};
-ghost use Rattle.pie_project.specs.Stops.{OnParse, PipelineStops};
 
 use crate::{BuildError, Project, read_project};
 use pie_files::Files;
@@ -16,7 +16,6 @@ use std::alloc::Global;
 pub fn check_project<F: Files>(alloc: Global, files: &mut F) -> Result<(u32, u32), BuildError>
     ensures found { IfSome (F.holds files.old) (λ d. Says (λ p. p) (CheckSays d) result) }
     ensures only { IfSome (F.holds files.old) (λ d. Only (λ p. p) (CheckSays d) result) }
-    ensures stops { IfSome (F.holds files.old) (λ d. Says (λ p. p) (OnParse (PipelineStops d)) result) }
     ensures looks { Looks F.holds F.asked F.faults prefix_calls files.old files.new result }
     ensures crash { LeavesAsBefore F.holds F.moment F.left_since F.images files.old files.new }
 {
@@ -25,7 +24,7 @@ pub fn check_project<F: Files>(alloc: Global, files: &mut F) -> Result<(u32, u32
 
 // The counts of the project of a directory.
 fn counts_in<F: Files>(alloc: Global, files: &mut F) -> Result<(u32, u32), BuildError>
-    ensures found { IfSome (F.holds files.old) (λ d. Says (λ p. p) (CheckSays d) result) }
+    ensures found { IfSome (F.holds files.old) (λ d. Says (λ p. p) (IsOnly (CheckSays d)) result) }
     ensures looks { Looks F.holds F.asked F.faults prefix_calls files.old files.new result }
     ensures crash { LeavesAsBefore F.holds F.moment F.left_since F.images files.old files.new }
 {

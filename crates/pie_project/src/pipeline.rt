@@ -5,6 +5,7 @@ ghost use Rattle.pie_types.specs.inner.WholeRules.{IsTyped};
 ghost use Rattle.pie_project.specs.Digested.{AreRows, IsDigested};
 ghost use Rattle.pie_project.specs.Fronts.{most, BytesSay, TextSays, TokensSay, tree_says};
 ghost use Rattle.pie_project.specs.inner.Errors.{lexer_error, parser_error};
+ghost use Rattle.pie_project.specs.inner.Only.{IsOnly};
 ghost use Rattle.pie_project.specs.Refusals.{Says};
 
 use crate::{BuildError, PipelineFault};
@@ -24,7 +25,7 @@ pub(crate) struct Digested {
 
 /// The pipeline that these bytes are, with its types and digests.
 pub(crate) fn digested_of(alloc: Global, bytes: &[u8]) -> Result<Digested, BuildError>
-    ensures found { Says (λ p. p.typed) (BytesSay bytes.now) result }
+    ensures found { Says (λ p. p.typed) (IsOnly (BytesSay bytes.now)) result }
     ensures digested { IfOk result (λ p. IsDigested bytes.now p.typed p.digests.items) }
     ensures no_fault { IsErrOf result BuildError.Files → ⊥ }
 {
@@ -40,7 +41,7 @@ pub(crate) fn digested_of(alloc: Global, bytes: &[u8]) -> Result<Digested, Build
 // The pipeline that a text is.
 fn of_text(alloc: Global, text: &str) -> Result<Digested, BuildError>
     requires { length text.now ≤ most }
-    ensures found { Says (λ p. p.typed) (TextSays text.now) result }
+    ensures found { Says (λ p. p.typed) (IsOnly (TextSays text.now)) result }
     ensures digested { IfOk result (λ p. IsDigested text.now p.typed p.digests.items) }
     ensures no_fault { IsErrOf result BuildError.Files → ⊥ }
 {
@@ -62,7 +63,7 @@ fn lex_error(error: LexError) -> BuildError
 
 // The pipeline that the tokens of a text are.
 fn of_tokens(alloc: Global, text: &str, tokens: &[Token]) -> Result<Digested, BuildError>
-    ensures found { Says (λ p. p.typed) (TokensSay tokens.now) result }
+    ensures found { Says (λ p. p.typed) (IsOnly (TokensSay tokens.now)) result }
     ensures rows { IfOk result (λ p. AreRows text.now tokens.now p.typed p.digests.items) }
     ensures no_fault { IsErrOf result BuildError.Files → ⊥ }
 {

@@ -6,9 +6,9 @@ ghost use Rattle.pie_files.specs.declared.files.Call.TheVariants as calls;
 ghost use Rattle.pie_project.specs.Digested.{HasDigests, IsDigested};
 ghost use Rattle.pie_project.specs.Fronts.{ProjectSays, TypedSays, PipelineSays};
 ghost use Rattle.pie_project.specs.Looking.{Looks, prefix_calls, roots_path};
+ghost use Rattle.pie_project.specs.inner.Only.{IsOnly};
 ghost use Rattle.pie_project.specs.inner.Projects.{front_of};
 ghost use Rattle.pie_project.specs.Refusals.{Only, Says};
-ghost use Rattle.pie_project.specs.Stops.{OnParse, PipelineStops};
 ghost use Rattle.pie_store.specs.Canonical.{AreFuncs};
 
 use crate::load::{files_error, load};
@@ -36,7 +36,6 @@ pub struct Project {
 pub fn read_project<F: Files>(alloc: Global, files: &mut F) -> Result<Project, BuildError>
     ensures found { IfSome (F.holds files.old) (λ d. Says front_of (ProjectSays d) result) }
     ensures only { IfSome (F.holds files.old) (λ d. Only front_of (ProjectSays d) result) }
-    ensures stops { IfSome (F.holds files.old) (λ d. Says front_of (OnParse (PipelineStops d)) result) }
     ensures digests { IfSome (F.holds files.old) (λ d. IfOk result (λ p. HasDigests d p.digests.items)) }
     ensures names { IfOk result (λ p. HasNames p.typed p.digests.items) }
     ensures funcs { IfOk result (λ p. AreFuncs p.digests.items) }
@@ -49,7 +48,7 @@ pub fn read_project<F: Files>(alloc: Global, files: &mut F) -> Result<Project, B
 // The project of a directory.
 #[tactic(auto, using(pie_files::proofs::Reading::reads))]
 fn project_in<F: Files>(alloc: Global, files: &mut F) -> Result<Project, BuildError>
-    ensures found { IfSome (F.holds files.old) (λ d. Says front_of (ProjectSays d) result) }
+    ensures found { IfSome (F.holds files.old) (λ d. Says front_of (IsOnly (ProjectSays d)) result) }
     ensures digests { IfSome (F.holds files.old) (λ d. IfOk result (λ p. HasDigests d p.digests.items)) }
     ensures names { IfOk result (λ p. HasNames p.typed p.digests.items) }
     ensures funcs { IfOk result (λ p. AreFuncs p.digests.items) }
@@ -71,7 +70,7 @@ fn with_pipeline<F: Files>(
     files: &mut F,
     bytes: &[u8],
 ) -> Result<Project, BuildError>
-    ensures found { IfSome (F.holds files.old) (λ d. Says front_of (PipelineSays d bytes.now) result) }
+    ensures found { IfSome (F.holds files.old) (λ d. Says front_of (IsOnly (PipelineSays d bytes.now)) result) }
     ensures digested { IfOk result (λ p. IsDigested bytes.now p.typed p.digests.items) }
     ensures looks { Looks F.holds F.asked F.faults (calls.Read roots_path ∷ []) files.old files.new result }
     ensures crash { LeavesAsBefore F.holds F.moment F.left_since F.images files.old files.new }

@@ -9,7 +9,7 @@ fn read(alloc: Global, words: &[&str]) -> Result<Result<Command, WordsFault>, Fa
     for word in words {
         list.push(String::from_str(alloc, word)?)?;
     }
-    Ok(read_words(list.as_slice()))
+    Ok(read_words(alloc, list.as_slice()))
 }
 
 #[test]

@@ -1,15 +1,39 @@
 //! Reading the arguments of a command line.
-ghost use Rattle.std.specs.Prelude.{◌≡◌, ◌≢◌, List, ℕ, [], ◌∷◌, codes, IfOk, IfErr};
+ghost use Rattle.std.specs.Prelude.{◌≡◌, ◌≢◌, List, ℕ, [], ◌∷◌, codes, true, false, Err, IfOk};
+ghost use Rattle.clap.specs.Words.{kind_of};
 ghost use Rattle.pie_words.specs.Commands.{words_of, texts_of, usage_text};
+ghost use Rattle.pie_words.specs.inner.Commands.{IsCommand};
 ghost use Rattle.pie_words.specs.declared.command.Command.{Command};
 
 use crate::Command;
+use crate::grammar::take_apart;
+use clap::error::ErrorKind;
+use std::alloc::Global;
+use thiserror::Error;
 
 /// Why words are refused.
-#[derive(Clone, Copy, Debug, PartialEq, Eq)]
+#[derive(Clone, Copy, Debug, PartialEq, Eq, Error)]
 pub enum WordsFault {
     /// They are no command.
+    #[error("the words are no command")]
     Usage,
+    /// They are a command, and there was no memory to take them apart.
+    #[error("out of memory")]
+    OutOfMemory,
+}
+
+impl From<clap::Error> for WordsFault {
+    ghost use Rattle.clap.specs.declared.error.kind.ErrorKind.TheVariants as kinds;
+    ghost use Rattle.pie_words.specs.declared.words.WordsFault.TheVariants as faults;
+
+    ghost from_gives = { λ error fault. kind_of error ≡ kinds.OutOfMemory → fault ≡ faults.OutOfMemory };
+
+    fn from(error: clap::Error) -> WordsFault {
+        match error.kind() {
+            ErrorKind::OutOfMemory => WordsFault::OutOfMemory,
+            _ => WordsFault::Usage,
+        }
+    }
 }
 
 /// What is printed where the words are no command: the commands of today, and those that are coming.
@@ -17,34 +41,47 @@ pub const USAGE: &str =
     "usage: pie check, fresh [--json], build [--json], replay [--json], demo SEED SIZE, topdown [--json], scan, auto, cached\n";
 
 /// What the arguments of a command line, without the program's name, ask for.
-pub fn read_words(words: &[String]) -> Result<Command, WordsFault>
+pub fn read_words(alloc: Global, words: &[String]) -> Result<Command, WordsFault>
     ensures accepted { IfOk result (λ command. texts_of words.now ≡ words_of command) }
-    ensures refused { IfErr result (λ fault. (command : Command) → texts_of words.now ≢ words_of command) }
+    ensures refused { result ≡ Err WordsFault.Usage → (command : Command) → texts_of words.now ≢ words_of command }
+    ensures memory { result ≡ Err WordsFault.OutOfMemory → IsCommand (texts_of words.now) }
+{
+    if is_command(words) {
+        take_apart(alloc, words)
+    } else {
+        Err(WordsFault::Usage)
+    }
+}
+
+// Whether these are the words of a command.
+fn is_command(words: &[String]) -> bool
+    ensures accepted { result ≡ true → IsCommand (texts_of words.now) }
+    ensures refused { result ≡ false → (command : Command) → texts_of words.now ≢ words_of command }
 {
     match words {
         [word] => one_word(word.as_str()),
         [first, second] => two_words(first.as_str(), second.as_str()),
-        _ => Err(WordsFault::Usage),
+        _ => false,
     }
 }
 
-fn one_word(word: &str) -> Result<Command, WordsFault>
-    ensures accepted { IfOk result (λ command. (word.now ∷ []) ≡ words_of command) }
-    ensures refused { IfErr result (λ fault. (command : Command) → (word.now ∷ []) ≢ words_of command) }
+fn one_word(word: &str) -> bool
+    ensures accepted { result ≡ true → IsCommand (word.now ∷ []) }
+    ensures refused { result ≡ false → (command : Command) → (word.now ∷ []) ≢ words_of command }
 {
     match word {
-        "check" => Ok(Command::Check),
-        "fresh" => Ok(Command::Fresh(false)),
-        _ => Err(WordsFault::Usage),
+        "check" => true,
+        "fresh" => true,
+        _ => false,
     }
 }
 
-fn two_words(first: &str, second: &str) -> Result<Command, WordsFault>
-    ensures accepted { IfOk result (λ command. (first.now ∷ second.now ∷ []) ≡ words_of command) }
-    ensures refused { IfErr result (λ fault. (command : Command) → (first.now ∷ second.now ∷ []) ≢ words_of command) }
+fn two_words(first: &str, second: &str) -> bool
+    ensures accepted { result ≡ true → IsCommand (first.now ∷ second.now ∷ []) }
+    ensures refused { result ≡ false → (command : Command) → (first.now ∷ second.now ∷ []) ≢ words_of command }
 {
     match (first, second) {
-        ("fresh", "--json") => Ok(Command::Fresh(true)),
-        _ => Err(WordsFault::Usage),
+        ("fresh", "--json") => true,
+        _ => false,
     }
 }

@@ -1,3 +1,4 @@
+use Rattle.pie_build.proofs.Changing.{changed_then, unchanged}
 use Rattle.pie_build.proofs.Cleaning.{clean_by}
 use Rattle.pie_build.specs.inner.Projects.{LeavesFor}
 use Rattle.pie_build.proofs.Crashing.{withstands_still, withstands_then}
@@ -44,3 +45,15 @@ returns-in_err-ran-clause-crash g c = withstands_still g.F.Files.holds g.F.Files
 pub returns-clause-crash : goal.returns-clause-crash
 returns-clause-crash g c = withstands_then g.F.Files.holds g.F.Files.moment g.F.Files.left_since g.F.Files.images (LeavesFor c.args.project)
     c.args.files.now c.evaluate.new.files c.finish.new.files c.in_ok-built.ensures.same c.in_ok-built.ensures.crash c.finish.ensures.crash
+
+pub returns-in_err-built-clause-changed : goal.returns-in_err-built-clause-changed
+returns-in_err-built-clause-changed g c =
+    unchanged c.args.project (g.F.Files.holds c.args.files.now) (g.F.Files.holds c.evaluate.new.files) c.in_err-built.ensures.same
+
+pub returns-in_err-ran-clause-changed : goal.returns-in_err-ran-clause-changed
+returns-in_err-ran-clause-changed g c =
+    unchanged c.args.project (g.F.Files.holds c.args.files.now) (g.F.Files.holds c.evaluate.new.files) c.in_ok-built.ensures.same
+
+pub returns-clause-changed : goal.returns-clause-changed
+returns-clause-changed g c = changed_then c.args.project (g.F.Files.holds c.args.files.now) (g.F.Files.holds c.evaluate.new.files)
+    (g.F.Files.holds c.finish.new.files) c.in_ok-built.ensures.same c.finish.ensures.changed

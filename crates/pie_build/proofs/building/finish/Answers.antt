@@ -1,6 +1,8 @@
+use Rattle.std.proofs.Common.{refl}
 use Rattle.pie_build.specs.inner.Projects.{LeavesFor}
 use Rattle.pie_build.specs.inner.Reported.{PutsMade}
 use Rattle.pie_build.proofs.Cleaning.{IsMadeOf, made_left, put_left, ran_of, refused_left}
+use Rattle.pie_build.proofs.Changing.{accepted, unchanged}
 use Rattle.pie_build.proofs.Crashing.{rests_none, withstands_as}
 use Rattle.pie_build.proofs.Storing.{may_stand}
 use Rattle.pie_build.proofs.building.finish.Goals as goal
@@ -46,8 +48,21 @@ returns-in_ok-made-in-Accepted-clause-crash g c =
 pub returns-in-Refused-clause-left : goal.returns-in-Refused-clause-left
 returns-in-Refused-clause-left g c =
     refused_left (g.F.Files.holds c.args.files.now) c.args.project c.args.built c.args.ran c.in-Refused.refusal c.refused.result c.in-Refused.is
-    c.refused.ensures.verdict c.refused.ensures.fresh c.refused.ensures.wrote c.refused.ensures.removed c.refused.ensures.outputs c.refused.ensures.ran
+    c.refused.ensures.verdict c.refused.ensures.fresh c.refused.ensures.wrote c.refused.ensures.removed c.refused.ensures.outputs c.refused.ensures.live
+    c.refused.ensures.ran
     c.requires.clean
 
 pub returns-in-Refused-clause-durable : goal.returns-in-Refused-clause-durable
 returns-in-Refused-clause-durable g c = rests_none g.F.Files.holds g.F.Files.moment g.F.Files.left_since g.F.Files.images c.args.files.now
+
+pub returns-in_ok-made-in-Accepted-clause-changed : goal.returns-in_ok-made-in-Accepted-clause-changed
+returns-in_ok-made-in-Accepted-clause-changed g c =
+    accepted c.args.project (g.F.Files.holds c.args.files.now) (g.F.Files.holds c.put_into_place.new.files) c.args.built c.args.ran.items c.in-Accepted.is
+    c.requires.clean
+
+pub returns-in_err-made-in-Accepted-clause-changed : goal.returns-in_err-made-in-Accepted-clause-changed
+returns-in_err-made-in-Accepted-clause-changed g c =
+    unchanged c.args.project (g.F.Files.holds c.args.files.now) (g.F.Files.holds c.args.files.now) refl
+
+pub returns-in-Refused-clause-changed : goal.returns-in-Refused-clause-changed
+returns-in-Refused-clause-changed g c = unchanged c.args.project (g.F.Files.holds c.args.files.now) (g.F.Files.holds c.args.files.now) refl

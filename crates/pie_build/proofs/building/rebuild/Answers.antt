@@ -2,6 +2,7 @@ use Rattle.pie_build.proofs.OwnPaths.{same_keeps}
 use Rattle.pie_build.proofs.Storing.{project_leaves, project_left}
 use Rattle.pie_build.specs.Left.{Leaves}
 use Rattle.pie_build.specs.inner.Projects.{LeavesFor}
+use Rattle.pie_build.proofs.Changing.{project_changes, untouched}
 use Rattle.pie_build.proofs.Cleaning.{is_ready}
 use Rattle.pie_build.proofs.Crashing.{withstands_as, withstands_then}
 use Rattle.pie_build.proofs.building.rebuild.Goals as goal
@@ -27,3 +28,11 @@ returns-in-Ok-clause-crash g c =
 pub with_project-requires-clause-ready : goal.with_project-requires-clause-ready
 with_project-requires-clause-ready g c = is_ready (g.F.Files.holds c.args.files.now) (g.F.Files.holds c.read_project.new.files) c.in-Ok.project
     c.in-Ok.ensures.found c.in-Ok.ensures.looks.same
+
+pub returns-in-Err-clause-changed : goal.returns-in-Err-clause-changed
+returns-in-Err-clause-changed g c = untouched (g.F.Files.holds c.args.files.now) (g.F.Files.holds c.read_project.new.files) c.in-Err.ensures.looks.same
+
+pub returns-in-Ok-clause-changed : goal.returns-in-Ok-clause-changed
+returns-in-Ok-clause-changed g c =
+    project_changes (g.F.Files.holds c.args.files.now) (g.F.Files.holds c.read_project.new.files) (g.F.Files.holds c.with_project.new.files) c.in-Ok.project
+    c.in-Ok.ensures.found c.in-Ok.ensures.digests c.in-Ok.ensures.names c.in-Ok.ensures.looks.same c.with_project.ensures.changed

@@ -54,7 +54,7 @@ returns-clause-left g c =
     c.in_ok-removed.ensures.plan in
     puts_after before (g.F.Files.holds c.end_of_pending.new.files) (g.F.Files.holds c.commit_then.new.files) gone contents pending store c.in_ok-plan.plan
     c.in_ok-report.report c.commit_then.result (c.in_ok-pending.ensures.same ∙ c.in_ok-removed.ensures.same)
-    (fits_before before (g.F.Files.holds c.removals.new.files) gone contents pending c.in_ok-removed.ensures.same removals c.in_ok-pending.ensures.gone)
+    (fits_before before (g.F.Files.holds c.removals.new.files) gone contents pending c.in_ok-removed.ensures.same c.requires.ascending removals c.in_ok-pending.ensures.gone)
     plan c.commit_then.ensures.done c.commit_then.ensures.outside c.commit_then.ensures.report c.in_ok-report.ensures.verdict
     (ap (λ v. v.items) c.in_ok-report.ensures.wrote ∙ wrote) (ap (λ v. v.items) c.in_ok-report.ensures.removed)
 
@@ -80,7 +80,7 @@ returns-clause-crash g c =
     subst (λ (x : List (List ℕ)). IfSome before (λ (d : Directory). IsPlan (files_under d (codes "out")) x gone)) (c.as_slice-2.ensures.value ∙ wrote)
     c.in_ok-removed.ensures.plan in
     let same = c.in_ok-pending.ensures.same ∙ c.in_ok-removed.ensures.same in
-    let fits = fits_before before (g.F.Files.holds c.removals.new.files) gone contents pending c.in_ok-removed.ensures.same removals
+    let fits = fits_before before (g.F.Files.holds c.removals.new.files) gone contents pending c.in_ok-removed.ensures.same c.requires.ascending removals
     c.in_ok-pending.ensures.gone in
     withstands_then g.F.Files.holds g.F.Files.moment g.F.Files.left_since g.F.Files.images (PutsMade c.args.made c.args.ran) c.args.files.now
     c.end_of_pending.new.files c.commit_then.new.files same

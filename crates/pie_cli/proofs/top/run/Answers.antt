@@ -1,69 +1,59 @@
-use Rattle.std.proofs.Common.{◌≡◌, true, refl, sym, subst, ◌∙◌}
-use Rattle.pie_base.specs.declared.status.Status.{Status}
+use Rattle.std.proofs.Common.{◌≡◌, true, refl, sym, ◌∙◌}
+use Rattle.pie_build.proofs.Changing.{untouched}
+use Rattle.pie_build.proofs.Crashing.{withstands_none}
+use Rattle.pie_build.specs.Left.{Leaves}
+use Rattle.pie_files.proofs.Reading.{none_before}
+use Rattle.pie_files.specs.Faults.{Rose}
+use Rattle.pie_project.specs.Looking.{prefix_calls}
 use Rattle.pie_words.proofs.Apart.{same_command}
 use Rattle.pie_words.specs.declared.command.Command.TheVariants as commands
-use Rattle.pie_cli.specs.Run.{is_answer}
-use Rattle.pie_cli.proofs.Stops.{prints_refusal}
+use Rattle.pie_words.specs.Commands.{usage_text}
+use Rattle.pie_cli.specs.Check.{IsCheckText}
+use Rattle.pie_cli.specs.Fresh.{IsFreshText}
+use Rattle.pie_cli.proofs.Gaining.{none_gained}
+use Rattle.pie_cli.proofs.Rest.{asks_none, gains_none}
+use Rattle.pie_cli.proofs.Statuses.{memory_is_no_answer}
 use Rattle.pie_cli.proofs.top.run.Goals as goal
 
-pub returns-in-Ok-clause-built : goal.returns-in-Ok-clause-built
-returns-in-Ok-clause-built g c = λ json is. c.run_command.ensures.built json (same_command _ _ (sym c.in-Ok.ensures.accepted ∙ is))
+pub returns-in-Ok-clause-fresh : goal.returns-in-Ok-clause-fresh
+returns-in-Ok-clause-fresh g c = λ json is. c.run_command.ensures.fresh json (same_command _ _ (sym c.in-Ok.ensures.accepted ∙ is))
 
-pub returns-in-Ok-clause-front : goal.returns-in-Ok-clause-front
-returns-in-Ok-clause-front g c = λ json is. c.run_command.ensures.front json (same_command _ _ (sym c.in-Ok.ensures.accepted ∙ is))
-
-pub returns-in-Ok-clause-checked : goal.returns-in-Ok-clause-checked
-returns-in-Ok-clause-checked g c = λ is. c.run_command.ensures.checked (same_command _ _ (sym c.in-Ok.ensures.accepted ∙ is))
-
-pub returns-in-Ok-clause-check_prefix : goal.returns-in-Ok-clause-check_prefix
-returns-in-Ok-clause-check_prefix g c = λ is. c.run_command.ensures.check_prefix (same_command _ _ (sym c.in-Ok.ensures.accepted ∙ is))
-
-pub returns-in-Ok-clause-check_same : goal.returns-in-Ok-clause-check_same
-returns-in-Ok-clause-check_same g c = λ is. c.run_command.ensures.check_same (same_command _ _ (sym c.in-Ok.ensures.accepted ∙ is))
-
-pub returns-in-Ok-clause-check_asks : goal.returns-in-Ok-clause-check_asks
-returns-in-Ok-clause-check_asks g c = λ is. c.run_command.ensures.check_asks (same_command _ _ (sym c.in-Ok.ensures.accepted ∙ is))
-
-pub returns-in-Ok-clause-check_stops : goal.returns-in-Ok-clause-check_stops
-returns-in-Ok-clause-check_stops g c = λ is e.
-    prints_refusal (g.F.Files.holds c.args.files.now) (g.K.Sink.held c.args.out.now) (g.K.Sink.held c.run_command.new.out) c.run_command.result e
-    (c.run_command.ensures.checked (same_command _ _ (sym c.in-Ok.ensures.accepted ∙ is)) (subst (λ (s : Status). is_answer s ≡ true) (sym e) refl))
+pub returns-in-Ok-clause-check : goal.returns-in-Ok-clause-check
+returns-in-Ok-clause-check g c = λ is. c.run_command.ensures.check (same_command _ _ (sym c.in-Ok.ensures.accepted ∙ is))
 
 pub returns-in-Ok-clause-usage : goal.returns-in-Ok-clause-usage
 returns-in-Ok-clause-usage g c = λ none. absurd (none _ c.in-Ok.ensures.accepted)
 
-pub returns-in-Ok-clause-usage_prefix : goal.returns-in-Ok-clause-usage_prefix
-returns-in-Ok-clause-usage_prefix g c = λ none. absurd (none _ c.in-Ok.ensures.accepted)
+pub returns-in-Err-Usage-clause-fresh : goal.returns-in-Err-Usage-clause-fresh
+returns-in-Err-Usage-clause-fresh g c = λ json is. absurd (c.in-Err-Usage.ensures.refused refl (commands.Fresh json) is)
 
-pub returns-in-Ok-clause-nothing_asked : goal.returns-in-Ok-clause-nothing_asked
-returns-in-Ok-clause-nothing_asked g c = λ none. absurd (none _ c.in-Ok.ensures.accepted)
+pub returns-in-Err-Usage-clause-check : goal.returns-in-Err-Usage-clause-check
+returns-in-Err-Usage-clause-check g c = λ is. absurd (c.in-Err-Usage.ensures.refused refl commands.Check is)
 
-pub returns-in-Err-Usage-clause-built : goal.returns-in-Err-Usage-clause-built
-returns-in-Err-Usage-clause-built g c = λ json is. absurd (c.in-Err-Usage.ensures.refused (commands.Fresh json) is)
+-- nothing was done
+pub returns-in-Err-OutOfMemory-clause-fresh : goal.returns-in-Err-OutOfMemory-clause-fresh
+returns-in-Err-OutOfMemory-clause-fresh g c = λ json is. record {
+  built = λ a. absurd (memory_is_no_answer a);
+  printed = none_gained (g.F.Files.holds c.args.files.now) (λ d. IsFreshText d json (g.F.Files.holds c.args.files.now))
+      (Rose (g.F.Files.faults c.args.files.now) (g.F.Files.faults c.args.files.now)) (g.K.Sink.held c.args.out.now) _ refl;
+  changed = untouched (g.F.Files.holds c.args.files.now) (g.F.Files.holds c.args.files.now) refl;
+  crash = withstands_none g.F.Files.holds g.F.Files.moment g.F.Files.left_since g.F.Files.images Leaves c.args.files.now;
+  durable = λ a. absurd (memory_is_no_answer a);
+}
 
-pub returns-in-Err-Usage-clause-front : goal.returns-in-Err-Usage-clause-front
-returns-in-Err-Usage-clause-front g c = λ json is. absurd (c.in-Err-Usage.ensures.refused (commands.Fresh json) is)
+pub returns-in-Err-OutOfMemory-clause-check : goal.returns-in-Err-OutOfMemory-clause-check
+returns-in-Err-OutOfMemory-clause-check g c = λ is. record {
+  checked = λ a. absurd (memory_is_no_answer a);
+  printed = none_gained (g.F.Files.holds c.args.files.now) IsCheckText
+      (Rose (g.F.Files.faults c.args.files.now) (g.F.Files.faults c.args.files.now)) (g.K.Sink.held c.args.out.now) _ refl;
+  same = refl;
+  crash = none_before g.F.Files.holds g.F.Files.moment g.F.Files.left_since g.F.Files.images c.args.files.now;
+  asks = asks_none prefix_calls (g.F.Files.asked c.args.files.now);
+}
 
-pub returns-in-Err-Usage-clause-checked : goal.returns-in-Err-Usage-clause-checked
-returns-in-Err-Usage-clause-checked g c = λ is. absurd (c.in-Err-Usage.ensures.refused commands.Check is)
-
-pub returns-in-Err-Usage-clause-check_prefix : goal.returns-in-Err-Usage-clause-check_prefix
-returns-in-Err-Usage-clause-check_prefix g c = λ is. absurd (c.in-Err-Usage.ensures.refused commands.Check is)
-
-pub returns-in-Ok-clause-crash : goal.returns-in-Ok-clause-crash
-returns-in-Ok-clause-crash g c = λ json is. c.run_command.ensures.crash json (same_command _ _ (sym c.in-Ok.ensures.accepted ∙ is))
-
-pub returns-in-Ok-clause-durable : goal.returns-in-Ok-clause-durable
-returns-in-Ok-clause-durable g c = λ json is. c.run_command.ensures.durable json (same_command _ _ (sym c.in-Ok.ensures.accepted ∙ is))
-
-pub returns-in-Ok-clause-check_crash : goal.returns-in-Ok-clause-check_crash
-returns-in-Ok-clause-check_crash g c = λ is. c.run_command.ensures.check_crash (same_command _ _ (sym c.in-Ok.ensures.accepted ∙ is))
-
-pub returns-in-Err-Usage-clause-crash : goal.returns-in-Err-Usage-clause-crash
-returns-in-Err-Usage-clause-crash g c = λ json is. absurd (c.in-Err-Usage.ensures.refused (commands.Fresh json) is)
-
-pub returns-in-Err-Usage-clause-durable : goal.returns-in-Err-Usage-clause-durable
-returns-in-Err-Usage-clause-durable g c = λ json is. absurd (c.in-Err-Usage.ensures.refused (commands.Fresh json) is)
-
-pub returns-in-Err-Usage-clause-check_crash : goal.returns-in-Err-Usage-clause-check_crash
-returns-in-Err-Usage-clause-check_crash g c = λ is. absurd (c.in-Err-Usage.ensures.refused commands.Check is)
+pub returns-in-Err-OutOfMemory-clause-usage : goal.returns-in-Err-OutOfMemory-clause-usage
+returns-in-Err-OutOfMemory-clause-usage g c = λ none. record {
+  usage = λ a. absurd (memory_is_no_answer a);
+  prefix = gains_none (g.K.Sink.held c.args.out.now) usage_text;
+  nothing_asked = refl;
+}

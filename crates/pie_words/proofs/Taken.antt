@@ -1,0 +1,100 @@
+-- What `clap` takes from the words of each command.
+use Rattle.std.proofs.Common.{◌≡◌, ℕ, Bool, true, false, List, [], ◌∷◌, Option, Some, None, option_map, codes, refl, ap, arith, ◌∙◌, rules}
+use Rattle.clap.specs.Walk.{Row, Text, one_of, rows_of}
+use Rattle.clap.specs.Simple.{subcommand_of, subcommand_rows_of}
+use Rattle.clap.specs.Takes.{takes}
+use Rattle.std.specs.Borrow.{Bor}
+use Rattle.std.specs.Box.{box_value}
+use Rattle.clap.specs.Matches.{found_of, one_text, subcommand_name_of}
+use Rattle.clap.specs.declared.parser.matches.ArgMatches.{ArgMatches}
+use Rattle.clap.specs.declared.parser.matches.ArgMatches.TheViews.{out-ArgMatches, out-SubCommand}
+use Rattle.clap.specs.declared.parser.matches.Found.{Found}
+use Rattle.clap.proofs.WalkLemmas.{one_text-rows}
+use Rattle.clap.proofs.OnLiterals.{clap_on_literals}
+use Rattle.pie_words.specs.Commands.{words_of}
+use Rattle.pie_words.specs.inner.Grammar.{commands}
+use Rattle.pie_words.specs.declared.command.Command.{Command}
+use Rattle.pie_words.specs.declared.command.Command.TheVariants.{Check, Fresh}
+
+-- the name of a command
+abbrev pub name_of : Command → Text
+name_of Check = codes "check"
+name_of (Fresh json) = codes "fresh"
+
+-- a flag as text
+abbrev pub flag_text : Bool → Text
+flag_text false = codes "false"
+flag_text true = codes "true"
+
+-- the matches of a subcommand, or none
+abbrev pub rows_in : Option (Text × List Row) → List Row
+rows_in None = []
+rows_in (Some p) = p.1
+
+abbrev pub name_in : Option (Text × List Row) → Text
+name_in None = []
+name_in (Some p) = p.0
+
+pub named : (c : Command) → name_in (subcommand_of commands (words_of c)) ≡ name_of c
+unfolding clap_on_literals
+named Check = refl
+named (Fresh false) = refl
+named (Fresh true) = refl
+
+pub met : (c : Command) → subcommand_of commands (words_of c) ≡ Some (name_in (subcommand_of commands (words_of c)), rows_in (subcommand_of commands (words_of c)))
+unfolding clap_on_literals
+met Check = refl
+met (Fresh false) = refl
+met (Fresh true) = refl
+
+pub flagged : (json : Bool) → one_of (codes "json") (rows_in (subcommand_of commands (words_of (Fresh json)))) ≡ Some (flag_text json)
+unfolding clap_on_literals
+flagged false = refl
+flagged true = refl
+
+pub flag_read : (f : Found) (json : Bool) → rows_of f ≡ rows_in (subcommand_of commands (words_of (Fresh json)))
+    → one_text f (codes "json") ≡ Some (flag_text json)
+flag_read f json is = one_text-rows f (codes "json") ∙ (ap (one_of (codes "json")) is ∙ flagged json)
+
+pub taken : (c : Command) → takes commands (words_of c) ≡ true
+unfolding clap_on_literals
+taken Check = refl
+taken (Fresh false) = refl
+taken (Fresh true) = refl
+
+abbrev first_byte : Text → ℕ
+first_byte [] = 0
+first_byte (b ∷ bytes) = b
+
+pub check_named : (c : Command) → name_of c ≡ codes "check" → c ≡ Check
+check_named Check is = refl
+check_named (Fresh json) is = let h : ◌≡◌ {A = ℕ} 102 99 = ap first_byte is in absurd (omega arith)
+
+pub fresh_named : (c : Command) (read : Bool) (f : Found) → name_of c ≡ codes "fresh"
+    → rows_of f ≡ rows_in (subcommand_of commands (words_of c))
+    → (one_text f (codes "json") ≡ Some (codes "true") → read ≡ true)
+    → (one_text f (codes "json") ≡ Some (codes "false") → read ≡ false)
+    → Fresh read ≡ c
+fresh_named Check read f name rows set unset = let h : ◌≡◌ {A = ℕ} 99 102 = ap first_byte name in absurd (omega arith)
+fresh_named (Fresh false) read f name rows set unset = ap Fresh (unset (flag_read f false rows))
+fresh_named (Fresh true) read f name rows set unset = ap Fresh (set (flag_read f true rows))
+
+pub is_named : (c : Command) → (name_of c ≡ codes "check" → ⊥) → (name_of c ≡ codes "fresh" → ⊥) → ⊥
+is_named Check check fresh = check refl
+is_named (Fresh json) check fresh = fresh refl
+
+-- what was found, from its name and its matches apart
+pub paired : {A B X Y : Type 0} (f : X → A) (g : X → B) (h : Y → A) (k : Y → B) (r : Option X) (o : Option Y)
+    → option_map f r ≡ option_map h o
+    → option_map g r ≡ option_map {T = A × B} (λ p. p.1) (option_map {U = A × B} (λ y. (h y, k y)) o)
+    → option_map {U = A × B} (λ x. (f x, g x)) r ≡ option_map {U = A × B} (λ y. (h y, k y)) o
+paired f g h k None None e i = refl
+paired f g h k None (Some y) e i = absurd (search rules)
+paired f g h k (Some x) None e i = absurd (search rules)
+paired f g h k (Some x) (Some y) e i = search rules
+
+pub found_is : (m : ArgMatches) (r : Option (Bor Text × Bor ArgMatches)) → option_map (λ p. p.0.now) r ≡ subcommand_name_of m
+    → option_map (λ p. rows_of (found_of p.1.now)) r ≡ option_map (λ p. p.1) (subcommand_rows_of m)
+    → option_map {U = Text × List Row} (λ p. (p.0.now, rows_of (found_of p.1.now))) r ≡ subcommand_rows_of m
+found_is m r name rows = paired (λ p. p.0.now) (λ p. rows_of (found_of p.1.now)) (λ b. (out-SubCommand (box_value b)).name.now)
+    (λ b. rows_of (found_of (out-SubCommand (box_value b)).matches)) r (out-ArgMatches m).subcommand name rows

@@ -1,0 +1,14 @@
+use Rattle.std.proofs.Common.{◌≡◌, rules, ap, ap₂, ◌∙◌}
+use Rattle.std.proofs.lemmas.Result.{IfOk-weaker}
+use Rattle.clap.specs.Words.{App, app_of, with_subcommand}
+use Rattle.clap.specs.Simple.{app_of_fields}
+use Rattle.pie_words.specs.inner.Grammar as spec
+use Rattle.pie_words.proofs.grammar.commands.Goals as goal
+
+pub returns : goal.returns
+returns c =
+    let unnamed_is : app_of c.no_binary_name-commands.result ≡ spec.unnamed (app_of c.new.result) = ap app_of_fields c.no_binary_name-commands.ensures in
+    let first_is = c.in_ok-commands.ensures.shape (search rules)
+    ∙ ap₂ with_subcommand (unnamed_is ∙ ap spec.unnamed c.new.ensures.app) (ap (λ (a : App). a.top) c.new-2.ensures.app) in
+    IfOk-weaker c.subcommand-2.result _ _ (λ made h. h.shape (search rules)
+    ∙ ap₂ with_subcommand first_is (ap (λ (a : App). a.top) c.in_ok-with_json.ensures.app)) c.subcommand-2.ensures

@@ -1,0 +1,9 @@
+use Rattle.std.proofs.Common.{false, rules}
+use Rattle.pie_words.specs.declared.command.Command.TheVariants.{Check, Fresh}
+use Rattle.pie_words.proofs.words.one_word.Goals as goal
+
+pub returns-in-check-clause-accepted : goal.returns-in-check-clause-accepted
+returns-in-check-clause-accepted c = λ is. (Check, search rules)
+
+pub returns-in-fresh-clause-accepted : goal.returns-in-fresh-clause-accepted
+returns-in-fresh-clause-accepted c = λ is. (Fresh false, search rules)
