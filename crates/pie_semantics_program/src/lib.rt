@@ -15,4 +15,4 @@ mod stop;
 mod words;
 
 pub use evaluator::Evaluator;
-pub use function::{Came, Outcome, next_of};
+pub use function::{Evaluated, EvaluatorOutcome, next_of};

@@ -4,6 +4,7 @@ use pie_base::Text;
 use pie_operators::{Binary, binary, item_of, push_to_list, push_to_tuple};
 use pie_value::{Blob, Items, Value, show};
 use std::alloc::Global;
+use std::process::Abort;
 use std::test::Fail;
 
 // A list of this value.
@@ -27,20 +28,21 @@ fn blob(alloc: Global, count: usize) -> Result<Value, Fail> {
     Ok(Value::Bytes(Blob::new(many(alloc, count)?)))
 }
 
+const JOINED: &[(Sample, Sample, &str)] = &[
+    (Sample::Text("a"), Sample::Text("é"), "\"aé\""),
+    (Sample::Text(""), Sample::Text(""), "\"\""),
+    (
+        Sample::Bytes(&[255]),
+        Sample::Bytes(&[0, 1]),
+        "bytes(\"ff0001\")",
+    ),
+    (Sample::List(&[1]), Sample::List(&[2, 3]), "[1, 2, 3]"),
+    (Sample::List(&[]), Sample::List(&[]), "[]"),
+];
+
 #[test]
 fn texts_bytes_and_lists_are_joined(rt: HostRuntime) -> Result<(), Fail> {
-    let cases = [
-        (Sample::Text("a"), Sample::Text("é"), "\"aé\""),
-        (Sample::Text(""), Sample::Text(""), "\"\""),
-        (
-            Sample::Bytes(&[255]),
-            Sample::Bytes(&[0, 1]),
-            "bytes(\"ff0001\")",
-        ),
-        (Sample::List(&[1]), Sample::List(&[2, 3]), "[1, 2, 3]"),
-        (Sample::List(&[]), Sample::List(&[]), "[]"),
-    ];
-    for (number, (a, b, wanted)) in cases.iter().enumerate() {
+    for (number, (a, b, wanted)) in JOINED.iter().enumerate() {
         let found = of_two(rt.alloc(), Binary::Add, *a, *b)?;
         assert!(rt; found.as_str() == *wanted, "case {number}: {found}");
     }
@@ -68,16 +70,25 @@ fn lists(alloc: Global, most: usize, more: usize) -> Result<Length, Fail> {
     Ok(sum(alloc, Box::into_inner(a), b))
 }
 
+// Values that have so many bytes more than those of one byte below the limit have sums of these lengths.
+fn sums_are(
+    rt: &impl Abort,
+    alloc: Global,
+    more: usize,
+    wanted: Length,
+    wanted_items: Length,
+) -> Result<(), Fail> {
+    let texts = texts(alloc, MOST - 1, more)? == wanted;
+    let blobs = blobs(alloc, MOST - 1, more)? == wanted;
+    let lists = lists(alloc, MOST - 11, more)? == wanted_items;
+    assert!(rt; texts && blobs && lists, "{more}: {texts} {blobs} {lists}");
+    Ok(())
+}
+
 #[test]
 fn a_sum_keeps_the_limit(rt: HostRuntime) -> Result<(), Fail> {
-    let alloc = rt.alloc();
-    for (more, wanted, wanted_items) in [(1, Ok(MOST), Ok(2)), (2, Err("Big"), Err("Big"))] {
-        let texts = texts(alloc, MOST - 1, more)? == wanted;
-        let blobs = blobs(alloc, MOST - 1, more)? == wanted;
-        let lists = lists(alloc, MOST - 11, more)? == wanted_items;
-        assert!(rt; texts && blobs && lists, "{more}: {texts} {blobs} {lists}");
-    }
-    Ok(())
+    sums_are(&rt, rt.alloc(), 1, Ok(MOST), Ok(2))?;
+    sums_are(&rt, rt.alloc(), 2, Err("Big"), Err("Big"))
 }
 
 // A list in a list, so many deep; none is null.
@@ -123,15 +134,24 @@ fn length_with(alloc: Global, item: Value) -> Length {
     told_length(&push_to_list(alloc, Value::List(Items::new()), item))
 }
 
+// A list of a value of this depth, and one of a text of so many bytes, have this length.
+fn lists_are(
+    rt: &impl Abort,
+    alloc: Global,
+    depth: usize,
+    len: usize,
+    wanted: Length,
+) -> Result<(), Fail> {
+    let deep = length_with(alloc, nested(alloc, depth)?) == wanted;
+    let wide = length_with(alloc, long(alloc, len)?) == wanted;
+    assert!(rt; deep && wide, "depth {depth}: {deep}, {len} bytes: {wide}");
+    Ok(())
+}
+
 #[test]
 fn a_list_that_grows_keeps_the_limits(rt: HostRuntime) -> Result<(), Fail> {
-    let alloc = rt.alloc();
-    for (depth, len, wanted) in [(63, MOST - 5, Ok(1)), (64, MOST - 4, Err("Big"))] {
-        let deep = length_with(alloc, nested(alloc, depth)?) == wanted;
-        let wide = length_with(alloc, long(alloc, len)?) == wanted;
-        assert!(rt; deep && wide, "depth {depth}: {deep}, {len} bytes: {wide}");
-    }
-    Ok(())
+    lists_are(&rt, rt.alloc(), 63, MOST - 5, Ok(1))?;
+    lists_are(&rt, rt.alloc(), 64, MOST - 4, Err("Big"))
 }
 
 fn sum_with_a_copy(alloc: Global, list: &Value) -> Result<String, Fail> {
@@ -169,19 +189,24 @@ fn item_text(alloc: Global, number: u32) -> Result<String, Fail> {
     told(alloc, &item_of(&pair(alloc)?, number))
 }
 
+fn item_is(rt: &impl Abort, alloc: Global, number: u32, wanted: &str) -> Result<(), Fail> {
+    let found = item_text(alloc, number)?;
+    assert!(rt; found.as_str() == wanted, "item {number}: {found}");
+    Ok(())
+}
+
+fn item_of_a_list(alloc: Global) -> Result<String, Fail> {
+    told(alloc, &item_of(&value(alloc, Sample::List(&[1]))?, 0))
+}
+
 #[test]
 fn an_item_of_a_tuple_is_counted_from_0(rt: HostRuntime) -> Result<(), Fail> {
     let alloc = rt.alloc();
-    for (number, wanted) in [
-        (0, "7"),
-        (1, "\"a\""),
-        (2, "Unknown"),
-        (4_294_967_295, "Unknown"),
-    ] {
-        let found = item_text(alloc, number)?;
-        assert!(rt; found.as_str() == wanted, "item {number}: {found}");
-    }
-    let found = told(alloc, &item_of(&value(alloc, Sample::List(&[1]))?, 0))?;
+    item_is(&rt, alloc, 0, "7")?;
+    item_is(&rt, alloc, 1, "\"a\"")?;
+    item_is(&rt, alloc, 2, "Unknown")?;
+    item_is(&rt, alloc, 4_294_967_295, "Unknown")?;
+    let found = item_of_a_list(alloc)?;
     assert!(rt; found.as_str() == "Unknown", "of a list: {found}");
     Ok(())
 }

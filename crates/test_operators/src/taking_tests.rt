@@ -5,6 +5,7 @@ use pie_base::{Path, Text};
 use pie_operators::{Observation, Question, is_content, may_observe, taken};
 use pie_value::{Answer, Blob, By, Event, How, Items, Task, Value};
 use std::alloc::Global;
+use std::process::Abort;
 use std::test::Fail;
 
 fn observe(alloc: Global, what: Observation) -> Result<Question, Fail> {
@@ -101,21 +102,23 @@ fn an_answer_fits_its_question(rt: HostRuntime) -> Result<(), Fail> {
     Ok(())
 }
 
+const ANSWERS: &[&str] = &[
+    "flag",
+    "file",
+    "no file",
+    "digest",
+    "no digest",
+    "entries",
+    "wrote",
+    "output",
+    "ran",
+    "clash",
+];
+
 // How many of the answers fit a question.
 fn fitting(alloc: Global, asked: &str) -> Result<u32, Fail> {
     let mut count: u32 = 0;
-    for answered in [
-        "flag",
-        "file",
-        "no file",
-        "digest",
-        "no digest",
-        "entries",
-        "wrote",
-        "output",
-        "ran",
-        "clash",
-    ] {
+    for answered in ANSWERS {
         let found = given(alloc, asked, answered)?;
         if found.as_str() != "Unknown" {
             count = count.saturating_add(1);
@@ -124,22 +127,25 @@ fn fitting(alloc: Global, asked: &str) -> Result<u32, Fail> {
     Ok(count)
 }
 
+// A question, and how many of the answers fit it.
+const COUNTS: &[(&str, u32)] = &[
+    ("exists", 2),
+    ("hash", 3),
+    ("mark", 3),
+    ("raw", 3),
+    ("digest", 3),
+    ("list", 1),
+    ("write", 1),
+    ("whole", 1),
+    ("hashed", 1),
+    ("ran", 1),
+];
+
 #[test]
 fn an_answer_of_another_kind_is_unknown(rt: HostRuntime) -> Result<(), Fail> {
-    for (asked, wanted) in [
-        ("exists", 2),
-        ("hash", 3),
-        ("mark", 3),
-        ("raw", 3),
-        ("digest", 3),
-        ("list", 1),
-        ("write", 1),
-        ("whole", 1),
-        ("hashed", 1),
-        ("ran", 1),
-    ] {
+    for (asked, wanted) in COUNTS {
         let found = fitting(rt.alloc(), asked)?;
-        assert!(rt; found == wanted, "{asked}: {found}");
+        assert!(rt; found == *wanted, "{asked}: {found}");
     }
     Ok(())
 }
@@ -151,34 +157,57 @@ fn length_read(alloc: Global, by: By, bytes: Vec<u8>) -> Result<Length, Fail> {
     Ok(told_length(&taken(alloc, &question, answer)))
 }
 
+// Bytes that are read so give a value of this length.
+fn is_read(
+    rt: &impl Abort,
+    alloc: Global,
+    by: By,
+    bytes: &[u8],
+    wanted: Length,
+) -> Result<(), Fail> {
+    let found = length_read(alloc, by, bytes.to_vec(alloc)?)?;
+    assert!(rt; found == wanted, "{by:?}: {found:?}");
+    Ok(())
+}
+
 #[test]
 fn a_text_is_utf8(rt: HostRuntime) -> Result<(), Fail> {
-    let cases = [
-        (By::Hash, b"\xc3\xa9".as_slice(), Ok(2)),
-        (By::Hash, b"".as_slice(), Ok(0)),
-        (By::Hash, b"a\xff".as_slice(), Err("NotText")),
-        (By::Mark, b"\xc3".as_slice(), Err("NotText")),
-        (By::Raw, b"a\xff".as_slice(), Ok(2)),
-    ];
-    for (number, (by, bytes, wanted)) in cases.iter().enumerate() {
-        let found = length_read(rt.alloc(), *by, bytes.to_vec(rt.alloc())?)?;
-        assert!(rt; found == *wanted, "case {number}: {found:?}");
-    }
+    let alloc = rt.alloc();
+    is_read(&rt, alloc, By::Hash, b"\xc3\xa9", Ok(2))?;
+    is_read(&rt, alloc, By::Hash, b"", Ok(0))?;
+    is_read(&rt, alloc, By::Hash, b"a\xff", Err("NotText"))?;
+    is_read(&rt, alloc, By::Mark, b"\xc3", Err("NotText"))?;
+    is_read(&rt, alloc, By::Raw, b"a\xff", Ok(2))
+}
+
+// So many bytes that are read so give a value of this length.
+fn many_are_read(
+    rt: &impl Abort,
+    alloc: Global,
+    by: By,
+    count: usize,
+    wanted: Length,
+) -> Result<(), Fail> {
+    let found = length_read(alloc, by, many(alloc, count)?)?;
+    assert!(rt; found == wanted, "{by:?}: {found:?}");
     Ok(())
+}
+
+// What is no text and too long is big.
+fn other_than_text(alloc: Global) -> Result<Length, Fail> {
+    let mut other = many(alloc, MOST)?;
+    other.push(255)?;
+    length_read(alloc, By::Hash, other)
 }
 
 #[test]
 fn a_value_of_bytes_is_within_the_limit(rt: HostRuntime) -> Result<(), Fail> {
     let alloc = rt.alloc();
     for by in [By::Hash, By::Mark, By::Raw] {
-        let most = length_read(alloc, by, many(alloc, MOST)?)?;
-        let more = length_read(alloc, by, many(alloc, MOST + 1)?)?;
-        let holds = most == Ok(MOST) && more == Err("Big");
-        assert!(rt; holds, "{by:?}: {most:?} {more:?}");
+        many_are_read(&rt, alloc, by, MOST, Ok(MOST))?;
+        many_are_read(&rt, alloc, by, MOST + 1, Err("Big"))?;
     }
-    let mut other = many(alloc, MOST)?;
-    other.push(255)?;
-    let found = length_read(alloc, By::Hash, other)?;
+    let found = other_than_text(alloc)?;
     assert!(rt; found == Err("Big"), "what is no text: {found:?}");
     Ok(())
 }
@@ -202,19 +231,21 @@ fn allowed(alloc: Global, text: &str) -> Result<(bool, bool), Fail> {
     Ok((may_observe(Observation::List, &path), is_open(&path)))
 }
 
+// A path, and whether it may be listed.
+const LISTED: &[(&str, bool)] = &[
+    ("src", true),
+    ("outer/a", true),
+    ("out", false),
+    ("out/a", false),
+    (".pie/store", false),
+    ("pie.roots", false),
+];
+
 #[test]
 fn sources_alone_are_listed(rt: HostRuntime) -> Result<(), Fail> {
-    let cases = [
-        ("src", true),
-        ("outer/a", true),
-        ("out", false),
-        ("out/a", false),
-        (".pie/store", false),
-        ("pie.roots", false),
-    ];
-    for (text, wanted) in cases {
+    for (text, wanted) in LISTED {
         let (listed, open) = allowed(rt.alloc(), text)?;
-        assert!(rt; listed == wanted && open, "{text}: {listed} {open}");
+        assert!(rt; listed == *wanted && open, "{text}: {listed} {open}");
     }
     assert!(rt; !is_content(Observation::List));
     Ok(())
@@ -233,11 +264,14 @@ fn event_of(alloc: Global, asked: &str) -> Result<Option<By>, Fail> {
     Ok(read_by(&question.into_event()))
 }
 
+// A question, and how the event reads the file.
+const READ: &[(&str, By)] = &[("hash", By::Hash), ("mark", By::Mark), ("raw", By::Hash)];
+
 #[test]
 fn bytes_that_become_a_value_are_observed_by_their_hash(rt: HostRuntime) -> Result<(), Fail> {
-    for (asked, wanted) in [("hash", By::Hash), ("mark", By::Mark), ("raw", By::Hash)] {
+    for (asked, wanted) in READ {
         let found = event_of(rt.alloc(), asked)?;
-        assert!(rt; found == Some(wanted), "{asked}: {found:?}");
+        assert!(rt; found == Some(*wanted), "{asked}: {found:?}");
     }
     Ok(())
 }

@@ -4,6 +4,7 @@ use pie_base::{FaultKind, Path, Text};
 use pie_operators::{Binary, OperatorFault, Unary, binary, unary};
 use pie_value::{Blob, Items, Value, show};
 use std::alloc::Global;
+use std::process::Abort;
 use std::test::Fail;
 
 const LEAST: i64 = -9_223_372_036_854_775_808;
@@ -103,49 +104,57 @@ pub(crate) fn of_two(
     told(alloc, &answer)
 }
 
+const COMPUTED: &[(Binary, i64, i64, &str)] = &[
+    (Binary::Add, 2, 3, "5"),
+    (Binary::Add, LEAST, GREATEST, "-1"),
+    (Binary::Add, GREATEST, 1, "Overflow"),
+    (Binary::Add, LEAST, -1, "Overflow"),
+    (Binary::Sub, 2, 3, "-1"),
+    (Binary::Sub, -1, LEAST, "9223372036854775807"),
+    (Binary::Sub, 0, LEAST, "Overflow"),
+    (Binary::Sub, LEAST, 1, "Overflow"),
+    (Binary::Mul, 3, -4, "-12"),
+    (Binary::Mul, LEAST, 1, "-9223372036854775808"),
+    (Binary::Mul, LEAST, -1, "Overflow"),
+    (Binary::Mul, 3_037_000_500, 3_037_000_500, "Overflow"),
+];
+
 #[test]
 fn integers_are_computed_within_64_bits(rt: HostRuntime) -> Result<(), Fail> {
-    let cases = [
-        (Binary::Add, 2, 3, "5"),
-        (Binary::Add, LEAST, GREATEST, "-1"),
-        (Binary::Add, GREATEST, 1, "Overflow"),
-        (Binary::Add, LEAST, -1, "Overflow"),
-        (Binary::Sub, 2, 3, "-1"),
-        (Binary::Sub, -1, LEAST, "9223372036854775807"),
-        (Binary::Sub, 0, LEAST, "Overflow"),
-        (Binary::Sub, LEAST, 1, "Overflow"),
-        (Binary::Mul, 3, -4, "-12"),
-        (Binary::Mul, LEAST, 1, "-9223372036854775808"),
-        (Binary::Mul, LEAST, -1, "Overflow"),
-        (Binary::Mul, 3_037_000_500, 3_037_000_500, "Overflow"),
-    ];
-    for (operator, a, b, wanted) in cases {
-        let found = of_two(rt.alloc(), operator, Sample::Int(a), Sample::Int(b))?;
-        assert!(rt; found.as_str() == wanted, "{operator:?} of {a} and {b}");
+    for (operator, a, b, wanted) in COMPUTED {
+        let found = of_two(rt.alloc(), *operator, Sample::Int(*a), Sample::Int(*b))?;
+        assert!(rt; found.as_str() == *wanted, "{operator:?} of {a} and {b}");
     }
     Ok(())
+}
+
+const DIVIDED: &[(i64, i64, &str, &str)] = &[
+    (7, 2, "3", "1"),
+    (-7, 2, "-3", "-1"),
+    (7, -2, "-3", "1"),
+    (-7, -2, "3", "-1"),
+    (0, 5, "0", "0"),
+    (LEAST, 1, "-9223372036854775808", "0"),
+    (LEAST, GREATEST, "-1", "-1"),
+    (LEAST, -1, "Overflow", "Overflow"),
+    (1, 0, "Zero", "Zero"),
+    (LEAST, 0, "Zero", "Zero"),
+];
+
+// The quotient and the remainder of two integers.
+fn divided(alloc: Global, a: i64, b: i64) -> Result<(String, String), Fail> {
+    let quotient = of_two(alloc, Binary::Div, Sample::Int(a), Sample::Int(b))?;
+    let remainder = of_two(alloc, Binary::Rem, Sample::Int(a), Sample::Int(b))?;
+    Ok((quotient, remainder))
 }
 
 #[test]
 fn division_truncates_and_the_remainder_has_the_sign_of_the_dividend(
     rt: HostRuntime,
 ) -> Result<(), Fail> {
-    let cases = [
-        (7, 2, "3", "1"),
-        (-7, 2, "-3", "-1"),
-        (7, -2, "-3", "1"),
-        (-7, -2, "3", "-1"),
-        (0, 5, "0", "0"),
-        (LEAST, 1, "-9223372036854775808", "0"),
-        (LEAST, GREATEST, "-1", "-1"),
-        (LEAST, -1, "Overflow", "Overflow"),
-        (1, 0, "Zero", "Zero"),
-        (LEAST, 0, "Zero", "Zero"),
-    ];
-    for (a, b, quotient, remainder) in cases {
-        let divided = of_two(rt.alloc(), Binary::Div, Sample::Int(a), Sample::Int(b))?;
-        let left = of_two(rt.alloc(), Binary::Rem, Sample::Int(a), Sample::Int(b))?;
-        let holds = divided.as_str() == quotient && left.as_str() == remainder;
+    for (a, b, quotient, remainder) in DIVIDED {
+        let (divided, left) = divided(rt.alloc(), *a, *b)?;
+        let holds = divided.as_str() == *quotient && left.as_str() == *remainder;
         assert!(rt; holds, "{a} by {b}: {divided} and {left}");
     }
     Ok(())
@@ -157,23 +166,27 @@ fn of_one(alloc: Global, operator: Unary, operand: Sample) -> Result<String, Fai
     told(alloc, &unary(operator, &operand))
 }
 
+const PREFIXED: &[(Unary, Sample, &str)] = &[
+    (Unary::Neg, Sample::Int(5), "-5"),
+    (Unary::Neg, Sample::Int(0), "0"),
+    (Unary::Neg, Sample::Int(GREATEST), "-9223372036854775807"),
+    (Unary::Neg, Sample::Int(LEAST), "Overflow"),
+    (Unary::Neg, Sample::Bool(true), "Unknown"),
+    (Unary::Neg, Sample::Text("1"), "Unknown"),
+    (Unary::Not, Sample::Bool(true), "false"),
+    (Unary::Not, Sample::Bool(false), "true"),
+    (Unary::Not, Sample::Int(0), "Unknown"),
+    (Unary::Not, Sample::Null, "Unknown"),
+];
+
 #[test]
 fn a_prefix_takes_an_integer_or_a_truth_value(rt: HostRuntime) -> Result<(), Fail> {
-    let cases = [
-        (Unary::Neg, Sample::Int(5), "-5"),
-        (Unary::Neg, Sample::Int(0), "0"),
-        (Unary::Neg, Sample::Int(GREATEST), "-9223372036854775807"),
-        (Unary::Neg, Sample::Int(LEAST), "Overflow"),
-        (Unary::Neg, Sample::Bool(true), "Unknown"),
-        (Unary::Neg, Sample::Text("1"), "Unknown"),
-        (Unary::Not, Sample::Bool(true), "false"),
-        (Unary::Not, Sample::Bool(false), "true"),
-        (Unary::Not, Sample::Int(0), "Unknown"),
-        (Unary::Not, Sample::Null, "Unknown"),
-    ];
-    for (number, (operator, operand, wanted)) in cases.iter().enumerate() {
+    for (operator, operand, wanted) in PREFIXED {
         let found = of_one(rt.alloc(), *operator, *operand)?;
-        assert!(rt; found.as_str() == *wanted, "case {number}: {found}");
+        assert!(rt;
+            found.as_str() == *wanted,
+            "{operator:?}: {wanted}: {found}"
+        );
     }
     Ok(())
 }
@@ -193,22 +206,30 @@ fn mark(answer: &Result<Value, OperatorFault>) -> char {
     }
 }
 
-// The operators between two operands that answer true, in their order; `?` where one has no answer.
+const COMPARING: &[(Binary, &str)] = &[
+    (Binary::Eq, "=="),
+    (Binary::Ne, "!="),
+    (Binary::Lt, "<"),
+    (Binary::Le, "<="),
+    (Binary::Gt, ">"),
+    (Binary::Ge, ">="),
+];
+
+// The sign of an operator that answers true; `?` where it has no answer.
+fn sign_of<'a>(mark: char, sign: &'a str) -> &'a str {
+    match mark {
+        't' => sign,
+        'f' => "",
+        _ => "?",
+    }
+}
+
+// The operators between two operands that answer true, in their order.
 fn that_hold(alloc: Global, a: &Value, b: &Value) -> Result<String, Fail> {
     let mut all = String::new(alloc);
-    for (operator, sign) in [
-        (Binary::Eq, "=="),
-        (Binary::Ne, "!="),
-        (Binary::Lt, "<"),
-        (Binary::Le, "<="),
-        (Binary::Gt, ">"),
-        (Binary::Ge, ">="),
-    ] {
-        match mark_of(alloc, operator, a, b)? {
-            't' => all.push_str(sign)?,
-            'f' => {}
-            _ => all.push_str("?")?,
-        }
+    for (operator, sign) in COMPARING {
+        let mark = mark_of(alloc, *operator, a, b)?;
+        all.push_str(sign_of(mark, sign))?;
     }
     Ok(all)
 }
@@ -218,46 +239,49 @@ fn comparison(alloc: Global, a: Sample, b: Sample) -> Result<String, Fail> {
     that_hold(alloc, &a, &value(alloc, b)?)
 }
 
+const COMPARED: &[(Sample, Sample, &str)] = &[
+    (Sample::Int(2), Sample::Int(2), "==<=>="),
+    (Sample::Int(-1), Sample::Int(0), "!=<<="),
+    (Sample::Int(GREATEST), Sample::Int(LEAST), "!=>>="),
+    (Sample::Text("a"), Sample::Text("a"), "==<=>="),
+    (Sample::Text(""), Sample::Text("a"), "!=<<="),
+    (Sample::Text("a"), Sample::Text("aa"), "!=<<="),
+    (Sample::Text("b"), Sample::Text("aa"), "!=>>="),
+    (Sample::Text("é"), Sample::Text("z"), "!=>>="),
+    (Sample::Path("a/b"), Sample::Path("a/b"), "==<=>="),
+    (Sample::Path("a/b"), Sample::Path("a-b"), "!=>>="),
+    (Sample::Text("a"), Sample::Path("a"), "!=????"),
+    (Sample::Bool(false), Sample::Bool(true), "!=????"),
+    (Sample::List(&[1, 2]), Sample::List(&[1, 2]), "==????"),
+    (Sample::List(&[1, 2]), Sample::List(&[1]), "!=????"),
+];
+
 #[test]
 fn integers_texts_and_paths_are_ordered(rt: HostRuntime) -> Result<(), Fail> {
-    let cases = [
-        (Sample::Int(2), Sample::Int(2), "==<=>="),
-        (Sample::Int(-1), Sample::Int(0), "!=<<="),
-        (Sample::Int(GREATEST), Sample::Int(LEAST), "!=>>="),
-        (Sample::Text("a"), Sample::Text("a"), "==<=>="),
-        (Sample::Text(""), Sample::Text("a"), "!=<<="),
-        (Sample::Text("a"), Sample::Text("aa"), "!=<<="),
-        (Sample::Text("b"), Sample::Text("aa"), "!=>>="),
-        (Sample::Text("é"), Sample::Text("z"), "!=>>="),
-        (Sample::Path("a/b"), Sample::Path("a/b"), "==<=>="),
-        (Sample::Path("a/b"), Sample::Path("a-b"), "!=>>="),
-        (Sample::Text("a"), Sample::Path("a"), "!=????"),
-        (Sample::Bool(false), Sample::Bool(true), "!=????"),
-        (Sample::List(&[1, 2]), Sample::List(&[1, 2]), "==????"),
-        (Sample::List(&[1, 2]), Sample::List(&[1]), "!=????"),
-    ];
-    for (number, (a, b, wanted)) in cases.iter().enumerate() {
+    for (number, (a, b, wanted)) in COMPARED.iter().enumerate() {
         let found = comparison(rt.alloc(), *a, *b)?;
         assert!(rt; found.as_str() == *wanted, "case {number}: {found}");
     }
     Ok(())
 }
 
+const KINDS: &[Sample] = &[
+    Sample::Unit,
+    Sample::Null,
+    Sample::Bool(true),
+    Sample::NoItems,
+    Sample::Path("a"),
+    Sample::Text("a"),
+    Sample::Int(1),
+    Sample::Bytes(b"a"),
+    Sample::List(&[]),
+];
+
 // One value of each kind.
 fn kinds(alloc: Global) -> Result<Items, Fail> {
     let mut kinds = Items::new();
-    for sample in [
-        Sample::Unit,
-        Sample::Null,
-        Sample::Bool(true),
-        Sample::NoItems,
-        Sample::Path("a"),
-        Sample::Text("a"),
-        Sample::Int(1),
-        Sample::Bytes(b"a"),
-        Sample::List(&[]),
-    ] {
-        kinds.push(alloc, value(alloc, sample)?)?;
+    for sample in KINDS {
+        kinds.push(alloc, value(alloc, *sample)?)?;
     }
     Ok(kinds)
 }
@@ -282,29 +306,39 @@ fn answered(alloc: Global, operator: Binary, kinds: &[Value]) -> Result<String, 
     Ok(rows)
 }
 
-#[test]
-fn operands_of_other_kinds_are_unknown(rt: HostRuntime) -> Result<(), Fail> {
-    let ints =
-        "......... ......... ......... ......... ......... ......... ......v.. ......... ......... ";
-    let sums =
-        "......... ......... ......... ......... ......... .....v... ......v.. .......v. ........v ";
-    let same =
-        "tffffffff ftfffffff fftffffff ffftfffff fffftffff ffffftfff fffffftff ffffffftf fffffffft ";
-    let ordered =
-        "......... ......... ......... ......... ....t.... .....t... ......t.. ......... ......... ";
-    let kinds = kinds(rt.alloc())?;
-    for (operator, wanted) in [
-        (Binary::Add, sums),
-        (Binary::Sub, ints),
-        (Binary::Mul, ints),
-        (Binary::Div, ints),
-        (Binary::Rem, ints),
-        (Binary::Eq, same),
-        (Binary::Le, ordered),
-        (Binary::Ge, ordered),
-    ] {
-        let found = answered(rt.alloc(), operator, kinds.as_slice())?;
-        assert!(rt; found.as_str() == wanted, "{operator:?}: {found}");
+const INTS: &str =
+    "......... ......... ......... ......... ......... ......... ......v.. ......... ......... ";
+
+const SUMS: &str =
+    "......... ......... ......... ......... ......... .....v... ......v.. .......v. ........v ";
+
+const SAME: &str =
+    "tffffffff ftfffffff fftffffff ffftfffff fffftffff ffffftfff fffffftff ffffffftf fffffffft ";
+
+const ORDERED: &str =
+    "......... ......... ......... ......... ....t.... .....t... ......t.. ......... ......... ";
+
+// An operator, and what it answers to each two kinds.
+const ANSWERED: &[(Binary, &str)] = &[
+    (Binary::Add, SUMS),
+    (Binary::Sub, INTS),
+    (Binary::Mul, INTS),
+    (Binary::Div, INTS),
+    (Binary::Rem, INTS),
+    (Binary::Eq, SAME),
+    (Binary::Le, ORDERED),
+    (Binary::Ge, ORDERED),
+];
+
+fn answers(rt: &impl Abort, alloc: Global, kinds: &[Value]) -> Result<(), Fail> {
+    for (operator, wanted) in ANSWERED {
+        let found = answered(alloc, *operator, kinds)?;
+        assert!(rt; found.as_str() == *wanted, "{operator:?}: {found}");
     }
     Ok(())
+}
+
+#[test]
+fn operands_of_other_kinds_are_unknown(rt: HostRuntime) -> Result<(), Fail> {
+    answers(&rt, rt.alloc(), kinds(rt.alloc())?.as_slice())
 }

@@ -32,14 +32,14 @@ fn path(alloc: Global, text: &str) -> Result<Path, Fail> {
     Ok(Path::read(alloc, text).map_err(|_| "path")?)
 }
 
-// A report of nothing.
+// A report of nothing but this.
 #[tactic(auto, using(crate::proofs::Encodable::no_tasks))]
-fn empty(alloc: Global, verdict: Verdict) -> Report
+fn empty(alloc: Global, verdict: Verdict, fresh: Option<Cause>) -> Report
     ensures { All IsEncodableTask result.ran.items }
 {
     Report {
         verdict,
-        fresh: None,
+        fresh,
         ran: Vec::new(alloc),
         wrote: Vec::new(alloc),
         removed: Vec::new(alloc),
@@ -48,71 +48,108 @@ fn empty(alloc: Global, verdict: Verdict) -> Report
     }
 }
 
-// Whether this is the whole text of an empty report with this refusal.
-fn refused(alloc: Global, refusal: Refusal, wanted: &str) -> Result<bool, Fail> {
-    let report = empty(alloc, Verdict::Refused(refusal));
-    let text = print(alloc, &report)?;
-    Ok(text.as_str() == wanted)
+// The text of a report of this refusal alone.
+fn refusal_text(alloc: Global, refusal: Refusal) -> Result<String, OutOfMemory> {
+    print(alloc, &empty(alloc, Verdict::Refused(refusal), None))
 }
 
-// Whether this is the text of a report of a fault of this kind.
-fn failed(alloc: Global, kind: FaultKind, wanted: &str) -> Result<bool, Fail> {
+// This is the whole text of an empty report with this refusal.
+fn refused(rt: &impl Abort, alloc: Global, refusal: Refusal, wanted: &str) -> Result<(), Fail> {
+    let text = refusal_text(alloc, refusal)?;
+    assert!(rt; text.as_str() == wanted, "{text}");
+    Ok(())
+}
+
+// This is the text of a report of a fault of this kind.
+fn failed(rt: &impl Abort, alloc: Global, kind: FaultKind, wanted: &str) -> Result<(), Fail> {
     let task = task(alloc, "f", 7)?;
-    refused(alloc, Refusal::Fault(Fault { task, kind }), wanted)
+    refused(rt, alloc, Refusal::Fault(Fault { task, kind }), wanted)
 }
 
-// Whether this is the text of an empty report with this cause.
-fn caused(alloc: Global, cause: Cause, wanted: &str) -> Result<bool, Fail> {
-    let mut report = empty(alloc, Verdict::Refused(Refusal::Many));
-    report.fresh = Some(cause);
-    let text = print(alloc, &report)?;
-    Ok(text.as_str() == wanted)
+// The text of a report of this cause and a refusal.
+fn cause_text(alloc: Global, cause: Cause) -> Result<String, OutOfMemory> {
+    let verdict = Verdict::Refused(Refusal::Many);
+    print(alloc, &empty(alloc, verdict, Some(cause)))
+}
+
+// This is the text of an empty report with this cause.
+fn caused(rt: &impl Abort, alloc: Global, cause: Cause, wanted: &str) -> Result<(), Fail> {
+    let text = cause_text(alloc, cause)?;
+    assert!(rt; text.as_str() == wanted, "{text}");
+    Ok(())
 }
 
 #[test]
 fn each_kind_of_fault_has_its_name(rt: HostRuntime) -> Result<(), Fail> {
     let a = rt.alloc();
-    assert!(rt; failed(a, FaultKind::NotText, "refused fault f(7): NotText\n")?);
-    assert!(rt; failed(a, FaultKind::BadPath, "refused fault f(7): BadPath\n")?);
-    assert!(rt; failed(a, FaultKind::BadWrite, "refused fault f(7): BadWrite\n")?);
-    assert!(rt; failed(a, FaultKind::WroteTwice, "refused fault f(7): WroteTwice\n")?);
-    assert!(rt;
-        failed(
-            a,
-            FaultKind::ReadThenWrite,
-            "refused fault f(7): ReadThenWrite\n"
-        )?
-    );
-    assert!(rt; failed(a, FaultKind::Clash, "refused fault f(7): Clash\n")?);
-    assert!(rt; failed(a, FaultKind::Budget, "refused fault f(7): Budget\n")?);
-    assert!(rt; failed(a, FaultKind::Big, "refused fault f(7): Big\n")?);
-    Ok(())
+    failed(&rt, a, FaultKind::NotText, "refused fault f(7): NotText\n")?;
+    failed(&rt, a, FaultKind::BadPath, "refused fault f(7): BadPath\n")?;
+    failed(
+        &rt,
+        a,
+        FaultKind::BadWrite,
+        "refused fault f(7): BadWrite\n",
+    )?;
+    failed(
+        &rt,
+        a,
+        FaultKind::WroteTwice,
+        "refused fault f(7): WroteTwice\n",
+    )?;
+    failed(
+        &rt,
+        a,
+        FaultKind::ReadThenWrite,
+        "refused fault f(7): ReadThenWrite\n",
+    )?;
+    failed(&rt, a, FaultKind::Clash, "refused fault f(7): Clash\n")?;
+    failed(&rt, a, FaultKind::Budget, "refused fault f(7): Budget\n")?;
+    failed(&rt, a, FaultKind::Big, "refused fault f(7): Big\n")
+}
+
+fn said(alloc: Global) -> Result<FaultKind, OutOfMemory> {
+    Ok(FaultKind::Said(Text::new(alloc, "no \"x\"\n")?))
 }
 
 #[test]
 fn each_other_kind_of_fault_has_its_name(rt: HostRuntime) -> Result<(), Fail> {
     let a = rt.alloc();
-    assert!(rt; failed(a, FaultKind::Overflow, "refused fault f(7): Overflow\n")?);
-    assert!(rt; failed(a, FaultKind::Zero, "refused fault f(7): Zero\n")?);
-    assert!(rt; failed(a, FaultKind::Null, "refused fault f(7): Null\n")?);
-    let said = FaultKind::Said(Text::new(a, "no \"x\"\n")?);
-    assert!(rt; failed(a, said, "refused fault f(7): Said \"no \\\"x\\\"\\n\"\n")?);
-    assert!(rt; failed(a, FaultKind::Range, "refused fault f(7): Range\n")?);
-    assert!(rt; failed(a, FaultKind::BadList, "refused fault f(7): BadList\n")?);
-    assert!(rt; failed(a, FaultKind::Unknown, "refused fault f(7): Unknown\n")?);
-    Ok(())
+    failed(
+        &rt,
+        a,
+        FaultKind::Overflow,
+        "refused fault f(7): Overflow\n",
+    )?;
+    failed(&rt, a, FaultKind::Zero, "refused fault f(7): Zero\n")?;
+    failed(&rt, a, FaultKind::Null, "refused fault f(7): Null\n")?;
+    failed(
+        &rt,
+        a,
+        said(a)?,
+        "refused fault f(7): Said \"no \\\"x\\\"\\n\"\n",
+    )?;
+    failed(&rt, a, FaultKind::Range, "refused fault f(7): Range\n")?;
+    failed(&rt, a, FaultKind::BadList, "refused fault f(7): BadList\n")?;
+    failed(&rt, a, FaultKind::Unknown, "refused fault f(7): Unknown\n")
 }
 
-// The refusal of a path and two tasks: overlapping writes, or else a hidden dependency.
-fn on_path(alloc: Global, overlap: bool) -> Result<Refusal, Fail> {
+// A reader and a writer.
+fn reader_and_writer(alloc: Global) -> Result<(Task, Task), OutOfMemory> {
+    let reader = task(alloc, "r", 1)?;
+    let writer = task(alloc, "w", 2)?;
+    Ok((reader, writer))
+}
+
+fn overlap(alloc: Global) -> Result<Refusal, Fail> {
     let place = path(alloc, "out/a")?;
-    let first = task(alloc, "r", 1)?;
-    let second = task(alloc, "w", 2)?;
-    if overlap {
-        Ok(Refusal::Overlap(place, first, second))
-    } else {
-        Ok(Refusal::Hidden(place, first, second))
-    }
+    let (first, second) = reader_and_writer(alloc)?;
+    Ok(Refusal::Overlap(place, first, second))
+}
+
+fn hidden(alloc: Global) -> Result<Refusal, Fail> {
+    let place = path(alloc, "out/a")?;
+    let (reader, writer) = reader_and_writer(alloc)?;
+    Ok(Refusal::Hidden(place, reader, writer))
 }
 
 fn nested(alloc: Global) -> Result<Refusal, Fail> {
@@ -120,57 +157,108 @@ fn nested(alloc: Global) -> Result<Refusal, Fail> {
     Ok(Refusal::Nested(place, path(alloc, "out/a/b")?))
 }
 
+fn cycle(alloc: Global) -> Result<Refusal, OutOfMemory> {
+    Ok(Refusal::Cycle(two_tasks(alloc)?))
+}
+
 #[test]
 fn each_refusal_has_its_line(rt: HostRuntime) -> Result<(), Fail> {
     let a = rt.alloc();
-    let cycle = Refusal::Cycle(two_tasks(a)?);
-    assert!(rt; refused(a, cycle, "refused cycle p(1) -> q(-2)\n")?);
-    assert!(rt; refused(a, Refusal::Many, "refused many\n")?);
-    assert!(rt; refused(a, on_path(a, true)?, "refused overlap out/a: r(1), w(2)\n")?);
-    assert!(rt; refused(a, nested(a)?, "refused nested out/a, out/a/b\n")?);
-    assert!(rt; refused(a, on_path(a, false)?, "refused hidden out/a: r(1), w(2)\n")?);
-    Ok(())
+    refused(&rt, a, cycle(a)?, "refused cycle p(1) -> q(-2)\n")?;
+    refused(&rt, a, Refusal::Many, "refused many\n")?;
+    refused(&rt, a, overlap(a)?, "refused overlap out/a: r(1), w(2)\n")?;
+    refused(&rt, a, nested(a)?, "refused nested out/a, out/a/b\n")?;
+    refused(&rt, a, hidden(a)?, "refused hidden out/a: r(1), w(2)\n")
+}
+
+fn union_cycle(alloc: Global) -> Result<Cause, OutOfMemory> {
+    Ok(Cause::UnionCycle(two_tasks(alloc)?))
+}
+
+fn union_many(alloc: Global) -> Result<Cause, OutOfMemory> {
+    Ok(Cause::UnionMany(30_001, 19_999, task(alloc, "f", 49_999)?))
 }
 
 #[test]
 fn each_cause_has_its_line(rt: HostRuntime) -> Result<(), Fail> {
     let a = rt.alloc();
-    assert!(rt; caused(a, Cause::Interrupted, "refused many\nfresh Interrupted\n")?);
-    assert!(rt; caused(a, Cause::NoStore, "refused many\nfresh NoStore\n")?);
-    assert!(rt; caused(a, Cause::BadPending, "refused many\nfresh BadPending\n")?);
-    let cycle = Cause::UnionCycle(two_tasks(a)?);
-    assert!(rt; caused(a, cycle, "refused many\nfresh UnionCycle p(1) -> q(-2)\n")?);
-    let many = Cause::UnionMany(30_001, 19_999, task(a, "f", 49_999)?);
-    assert!(rt; caused(a, many, "refused many\nfresh UnionMany f(49999)\n")?);
-    Ok(())
+    caused(
+        &rt,
+        a,
+        Cause::Interrupted,
+        "refused many\nfresh Interrupted\n",
+    )?;
+    caused(&rt, a, Cause::NoStore, "refused many\nfresh NoStore\n")?;
+    caused(
+        &rt,
+        a,
+        Cause::BadPending,
+        "refused many\nfresh BadPending\n",
+    )?;
+    caused(
+        &rt,
+        a,
+        union_cycle(a)?,
+        "refused many\nfresh UnionCycle p(1) -> q(-2)\n",
+    )?;
+    caused(
+        &rt,
+        a,
+        union_many(a)?,
+        "refused many\nfresh UnionMany f(49999)\n",
+    )
 }
 
-// Whether this is the text of a report of a damaged store.
-fn damaged(alloc: Global, fault: StoreFault, wanted: &str) -> Result<bool, Fail> {
-    caused(alloc, Cause::Damaged(fault), wanted)
+// This is the text of a report of a damaged store.
+fn damaged(rt: &impl Abort, alloc: Global, fault: StoreFault, wanted: &str) -> Result<(), Fail> {
+    caused(rt, alloc, Cause::Damaged(fault), wanted)
 }
 
 #[test]
 fn each_damage_has_its_line(rt: HostRuntime) -> Result<(), Fail> {
-    let cases = [
-        (StoreFault::Short, "refused many\nfresh Damaged Short\n"),
-        (StoreFault::Magic, "refused many\nfresh Damaged Magic\n"),
-        (StoreFault::Version, "refused many\nfresh Damaged Version\n"),
-        (StoreFault::Digest, "refused many\nfresh Damaged Digest\n"),
-        (
-            StoreFault::Row(158),
-            "refused many\nfresh Damaged Row at 158\n",
-        ),
-        (
-            StoreFault::Order(260),
-            "refused many\nfresh Damaged Order at 260\n",
-        ),
-        (StoreFault::Rest, "refused many\nfresh Damaged Rest\n"),
-    ];
-    for (fault, wanted) in cases {
-        assert!(rt; damaged(rt.alloc(), fault, wanted)?);
-    }
-    Ok(())
+    let a = rt.alloc();
+    damaged(
+        &rt,
+        a,
+        StoreFault::Short,
+        "refused many\nfresh Damaged Short\n",
+    )?;
+    damaged(
+        &rt,
+        a,
+        StoreFault::Magic,
+        "refused many\nfresh Damaged Magic\n",
+    )?;
+    damaged(
+        &rt,
+        a,
+        StoreFault::Version,
+        "refused many\nfresh Damaged Version\n",
+    )?;
+    damaged(
+        &rt,
+        a,
+        StoreFault::Digest,
+        "refused many\nfresh Damaged Digest\n",
+    )?;
+    damaged(
+        &rt,
+        a,
+        StoreFault::Row(158),
+        "refused many\nfresh Damaged Row at 158\n",
+    )?;
+    damaged(
+        &rt,
+        a,
+        StoreFault::Order(260),
+        "refused many\nfresh Damaged Order at 260\n",
+    )?;
+    damaged(
+        &rt,
+        a,
+        StoreFault::Rest,
+        "refused many\nfresh Damaged Rest\n",
+    )
 }
 
 #[tactic(auto, using(crate::proofs::Encodable::one_more))]
@@ -213,12 +301,11 @@ fn add_outputs(alloc: Global, report: &mut Report) -> Result<(), OutOfMemory>
     Ok(())
 }
 
-// A report with each part.
+// Fills the other parts of a report.
 fn fill(alloc: Global, report: &mut Report) -> Result<(), Fail>
     requires { All IsEncodableTask report.old.ran.items }
     ensures { OnOk result (All IsEncodableTask report.new.ran.items) }
 {
-    report.fresh = Some(Cause::NoStore);
     report.live = 5;
     add_runs(alloc, report)?;
     add_paths(alloc, report)?;
@@ -241,32 +328,53 @@ const JSON: &str =
 const EMPTY_JSON: &str =
     "{\"fresh\":null,\"live\":0,\"outputs\":[],\"ran\":[],\"removed\":[],\"verdict\":\"refused many\",\"wrote\":[]}\n";
 
-// The text of a full report.
-fn filled(alloc: Global, verdict: Verdict, json: bool) -> Result<String, Fail> {
-    let mut report = empty(alloc, verdict);
-    fill(alloc, &mut report)?;
+// Fills a report, and its text.
+fn text_of(alloc: Global, report: &mut Report, json: bool) -> Result<String, Fail>
+    requires { All IsEncodableTask report.old.ran.items }
+{
+    fill(alloc, report)?;
     if json {
-        Ok(print_json(alloc, &report)?)
+        Ok(print_json(alloc, report)?)
     } else {
-        Ok(print(alloc, &report)?)
+        Ok(print(alloc, report)?)
     }
 }
 
-#[test]
-fn runs_stand_in_task_order_and_outputs_in_theirs(rt: HostRuntime) -> Result<(), Fail> {
-    let text = filled(rt.alloc(), Verdict::Accepted, false)?;
-    assert!(rt; text.as_str() == ACCEPTED, "{text}");
-    let text = filled(rt.alloc(), Verdict::Refused(Refusal::Many), false)?;
-    assert!(rt; text.as_str() == REFUSED, "{text}");
+// The text of a report with each part.
+fn filled(alloc: Global, verdict: Verdict, json: bool) -> Result<String, Fail> {
+    let fresh = Some(Cause::NoStore);
+    text_of(alloc, &mut empty(alloc, verdict, fresh), json)
+}
+
+// This is the text of a report with each part.
+fn is_printed(
+    rt: &impl Abort,
+    alloc: Global,
+    verdict: Verdict,
+    json: bool,
+    wanted: &str,
+) -> Result<(), Fail> {
+    let text = filled(alloc, verdict, json)?;
+    assert!(rt; text.as_str() == wanted, "{text}");
     Ok(())
 }
 
 #[test]
+fn runs_stand_in_task_order_and_outputs_in_theirs(rt: HostRuntime) -> Result<(), Fail> {
+    let a = rt.alloc();
+    is_printed(&rt, a, Verdict::Accepted, false, ACCEPTED)?;
+    is_printed(&rt, a, Verdict::Refused(Refusal::Many), false, REFUSED)
+}
+
+fn empty_json(alloc: Global) -> Result<String, OutOfMemory> {
+    let verdict = Verdict::Refused(Refusal::Many);
+    print_json(alloc, &empty(alloc, verdict, None))
+}
+
+#[test]
 fn a_report_is_one_line_of_json(rt: HostRuntime) -> Result<(), Fail> {
-    let text = filled(rt.alloc(), Verdict::Accepted, true)?;
-    assert!(rt; text.as_str() == JSON, "{text}");
-    let report = empty(rt.alloc(), Verdict::Refused(Refusal::Many));
-    let text = print_json(rt.alloc(), &report)?;
+    is_printed(&rt, rt.alloc(), Verdict::Accepted, true, JSON)?;
+    let text = empty_json(rt.alloc())?;
     assert!(rt; text.as_str() == EMPTY_JSON, "{text}");
     Ok(())
 }

@@ -16,6 +16,7 @@ use pie_types::{Typed, check};
 use pie_value::{Answer, Task};
 use pie_vm::{Machine, MachineState, Runs};
 use std::alloc::Global;
+use std::process::Abort;
 use std::test::Fail;
 
 // The pipeline of a text with its types.
@@ -136,7 +137,7 @@ fn compiled_story(
     }
 }
 
-// What the evaluator gives with the first answers, so many.
+// What the evaluator evaluates to with the first answers, so many.
 fn front(
     alloc: Global,
     function: &Function,
@@ -150,7 +151,7 @@ fn front(
     Ok(came)
 }
 
-// Tells what the evaluator gave, and whether it asks.
+// Tells what the evaluator evaluated to, and whether it asks.
 fn came_told(alloc: Global, came: &Evaluated, all: &mut String) -> Result<bool, Fail> {
     let event = outcome_told(alloc, &came.outcome)?;
     tell(alloc, event.as_str(), came.after.ticks(), all)?;
@@ -160,7 +161,7 @@ fn came_told(alloc: Global, came: &Evaluated, all: &mut String) -> Result<bool, 
     }
 }
 
-// Tells what the evaluator gives with the first answers, so many, and whether it asks.
+// Tells what the evaluator evaluates to with the first answers, so many, and whether it asks.
 fn front_told(
     alloc: Global,
     function: &Function,
@@ -173,7 +174,7 @@ fn front_told(
     came_told(alloc, &came, all)
 }
 
-// Tells what the evaluator gives with each prefix of these answers.
+// Tells what the evaluator evaluates to with each prefix of these answers.
 fn fronts_told(
     alloc: Global,
     function: &Function,
@@ -242,8 +243,58 @@ fn told_by_both(alloc: Global, typed: &Typed, task: &Task, answers: &str) -> Res
 }
 
 // What both tell of the task `main` of a text, if it is the same.
-pub(crate) fn story(alloc: Global, text: &str, args: &str, answers: &str) -> Result<String, Fail> {
+fn story(alloc: Global, text: &str, args: &str, answers: &str) -> Result<String, Fail> {
     let typed = typed(alloc, text)?;
     let task = main_task(alloc, args)?;
     told_by_both(alloc, &typed, &task, answers)
+}
+
+// Both tell this, and the same, of the task `main` of a text.
+pub(crate) fn tells(
+    rt: &impl Abort,
+    alloc: Global,
+    text: &str,
+    args: &str,
+    answers: &str,
+    wanted: &str,
+) -> Result<(), Fail> {
+    let found = story(alloc, text, args, answers)?;
+    assert!(rt; found.as_str() == wanted, "{text}: {found}");
+    Ok(())
+}
+
+// Each text, and what both tell of its task without arguments and answers.
+pub(crate) fn tell_alike(
+    rt: &impl Abort,
+    alloc: Global,
+    cases: &[(&str, &str)],
+) -> Result<(), Fail> {
+    for (text, wanted) in cases {
+        tells(rt, alloc, text, "", "", wanted)?;
+    }
+    Ok(())
+}
+
+// Each text with the arguments of its task, and what both tell of it.
+pub(crate) fn tell_alike_of(
+    rt: &impl Abort,
+    alloc: Global,
+    cases: &[(&str, &str, &str)],
+) -> Result<(), Fail> {
+    for (text, args, wanted) in cases {
+        tells(rt, alloc, text, args, "", wanted)?;
+    }
+    Ok(())
+}
+
+// Each text with the answers to its task, and what both tell of it.
+pub(crate) fn tell_alike_after(
+    rt: &impl Abort,
+    alloc: Global,
+    cases: &[(&str, &str, &str)],
+) -> Result<(), Fail> {
+    for (text, answers, wanted) in cases {
+        tells(rt, alloc, text, "", answers, wanted)?;
+    }
+    Ok(())
 }

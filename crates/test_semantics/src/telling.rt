@@ -68,7 +68,7 @@ pub(crate) fn told(alloc: Global, event: &Event) -> Result<String, Fail> {
     }
 }
 
-// What the evaluator gave in words, as an event would be told.
+// What the evaluator evaluated to in words, as an event would be told.
 pub(crate) fn outcome_told(alloc: Global, outcome: &EvaluatorOutcome) -> Result<String, Fail> {
     match outcome {
         EvaluatorOutcome::Done(value) => done_told(alloc, value),

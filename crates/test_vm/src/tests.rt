@@ -1,6 +1,6 @@
 //! The machine over code that is written by hand, from event to event.
 //! Code is written as words, with a number behind an `@`; a word behind a `'` is a text.
-ghost use Rattle.std.specs.Prelude.{◌≡◌, IsTrue, IfOk};
+ghost use Rattle.std.specs.Prelude.{◌≡◌, length, IsTrue, IfOk};
 ghost use Rattle.pie_vm.specs.Machines.{Belongs};
 
 use pie_base::{FaultKind, Path, Text};
@@ -9,6 +9,7 @@ use pie_operators::{Binary, Observation, Unary};
 use pie_value::{Answer, Blob, Builtin, By, Event, How, Items, Task, Value, show};
 use pie_vm::{Machine, MachineState, Runs};
 use std::alloc::Global;
+use std::process::Abort;
 use std::test::Fail;
 
 // A loop whose slots are the first three or the next three.
@@ -113,7 +114,7 @@ fn add_word(
 }
 
 // Code with eight slots and no parameter. Its first text is `f`, the function that tasks are required of.
-pub(crate) fn checked(alloc: Global, words: &str) -> Result<Checked, Fail>
+fn checked(alloc: Global, words: &str) -> Result<Checked, Fail>
     ensures { IfOk result (λ code. code.params ≡ 0) }
 {
     let mut texts = vec![in alloc; Text::new(alloc, "f")?]?;
@@ -176,6 +177,13 @@ fn told(alloc: Global, event: &Event) -> Result<String, Fail> {
     }
 }
 
+// Puts an event as text behind others.
+fn put_told(alloc: Global, event: &Event, all: &mut String) -> Result<(), Fail> {
+    let event = told(alloc, event)?;
+    all.push_str(event.as_str())?;
+    Ok(())
+}
+
 // An answer by its name.
 fn answer(alloc: Global, name: &str) -> Result<Answer, Fail> {
     match name {
@@ -195,13 +203,28 @@ fn answer(alloc: Global, name: &str) -> Result<Answer, Fail> {
     }
 }
 
-// Tells the next event, and answers it where it asks.
+// Tells the next event.
 #[tactic(auto, using(crate::proofs::Asked::asked))]
+fn next_told(
+    alloc: Global,
+    code: &Checked,
+    machine: &mut Machine,
+    all: &mut String,
+) -> Result<(), Fail>
+    requires ready { machine.old.phase ≡ MachineState.Ready }
+    requires belongs { Belongs code.now machine.old }
+    ensures { IfOk result (λ _. machine.new.phase ≡ MachineState.Waiting → Belongs code.now machine.new) }
+{
+    let event = machine.next(code)?;
+    put_told(alloc, &event, all)
+}
+
+// Tells the next event, and answers it where it asks.
 fn turn(
     alloc: Global,
     code: &Checked,
     machine: &mut Machine,
-    answer: Answer,
+    name: &str,
     all: &mut String,
 ) -> Result<bool, Fail>
     requires ready { machine.old.phase ≡ MachineState.Ready }
@@ -209,10 +232,10 @@ fn turn(
     ensures ready { IfOk result (λ asked. IsTrue asked → machine.new.phase ≡ MachineState.Ready) }
     ensures belongs { IfOk result (λ asked. IsTrue asked → Belongs code.now machine.new) }
 {
-    let event = machine.next(code)?;
-    all.push_str(told(alloc, &event)?.as_str())?;
+    next_told(alloc, code, machine, all)?;
     all.push_str("; ")?;
     if machine.state() == MachineState::Waiting {
+        let answer = answer(alloc, name)?;
         machine.answer(answer);
         Ok(true)
     } else {
@@ -234,7 +257,7 @@ fn answered(
     ensures belongs { IfOk result (λ asked. IsTrue asked → Belongs code.now machine.new) }
 {
     for name in answers.split_whitespace() {
-        if !turn(alloc, code, machine, answer(alloc, name)?, all)? {
+        if !turn(alloc, code, machine, name, all)? {
             return Ok(false);
         }
     }
@@ -246,75 +269,113 @@ fn end(alloc: Global, code: &Checked, machine: &mut Machine, all: &mut String) -
     requires ready { machine.old.phase ≡ MachineState.Ready }
     requires belongs { Belongs code.now machine.old }
 {
-    let event = machine.next(code)?;
-    all.push_str(told(alloc, &event)?.as_str())?;
+    next_told(alloc, code, machine, all)?;
     let ticks = format!(in alloc; " at {}", machine.ticks())?;
     all.push_str(ticks.as_str())?;
     Ok(())
 }
 
 // The events with these answers, and how many ticks were counted up to the last.
-pub(crate) fn story(
+fn story(
     alloc: Global,
     code: &Checked,
-    machine: Machine,
+    machine: &mut Machine,
     answers: &str,
 ) -> Result<String, Fail>
-    requires ready { machine.phase ≡ MachineState.Ready }
-    requires belongs { Belongs code.now machine }
+    requires ready { machine.old.phase ≡ MachineState.Ready }
+    requires belongs { Belongs code.now machine.old }
 {
-    let mut machine = machine;
     let mut all = String::new(alloc);
-    if answered(alloc, code, &mut machine, answers, &mut all)? {
-        end(alloc, code, &mut machine, &mut all)?;
+    if answered(alloc, code, machine, answers, &mut all)? {
+        end(alloc, code, machine, &mut all)?;
     }
     Ok(all)
 }
 
-// What a task without arguments does that has this code.
-pub(crate) fn run(alloc: Global, words: &str, answers: &str) -> Result<String, Fail> {
-    let code = checked(alloc, words)?;
-    let task = Task {
-        func: Text::new(alloc, "main")?,
-        args: Items::new(),
-    };
-    let mut runs = Runs::new(alloc);
-    let machine = Machine::start(alloc, &code, &task, &mut runs)?;
-    story(alloc, &code, machine, answers)
+// What a task does that has this code, among these runs.
+pub(crate) fn run_of(
+    alloc: Global,
+    code: &Checked,
+    task: &Task,
+    runs: &mut Runs,
+    answers: &str,
+) -> Result<String, Fail>
+    requires { length task.now.args ≡ code.now.params }
+{
+    let mut machine = Machine::start(alloc, code, task, runs)?;
+    story(alloc, code, &mut machine, answers)
 }
+
+// The task `main` without arguments.
+fn main_task(alloc: Global) -> Result<Task, Fail>
+    ensures { IfOk result (λ task. length task.args ≡ 0) }
+{
+    let func = Text::new(alloc, "main")?;
+    let args = Items::new();
+    Ok(Task { func, args })
+}
+
+// What a task without arguments does that has this code.
+fn run(alloc: Global, words: &str, answers: &str) -> Result<String, Fail> {
+    let task = main_task(alloc)?;
+    let code = checked(alloc, words)?;
+    run_of(alloc, &code, &task, &mut Runs::new(alloc), answers)
+}
+
+// A task with this code and these answers does what is wanted.
+pub(crate) fn does(
+    rt: &impl Abort,
+    alloc: Global,
+    words: &str,
+    answers: &str,
+    wanted: &str,
+) -> Result<(), Fail> {
+    let found = run(alloc, words, answers)?;
+    assert!(rt; found.as_str() == wanted, "{words}: {found}");
+    Ok(())
+}
+
+// Each code, and what a task does that has it and asks nothing.
+pub(crate) fn each_does(
+    rt: &impl Abort,
+    alloc: Global,
+    cases: &[(&str, &str)],
+) -> Result<(), Fail> {
+    for (words, wanted) in cases {
+        does(rt, alloc, words, "", wanted)?;
+    }
+    Ok(())
+}
+
+const INSTRUCTIONS: &[(&str, &str)] = &[
+    ("int@7 int@2 sub return", "done 5 at 0"),
+    ("int@7 neg return", "done -7 at 0"),
+    ("true not return", "done false at 0"),
+    ("int@1 int@0 div return", "fail Zero at 0"),
+    ("int@1 unit add return", "fail Unknown at 0"),
+    ("'ab 'b find return", "done 1 at 0"),
+    ("null get return", "fail Null at 0"),
+    ("list 'a push null push return", "done [\"a\", null] at 0"),
+    ("unit 'a push return", "fail Unknown at 0"),
+    ("tuple int@1 pair 'a pair return", "done (1, \"a\") at 0"),
+    ("tuple int@1 pair 'a pair item@1 return", "done \"a\" at 0"),
+    ("tuple item@0 return", "fail Unknown at 0"),
+    ("load@7 return", "done unit at 0"),
+    ("int@1 store@7 int@2 store@6 load@7 return", "done 1 at 0"),
+    ("int@1 int@2 drop return", "done 1 at 0"),
+    ("true branch@4 int@1 return int@2 return", "done 1 at 0"),
+    ("false branch@4 int@1 return int@2 return", "done 2 at 0"),
+    (
+        "null branch@4 int@1 return int@2 return",
+        "fail Unknown at 0",
+    ),
+    ("int@1 jump@3 unit return", "done 1 at 0"),
+    ("tick int@1 tick return", "done 1 at 2"),
+    ("tick 'no fail", "fail Said at 1"),
+    ("int@1 fail", "fail Unknown at 0"),
+];
 
 #[test]
 fn an_instruction_works_on_the_stack(rt: HostRuntime) -> Result<(), Fail> {
-    let cases = [
-        ("int@7 int@2 sub return", "done 5 at 0"),
-        ("int@7 neg return", "done -7 at 0"),
-        ("true not return", "done false at 0"),
-        ("int@1 int@0 div return", "fail Zero at 0"),
-        ("int@1 unit add return", "fail Unknown at 0"),
-        ("'ab 'b find return", "done 1 at 0"),
-        ("null get return", "fail Null at 0"),
-        ("list 'a push null push return", "done [\"a\", null] at 0"),
-        ("unit 'a push return", "fail Unknown at 0"),
-        ("tuple int@1 pair 'a pair return", "done (1, \"a\") at 0"),
-        ("tuple int@1 pair 'a pair item@1 return", "done \"a\" at 0"),
-        ("tuple item@0 return", "fail Unknown at 0"),
-        ("load@7 return", "done unit at 0"),
-        ("int@1 store@7 int@2 store@6 load@7 return", "done 1 at 0"),
-        ("int@1 int@2 drop return", "done 1 at 0"),
-        ("true branch@4 int@1 return int@2 return", "done 1 at 0"),
-        ("false branch@4 int@1 return int@2 return", "done 2 at 0"),
-        (
-            "null branch@4 int@1 return int@2 return",
-            "fail Unknown at 0",
-        ),
-        ("int@1 jump@3 unit return", "done 1 at 0"),
-        ("tick int@1 tick return", "done 1 at 2"),
-        ("tick 'no fail", "fail Said at 1"),
-        ("int@1 fail", "fail Unknown at 0"),
-    ];
-    for (words, wanted) in cases {
-        let found = run(rt.alloc(), words, "")?;
-        assert_eq!(rt; found.as_str(), wanted, "{words}");
-    }
-    Ok(())
+    each_does(&rt, rt.alloc(), INSTRUCTIONS)
 }
