@@ -4,7 +4,7 @@
 
 mod single;
 
-use single::{Came, Problem, evaluated_to};
+use single::{FirstStop, Problem, evaluated_to};
 use std::io;
 use std::io::Read;
 
@@ -17,6 +17,6 @@ fn main(rt: HostRuntime) -> io::Result<()> {
     }
 }
 
-fn print(rt: HostRuntime, came: &Came) -> io::Result<()> {
+fn print(rt: HostRuntime, came: &FirstStop) -> io::Result<()> {
     println!(rt; "{}, {} ticks", came.what.as_str(), came.ticks)
 }
