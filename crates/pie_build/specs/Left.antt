@@ -19,7 +19,7 @@ use Rattle.pie_fresh.specs.Cleans.{contents_in}
 use Rattle.pie_project.specs.Digested.{HasDigests}
 use Rattle.pie_project.specs.Fronts.{ProjectSays}
 use Rattle.pie_report.specs.declared.report.Report.{Report}
-use Rattle.pie_model.specs.inner.Verdict.{verdict}
+use Rattle.pie_model.specs.Verdict.{verdict}
 use Rattle.pie_model_pipeline.specs.Clean.{IsCleanBuild}
 use Rattle.pie_model_pipeline.specs.Rows.{verdict_of}
 use Rattle.pie_model_pipeline.specs.World.{world, project}

@@ -1,5 +1,5 @@
 -- What a status says.
-use Rattle.std.proofs.Common.{◌≡◌, true, refl}
+use Rattle.std.proofs.Common.{◌≡◌, true, refl, subst}
 use Rattle.std.proofs.lemmas.Bool.{false≢true}
 use Rattle.pie_base.specs.declared.status.Status.{Status}
 use Rattle.pie_base.specs.declared.status.Status.TheVariants.{Ok, Refused, Usage, BadInput, Pipeline, Files, Input, Output, Memory}
@@ -18,3 +18,7 @@ answer_is_told Memory h = absurd (false≢true h)
 
 pub memory_is_no_answer : is_answer Memory ≡ true → ⊥
 memory_is_no_answer h = false≢true h
+
+-- a fault of the files is no answer
+pub fault_is_no_answer : (s : Status) → is_answer s ≡ true → s ≡ Files → ⊥
+fault_is_no_answer s a is = false≢true (subst (λ x. is_answer x ≡ true) is a)

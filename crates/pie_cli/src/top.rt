@@ -83,6 +83,7 @@ fn run_fresh<F: Files, K: Sink>(alloc: Global, files: &mut F, out: &mut K, json:
 }
 
 // A check, with its report.
+#[tactic(auto, using(crate::proofs::Rest::keeps_same))]
 fn run_check<F: Files, K: Sink>(alloc: Global, files: &mut F, out: &mut K) -> Status
     ensures check { RunsCheck F.holds F.moment F.left_since F.images F.asked F.faults files.old files.new (K.held out.old) (K.held out.new) result }
     ensures rest { KeepsRest (F.holds files.old) (F.holds files.new) }

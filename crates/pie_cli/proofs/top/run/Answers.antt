@@ -1,4 +1,4 @@
-use Rattle.std.proofs.Common.{◌≡◌, true, refl, sym, ◌∙◌}
+use Rattle.std.proofs.Common.{◌≡◌, true, Err, refl, sym, ap, ◌∙◌}
 use Rattle.pie_build.proofs.Changing.{untouched}
 use Rattle.pie_build.proofs.Crashing.{withstands_none}
 use Rattle.pie_build.specs.Left.{Leaves}
@@ -25,10 +25,10 @@ pub returns-in-Ok-clause-usage : goal.returns-in-Ok-clause-usage
 returns-in-Ok-clause-usage g c = λ none. absurd (none _ c.in-Ok.ensures.accepted)
 
 pub returns-in-Err-Usage-clause-fresh : goal.returns-in-Err-Usage-clause-fresh
-returns-in-Err-Usage-clause-fresh g c = λ json is. absurd (c.in-Err-Usage.ensures.refused refl (commands.Fresh json) is)
+returns-in-Err-Usage-clause-fresh g c = λ json is. absurd (c.in-Err-Usage.ensures.refused (ap Err c.in-Err-Usage.field-0-is) (commands.Fresh json) is)
 
 pub returns-in-Err-Usage-clause-check : goal.returns-in-Err-Usage-clause-check
-returns-in-Err-Usage-clause-check g c = λ is. absurd (c.in-Err-Usage.ensures.refused refl commands.Check is)
+returns-in-Err-Usage-clause-check g c = λ is. absurd (c.in-Err-Usage.ensures.refused (ap Err c.in-Err-Usage.field-0-is) commands.Check is)
 
 -- nothing was done
 pub returns-in-Err-OutOfMemory-clause-fresh : goal.returns-in-Err-OutOfMemory-clause-fresh

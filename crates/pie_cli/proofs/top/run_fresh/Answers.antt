@@ -1,10 +1,11 @@
+use Rattle.std.proofs.Common.{◌≡◌, ℕ, List, Err, refl, ap}
 use Rattle.std.specs.Prelude.{string_bytes}
-use Rattle.std.proofs.Common.{refl}
+use Rattle.pie_files.specs.Directory.{Directory}
 use Rattle.pie_files.specs.Faults.{Rose}
 use Rattle.pie_cli.specs.Fresh.{IsFreshText}
 use Rattle.pie_cli.proofs.Fresh.{built, printed}
 use Rattle.pie_cli.proofs.Gaining.{fault_gained, none_gained}
-use Rattle.pie_cli.proofs.Statuses.{answer_is_told}
+use Rattle.pie_cli.proofs.Statuses.{answer_is_told, fault_is_no_answer, memory_is_no_answer}
 use Rattle.pie_cli.proofs.top.run_fresh.Goals as goal
 
 pub returns-in-Ok-clause-fresh : goal.returns-in-Ok-clause-fresh
@@ -16,7 +17,31 @@ returns-in-Ok-clause-fresh g c = record {
   printed = printed (g.F.Files.holds c.args.files.now) (g.F.Files.holds c.fresh.new.files) c.args.json (string_bytes c.in-Ok.told.text) c.in-Ok.told.status
       c.show_told.result (Rose (g.F.Files.faults c.args.files.now) (g.F.Files.faults c.fresh.new.files)) (g.K.Sink.held c.args.out.now)
       (g.K.Sink.held c.show_told.new.out) c.in-Ok.ensures.built c.show_told.ensures.prefix;
-  changed = c.fresh.ensures.changed;
-  crash = c.fresh.ensures.crash;
+  changed = c.in-Ok.ensures.changed;
+  crash = c.in-Ok.ensures.crash;
   durable = λ a. c.in-Ok.ensures.durable;
+}
+
+pub returns-in-Err-Failed-clause-fresh : goal.returns-in-Err-Failed-clause-fresh
+returns-in-Err-Failed-clause-fresh g c =
+    record {
+      built = λ a. absurd (fault_is_no_answer c.show.result a (c.show.ensures.shown (answer_is_told c.show.result a)).0);
+      printed = fault_gained (g.F.Files.holds c.args.files.now)
+          (λ (d : Directory) (text : List ℕ). IsFreshText d c.args.json (g.F.Files.holds c.fresh.new.files) text)
+          (Rose (g.F.Files.faults c.args.files.now) (g.F.Files.faults c.fresh.new.files)) (g.K.Sink.held c.args.out.now) (g.K.Sink.held c.show.new.out)
+          c.show.result (c.in-Err-Failed.ensures.counted.cause (ap Err c.in-Err-Failed.field-0-is)) c.show.ensures.prefix;
+      changed = c.in-Err-Failed.ensures.changed;
+      crash = c.in-Err-Failed.ensures.crash;
+      durable = λ a. absurd (fault_is_no_answer c.show.result a (c.show.ensures.shown (answer_is_told c.show.result a)).0);
+    }
+
+pub returns-in-Err-OutOfMemory-clause-fresh : goal.returns-in-Err-OutOfMemory-clause-fresh
+returns-in-Err-OutOfMemory-clause-fresh g c = record {
+  built = λ a. absurd (memory_is_no_answer a);
+  printed = none_gained (g.F.Files.holds c.args.files.now)
+      (λ (d : Directory) (text : List ℕ). IsFreshText d c.args.json (g.F.Files.holds c.fresh.new.files) text)
+      (Rose (g.F.Files.faults c.args.files.now) (g.F.Files.faults c.fresh.new.files)) (g.K.Sink.held c.args.out.now) _ refl;
+  changed = c.in-Err-OutOfMemory.ensures.changed;
+  crash = c.in-Err-OutOfMemory.ensures.crash;
+  durable = λ a. absurd (memory_is_no_answer a);
 }
