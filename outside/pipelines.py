@@ -1,7 +1,7 @@
 """Small random pipelines: each form knows its tokens and, for outside/reference.py, what it does when a task runs it. All values are texts.
 
-A function has one parameter, `t`. Its arguments are taken from few texts (literals, names of entries, contents of files, its own argument), so that there are few
-tasks, while what a task requires depends on what it reads.
+A function has one parameter, `t`. Its arguments are taken from few texts (literals, names of entries, its own argument), so that there are few tasks, while what a
+task requires depends on what it reads.
 """
 import random
 
