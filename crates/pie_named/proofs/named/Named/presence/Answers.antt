@@ -1,0 +1,7 @@
+use Rattle.pie_named.proofs.Knowing.{knows_there}
+use Rattle.pie_named.proofs.named.Named.presence.Goals as goal
+
+pub returns-clause-learns : goal.returns-clause-learns
+returns-clause-learns g c d held known =
+    knows_there d c.args.self.now c.put.new.self c.in_ok-copy.field-0 c.args.path.now c.in_ok-stamp.stamp c.in_ok-copy.ensures c.in_ok-put.ensures
+    (c.in_ok-stamp.ensures.now d held) known

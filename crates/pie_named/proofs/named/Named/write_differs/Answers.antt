@@ -1,0 +1,9 @@
+use Rattle.std.proofs.Common.{ap, ◌∙◌}
+use Rattle.pie_value.specs.declared.stamp.Stamp.TheVariants as stamps
+use Rattle.pie_named.specs.Stamped.{differs_from}
+use Rattle.pie_named.proofs.named.Named.write_differs.Goals as goal
+
+pub returns-clause-compares : goal.returns-clause-compares
+returns-clause-compares g c d held known =
+    let learned = c.in_ok-now.ensures.learns d held known in
+    record { known = learned.known; is = c.is_another.ensures ∙ ap (λ now. differs_from now (stamps.Hash c.args.recorded)) learned.is }

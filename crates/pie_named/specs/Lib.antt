@@ -1,0 +1,3 @@
+pub mod Names
+pub mod Stamped
+pub mod inner
