@@ -1,0 +1,3 @@
+mod Ascends
+mod Members
+mod Sorting

@@ -1,0 +1,2 @@
+pub mod Requiring
+pub mod inner

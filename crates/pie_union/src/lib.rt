@@ -1,0 +1,4 @@
+//! Rows of tasks that grow by single requires.
+#![tactic(auto)]
+
+mod ascending;
