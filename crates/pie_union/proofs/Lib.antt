@@ -1,3 +1,7 @@
 mod Ascends
 mod Members
 mod Sorting
+mod Callees
+mod PairOrder
+mod PairRange
+mod PairSteps

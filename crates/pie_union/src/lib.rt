@@ -2,3 +2,5 @@
 #![tactic(auto)]
 
 mod ascending;
+mod callers;
+mod writers;
