@@ -5,3 +5,5 @@ mod Callees
 mod PairOrder
 mod PairRange
 mod PairSteps
+mod Indexing
+mod RowTests

@@ -3,4 +3,5 @@
 
 mod ascending;
 mod callers;
+mod index;
 mod writers;
