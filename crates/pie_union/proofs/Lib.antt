@@ -7,3 +7,4 @@ mod PairRange
 mod PairSteps
 mod Indexing
 mod RowTests
+mod Growing

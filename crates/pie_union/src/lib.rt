@@ -4,4 +4,7 @@
 mod ascending;
 mod callers;
 mod index;
+mod rows;
 mod writers;
+
+pub use rows::UnionRows;

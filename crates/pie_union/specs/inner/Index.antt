@@ -1,6 +1,6 @@
 -- The callers of each task and the writers of each path, as rows tell them.
-use Rattle.std.specs.Prelude.{◌≡◌, ◌==◌, ◌&&◌, ◌||◌, ℕ, true, not, List, length}
-use Rattle.pie_graph.specs.Rows.{Row, row_at}
+use Rattle.std.specs.Prelude.{◌≡◌, ◌≤◌, ◌==◌, ◌&&◌, ◌||◌, ℕ, true, not, List, length}
+use Rattle.pie_graph.specs.Rows.{Row, row_at, NeedsBelow}
 use Rattle.pie_union.specs.declared.index.Index.{Index}
 use Rattle.pie_union.specs.declared.index.Uses.{Uses}
 use Rattle.pie_union.specs.inner.Among.{among, calls}
@@ -42,3 +42,9 @@ pub record Leaves (old new : Index) (going staying : Uses) (no : ℕ) : Type 0 w
   pub callers : (a b : ℕ) → calls new.callers a b ≡ (calls old.callers a b && not (a == no && (among going.needs b && not (among staying.needs b))))
   pub writers : (pair : List ℕ × ℕ)
       → holds new.writers.pairs pair ≡ (holds old.writers.pairs pair && not (holds going.writes.pairs pair && not (holds staying.writes.pairs pair)))
+
+-- few rows that require only one another, and their index
+pub record AreKept (index : Index) (rows : List Row) : Type 0 where
+  pub few : length rows ≤ 50000
+  pub needs_below : NeedsBelow rows
+  pub told : IsIndex index rows
