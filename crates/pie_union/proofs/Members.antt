@@ -64,8 +64,13 @@ gone_once xs i up l h =
     let short = length-remove xs i l in
     elim (cases_lt h.0 i) [
       | inl below ↦ omega (arith, pairs h.0 i 0 below l, get_or-remove_below xs i 0 h.0 below l, get_or_default (remove xs i) h.0 0 x h.1, h.2)
-      | inr above ↦ omega (arith, pairs i (h.0 + 1) 0 (omega arith) (omega arith), get_or-remove_above xs i 0 h.0 above l,
-          get_or_default (remove xs i) h.0 0 x h.1, h.2)
+      | inr above ↦ omega (
+        arith,
+        pairs i (h.0 + 1) 0 (omega arith) (omega arith),
+        get_or-remove_above xs i 0 h.0 above l,
+        get_or_default (remove xs i) h.0 0 x h.1,
+        h.2,
+      )
     ]
 
 and_true : (a : Bool) → (a && not false) ≡ a
