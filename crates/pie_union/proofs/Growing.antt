@@ -1,13 +1,12 @@
 -- Rows after a change, and what is kept of them.
-use Rattle.std.proofs.Common.{◌≡◌, ℕ, ◌+◌, ◌<◌, ◌≤◌, List, [], ◌∷◌, ◌++◌, length, get_or, set, map, refl, sym, ap, ◌∙◌, subst, inl, inr, arith, length-set}
+use Rattle.std.proofs.Common.{◌≡◌, ℕ, ◌<◌, List, [], ◌∷◌, ◌++◌, length, get_or, set, map, refl, sym, ap, ◌∙◌, subst, inl, inr, arith, length-set}
 use Rattle.std.specs.Prelude.{Result, Ok, Err, OnErr}
-use Rattle.std.specs.List.{All}
 use Rattle.std.proofs.lemmas.Bool.{cases_lt}
 use Rattle.std.proofs.lemmas.List.{map-set, set-get_or, length_push, map_push, get_or_append_left, get_or_push}
 use Rattle.pie_graph.specs.declared.edges.Edges.{Edges}
 use Rattle.pie_graph.specs.declared.edges.TaskNo.{TaskNo}
 use Rattle.pie_graph.specs.Numbers.{numbers, AllBelow}
-use Rattle.pie_graph.specs.Rows.{Row, row_of, row_at, no_edges, NeedsBelow}
+use Rattle.pie_graph.specs.Rows.{Row, row_of, row_at, no_edges}
 use Rattle.pie_graph.proofs.RowLemmas.{needs_below_at, needs_below_set, row_read}
 use Rattle.pie_union.specs.Requiring.{requiring}
 use Rattle.pie_union.specs.declared.index.Index.{Index}

@@ -1,5 +1,5 @@
 -- An index follows its rows.
-use Rattle.std.proofs.Common.{◌≡◌, ◌&&◌, ◌||◌, not, ℕ, ◌<◌, Bool, true, false, List, [], ◌∷◌, ◌++◌, length, get_or, set, map, take, ◌+◌, ◌≤◌, refl, sym, ap, ◌∙◌, subst, arith, eqb, length-set}
+use Rattle.std.proofs.Common.{◌≡◌, ◌&&◌, ◌||◌, not, ℕ, ◌<◌, Bool, true, false, List, [], ◌∷◌, ◌++◌, length, get_or, set, map, take, ◌+◌, refl, sym, ap, ◌∙◌, subst, arith, eqb, length-set}
 use Rattle.std.proofs.lemmas.List.{get_or_default, length-map, length-take-le, map_more}
 use Rattle.std.specs.List.Sorted.{IsStrictlyIncreasing}
 use Rattle.pie_graph.specs.declared.edges.Edges.{Edges}

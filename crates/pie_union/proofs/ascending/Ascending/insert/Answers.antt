@@ -1,4 +1,4 @@
-use Rattle.std.proofs.Common.{◌||◌, List, ap, ◌∙◌, eqb, sym}
+use Rattle.std.proofs.Common.{◌||◌, ap, ◌∙◌, eqb, sym}
 use Rattle.std.specs.Prelude.{Ok, Err}
 use Rattle.pie_union.specs.inner.Among.{among}
 use Rattle.pie_union.proofs.Ascends.{shown, inserted_up, inserted_among, there_already}

@@ -1,4 +1,4 @@
-use Rattle.std.proofs.Common.{◌&&◌, not, List, ap, ◌∙◌, eqb, sym}
+use Rattle.std.proofs.Common.{◌&&◌, not, ap, ◌∙◌, eqb, sym}
 use Rattle.std.specs.Prelude.{Ok, Err}
 use Rattle.pie_union.specs.inner.Among.{among}
 use Rattle.pie_union.proofs.Ascends.{shown, removed_up, removed_among, never_there}

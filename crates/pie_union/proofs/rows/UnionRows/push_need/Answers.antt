@@ -1,7 +1,6 @@
-use Rattle.std.proofs.Common.{◌≡◌, ◌∙◌, ◌<◌, ◌++◌, ◌∷◌, [], ℕ, List, length, set, map, refl, sym, ap, subst, arith}
+use Rattle.std.proofs.Common.{◌∙◌, ◌<◌, List, length, set, map, refl, sym, ap, subst, arith}
 use Rattle.std.proofs.lemmas.List.{length-map}
 use Rattle.pie_graph.specs.declared.edges.Edges.{Edges}
-use Rattle.pie_graph.specs.declared.edges.TaskNo.{TaskNo}
 use Rattle.pie_graph.specs.Numbers.{numbers}
 use Rattle.pie_graph.specs.Rows.{Row, row_of, row_at}
 use Rattle.pie_union.specs.Requiring.{requiring}

@@ -1,4 +1,4 @@
-use Rattle.std.proofs.Common.{◌≡◌, ◌∙◌, ◌<◌, ◌++◌, ◌∷◌, [], List, length, map, sym, ap, subst, arith}
+use Rattle.std.proofs.Common.{◌≡◌, ◌∙◌, ◌++◌, ◌∷◌, [], List, length, map, sym, ap, subst, arith}
 use Rattle.std.proofs.lemmas.List.{map_push}
 use Rattle.pie_graph.specs.declared.edges.Edges.{Edges}
 use Rattle.pie_graph.specs.Rows.{Row, row_of, no_edges}

@@ -1,7 +1,7 @@
-use Rattle.std.proofs.Common.{◌≡◌, ◌∙◌, ◌<◌, List, length, set, map, refl, sym, ap, subst, arith}
+use Rattle.std.proofs.Common.{◌∙◌, ◌<◌, List, length, set, map, refl, sym, ap, subst, arith}
 use Rattle.std.proofs.lemmas.List.{length-map, map-set}
 use Rattle.pie_graph.specs.Numbers.{numbers, AllBelow}
-use Rattle.pie_graph.specs.Rows.{Row, row_of, row_at, NeedsBelow}
+use Rattle.pie_graph.specs.Rows.{Row, row_of}
 use Rattle.pie_graph.proofs.RowLemmas.{row_read}
 use Rattle.pie_union.specs.inner.Index.{AreKept}
 use Rattle.pie_union.proofs.Growing.{kept_set, kept_same}
