@@ -15,13 +15,13 @@ use Rattle.pie_graph.specs.Numbers.{numbers}
 use Rattle.pie_union.specs.inner.Among.{among}
 use Rattle.pie_union.proofs.Members.{none_among, true_among, among_insert, among_remove, joined_again, left_before}
 
--- a number below and a number above
-pub record IsPlace (ns : List ℕ) (x i : ℕ) : Type 0 where
+-- where a number belongs: behind those below it, before those above it
+record IsPlace (ns : List ℕ) (x i : ℕ) : Type 0 where
   pub within : i ≤ length ns
   pub below : (k : ℕ) → k < i → get_or ns k 0 < x
   pub above : (k : ℕ) → i ≤ k → k < length ns → x < get_or ns k 0
 
-pub up_insert : (xs : List ℕ) (i y : ℕ) → IsStrictlyIncreasing xs → IsPlace xs y i → IsStrictlyIncreasing (insert xs i y)
+up_insert : (xs : List ℕ) (i y : ℕ) → IsStrictlyIncreasing xs → IsPlace xs y i → IsStrictlyIncreasing (insert xs i y)
 up_insert xs i y up p = λ k l.
     let long = length-insert xs i y p.within in
     elim (cases_lt (k + 1) i) [
@@ -46,7 +46,7 @@ up_insert xs i y up p = λ k l.
       ]
     ]
 
-pub up_remove : (xs : List ℕ) (i : ℕ) → IsStrictlyIncreasing xs → i < length xs → IsStrictlyIncreasing (remove xs i)
+up_remove : (xs : List ℕ) (i : ℕ) → IsStrictlyIncreasing xs → i < length xs → IsStrictlyIncreasing (remove xs i)
 up_remove xs i up l = λ k lt.
     let short = length-remove xs i l in
     elim (cases_lt (k + 1) i) [
@@ -92,20 +92,20 @@ not_falling ns up i j le l =
 
 module _ (ts : List TaskNo) (x : ℕ) (up : IsStrictlyIncreasing (numbers ts)) where
   -- where a search finds a number
-  pub found_at : (i : ℕ) → IsBinarySearchResult (λ (t : TaskNo). nat_cmp t.0 x) ts (Ok i) → (i < length (numbers ts)) × (x ≡ get_or (numbers ts) i 0)
+  found_at : (i : ℕ) → IsBinarySearchResult (λ (t : TaskNo). nat_cmp t.0 x) ts (Ok i) → (i < length (numbers ts)) × (x ≡ get_or (numbers ts) i 0)
   found_at i h = let s = searched (numbers ts) x (Ok i) (by_number ts x (Ok i) h) (not_falling (numbers ts) up) in (s.0, sym s.1)
 
   -- where a search says that a number belongs
-  pub place_at : (i : ℕ) → IsBinarySearchResult (λ (t : TaskNo). nat_cmp t.0 x) ts (Err i) → IsPlace (numbers ts) x i
+  place_at : (i : ℕ) → IsBinarySearchResult (λ (t : TaskNo). nat_cmp t.0 x) ts (Err i) → IsPlace (numbers ts) x i
   place_at i h = let s = searched (numbers ts) x (Err i) (by_number ts x (Err i) h) (not_falling (numbers ts) up) in
       record { within = s.0; below = s.1; above = s.2 }
 
-  pub found_is_among : (i : ℕ) → IsBinarySearchResult (λ (t : TaskNo). nat_cmp t.0 x) ts (Ok i) → among (numbers ts) x ≡ true
+  found_is_among : (i : ℕ) → IsBinarySearchResult (λ (t : TaskNo). nat_cmp t.0 x) ts (Ok i) → among (numbers ts) x ≡ true
   found_is_among i h =
       let f = found_at i h in
       true_among (numbers ts) x (i, f.0, get_or_default (numbers ts) i x 0 f.0 ∙ sym f.1)
 
-  pub placed_is_new : (i : ℕ) → IsBinarySearchResult (λ (t : TaskNo). nat_cmp t.0 x) ts (Err i) → among (numbers ts) x ≡ false
+  placed_is_new : (i : ℕ) → IsBinarySearchResult (λ (t : TaskNo). nat_cmp t.0 x) ts (Err i) → among (numbers ts) x ≡ false
   placed_is_new i h =
       let p = place_at i h in
       none_among (numbers ts) x (λ c. elim (cases_lt c.0 i) [

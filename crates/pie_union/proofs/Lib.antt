@@ -6,5 +6,4 @@ mod PairOrder
 mod PairRange
 mod PairSteps
 mod Indexing
-mod RowTests
 mod Growing

@@ -15,9 +15,6 @@ use Rattle.pie_graph.specs.Alone.{calls_alone}
 use Rattle.pie_graph.proofs.HasUse.{has_true, true_has}
 use Rattle.pie_union.specs.inner.Among.{among}
 
-task : ℕ → TaskNo
-task n = record { 0 = n }
-
 pub among_true : (ns : List ℕ) (k : ℕ) → among ns k ≡ true → Contains ns k
 among_true ns k h = let t : TaskNo = record { 0 = k } in has_true (calls_alone ns) (Calls t) h
 
@@ -26,9 +23,6 @@ true_among ns k h = let t : TaskNo = record { 0 = k } in true_has (calls_alone n
 
 pub eqb_swap : (a b : ℕ) → eqb a b ≡ eqb b a
 eqb_swap a b = nat_eq_equiv.symm a b
-
-pub eqb_itself : (a : ℕ) → eqb a a ≡ true
-eqb_itself a = nat_eq_equiv.refl a
 
 -- two lists hold the same numbers where each holds those of the other
 pub same_members : (xs ys : List ℕ) (k : ℕ) → (Contains xs k → Contains ys k) → (Contains ys k → Contains xs k) → among xs k ≡ among ys k
@@ -57,7 +51,7 @@ among_insert xs i y k =
     ∙ or_swap (eqb k y) (among xs k)
 
 -- the number at a place stands nowhere else
-pub gone_once : (xs : List ℕ) (i : ℕ) → IsStrictlyIncreasing xs → i < length xs → Contains (remove xs i) (get_or xs i 0) → ⊥
+gone_once : (xs : List ℕ) (i : ℕ) → IsStrictlyIncreasing xs → i < length xs → Contains (remove xs i) (get_or xs i 0) → ⊥
 gone_once xs i up l h =
     let x = get_or xs i 0 in
     let pairs = AllPairs-from_increasing xs up in

@@ -106,10 +106,10 @@ ascending path (e ∷ pairs) up =
       | false ↦ λ is. ascending path pairs (sorted_tail pair_cmp e pairs up)
     ] refl
 
-pub wrote_true : (row : Row) (path : List ℕ) → wrote row.writes path ≡ true → Contains row.writes path
+wrote_true : (row : Row) (path : List ℕ) → wrote row.writes path ≡ true → Contains row.writes path
 wrote_true row path h = has_true row (uses.Writes path) h
 
-pub true_wrote : (row : Row) (path : List ℕ) → Contains row.writes path → wrote row.writes path ≡ true
+true_wrote : (row : Row) (path : List ℕ) → Contains row.writes path → wrote row.writes path ≡ true
 true_wrote row path h = true_has row (uses.Writes path) h
 
 below : (rows : List Row) (n : ℕ) (path : List ℕ) → wrote (row_at rows n).writes path ≡ true → n < length rows

@@ -1,8 +1,8 @@
 -- Pairs that go into a set, or out of it, one after another.
-use Rattle.std.proofs.Common.{◌≡◌, ◌&&◌, ◌||◌, ℕ, ◌+◌, ◌<◌, ◌≤◌, Bool, true, false, cond, not, List, ◌∷◌, length, get_or, drop, refl, sym, ap, ◌∙◌, eqb}
+use Rattle.std.proofs.Common.{◌≡◌, ◌&&◌, ◌||◌, ℕ, ◌+◌, ◌<◌, Bool, true, false, cond, not, List, ◌∷◌, length, get_or, drop, refl, sym, ap, ◌∙◌, eqb}
 use Rattle.std.specs.Ordering.{is_eq}
 use Rattle.std.specs.List.{list_any}
-use Rattle.std.proofs.lemmas.List.{drop_more, drop_all}
+use Rattle.std.proofs.lemmas.List.{drop_more}
 use Rattle.pie_base.specs.Path.{same_text}
 use Rattle.pie_union.specs.inner.Writers.{pair_cmp, wrote}
 use Rattle.pie_union.proofs.Members.{eqb_swap}
@@ -64,12 +64,3 @@ write_step paths i path n pair held now all l is e inv =
     ap (λ (ps : List (List ℕ)). wrote ps pair.0) (drop_more paths i path l ∙ ap (λ (p : List ℕ). p ∷ drop (i + 1) paths) (sym is)) in
     ap (λ b. b || (eqb pair.1 n && rest)) (e ∙ ap (λ b. cond b true held) (pair_tie path n pair ∙ ap (λ b. same_text path pair.0 && b) (eqb_swap n pair.1)))
     ∙ written_more (same_text path pair.0) (eqb pair.1 n) held rest ∙ ap (λ b. held || (eqb pair.1 n && b)) (sym split) ∙ inv
-
-or_nothing : (held n : Bool) → (held || (n && false)) ≡ held
-or_nothing true n = refl
-or_nothing false true = refl
-or_nothing false false = refl
-
-pub write_end : (paths : List (List ℕ)) (i : ℕ) (n : Bool) (path : List ℕ) (held all : Bool) → length paths ≤ i → (held || (n && wrote (drop i paths) path)) ≡ all → held ≡ all
-write_end paths i n path held all l inv =
-    sym (or_nothing held n) ∙ ap (λ (ps : List (List ℕ)). held || (n && wrote ps path)) (sym (drop_all i paths l)) ∙ inv
