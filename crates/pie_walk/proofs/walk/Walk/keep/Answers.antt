@@ -1,0 +1,7 @@
+use Rattle.std.proofs.Common.{sym, subst}
+use Rattle.pie_walk.specs.Standing.{Stands}
+use Rattle.pie_walk.proofs.StandSteps.{kept_stands}
+use Rattle.pie_walk.proofs.walk.Walk.keep.Goals as goal
+
+pub returns-clause-stands : goal.returns-clause-stands
+returns-clause-stands c = subst Stands (sym c.settle.ensures) (kept_stands c.args.self.now c.args.no c.requires.runs c.requires.stands)

@@ -1,0 +1,5 @@
+pub mod Marks
+pub mod States
+pub mod Standing
+pub mod Turns
+pub mod inner
