@@ -331,7 +331,7 @@ shrinks rows places marks scheduled task row es holds fewer =
     }
 
 -- a default at the end of a list changes no element
-default_more : {A : Type 0} (xs : List A) (d : A) (n : ℕ) → get_or (xs ++ d ∷ []) n d ≡ get_or xs n d
+pub default_more : {A : Type 0} (xs : List A) (d : A) (n : ℕ) → get_or (xs ++ d ∷ []) n d ≡ get_or xs n d
 default_more [] d zero = refl
 default_more [] d (suc n) = refl
 default_more (x ∷ xs) d zero = refl
@@ -438,4 +438,20 @@ awaits_root rows places marks scheduled root holds = record {
   stands = holds.stands;
   closed = holds.closed;
   calm = holds.calm;
+}
+
+-- one more task is scheduled
+pub schedules : (rows : List Row) (places : List ℕ) (marks : List Mark) (scheduled : List Bool) (n : ℕ) (above : Option ℕ) (es : List Entry)
+    → Holds rows places marks scheduled above es → IsIdle marks n → Holds rows places marks (set scheduled n true) above es
+schedules rows places marks scheduled n above es holds idle = record {
+  marks_sized = holds.marks_sized;
+  scheduled_sized = length-set scheduled n true ∙ holds.scheduled_sized;
+  agrees = holds.agrees;
+  entries = holds.entries;
+  stands = holds.stands;
+  closed = holds.closed;
+  calm = λ k flag. elim (eqb_tells k n) [
+    | inl e ↦ subst (IsIdle marks) (sym e.1) idle
+    | inr e ↦ holds.calm k (sym (get_or-set_other scheduled n k true false e.1) ∙ flag)
+  ];
 }

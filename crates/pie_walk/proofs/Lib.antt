@@ -4,4 +4,6 @@ pub mod MarkSteps
 pub mod Reversed
 pub mod ScanSteps
 pub mod StandSteps
+pub mod StateSteps
+pub mod SweptSteps
 pub mod TurnSteps

@@ -96,3 +96,16 @@ met_stays old new up k was e = was (low_rank (mark_of old k) (omega (arith, up k
 pub weight_set : (weight : Mark → ℕ) (marks : List Mark) (n : ℕ) (a b : Mark) → n < length marks → mark_of marks n ≡ a
     → sum_by weight (set marks n b) + weight a ≡ sum_by weight marks + weight b
 weight_set weight marks n a b l is = ap (λ w. sum_by weight (set marks n b) + w) (ap weight (sym is)) ∙ sum_by-set weight marks n b New l
+
+-- a task that was neither taken nor settled after a walk wasn't before
+pub idle_before : (old new : List Mark) → MarksRise old new → (k : ℕ) → IsIdle new k → IsIdle old k
+idle_before old new up k idle = low (mark_of old k) (omega (arith, up k, bound (mark_of new k) idle))
+  where
+    low : (m : Mark) → rank m ≤ 1 → (m ≡ New) ⊎ (m ≡ Visited)
+    low New l = inl refl
+    low Visited l = inr refl
+    low Runs l = absurd (omega arith)
+    low Settled l = absurd (omega arith)
+
+    bound : (m : Mark) → (m ≡ New) ⊎ (m ≡ Visited) → rank m ≤ 1
+    bound m is = elim is [ inl e ↦ omega (arith, ap rank e) | inr e ↦ omega (arith, ap rank e) ]

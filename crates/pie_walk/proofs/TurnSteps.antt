@@ -19,7 +19,7 @@ use Rattle.pie_walk.specs.declared.walking.Turn.{Turn}
 use Rattle.pie_walk.specs.declared.walking.Turn.TheVariants.{Takes, Answers, Idle}
 use Rattle.pie_walk.specs.Marks.{mark_of, IsSettled, rank, MarksRise, is_unstarted, unstarted}
 use Rattle.pie_walk.specs.States.{WalkState, OnTop, no_of, below, waiting, base_of, visiting, passed, taken, settled}
-use Rattle.pie_walk.specs.Standing.{needs_at, mark_for, Holds, Stands}
+use Rattle.pie_walk.specs.Standing.{needs_at, mark_for, Holds, HoldsIn}
 use Rattle.pie_walk.specs.Turns.{Walks, IsTaken, IsAnswered, HasEnded, Turns}
 use Rattle.pie_walk.specs.inner.Scans.{AreSettled, IsNext}
 use Rattle.pie_walk.specs.inner.Steps.{is_unmet, left, Nears, StepsTo, IsReady, IsUnsettledAt}
@@ -27,7 +27,7 @@ use Rattle.pie_walk.proofs.MarkSteps.{stage_of, rises_set, rises_on, settled_sta
 use Rattle.pie_walk.proofs.MarkSteps.Stage.{is_new, is_settled, is_open}
 use Rattle.pie_walk.proofs.EntrySteps.{marked_in}
 use Rattle.pie_walk.proofs.HoldSteps.{not_open, comes_to, enters, takes}
-use Rattle.pie_walk.proofs.StandSteps.{on_top, top_ready, settled_stands}
+use Rattle.pie_walk.proofs.StateSteps.{on_top, top_ready, settled_holds}
 
 -- the bottom of a stack with a top
 base_some : (e : Entry) (es : List Entry) → (n : ℕ) × (base_of (e ∷ es) ≡ Some n)
@@ -48,24 +48,13 @@ base_below e (f ∷ es) = inr refl
 
 -- a walk that stands still
 pub walks_still : (s : WalkState) → Walks s s
-walks_still s = record {
-  rows = refl;
-  places = refl;
-  scheduled = refl;
-  rise = λ n. omega arith;
-  waiting = refl;
-  begun = omega arith;
-  base = inr refl;
-}
+walks_still s = record { same = refl; rise = λ n. omega arith; base = inr refl; counts = record { begins = omega arith; waits = refl } }
 
 pub walks_on : (a b c : WalkState) → Walks a b → Walks b c → Walks a c
 walks_on a b c one two = record {
-  rows = two.rows ∙ one.rows;
-  places = two.places ∙ one.places;
-  scheduled = two.scheduled ∙ one.scheduled;
+  same = two.same ∙ ap (λ (s : WalkState). record s { marks = c.marks; stack = c.stack }) one.same;
   rise = rises_on a.marks b.marks c.marks one.rise two.rise;
-  waiting = two.waiting ∙ one.waiting;
-  begun = omega (arith, one.begun, two.begun);
+  counts = record { begins = omega (arith, one.counts.begins, two.counts.begins); waits = two.counts.waits ∙ one.counts.waits };
   base = elim two.base [
     | inl empty ↦ inl empty
     | inr same ↦ elim one.base [
@@ -76,7 +65,7 @@ walks_on a b c one two = record {
 }
 
 -- what stood on the stack of a walk is settled once the stack is empty
-ended : (a c : WalkState) → Stands a → Stands c → c.stack ≡ [] → MarksRise a.marks c.marks → (e : Entry) → Contains a.stack e → IsSettled c.marks (no_of e)
+ended : (a c : WalkState) → HoldsIn a → HoldsIn c → c.stack ≡ [] → MarksRise a.marks c.marks → (e : Entry) → Contains a.stack e → IsSettled c.marks (no_of e)
 ended a c stands_a stands_c empty rise e there =
     let marked : mark_of a.marks (no_of e) ≡ mark_for e = marked_in a.rows a.marks None a.stack e stands_a.entries there in
     let was : mark_of a.marks (no_of e) ≢ New = λ is. stacked e (sym is ∙ marked) in
@@ -95,16 +84,16 @@ ended a c stands_a stands_c empty rise e there =
 taken_on : (a b c : WalkState) (task : TaskNo) → Walks a b → IsTaken b c task → IsTaken a c task
 taken_on a b c task one two = record {
   top = two.top;
-  was = subst (λ (flags : List Bool). IsMarked flags task.0) one.scheduled two.was;
+  was = subst (λ (s : WalkState). IsMarked s.scheduled task.0) one.same two.was;
   ready = two.ready;
-  lowest = λ other reaches flag. two.lowest other (subst (λ (rows : List Row). Reaches rows task.0 other) (sym one.rows) reaches)
-      (subst (λ (flags : List Bool). IsMarked flags other) (sym one.scheduled) flag);
-  rows = two.rows ∙ one.rows;
-  places = two.places ∙ one.places;
-  scheduled = two.scheduled ∙ ap (λ (flags : List Bool). set flags task.0 false) one.scheduled;
+  lowest = λ other reaches flag. two.lowest other (subst (λ (s : WalkState). Reaches s.rows task.0 other) (sym one.same) reaches)
+      (subst (λ (s : WalkState). IsMarked s.scheduled other) (sym one.same) flag);
+  same = two.same ∙ ap (λ (s : WalkState). record s { marks = c.marks; stack = c.stack; scheduled = set s.scheduled task.0 false }) one.same;
   rise = rises_on a.marks b.marks c.marks one.rise two.rise;
-  waiting = two.waiting ∙ ap (λ (ns : List ℕ). task.0 ∷ ns) one.waiting;
-  begun = omega (arith, one.begun, two.begun);
+  counts = record {
+    begins = omega (arith, one.counts.begins, two.counts.begins);
+    waits = two.counts.waits ∙ ap (λ (ns : List ℕ). task.0 ∷ ns) one.counts.waits;
+  };
   base = elim one.base [
     | inl empty ↦
         let n = base_some (Waits task) two.top.0 in
@@ -115,7 +104,7 @@ taken_on a b c task one two = record {
 }
 
 -- a walk that went on and then stops
-pub turns_on : (a b c : WalkState) (turn : Turn) → Stands a → Walks a b → Stands c → Turns b c turn → Turns a c turn
+pub turns_on : (a b c : WalkState) (turn : Turn) → HoldsIn a → Walks a b → HoldsIn c → Turns b c turn → Turns a c turn
 turns_on a b c (Takes task) stands_a one stands_c two = taken_on a b c task one two
 turns_on a b c (Answers task) stands_a one stands_c two = record { top = two.top; ready = two.ready; walks = walks_on a b c one two.walks }
 turns_on a b c Idle stands_a one stands_c two =
@@ -133,7 +122,7 @@ reaches_cases rows a b (itself {a = c}) = inl refl
 reaches_cases rows a b (step {a = x} {b = y} {c = z} first rest) = inr (y, first, rest)
 
 -- a task whose requires are settled reaches no other scheduled task
-pub lowest_of : (s : WalkState) (n : ℕ) → Stands s → ((k : ℕ) → Calls s.rows n k → IsSettled s.marks k) → (other : ℕ) → Reaches s.rows n other
+pub lowest_of : (s : WalkState) (n : ℕ) → HoldsIn s → ((k : ℕ) → Calls s.rows n k → IsSettled s.marks k) → (other : ℕ) → Reaches s.rows n other
     → IsMarked s.scheduled other → other ≡ n
 lowest_of s n stands ready other reaches flag =
     elim (reaches_cases s.rows n other reaches) [
@@ -143,14 +132,11 @@ lowest_of s n stands ready other reaches flag =
     ]
 
 -- the visit on top ends, and the task is settled
-pub leaves : (s new : WalkState) (task : TaskNo) → Stands s → IsReady s task → (IsMarked s.scheduled task.0 → ⊥) → new ≡ settled s task.0 → Nears s new
-leaves s new task stands at free e = subst (Nears s) (sym e) (record { stands = after; walks = walks; falls = falls })
+pub leaves : (s new : WalkState) (task : TaskNo) → HoldsIn s → IsReady s task → (IsMarked s.scheduled task.0 → ⊥) → new ≡ settled s task.0 → Nears s new
+leaves s new task stands at free e = subst (Nears s) (sym e) (record { holds = after; walks = walks; falls = falls })
   where
-    entry : Entry
-    entry = Visit task at.next
-
-    after : Stands (settled s task.0)
-    after = settled_stands s (Visit task at.next) at.top stands at.ready free
+    after : HoldsIn (settled s task.0)
+    after = settled_holds s (Visit task at.next) at.top stands at.ready free
 
     marked : mark_of s.marks task.0 ≡ Visited
     marked = (on_top s (Visit task at.next) at.top stands).entries.0.marked
@@ -160,12 +146,12 @@ leaves s new task stands at free e = subst (Nears s) (sym e) (record { stands = 
 
     walks : Walks s (settled s task.0)
     walks = record {
-      rows = refl;
-      places = refl;
-      scheduled = refl;
+      same = refl;
       rise = rises_set s.marks task.0 Settled inside (omega (arith, ap rank marked));
-      waiting = subst (λ (es : List Entry). waiting (below es) ≡ waiting es) (sym at.top.1) refl;
-      begun = omega (arith, weight_set is_unstarted s.marks task.0 Visited Settled inside marked);
+      counts = record {
+        begins = omega (arith, weight_set is_unstarted s.marks task.0 Visited Settled inside marked);
+        waits = subst (λ (es : List Entry). waiting (below es) ≡ waiting es) (sym at.top.1) refl;
+      };
       base = subst (λ (es : List Entry). (below es ≡ []) ⊎ (base_of (below es) ≡ base_of es)) (sym at.top.1) (base_below (Visit task at.next) at.top.0);
     }
 
@@ -177,9 +163,9 @@ leaves s new task stands at free e = subst (Nears s) (sym e) (record { stands = 
     )
 
 -- the visit on top ends, and the task is taken
-pub is_taken : (s new : WalkState) (task : TaskNo) → Stands s → IsReady s task → IsMarked s.scheduled task.0 → new ≡ taken s task
-    → Stands new × IsTaken s new task
-is_taken s new task stands at flag e = subst (λ (t : WalkState). Stands t × IsTaken s t task) (sym e) (after, is)
+pub is_taken : (s new : WalkState) (task : TaskNo) → HoldsIn s → IsReady s task → IsMarked s.scheduled task.0 → new ≡ taken s task
+    → HoldsIn new × IsTaken s new task
+is_taken s new task stands at flag e = subst (λ (t : WalkState). HoldsIn t × IsTaken s t task) (sym e) (after, is)
   where
     held : Holds s.rows s.places s.marks s.scheduled None (Visit task at.next ∷ at.top.0)
     held = on_top s (Visit task at.next) at.top stands
@@ -190,7 +176,7 @@ is_taken s new task stands at flag e = subst (λ (t : WalkState). Stands t × Is
     inside : task.0 < length s.marks
     inside = omega (arith, stands.marks_sized, held.entries.0.inside)
 
-    after : Stands (taken s task)
+    after : HoldsIn (taken s task)
     after = subst (λ (es : List Entry). Holds s.rows s.places (set s.marks task.0 Runs) (set s.scheduled task.0 false) None (Waits task ∷ below es)) (sym at.top.1)
         (takes s.rows s.places s.marks s.scheduled task at.next at.top.0 held at.ready)
 
@@ -200,18 +186,18 @@ is_taken s new task stands at flag e = subst (λ (t : WalkState). Stands t × Is
       was = flag;
       ready = top_ready (taken s task) task (below s.stack, refl) after;
       lowest = lowest_of s task.0 stands at.ready;
-      rows = refl;
-      places = refl;
-      scheduled = refl;
+      same = refl;
       rise = rises_set s.marks task.0 Runs inside (omega (arith, ap rank marked));
-      waiting = subst (λ (es : List Entry). ◌≡◌ {A = List ℕ} (task.0 ∷ waiting (below es)) (task.0 ∷ waiting es)) (sym at.top.1) refl;
-      begun = omega (arith, weight_set is_unstarted s.marks task.0 Visited Runs inside marked);
+      counts = record {
+        begins = omega (arith, weight_set is_unstarted s.marks task.0 Visited Runs inside marked);
+        waits = subst (λ (es : List Entry). ◌≡◌ {A = List ℕ} (task.0 ∷ waiting (below es)) (task.0 ∷ waiting es)) (sym at.top.1) refl;
+      };
       base = subst (λ (es : List Entry). base_of (Waits task ∷ below es) ≡ base_of es) (sym at.top.1)
           (base_same (Waits task) (Visit task at.next) at.top.0 refl);
     }
 
 -- the task of an unsettled require was not met
-pub unmet_at : (s : WalkState) (task : TaskNo) (at : ℕ) → Stands s → IsUnsettledAt s task at
+pub unmet_at : (s : WalkState) (task : TaskNo) (at : ℕ) → HoldsIn s → IsUnsettledAt s task at
     → mark_of s.marks (slice_index (needs_at s.rows task.0) at) ≡ New
 unmet_at s task at stands is =
     let u = slice_index (needs_at s.rows task.0) at in
@@ -223,21 +209,18 @@ unmet_at s task at stands is =
     ]
 
 -- the visit on top goes down to a task that wasn't met
-pub descends : (s mid new : WalkState) (task callee : TaskNo) (at : ℕ) → Stands s → IsUnsettledAt s task at
+pub descends : (s mid new : WalkState) (task callee : TaskNo) (at : ℕ) → HoldsIn s → IsUnsettledAt s task at
     → callee.0 ≡ slice_index (needs_at s.rows task.0) at → callee.0 < length s.rows → mid ≡ passed s task at → new ≡ visiting mid callee → Nears s new
 descends s mid new task callee at stands is same inside m e =
-    subst (Nears s) (sym (e ∙ ap (λ (t : WalkState). visiting t callee) m)) (record { stands = after; walks = walks; falls = falls })
+    subst (Nears s) (sym (e ∙ ap (λ (t : WalkState). visiting t callee) m)) (record { holds = after; walks = walks; falls = falls })
   where
-    under : List Entry
-    under = Visit task at ∷ below s.stack
-
     new_mark : mark_of s.marks callee.0 ≡ New
     new_mark = ap (mark_of s.marks) same ∙ unmet_at s task at stands is
 
     within : callee.0 < length s.marks
     within = omega (arith, stands.marks_sized, inside)
 
-    after : Stands (visiting (passed s task at) callee)
+    after : HoldsIn (visiting (passed s task at) callee)
     after =
         enters s.rows s.places s.marks s.scheduled callee (Visit task at ∷ below s.stack)
         (subst (λ (es : List Entry). Holds s.rows s.places s.marks s.scheduled (Some callee.0) (Visit task at ∷ below es)) (sym is.top.1)
@@ -247,12 +230,12 @@ descends s mid new task callee at stands is same inside m e =
 
     walks : Walks s (visiting (passed s task at) callee)
     walks = record {
-      rows = refl;
-      places = refl;
-      scheduled = refl;
+      same = refl;
       rise = rises_set s.marks callee.0 Visited within (omega (arith, ap rank new_mark));
-      waiting = subst (λ (es : List Entry). ◌≡◌ {A = List ℕ} (waiting (below es)) (waiting es)) (sym is.top.1) refl;
-      begun = omega (arith, weight_set is_unstarted s.marks callee.0 New Visited within new_mark);
+      counts = record {
+        begins = omega (arith, weight_set is_unstarted s.marks callee.0 New Visited within new_mark);
+        waits = subst (λ (es : List Entry). ◌≡◌ {A = List ℕ} (waiting (below es)) (waiting es)) (sym is.top.1) refl;
+      };
       base = inr (subst (λ (es : List Entry). base_of (Visit task at ∷ below es) ≡ base_of es) (sym is.top.1)
           (base_same (Visit task at) (Visit task is.next) is.top.0 refl));
     }
@@ -265,7 +248,7 @@ descends s mid new task callee at stands is same inside m e =
     )
 
 -- the scan from the place of the visit on top finds no unsettled require
-pub scanned_all : (s : WalkState) (task : TaskNo) (next : ℕ) → Stands s → OnTop s (Visit task next) → IsNext (needs_at s.rows task.0) s.marks next None
+pub scanned_all : (s : WalkState) (task : TaskNo) (next : ℕ) → HoldsIn s → OnTop s (Visit task next) → IsNext (needs_at s.rows task.0) s.marks next None
     → IsReady s task
 scanned_all s task next stands top all = record {
   next = next;
@@ -280,7 +263,7 @@ scanned_all s task next stands top all = record {
 }
 
 -- or one
-pub scanned_to : (s : WalkState) (task : TaskNo) (next at : ℕ) → Stands s → OnTop s (Visit task next) → IsNext (needs_at s.rows task.0) s.marks next (Some at)
+pub scanned_to : (s : WalkState) (task : TaskNo) (next at : ℕ) → HoldsIn s → OnTop s (Visit task next) → IsNext (needs_at s.rows task.0) s.marks next (Some at)
     → IsUnsettledAt s task at
 scanned_to s task next at stands top found = record {
   next = next;
@@ -294,7 +277,7 @@ scanned_to s task next at stands top found = record {
 }
 
 -- a task on top that was taken can go on
-pub goes_on : (s : WalkState) (task : TaskNo) → Stands s → OnTop s (Waits task) → IsAnswered s s task
+pub goes_on : (s : WalkState) (task : TaskNo) → HoldsIn s → OnTop s (Waits task) → IsAnswered s s task
 goes_on s task stands top = record { top = top; ready = top_ready s task top stands; walks = walks_still s }
 
 -- nothing stands on the stack

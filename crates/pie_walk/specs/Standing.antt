@@ -62,6 +62,22 @@ pub record Holds (rows : List Row) (places : List ℕ) (marks : List Mark) (sche
   -- a scheduled task was neither taken nor settled
   pub calm : (n : ℕ) → IsMarked scheduled n → IsIdle marks n
 
+-- a sweep goes up to the end: tasks that require a swept one and were neither taken nor settled are swept, and scheduled where they looked under `out`
+pub record IsSwept (rows : List Row) (marks : List Mark) (scheduled looks_out swept : List Bool) : Type 0 where
+  pub looks_sized : length looks_out ≡ length rows
+  pub swept_sized : length swept ≡ length rows
+  pub up : (n k : ℕ) → IsMarked swept n → Calls rows k n → IsIdle marks k → IsMarked swept k
+  pub flags : (k : ℕ) → IsMarked swept k → IsIdle marks k → IsMarked looks_out k → IsMarked scheduled k
+
+-- the tables and the stack of a state
+abbrev pub HoldsIn : WalkState → Type 0
+HoldsIn s = Holds s.rows s.places s.marks s.scheduled None s.stack
+
+-- the sweeps of a state
+abbrev pub IsSweptIn : WalkState → Type 0
+IsSweptIn s = IsSwept s.rows s.marks s.scheduled s.looks_out s.swept
+
 -- what holds of a walk between any two calls
-abbrev pub Stands : WalkState → Type 0
-Stands s = Holds s.rows s.places s.marks s.scheduled None s.stack
+pub record Stands (s : WalkState) : Type 0 where
+  pub holds : HoldsIn s
+  pub swept : IsSweptIn s

@@ -10,12 +10,15 @@ use Rattle.pie_walk.specs.declared.stack.Entry.{Entry}
 use Rattle.pie_walk.specs.declared.stack.Entry.TheVariants.{Visit, Waits}
 use Rattle.pie_walk.specs.Marks.{mark_of}
 
--- the rows of the tasks, their places in an order, how far each has come, which are scheduled, and the stack with its top first
+-- the rows of the tasks, their places in an order, how far each has come, which are scheduled, which looked under `out`, which were swept,
+-- and the stack with its top first
 pub record WalkState : Type 0 where
   pub rows : List Row
   pub places : List ℕ
   pub marks : List Mark
   pub scheduled : List Bool
+  pub looks_out : List Bool
+  pub swept : List Bool
   pub stack : List Entry
 
 -- the task of an entry
@@ -48,13 +51,15 @@ base_of (e ∷ f ∷ es) = base_of (f ∷ es)
 abbrev pub NeedsAreEarlier : List Row → Type 0
 NeedsAreEarlier rows = (caller callee : ℕ) → Calls rows caller callee → callee < caller
 
--- no task was met, none is scheduled, and they stand in the order of their numbers
-abbrev pub at_start : List Row → WalkState
-at_start rows = record {
+-- no task was met, none is scheduled or swept, and they stand in the order of their numbers
+abbrev pub at_start : List Row → List Bool → WalkState
+at_start rows looks_out = record {
   rows = rows;
   places = numbers_below (length rows);
   marks = replicate (length rows) New;
   scheduled = replicate (length rows) false;
+  looks_out = looks_out;
+  swept = replicate (length rows) false;
   stack = [];
 }
 
@@ -69,6 +74,8 @@ with_one_more s = record {
   places = s.places ++ length s.places ∷ [];
   marks = s.marks ++ New ∷ [];
   scheduled = s.scheduled ++ true ∷ [];
+  looks_out = s.looks_out ++ false ∷ [];
+  swept = s.swept ++ false ∷ [];
   stack = s.stack;
 }
 

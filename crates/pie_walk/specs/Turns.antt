@@ -1,5 +1,5 @@
 -- What a walk leaves when it stops.
-use Rattle.std.specs.Prelude.{◌≡◌, ◌⊎◌, ℕ, ◌+◌, ◌≤◌, false, List, [], ◌∷◌, slice_set}
+use Rattle.std.specs.Prelude.{◌≡◌, ◌⊎◌, ℕ, false, List, [], ◌∷◌, slice_set}
 use Rattle.std.specs.List.{Contains}
 use Rattle.pie_graph.specs.declared.edges.TaskNo.{TaskNo}
 use Rattle.pie_graph.specs.Numbers.{IsMarked}
@@ -9,32 +9,27 @@ use Rattle.pie_walk.specs.declared.stack.Entry.{Entry}
 use Rattle.pie_walk.specs.declared.stack.Entry.TheVariants.{Waits}
 use Rattle.pie_walk.specs.declared.walking.Turn.{Turn}
 use Rattle.pie_walk.specs.declared.walking.Turn.TheVariants.{Takes, Answers, Idle}
-use Rattle.pie_walk.specs.Marks.{IsSettled, MarksRise, unstarted}
-use Rattle.pie_walk.specs.States.{WalkState, OnTop, no_of, waiting, base_of}
+use Rattle.pie_walk.specs.Marks.{IsSettled, MarksRise}
+use Rattle.pie_walk.specs.States.{WalkState, OnTop, no_of, base_of}
+use Rattle.pie_walk.specs.Counts.{Counts}
 
--- a walk changes no row, no place and no schedule, takes no task back, and goes on below one root
+-- marks and the stack alone change: no task goes back, the walk stays below one root, and no task is taken
 pub record Walks (old new : WalkState) : Type 0 where
-  pub rows : new.rows ≡ old.rows
-  pub places : new.places ≡ old.places
-  pub scheduled : new.scheduled ≡ old.scheduled
+  pub same : new ≡ record old { marks = new.marks; stack = new.stack }
   pub rise : MarksRise old.marks new.marks
-  pub waiting : waiting new.stack ≡ waiting old.stack
-  pub begun : unstarted new.marks ≤ unstarted old.marks
   pub base : (new.stack ≡ []) ⊎ (base_of new.stack ≡ base_of old.stack)
+  pub counts : Counts old new [] []
 
--- a task is taken: it was scheduled, what it requires is settled, and it reaches no other task that was scheduled
+-- a task is taken: it was scheduled, what it requires is settled, and it reaches no other task that was scheduled; it alone is scheduled no longer
 pub record IsTaken (old new : WalkState) (task : TaskNo) : Type 0 where
   pub top : OnTop new (Waits task)
   pub was : IsMarked old.scheduled task.0
   pub ready : (k : ℕ) → Calls new.rows task.0 k → IsSettled new.marks k
   pub lowest : (other : ℕ) → Reaches old.rows task.0 other → IsMarked old.scheduled other → other ≡ task.0
-  pub rows : new.rows ≡ old.rows
-  pub places : new.places ≡ old.places
-  pub scheduled : new.scheduled ≡ slice_set old.scheduled task.0 false
+  pub same : new ≡ record old { marks = new.marks; stack = new.stack; scheduled = slice_set old.scheduled task.0 false }
   pub rise : MarksRise old.marks new.marks
-  pub waiting : waiting new.stack ≡ task.0 ∷ waiting old.stack
-  pub begun : unstarted new.marks + 1 ≤ unstarted old.marks
   pub base : base_of new.stack ≡ base_of old.stack
+  pub counts : Counts old new (task.0 ∷ []) []
 
 -- the running task on top can go on: what it requires is settled
 pub record IsAnswered (old new : WalkState) (task : TaskNo) : Type 0 where

@@ -1,5 +1,5 @@
 //! What the tasks that were taken do: require, and end.
-ghost use Rattle.std.specs.Prelude.{◌≡◌, ℕ, ◌<◌, [], length, IfOk, OnOk, MatchOption};
+ghost use Rattle.std.specs.Prelude.{◌≡◌, ℕ, ◌<◌, [], ◌∷◌, length, IfOk, OnOk, MatchOption};
 ghost use Rattle.std.specs.List.{Contains};
 ghost use Rattle.pie_graph.specs.Numbers.{numbers};
 ghost use Rattle.pie_graph.specs.Rows.{row_of, Calls};
@@ -7,6 +7,7 @@ ghost use Rattle.pie_order.specs.Cycles.{IsCycle, WouldCall};
 ghost use Rattle.pie_walk.specs.declared.stack.Entry.TheVariants.{Waits};
 ghost use Rattle.pie_walk.specs.States.{OnTop, met, settled, with_row, with_need};
 ghost use Rattle.pie_walk.specs.Standing.{Stands};
+ghost use Rattle.pie_walk.specs.Counts.{Counts};
 
 use crate::{Mark, Walk};
 use pie_base::OutOfMemory;
@@ -19,6 +20,7 @@ impl Walk {
         requires idle { self.old.stack ≡ [] }
         requires number { root.0 < length self.old.rows }
         ensures began { OnOk result (self.new ≡ met self.old root) }
+        ensures counts { OnOk result (Counts self.old self.new [] []) }
         ensures stands { OnOk result (Stands self.new) }
     {
         self.come_to(root)?;
@@ -35,6 +37,7 @@ impl Walk {
             (λ cycle. self.new ≡ self.old)) }
         ensures cycle { IfOk result (λ found. MatchOption found Unit
             (λ cycle. IsCycle (WouldCall self.old.rows from.0 to.0) (numbers cycle.items))) }
+        ensures counts { OnOk result (Counts self.old self.new [] []) }
         ensures stands { OnOk result (Stands self.new) }
     {
         let found = self.order.insert(self.alloc, &self.rows, from, to)?;
@@ -64,6 +67,7 @@ impl Walk {
         requires stands { Stands self.old }
         requires runs { OnTop self.old (Waits no) }
         ensures kept { self.new ≡ settled self.old no.0 }
+        ensures counts { Counts self.old self.new [] (no.0 ∷ []) }
         ensures stands { Stands self.new }
     {
         self.settle(no);
@@ -75,6 +79,7 @@ impl Walk {
         requires runs { OnTop self.old (Waits no) }
         requires needs { (k : ℕ) → Contains (numbers edges.needs.items) k → Calls self.old.rows no.0 k }
         ensures finished { OnOk result (self.new ≡ settled (with_row self.old no.0 (row_of edges)) no.0) }
+        ensures counts { OnOk result (Counts self.old self.new [] (no.0 ∷ [])) }
         ensures stands { OnOk result (Stands self.new) }
     {
         let _count = self.rows.count();

@@ -6,6 +6,7 @@ ghost use Rattle.pie_walk.specs.declared.stack.Entry.{Entry};
 ghost use Rattle.pie_walk.specs.Marks.{mark_of, IsIdle};
 ghost use Rattle.pie_walk.specs.States.{NeedsAreEarlier, at_start, with_scheduled, with_one_more};
 ghost use Rattle.pie_walk.specs.Standing.{Stands};
+ghost use Rattle.pie_walk.specs.Counts.{Counts};
 
 use crate::Mark;
 use crate::stack::{Entry, Stack};
@@ -25,6 +26,8 @@ pub struct Walk {
     pub(crate) order: Order,
     pub(crate) marks: Vec<Mark>,
     pub(crate) scheduled: Vec<bool>,
+    pub(crate) looks_out: Vec<bool>,
+    pub(crate) swept: Vec<bool>,
     pub(crate) stack: Stack,
 }
 
@@ -33,26 +36,31 @@ impl Model for Walk {
 
     ghost Value = { WalkState };
 
-    ghost view = { λ w. record { rows = w.rows; places = w.order; marks = w.marks.items; scheduled = w.scheduled.items; stack = w.stack } };
+    ghost view = { λ w. record { rows = w.rows; places = w.order; marks = w.marks.items; scheduled = w.scheduled.items; looks_out = w.looks_out.items; swept = w.swept.items; stack = w.stack } };
 }
 
 impl Walk {
-    /// A walk over tasks each of which requires tasks of lower numbers alone. None was met, and none is scheduled.
-    pub fn new(alloc: Global, rows: UnionRows) -> Result<Walk, OutOfMemory>
-        requires { NeedsAreEarlier rows }
-        ensures start { IfOk result (λ walk. walk ≡ at_start rows) }
+    /// A walk over tasks each of which requires tasks of lower numbers alone, with a flag for each that looked under `out`.
+    /// No task was met, and none is scheduled.
+    pub fn new(alloc: Global, rows: UnionRows, looks_out: Vec<bool>) -> Result<Walk, OutOfMemory>
+        requires earlier { NeedsAreEarlier rows }
+        requires flags { length looks_out.items ≡ length rows }
+        ensures start { IfOk result (λ walk. walk ≡ at_start rows looks_out.items) }
         ensures stands { IfOk result Stands }
     {
         let count = rows.count();
         let order = Order::new(alloc, count)?;
         let marks = vec![in alloc; Mark::New; count as usize]?;
         let scheduled = vec![in alloc; false; count as usize]?;
+        let swept = vec![in alloc; false; count as usize]?;
         Ok(Walk {
             alloc,
             rows,
             order,
             marks,
             scheduled,
+            looks_out,
+            swept,
             stack: Stack::new(alloc),
         })
     }
@@ -105,6 +113,7 @@ impl Walk {
         requires idle { IsIdle self.old.marks no.0 }
         requires number { no.0 < length self.old.rows }
         ensures scheduled { self.new ≡ with_scheduled self.old no.0 }
+        ensures counts { Counts self.old self.new [] [] }
         ensures stands { Stands self.new }
     {
         self.scheduled[no.0 as usize] = true;
@@ -116,12 +125,15 @@ impl Walk {
         requires few { length self.old.rows < MAX_TASKS }
         ensures number { IfOk result (λ no. no.0 ≡ length self.old.rows) }
         ensures added { OnOk result (self.new ≡ with_one_more self.old) }
+        ensures counts { OnOk result (Counts self.old self.new [] []) }
         ensures stands { OnOk result (Stands self.new) }
     {
         let _count = self.rows.count();
         self.order.grow()?;
         self.marks.push(Mark::New)?;
         self.scheduled.push(true)?;
+        self.looks_out.push(false)?;
+        self.swept.push(false)?;
         let no = self.rows.add()?;
         Ok(no)
     }

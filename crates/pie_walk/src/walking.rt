@@ -3,7 +3,7 @@ ghost use Rattle.std.specs.Prelude.{◌≡◌, ◌<◌, length, slice_index, IfO
 ghost use Rattle.pie_walk.specs.declared.stack.Entry.TheVariants.{Visit, Waits};
 ghost use Rattle.pie_walk.specs.Marks.{mark_of};
 ghost use Rattle.pie_walk.specs.States.{OnTop, visiting, passed, taken, settled};
-ghost use Rattle.pie_walk.specs.Standing.{Stands};
+ghost use Rattle.pie_walk.specs.Standing.{HoldsIn, Stands};
 ghost use Rattle.pie_walk.specs.Turns.{Turns};
 ghost use Rattle.pie_walk.specs.inner.Steps.{StepsTo, IsReady, IsUnsettledAt};
 
@@ -42,7 +42,7 @@ impl Walk {
 
     // One step; none where the walk goes on.
     fn step(&mut self) -> Result<Option<Turn>, OutOfMemory>
-        requires { Stands self.old }
+        requires { HoldsIn self.old }
         ensures { IfOk result (StepsTo self.old self.new) }
     {
         match self.stack.top() {
@@ -54,7 +54,7 @@ impl Walk {
 
     // The visit on top goes on.
     fn visit_on(&mut self, no: TaskNo, next: usize) -> Result<Option<Turn>, OutOfMemory>
-        requires stands { Stands self.old }
+        requires holds { HoldsIn self.old }
         requires top { OnTop self.old (Visit no next) }
         ensures { IfOk result (StepsTo self.old self.new) }
     {
@@ -69,7 +69,7 @@ impl Walk {
 
     // From the visit on top down to a required task that wasn't met.
     fn descend(&mut self, no: TaskNo, at: usize) -> Result<(), OutOfMemory>
-        requires stands { Stands self.old }
+        requires holds { HoldsIn self.old }
         requires unsettled { IsUnsettledAt self.old no at }
         ensures { OnOk result (StepsTo self.old self.new None) }
     {
@@ -81,7 +81,7 @@ impl Walk {
 
     // The visit on top ends: the task is taken where it is scheduled, else it is settled.
     fn leave(&mut self, no: TaskNo) -> Result<Option<Turn>, OutOfMemory>
-        requires stands { Stands self.old }
+        requires holds { HoldsIn self.old }
         requires ready { IsReady self.old no }
         ensures { IfOk result (StepsTo self.old self.new) }
     {

@@ -9,7 +9,7 @@ use Rattle.pie_walk.specs.declared.stack.Entry.TheVariants.{Visit}
 use Rattle.pie_walk.specs.declared.walking.Turn.{Turn}
 use Rattle.pie_walk.specs.Marks.{IsSettled}
 use Rattle.pie_walk.specs.States.{WalkState, OnTop}
-use Rattle.pie_walk.specs.Standing.{Stands, needs_at}
+use Rattle.pie_walk.specs.Standing.{HoldsIn, needs_at}
 use Rattle.pie_walk.specs.Turns.{Walks, Turns}
 
 -- 1 for a task that wasn't met
@@ -25,14 +25,14 @@ left s = 2 * sum_by is_unmet s.marks + length s.stack
 
 -- a step that goes on brings the walk nearer to its end
 pub record Nears (old new : WalkState) : Type 0 where
-  pub stands : Stands new
+  pub holds : HoldsIn new
   pub walks : Walks old new
   pub falls : left new < left old
 
 -- what a step leaves, where the walk goes on and where it stops
 abbrev pub StepsTo : WalkState → WalkState → Option Turn → Type 0
 StepsTo old new None = Nears old new
-StepsTo old new (Some turn) = Stands new × Turns old new turn
+StepsTo old new (Some turn) = HoldsIn new × Turns old new turn
 
 -- the visit on top has come to its end
 pub record IsReady (s : WalkState) (task : TaskNo) : Type 0 where

@@ -15,7 +15,7 @@ returns c =
     let callees = c.callees.result.now in
     let needs : numbers callees ≡ needs_at c.args.self.now.rows c.args.no.0 = c.callees.ensures.callees ∙ ap (λ (s : WalkState). needs_at s.rows c.args.no.0) c.self.view_is in
     let within : c.args.at < length callees = omega (arith, length_numbers callees, ap length needs, c.requires.unsettled.within) in
-    descends c.args.self.now c.pass.new.self c.meet.new.self c.args.no (get_or callees c.args.at zero) c.args.at c.requires.stands c.requires.unsettled
+    descends c.args.self.now c.pass.new.self c.meet.new.self c.args.no (get_or callees c.args.at zero) c.args.at c.requires.holds c.requires.unsettled
     (sym (number_at callees c.args.at zero within) ∙ ap (λ (ns : List ℕ). slice_index ns c.args.at) needs)
     (subst (λ (s : WalkState). (get_or callees c.args.at zero).0 < length s.rows) c.self.view_is
     (number_below (length c.self.inside.rows) callees c.args.at zero c.callees.ensures.needs_below within))
