@@ -1,2 +1,9 @@
 pub mod Meeting
 pub mod Writers
+pub mod Accepting
+pub mod OldRows
+pub mod TempEntering
+pub mod TempEnding
+pub mod Events
+pub mod Unnamed
+pub mod Beginning

@@ -1,2 +1,5 @@
 pub mod Met
+pub mod Rows
+pub mod Sources
 pub mod Telling
+pub mod Begins

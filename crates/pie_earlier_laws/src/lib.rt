@@ -1,8 +1,14 @@
 //! What an earlier accepted build left, and what a list of changed paths leaves true of it.
 #![tactic(auto)]
 
+mod begins;
 mod met;
+mod rows;
+mod sources;
 mod telling;
 
+pub use begins::earlier_records_begin;
 pub use met::what_stands_is_met;
+pub use rows::old_rows_are_right;
+pub use sources::named_stamps_decide;
 pub use telling::ranked_records_tell;
