@@ -23,8 +23,15 @@ use Rattle.pie_model.proofs.Ways.{kids_own, below_in, needs_of-observations, tas
 use Rattle.pie_step_laws.specs.Table.{IsTable, Rests}
 use Rattle.pie_step_laws.specs.Roots.{Between}
 use Rattle.pie_step_laws.proofs.Tables.{done_plain, none_some}
-use Rattle.pie_earlier_laws.proofs.TempEntering.{all_distinct, StandsUnder, all_split, all_have, all_done}
-use Rattle.pie_earlier_laws.proofs.TempEnding.{entered_whole}
+use Rattle.pie_settle_laws.proofs.Entering.{all_distinct, StandsUnder, all_split, all_have, all_done}
+
+-- the forest of roots that are done goes through all of them
+forest_whole : (w : World) (P : Project) (ts : List Task) → ((t : Task) → among t ts ≡ true → is_done (outcome_of (evaluation w P t)) ≡ true)
+    → forest w P ts ≡ map (evaluation w P) ts
+forest_whole w P [] h = refl
+forest_whole w P (t ∷ ts) h =
+    ap (λ b. evaluation w P t ∷ only_if b (forest w P ts)) (h t (among_here t ts))
+    ∙ ap (λ z. evaluation w P t ∷ z) (forest_whole w P ts (λ u i. h u (among_there u t ts i)))
 
 -- ---- what stands in a tree that stands in another one
 
@@ -122,8 +129,12 @@ module _ (w : World) (P : Project) where
     pub each_done : (t : Task) → among t roots ≡ true → is_done (outcome_of (evaluation w P t)) ≡ true
     each_done = roots_done roots stops_nowhere
 
+    -- the forest goes through all roots
+    pub all_roots : forest w P roots ≡ map (evaluation w P) roots
+    all_roots = forest_whole w P roots each_done
+
     whole : entered_tasks w P roots ≡ entered_all (map (evaluation w P) roots) []
-    whole = entered_whole w P roots each_done
+    whole = ap (λ ns. entered_all ns []) all_roots
 
     pub live : (x : Task) → among x (entered_tasks w P roots) ≡ true → Live roots x
     live x i = go (all_split w P x roots [] (subst (λ z. among x z ≡ true) whole i))

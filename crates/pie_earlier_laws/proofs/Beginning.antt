@@ -18,14 +18,13 @@ use Rattle.pie_model.specs.inner.Still.{SourcesStill, WasDone}
 use Rattle.pie_model.proofs.Basics.{clash, among_split}
 use Rattle.pie_model.proofs.Ways.{stands_itself}
 use Rattle.pie_model.proofs.BeginLemmas.{begins_consistent}
-use Rattle.pie_earlier_laws.proofs.TempEnding.{forest_whole}
 use Rattle.pie_earlier_laws.specs.Met.{StandsAmong}
 use Rattle.pie_earlier_laws.specs.Rows.{record_among, IsOldRow}
 use Rattle.pie_earlier_laws.specs.Sources.{SourcesAgree, AreTested}
 use Rattle.pie_earlier_laws.specs.Telling.{GoLower}
 use Rattle.pie_earlier_laws.specs.Begins.{HasManners}
 use Rattle.pie_earlier_laws.proofs.Meeting.{tried_met, old_met}
-use Rattle.pie_earlier_laws.proofs.Accepting.{Live, each_done, live}
+use Rattle.pie_earlier_laws.proofs.Accepting.{all_roots, live}
 use Rattle.pie_earlier_laws.proofs.OldRows.{old_row, rows_closed}
 use Rattle.pie_earlier_laws.proofs.Unnamed.{sources_still}
 
@@ -65,7 +64,7 @@ module _ (w : World) (old now : Project) (old_roots roots : List Task) (besides 
   live_met t i =
       let l = live w old old_roots accepted t i in
       old_met w old now old_roots roots besides (evaluation w old t)
-      (subst (StandsAmong (evaluation w old t)) (sym (forest_whole w old old_roots (each_done w old old_roots accepted)))
+      (subst (StandsAmong (evaluation w old t)) (sym (all_roots w old old_roots accepted))
       (among_trees w old (evaluation w old t) l.from old_roots l.listed l.stands))
 
   row_was_done : (t : Task) (r : Record) → record_among (store_rows w old old_roots) t ≡ Some r

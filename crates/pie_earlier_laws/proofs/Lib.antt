@@ -2,8 +2,8 @@ pub mod Meeting
 pub mod Writers
 pub mod Accepting
 pub mod OldRows
-pub mod TempEntering
-pub mod TempEnding
 pub mod Events
 pub mod Unnamed
 pub mod Beginning
+pub mod Writing
+pub mod Leaving

@@ -3,3 +3,4 @@ pub mod Rows
 pub mod Sources
 pub mod Telling
 pub mod Begins
+pub mod Left

@@ -2,12 +2,14 @@
 #![tactic(auto)]
 
 mod begins;
+mod left;
 mod met;
 mod rows;
 mod sources;
 mod telling;
 
 pub use begins::earlier_records_begin;
+pub use left::{bases_go_on, unnamed_writes_are_there};
 pub use met::what_stands_is_met;
 pub use rows::old_rows_are_right;
 pub use sources::named_stamps_decide;
