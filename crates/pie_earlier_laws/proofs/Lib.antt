@@ -7,3 +7,5 @@ pub mod Unnamed
 pub mod Beginning
 pub mod Writing
 pub mod Leaving
+pub mod Edging
+pub mod Reasons

@@ -4,3 +4,5 @@ pub mod Sources
 pub mod Telling
 pub mod Begins
 pub mod Left
+pub mod Edges
+pub mod Whys

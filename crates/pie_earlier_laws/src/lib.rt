@@ -2,15 +2,19 @@
 #![tactic(auto)]
 
 mod begins;
+mod edges;
 mod left;
 mod met;
 mod rows;
 mod sources;
 mod telling;
+mod whys;
 
 pub use begins::earlier_records_begin;
+pub use edges::{next_paths_are_observed, requires_are_union_edges};
 pub use left::{bases_go_on, unnamed_writes_are_there};
 pub use met::what_stands_is_met;
 pub use rows::old_rows_are_right;
 pub use sources::named_stamps_decide;
 pub use telling::ranked_records_tell;
+pub use whys::reasons_are_by_evaluation;
