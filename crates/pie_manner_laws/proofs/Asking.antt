@@ -1,4 +1,4 @@
--- Effects: a question that is answered notes what it looks at, and a write is asked for only where its path was not observed.
+-- Effects: a question that is answered notes what it looks at or writes, and a write is asked for only where its path was not touched.
 use Rattle.std.proofs.Common.{◌≡◌, ℕ, Bool, true, false, cond, ◌||◌, List, [], ◌∷◌, ◌++◌, refl, ap, sym, ◌∙◌, subst}
 use Rattle.std.specs.Prelude.{Ok, Err}
 use Rattle.std.specs.List.{list_any}
@@ -19,13 +19,13 @@ use Rattle.pie_operators.specs.declared.asking.Question.{Question}
 use Rattle.pie_operators.specs.declared.asking.Question.TheVariants.{Observe, Write, Require}
 use Rattle.pie_operators.specs.Domain.{done, fails, State, Act, fault, by_answer, holds, with_path}
 use Rattle.pie_operators.specs.Effects.{event_of, taken, is_content, noted, asked, may_observe, observe, write_bytes, write, require, fail}
-use Rattle.pie_manner_laws.proofs.Forms.{with_more, Looks, Unwritten, Saw, Keeps, Stays, Polite, moved, fault_polite, cond_polite}
+use Rattle.pie_manner_laws.proofs.Forms.{with_more, Touches, touched, Untouched, Did, Keeps, Stays, Polite, moved, fault_polite, cond_polite}
 
 -- a state with other answers left
 abbrev with_answers : State → List Answer → State
 with_answers s xs = record s { answers = xs }
 
--- ---- what has been observed
+-- ---- what has been touched
 
 either_more : (b c d : Bool) → (c ≡ true → d ≡ true) → (b || c) ≡ true → (b || d) ≡ true
 either_more true c d f h = refl
@@ -38,6 +38,18 @@ any_front f (x ∷ xs) ys h = either_more (f x) (list_any f xs) (list_any f (xs 
 either_right : (b c : Bool) → c ≡ true → (b || c) ≡ true
 either_right true c h = refl
 either_right false c h = h
+
+either_left : (b c : Bool) → b ≡ true → (b || c) ≡ true
+either_left true c h = refl
+either_left false c h = let x : ⊥ = cc in absurd x
+
+front_more : (b c d : Bool) → (b ≡ true → c ≡ true) → (b || d) ≡ true → (c || d) ≡ true
+front_more true c d f h = either_left c d (f refl)
+front_more false c d f h = either_right c d h
+
+neither : (b c : Bool) → b ≡ false → c ≡ false → (b || c) ≡ false
+neither true c e f = let x : ⊥ = cc in absurd x
+neither false c e f = f
 
 any_last : (f : List ℕ → Bool) (xs : List (List ℕ)) (x : List ℕ) → f x ≡ true → list_any f (xs ++ x ∷ []) ≡ true
 any_last f [] x h = ap (λ (b : Bool). b || false) h
@@ -73,31 +85,34 @@ noted_with (Write p bs) s xs = refl
 noted_with (Require t how) s xs = refl
 
 content_keeps : (b : Bool) (p : List ℕ) (s : State) → Keeps s (cond b (record s { seen = with_path s.seen p }) s)
-content_keeps true p s q h = with_keeps s.seen p q h
+content_keeps true p s q h = front_more (holds s.seen q) (holds (with_path s.seen p) q) (holds s.wrote q) (with_keeps s.seen p q) h
 content_keeps false p s q h = h
 
 noted_keeps : (q : Question) (s : State) → Keeps s (noted q s)
 noted_keeps (Observe o p) s = content_keeps (is_content o) p s
-noted_keeps (Write p bs) s = λ q h. h
+noted_keeps (Write p bs) s = λ q h. either_more (holds s.seen q) (holds s.wrote q) (holds (with_path s.wrote p) q) (with_keeps s.wrote p q) h
 noted_keeps (Require t how) s = λ q h. h
 
-by_saw : (p : List ℕ) (o : Answered) (t : State) → holds t.seen p ≡ true → Saw p (by_answer o t)
-by_saw p (Ok v) t h = h
-by_saw p (Err k) t h = tt
+by_did : (p : List ℕ) (o : Answered) (t : State) → touched t p ≡ true → Did p (by_answer o t)
+by_did p (Ok v) t h = h
+by_did p (Err k) t h = tt
 
-seen_new : (p q : List ℕ) (s : State) → p ≡ q → holds (with_path s.seen p) q ≡ true
-seen_new p q s e = subst (λ (x : List ℕ). holds (with_path s.seen p) x ≡ true) e (with_new s.seen p)
+path_new : (paths : List (List ℕ)) (p q : List ℕ) → p ≡ q → holds (with_path paths p) q ≡ true
+path_new paths p q e = subst (λ (x : List ℕ). holds (with_path paths p) x ≡ true) e (with_new paths p)
 
--- what a question looks at is noted
-saw_looked : (q : Question) (s : State) (p : List ℕ) → Looks p (event_of q) → holds (noted q s).seen p ≡ true
-saw_looked (Observe Exists r) s p l = seen_new r p s l
-saw_looked (Observe (Read Hash) r) s p l = seen_new r p s l
-saw_looked (Observe (Read Mark) r) s p l = seen_new r p s l
-saw_looked (Observe (Read Raw) r) s p l = seen_new r p s l
-saw_looked (Observe Digest r) s p l = seen_new r p s l
-saw_looked (Observe Listing r) s p l = absurd l
-saw_looked (Write r bs) s p l = absurd l
-saw_looked (Require t how) s p l = absurd l
+seen_new : (p q : List ℕ) (s : State) → p ≡ q → (holds (with_path s.seen p) q || holds s.wrote q) ≡ true
+seen_new p q s e = either_left (holds (with_path s.seen p) q) (holds s.wrote q) (path_new s.seen p q e)
+
+-- what a question looks at or writes is noted
+did_touch : (q : Question) (s : State) (p : List ℕ) → Touches p (event_of q) → touched (noted q s) p ≡ true
+did_touch (Observe Exists r) s p l = seen_new r p s l
+did_touch (Observe (Read Hash) r) s p l = seen_new r p s l
+did_touch (Observe (Read Mark) r) s p l = seen_new r p s l
+did_touch (Observe (Read Raw) r) s p l = seen_new r p s l
+did_touch (Observe Digest r) s p l = seen_new r p s l
+did_touch (Observe Listing r) s p l = absurd l
+did_touch (Write r bs) s p l = either_right (holds s.seen p) (holds (with_path s.wrote r) p) (path_new s.wrote r p l)
+did_touch (Require t how) s p l = absurd l
 
 -- ---- questions
 
@@ -111,27 +126,27 @@ answered_stays q s a rest (Ok v) e = (
 )
 answered_stays q s a rest (Err k) e = tt
 
-asked_stays : (q : Question) (s : State) → Unwritten (event_of q) s → (xs : List Answer)
+asked_stays : (q : Question) (s : State) → Untouched (event_of q) s → (xs : List Answer)
     → Stays (asked q) (with_answers s xs) (asked q (with_answers s xs))
 asked_stays q s un [] = (
-  unwritten_with q s un,
+  untouched_with q s un,
   λ p h. h,
-  λ p a rest l. by_saw p (taken q a) (noted q (with_answers s rest)) (saw_looked q (with_answers s rest) p l),
+  λ p a rest l. by_did p (taken q a) (noted q (with_answers s rest)) (did_touch q (with_answers s rest) p l),
 )
   where
-    unwritten_with : (q : Question) (s : State) → Unwritten (event_of q) s → Unwritten (event_of q) (with_answers s [])
-    unwritten_with (Observe Exists r) s h = tt
-    unwritten_with (Observe (Read Hash) r) s h = tt
-    unwritten_with (Observe (Read Mark) r) s h = tt
-    unwritten_with (Observe (Read Raw) r) s h = tt
-    unwritten_with (Observe Digest r) s h = tt
-    unwritten_with (Observe Listing r) s h = tt
-    unwritten_with (Write r bs) s h = h
-    unwritten_with (Require t how) s h = tt
+    untouched_with : (q : Question) (s : State) → Untouched (event_of q) s → Untouched (event_of q) (with_answers s [])
+    untouched_with (Observe Exists r) s h = tt
+    untouched_with (Observe (Read Hash) r) s h = tt
+    untouched_with (Observe (Read Mark) r) s h = tt
+    untouched_with (Observe (Read Raw) r) s h = tt
+    untouched_with (Observe Digest r) s h = tt
+    untouched_with (Observe Listing r) s h = tt
+    untouched_with (Write r bs) s h = h
+    untouched_with (Require t how) s h = tt
 asked_stays q s un (a ∷ rest) = answered_stays q s a rest (taken q a) refl
 
--- a question whose event writes nothing that was observed
-pub asked_from : (q : Question) (s : State) → Unwritten (event_of q) s → Stays (asked q) s (asked q s)
+-- a question whose event writes nothing that was touched
+pub asked_from : (q : Question) (s : State) → Untouched (event_of q) s → Stays (asked q) s (asked q s)
 asked_from q s un = asked_stays q s un s.answers
 
 observe_asks : (o : Observation) (p : List ℕ) → Polite (asked (Observe o p))
@@ -176,7 +191,7 @@ write_by p bs s true false false e f g =
     (λ rest. ap (λ (b : Bool). tested p bs b (holds s.wrote p) (holds s.seen p) (with_more s rest)) e
     ∙ ap (λ (b : Bool). tested p bs true b (holds s.seen p) (with_more s rest)) f
     ∙ ap (λ (b : Bool). tested p bs true false b (with_more s rest)) g)
-    (asked (Write p bs) s) (asked_from (Write p bs) s g)
+    (asked (Write p bs) s) (asked_from (Write p bs) s (neither (holds s.seen p) (holds s.wrote p) g f))
 
 bytes_polite : (p bs : List ℕ) → Polite (write_bytes p bs)
 bytes_polite p bs s = write_by p bs s (is_out p) (holds s.wrote p) (holds s.seen p) refl refl refl

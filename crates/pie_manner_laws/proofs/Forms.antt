@@ -1,5 +1,5 @@
--- Running with more answers behind goes the same way, and looks at what it would have asked for.
-use Rattle.std.proofs.Common.{◌≡◌, ℕ, ◌+◌, Bool, true, false, cond, List, ◌∷◌, ◌++◌, refl, ap, sym, ◌∙◌, subst}
+-- Running with more answers behind goes the same way, and looks at or writes what it would have asked for.
+use Rattle.std.proofs.Common.{◌≡◌, ℕ, ◌+◌, Bool, true, false, cond, ◌||◌, List, ◌∷◌, ◌++◌, refl, ap, sym, ◌∙◌, subst}
 use Rattle.std.specs.Prelude.{nat_lt, Ok, Err}
 use Rattle.pie_base.specs.declared.fault.FaultKind.{FaultKind}
 use Rattle.pie_base.specs.declared.fault.FaultKind.TheVariants.{Budget}
@@ -14,34 +14,39 @@ use Rattle.pie_operators.specs.Domain.{Outcome, done, fails, wants, State, Act, 
 abbrev pub with_more : State → List Answer → State
 with_more s rest = record s { answers = s.answers ++ rest }
 
--- an event looks at a path
-abbrev pub Looks : List ℕ → Event → Type 0
-Looks p (events.Exists q) = q ≡ p
-Looks p (events.Read q by) = q ≡ p
-Looks p (events.Digest q) = q ≡ p
-Looks p e = ⊥
+-- an event touches a path: it looks at it or writes it
+abbrev pub Touches : List ℕ → Event → Type 0
+Touches p (events.Exists q) = q ≡ p
+Touches p (events.Read q by) = q ≡ p
+Touches p (events.Digest q) = q ≡ p
+Touches p (events.Write q bs) = q ≡ p
+Touches p e = ⊥
 
--- what an event writes has not been observed
-abbrev pub Unwritten : Event → State → Type 0
-Unwritten (events.Write p bs) s = holds s.seen p ≡ false
-Unwritten e s = Unit {0}
+-- a path has been touched: observed or written
+abbrev pub touched : State → List ℕ → Bool
+touched s p = holds s.seen p || holds s.wrote p
 
--- where running goes on, it has observed the path
-abbrev pub Saw : {A : Type 0} → List ℕ → Outcome A × State → Type 0
-Saw p (done v, t) = holds t.seen p ≡ true
-Saw p (fails k, t) = Unit {0}
-Saw p (wants e, t) = holds t.seen p ≡ true
+-- what an event writes has not been touched
+abbrev pub Untouched : Event → State → Type 0
+Untouched (events.Write p bs) s = touched s p ≡ false
+Untouched e s = Unit {0}
 
--- what has been observed stays observed
+-- where running goes on, it has touched the path
+abbrev pub Did : {A : Type 0} → List ℕ → Outcome A × State → Type 0
+Did p (done v, t) = touched t p ≡ true
+Did p (fails k, t) = Unit {0}
+Did p (wants e, t) = touched t p ≡ true
+
+-- what has been touched stays so
 abbrev pub Keeps : State → State → Type 0
-Keeps s t = (p : List ℕ) → holds s.seen p ≡ true → holds t.seen p ≡ true
+Keeps s t = (p : List ℕ) → touched s p ≡ true → touched t p ≡ true
 
--- more answers behind change nothing of a value; and with an answer behind, what was asked for is observed
+-- more answers behind change nothing of a value; and with an answer behind, what was asked for has been touched
 abbrev pub Stays : {A : Type 0} → Act A → State → Outcome A × State → Type 0
 Stays m s (done v, t) = Keeps s t × ((rest : List Answer) → m (with_more s rest) ≡ (done v, with_more t rest))
 Stays m s (fails k, t) = Unit {0}
 Stays m s (wants e, t) =
-    Unwritten e t × Keeps s t × ((p : List ℕ) (a : Answer) (rest : List Answer) → Looks p e → Saw p (m (with_more s (a ∷ rest))))
+    Untouched e t × Keeps s t × ((p : List ℕ) (a : Answer) (rest : List Answer) → Touches p e → Did p (m (with_more s (a ∷ rest))))
 
 -- running that stays so from each state
 abbrev pub Polite : {A : Type 0} → Act A → Type 0
@@ -53,7 +58,7 @@ pub moved : {A : Type 0} (m x : Act A) (s t : State) → Keeps s t → ((rest : 
 moved m x s t k same (done v, u) h = (λ p i. h.0 p (k p i), λ rest. same rest ∙ h.1 rest)
 moved m x s t k same (fails f, u) h = tt
 moved {A} m x s t k same (wants e, u) h =
-    (h.0, λ p i. h.1 p (k p i), λ p a rest l. subst (λ (o : Outcome A × State). Saw p o) (sym (same (a ∷ rest))) (h.2 p a rest l))
+    (h.0, λ p i. h.1 p (k p i), λ p a rest l. subst (λ (o : Outcome A × State). Did p o) (sym (same (a ∷ rest))) (h.2 p a rest l))
 
 -- a value and nothing else
 pub give_polite : {A : Type 0} (v : A) → Polite (give v)
@@ -63,22 +68,22 @@ give_polite v s = (λ p h. h, λ rest. refl)
 pub fault_polite : (k : FaultKind) → Polite {A = Tree} (fault k)
 fault_polite k s = tt
 
-saw_on : {A : Type 0} (p : List ℕ) (m : Act A) (t : State) (o : Outcome A × State) → Stays m t o → holds t.seen p ≡ true → Saw p o
-saw_on p m t (done v, u) h i = h.0 p i
-saw_on p m t (fails k, u) h i = tt
-saw_on p m t (wants e, u) h i = h.1 p i
+did_on : {A : Type 0} (p : List ℕ) (m : Act A) (t : State) (o : Outcome A × State) → Stays m t o → touched t p ≡ true → Did p o
+did_on p m t (done v, u) h i = h.0 p i
+did_on p m t (fails k, u) h i = tt
+did_on p m t (wants e, u) h i = h.1 p i
 
-saw_then : {A B : Type 0} (p : List ℕ) (go : A → Act B) → ((v : A) → Polite (go v)) → (o : Outcome A × State) → Saw p o → Saw p (pass o go)
-saw_then p go more (done v, t) h = saw_on p (go v) t (go v t) (more v t) h
-saw_then p go more (fails k, t) h = tt
-saw_then p go more (wants e, t) h = h
+did_then : {A B : Type 0} (p : List ℕ) (go : A → Act B) → ((v : A) → Polite (go v)) → (o : Outcome A × State) → Did p o → Did p (pass o go)
+did_then p go more (done v, t) h = did_on p (go v) t (go v t) (more v t) h
+did_then p go more (fails k, t) h = tt
+did_then p go more (wants e, t) h = h
 
 then_stays : {A B : Type 0} (m : Act A) (go : A → Act B) → ((v : A) → Polite (go v)) → (s : State) (o : Outcome A × State) → Stays m s o
     → Stays (then_do m go) s (pass o go)
 then_stays {A} m go more s (done v, t) h =
     moved (then_do m go) (go v) s t h.0 (λ rest. ap (λ (o : Outcome A × State). pass o go) (h.1 rest)) (go v t) (more v t)
 then_stays m go more s (fails k, t) h = tt
-then_stays m go more s (wants e, t) h = (h.0, h.1, λ p a rest l. saw_then p go more (m (with_more s (a ∷ rest))) (h.2 p a rest l))
+then_stays m go more s (wants e, t) h = (h.0, h.1, λ p a rest l. did_then p go more (m (with_more s (a ∷ rest))) (h.2 p a rest l))
 
 -- one thing after another
 pub then_polite : {A B : Type 0} (m : Act A) (go : A → Act B) → Polite m → ((v : A) → Polite (go v)) → Polite (then_do m go)

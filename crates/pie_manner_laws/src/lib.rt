@@ -3,4 +3,4 @@
 
 mod laws;
 
-pub use laws::{listings_differ, tasks_have_manners};
+pub use laws::{listings_differ, tasks_have_manners, tasks_write_once};
