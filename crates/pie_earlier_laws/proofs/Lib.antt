@@ -9,3 +9,5 @@ pub mod Writing
 pub mod Leaving
 pub mod Edging
 pub mod Reasons
+pub mod Entries
+pub mod Pipelines

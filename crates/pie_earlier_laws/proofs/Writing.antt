@@ -21,7 +21,8 @@ use Rattle.pie_model.specs.Records.{hashed}
 use Rattle.pie_model.proofs.Basics.{clash, among_here, among_left, among_right, same_bytes, bytes_same}
 use Rattle.pie_model.proofs.LooksLemmas.{first_write-hashed}
 use Rattle.pie_step_laws.proofs.Tables.{none_some}
-use Rattle.pie_earlier_laws.specs.Left.{path_written, written_paths, NeverWritesTwice, WritesUnderOut}
+use Rattle.pie_manner_laws.specs.Writes.{path_written, written_paths, NeverWritesTwice}
+use Rattle.pie_earlier_laws.specs.Left.{WritesUnderOut}
 use Rattle.pie_earlier_laws.proofs.Events.{EachEvent, events_of}
 
 -- ---- the paths that were written

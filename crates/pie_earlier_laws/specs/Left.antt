@@ -6,7 +6,7 @@ use Rattle.pie_model.specs.declared.words.Kind.TheVariants.{Out, Source}
 use Rattle.pie_model.specs.Tasks.{Task}
 use Rattle.pie_model.specs.declared.words.Answer.{Answer}
 use Rattle.pie_model.specs.declared.words.Event.{Event}
-use Rattle.pie_model.specs.declared.words.Event.TheVariants.{Done, Fail, LookAt, ListOf, Write, Require}
+use Rattle.pie_model.specs.declared.words.Event.TheVariants.{Write}
 use Rattle.pie_model.specs.Evaluation.{World, Project}
 use Rattle.pie_model.specs.Records.{Record}
 use Rattle.pie_model.specs.Forest.{live_evaluations}
@@ -15,6 +15,7 @@ use Rattle.pie_model.specs.declared.words.Verdict.TheVariants.{Accepted}
 use Rattle.pie_model.specs.Built.{Directory, bytes_at, provided_at, store_rows, IsBuilt}
 use Rattle.pie_model.specs.inner.Changes.{NamesAllChanges}
 use Rattle.pie_model.specs.inner.Reasons.{WriteIsMissing}
+use Rattle.pie_manner_laws.specs.Writes.{NeverWritesTwice}
 use Rattle.pie_earlier_laws.specs.Rows.{record_among}
 
 -- the model accepts this project with these roots, and its build left this directory: the sources that it was built of, and under `out` exactly
@@ -25,25 +26,6 @@ pub record IsEarlierBuild (w : World) (old : Project) (old_roots : List Task) (l
   pub provided : (p : Path) → kind_of p ≡ Out → bytes_at left p ≡ provided_at (live_evaluations w old old_roots) p
 
 -- ---- what tasks write
-
--- the path that an event writes
-abbrev pub path_written : Event → List Path
-path_written (Done v) = []
-path_written (Fail k) = []
-path_written (LookAt l p) = []
-path_written (ListOf d) = []
-path_written (Write p b) = p ∷ []
-path_written (Require h u) = []
-
--- the paths that a task wrote while it was given these further answers
-abbrev pub written_paths : (List Answer → Event) → List Answer → List Answer → List Path
-written_paths next fed [] = []
-written_paths next fed (a ∷ rest) = path_written (next fed) ++ written_paths next (fed ++ a ∷ []) rest
-
--- a task never writes a path twice
-abbrev pub NeverWritesTwice : (List Answer → Event) → Type 0
-NeverWritesTwice next =
-    (answers : List Answer) (p : Path) (b : List ℕ) → next answers ≡ Write p b → among p (written_paths next [] answers) ≡ true → ⊥
 
 -- a task writes under `out` alone
 abbrev pub WritesUnderOut : (List Answer → Event) → Type 0

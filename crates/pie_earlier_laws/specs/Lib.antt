@@ -6,3 +6,4 @@ pub mod Begins
 pub mod Left
 pub mod Edges
 pub mod Whys
+pub mod Directories
