@@ -1,18 +1,24 @@
 -- The pipeline of an earlier accepted build, the directory that it left, and the directory now.
-use Rattle.std.specs.Prelude.{ℕ, ◌≡◌, true, Some, List, Contains}
-use Rattle.std.specs.FinMap as fin
+use Rattle.std.specs.Prelude.{ℕ, ◌≤◌, ◌≡◌, Bool, true, Option, Some, List, length, Contains}
 use Rattle.pie_base.specs.Path.{is_out, is_source}
 use Rattle.pie_parser.specs.FunctionTrees.{FunctionTree}
 use Rattle.pie_files.specs.Directory.{Directory, file_at}
-use Rattle.pie_model.specs.Paths.{Path, kind_of}
-use Rattle.pie_model.specs.declared.words.Kind.TheVariants.{Source}
+use Rattle.pie_model.specs.Paths.{Path, among}
+use Rattle.pie_model.specs.Tasks.{Task}
+use Rattle.pie_model.specs.Records.{Record}
 use Rattle.pie_model.specs.Verdict.{verdict}
 use Rattle.pie_model.specs.declared.words.Verdict.TheVariants.{Accepted}
-use Rattle.pie_model.specs.Built.{bytes_at}
-use Rattle.pie_model.specs.inner.Changes.{NamesAllChanges}
-use Rattle.pie_model_pipeline.specs.World.{world, project}
+use Rattle.pie_model.specs.Built.{bytes_at, store_rows}
+use Rattle.pie_model.specs.inner.StampNow.{Told}
+use Rattle.pie_model.specs.inner.Changes.{NamesAllChanges, IsMet}
+use Rattle.pie_model.specs.inner.Consistent.{IsConsistent}
+use Rattle.pie_model.specs.inner.CoreLaws.{TellsRight}
+use Rattle.pie_model.specs.inner.RecordLaws.{Passes}
+use Rattle.pie_model_pipeline.specs.World.{world, next, project}
 use Rattle.pie_model_pipeline.specs.Clean.{AreProvided}
-use Rattle.pie_earlier_laws.specs.Sources.{SourcesAgree}
+use Rattle.pie_earlier_laws.specs.Rows.{record_among}
+use Rattle.pie_earlier_laws.specs.Sources.{SourcesAgree, AreTested}
+use Rattle.pie_earlier_laws.specs.Telling.{GoLower}
 use Rattle.pie_earlier_laws.specs.Left.{IsEarlierBuild, WriteOnce}
 use Rattle.pie_earlier_laws.specs.Begins.{HasManners}
 
@@ -36,3 +42,17 @@ UnnamedSourcesAgree =
     (fs gs : List FunctionTree) (built left now : Directory) (roots : List (List ℕ)) (changes : List Path)
     → IsEarlierBuild world (project fs built) roots left → NamesAllChanges left now changes
     → SourcesAgree (project fs built) (project gs now) changes
+
+-- so the records of an earlier build are consistent at the beginning of the next one, whatever ranks they have, where each task is busy whose function
+-- means something else now or whose stamp of a named source differs
+abbrev pub EarlierPipelinesBegin : Type 0
+EarlierPipelinesBegin =
+    (fs gs : List FunctionTree) (built left now : Directory) (old_roots roots : List Task) (besides : List (List ℕ)) (changes : List Path)
+    (R : Task → Option Record) (told : List Task → Path → Told) (held : List Task) (rank : Task → ℕ) (busy : Task → Bool)
+    → IsEarlierBuild world (project fs built) old_roots left → NamesAllChanges left now changes
+    → ((t : Task) → R t ≡ record_among (store_rows world (project fs built) old_roots) t) → GoLower R rank → TellsRight R told
+    → length held ≤ world.most_tasks → ((t : Task) (r : Record) → R t ≡ Some r → among t held ≡ true)
+    → ((t : Task) (r : Record) → R t ≡ Some r → (Passes busy t → ⊥)
+    → (next fs t ≡ next gs t) × AreTested world (project gs now) changes r.observations)
+    → IsConsistent world (project fs built) (project gs now) (IsMet world (project fs built) (project gs now) old_roots roots besides) R told held rank
+    (Passes busy)
