@@ -11,3 +11,4 @@ pub mod Edging
 pub mod Reasons
 pub mod Entries
 pub mod Pipelines
+pub mod Telltale

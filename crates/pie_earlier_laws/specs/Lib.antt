@@ -7,3 +7,4 @@ pub mod Left
 pub mod Edges
 pub mod Whys
 pub mod Directories
+pub mod Told

@@ -9,6 +9,7 @@ mod met;
 mod rows;
 mod sources;
 mod telling;
+mod told;
 mod whys;
 
 pub use begins::earlier_records_begin;
@@ -19,4 +20,5 @@ pub use met::what_stands_is_met;
 pub use rows::old_rows_are_right;
 pub use sources::named_stamps_decide;
 pub use telling::ranked_records_tell;
+pub use told::records_tell_rows;
 pub use whys::reasons_are_by_evaluation;
