@@ -12,3 +12,4 @@ pub mod Reasons
 pub mod Entries
 pub mod Pipelines
 pub mod Telltale
+pub mod SameFunctions

@@ -1,5 +1,5 @@
 -- What holds of every pipeline, over directories.
-use Rattle.std.proofs.Common.{ℕ, ◌≡◌, ◌&&◌, ◌||◌, Bool, true, false, not, cond, Option, Some, None, List, [], ◌∷◌, ◌++◌, map, Ok, Err, ◌⊎◌, inl, inr, sym, ◌∙◌, ap}
+use Rattle.std.proofs.Common.{ℕ, ◌≡◌, ◌||◌, Bool, true, false, cond, Option, Some, None, List, [], ◌∷◌, ◌++◌, map, Ok, Err, ◌⊎◌, inl, inr, sym, ◌∙◌, ap}
 use Rattle.std.proofs.Common.{subst, refl, Contains, option_map, bytes_eq, codes, eqb}
 use Rattle.std.specs.Prelude.{is_some, ◌==◌}
 use Rattle.std.specs.List.{list_any}
@@ -208,7 +208,8 @@ pipeline_left fs built left roots files accepted same stands provides = record {
 }
   where
     either : (p : Path) → kind_of p ≡ Out → (o : Option (List ℕ)) → bytes_at left p ≡ o → (u : Option (List ℕ))
-        → provided_at (live_evaluations world (project fs built) roots) p ≡ u → bytes_at left p ≡ provided_at (live_evaluations world (project fs built) roots) p
+        → provided_at (live_evaluations world (project fs built) roots) p ≡ u
+        → bytes_at left p ≡ provided_at (live_evaluations world (project fs built) roots) p
     either p k (Some b) e u f = e ∙ sym ((provides p b).0 ((stands p b (kind_out p k)).0 e))
     either p k None e (Some b) f = (stands p b (kind_out p k)).1 ((provides p b).1 f) ∙ sym f
     either p k None e None f = e ∙ sym f

@@ -21,7 +21,8 @@ use Rattle.pie_record.specs.declared.task_record.Outcome.{Outcome}
 use Rattle.pie_record.specs.declared.task_record.Outcome.TheVariants.{Done, Failed, Cycled}
 use Rattle.pie_record.specs.declared.task_record.TaskRecord.{TaskRecord}
 use Rattle.pie_record.specs.Kinds.{tag_of, allows}
-use Rattle.pie_record.specs.Canonical.{IsStorableOn, IsStorableStamp, IsStorableDep, IsStorableOutcome, IsTrueTask, IsTrueOn, IsTrueStamp, IsTrueDep, IsTrueOutcome}
+use Rattle.pie_record.specs.Canonical.{IsStorableOn, IsStorableStamp, IsStorableDep, IsStorableOutcome}
+use Rattle.pie_record.specs.Canonical.{IsTrueTask, IsTrueOn, IsTrueStamp, IsTrueDep, IsTrueOutcome}
 use Rattle.pie_model.specs.declared.words.Look.TheVariants as looks
 use Rattle.pie_model.specs.declared.words.How.{How as ModelHow}
 use Rattle.pie_model.specs.declared.words.How.TheVariants as hows

@@ -8,3 +8,4 @@ pub mod Edges
 pub mod Whys
 pub mod Directories
 pub mod Told
+pub mod Functions

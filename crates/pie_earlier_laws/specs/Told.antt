@@ -13,6 +13,6 @@ pub record IsRow (r : TaskRecord) : Type 0 where
 abbrev pub RecordsTellRows : Type 0
 RecordsTellRows = (r s : TaskRecord) → IsRow r → IsRow s → record_of r ≡ record_of s → r ≡ s
 
--- and so are lists of such rows: what the model says of a store decides its rows, and with its functions and roots its text
+-- and so are lists of such rows: what the model says of a store decides its rows
 abbrev pub StoresTellRows : Type 0
 StoresTellRows = (rows others : List TaskRecord) → All IsRow rows → All IsRow others → map record_of rows ≡ map record_of others → rows ≡ others
