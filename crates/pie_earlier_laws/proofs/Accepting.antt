@@ -1,17 +1,16 @@
 -- Of an accepted build: all roots ended with values, and the entered tasks with their records are a table.
-use Rattle.std.proofs.Common.{ℕ, ◌≤◌, ◌-◌, ◌≡◌, Bool, true, false, cond, Option, Some, None, List, [], ◌∷◌, map, length, ◌⊎◌, inl, inr, sym, ◌∙◌, ap, subst}
+use Rattle.std.proofs.Common.{◌≤◌, ◌-◌, ◌≡◌, Bool, true, false, cond, Option, Some, None, List, [], ◌∷◌, map, length, ◌⊎◌, inl, inr, sym, ◌∙◌, ap, subst}
 use Rattle.std.proofs.Common.{leb, refl, arith, leb-true}
 use Rattle.pie_model.specs.Paths.{among}
 use Rattle.pie_model.specs.Tasks.{Task}
-use Rattle.pie_model.specs.Trees.{Node, node, Trace, ends, looks, lists, writes, needs, outcome_of, trace_of, task_of, is_done, HasTask, StandsIn, StandsBelow}
-use Rattle.pie_model.specs.Trees.{required_by}
+use Rattle.pie_model.specs.Trees.{Node, node, Trace, ends, looks, lists, writes, needs, outcome_of, trace_of, is_done, HasTask, StandsIn, StandsBelow}
 use Rattle.pie_model.specs.declared.words.Outcome.{Outcome}
 use Rattle.pie_model.specs.declared.words.Outcome.TheVariants.{Ended, Failed, Cycled, Many}
 use Rattle.pie_model.specs.Evaluation.{World, Project, evaluation}
 use Rattle.pie_model.specs.Records.{Record, record_of, needs_of}
 use Rattle.pie_model.specs.Running.{IsDistinct, entered_all}
 use Rattle.pie_model.specs.Forest.{only_if, forest, entered_tasks, live_evaluations, unless_done, first_stop}
-use Rattle.pie_model.specs.Verdict.{by_stop, final_checks, verdict}
+use Rattle.pie_model.specs.Verdict.{by_stop, verdict}
 use Rattle.pie_model.specs.declared.words.Verdict.{Verdict}
 use Rattle.pie_model.specs.declared.words.Verdict.TheVariants as said
 use Rattle.pie_model.specs.inner.Consistent.{IsRecorded}
@@ -20,7 +19,6 @@ use Rattle.pie_model.proofs.Kids.{required_kid}
 use Rattle.pie_model.proofs.Rooms.{IsOwn, Standing, standing, has_task, node_alone}
 use Rattle.pie_model.proofs.LooksLemmas.{some_same}
 use Rattle.pie_model.proofs.Ways.{kids_own, below_in, needs_of-observations, task_of-evaluation}
-use Rattle.pie_step_laws.specs.Table.{IsTable, Rests}
 use Rattle.pie_step_laws.specs.Roots.{Between}
 use Rattle.pie_step_laws.proofs.Tables.{done_plain, none_some}
 use Rattle.pie_settle_laws.proofs.Entering.{all_distinct, StandsUnder, all_split, all_have, all_done}

@@ -1,25 +1,25 @@
 -- The records of an earlier accepted build begin consistent.
-use Rattle.std.proofs.Common.{ℕ, ◌≤◌, ◌≡◌, Bool, true, false, Option, Some, List, [], ◌∷◌, map, length, ◌⊎◌, inl, inr, sym, ◌∙◌, ap, subst, refl}
+use Rattle.std.proofs.Common.{ℕ, ◌≤◌, ◌≡◌, true, false, Option, Some, List, [], ◌∷◌, map, length, ◌⊎◌, inl, inr, sym, subst, refl}
 use Rattle.pie_model.specs.Paths.{Path, among}
 use Rattle.pie_model.specs.Tasks.{Task}
 use Rattle.pie_model.specs.Trees.{Node, trace_of, StandsIn}
 use Rattle.pie_model.specs.Evaluation.{World, Project, evaluation}
-use Rattle.pie_model.specs.Records.{Record, record_of, needs_of}
-use Rattle.pie_model.specs.Forest.{forest, entered_tasks}
+use Rattle.pie_model.specs.Records.{Record}
+use Rattle.pie_model.specs.Forest.{entered_tasks}
 use Rattle.pie_model.specs.Verdict.{verdict}
 use Rattle.pie_model.specs.declared.words.Verdict.TheVariants.{Accepted}
 use Rattle.pie_model.specs.Built.{store_rows}
 use Rattle.pie_model.specs.inner.StampNow.{Told}
 use Rattle.pie_model.specs.inner.Separate.{AllMet}
 use Rattle.pie_model.specs.inner.Changes.{IsMet}
-use Rattle.pie_model.specs.inner.Consistent.{IsRecorded, IsConsistent}
+use Rattle.pie_model.specs.inner.Consistent.{IsConsistent}
 use Rattle.pie_model.specs.inner.CoreLaws.{TellsRight}
 use Rattle.pie_model.specs.inner.Still.{SourcesStill, WasDone}
 use Rattle.pie_model.proofs.Basics.{clash, among_split}
 use Rattle.pie_model.proofs.Ways.{stands_itself}
 use Rattle.pie_model.proofs.BeginLemmas.{begins_consistent}
 use Rattle.pie_earlier_laws.specs.Met.{StandsAmong}
-use Rattle.pie_earlier_laws.specs.Rows.{record_among, IsOldRow}
+use Rattle.pie_earlier_laws.specs.Rows.{record_among}
 use Rattle.pie_earlier_laws.specs.Sources.{SourcesAgree, AreTested}
 use Rattle.pie_earlier_laws.specs.Telling.{GoLower}
 use Rattle.pie_earlier_laws.specs.Begins.{HasManners}

@@ -1,5 +1,5 @@
 -- Requires that are union edges, and paths that are observed.
-use Rattle.std.proofs.Common.{ℕ, suc, ◌-◌, ◌≡◌, true, Option, None, Some, List, [], ◌∷◌, ◌++◌, length, ◌⊎◌, inl, inr, sym, ◌∙◌, ap, subst, refl, arith}
+use Rattle.std.proofs.Common.{ℕ, suc, ◌≡◌, true, Option, None, Some, List, [], ◌∷◌, ◌++◌, ◌⊎◌, inl, inr, sym, ◌∙◌, ap, subst, refl}
 use Rattle.pie_model.specs.Paths.{Path, among}
 use Rattle.pie_model.specs.Tasks.{Task}
 use Rattle.pie_model.specs.declared.words.Look.{Look}
@@ -8,11 +8,11 @@ use Rattle.pie_model.specs.declared.words.Event.{Event}
 use Rattle.pie_model.specs.declared.words.Event.TheVariants.{LookAt, ListOf, Require}
 use Rattle.pie_model.specs.declared.words.Seen.{Seen}
 use Rattle.pie_model.specs.declared.words.Seen.TheVariants.{Nothing, Holds, Clashing}
-use Rattle.pie_model.specs.Trees.{Trace, ends, looks, lists, writes, needs, trace_of, required_by, outcome_of}
+use Rattle.pie_model.specs.Trees.{Trace, ends, looks, lists, writes, needs, trace_of, required_by}
 use Rattle.pie_model.specs.Seen.{visible_at}
-use Rattle.pie_model.specs.Evaluation.{World, Project, Progress, listing, on_seen, on_listing, on_outcome, on_event, evaluation_with, evaluation}
-use Rattle.pie_model.specs.Records.{Record, Query, Looked, Listed, Required, Observation, observed, observations_of, needs_of}
-use Rattle.pie_model.specs.Running.{IsRunning, rest_of_run}
+use Rattle.pie_model.specs.Evaluation.{World, Project, listing, on_seen, on_listing, on_event, evaluation_with, evaluation}
+use Rattle.pie_model.specs.Records.{Record, Query, Looked, Listed, Required, Observation, observations_of, needs_of}
+use Rattle.pie_model.specs.Running.{rest_of_run}
 use Rattle.pie_model.specs.inner.RecordLaws.{HasItsRecord}
 use Rattle.pie_model.specs.inner.Stack.{Frame}
 use Rattle.pie_model.specs.inner.Changes.{IsUnionEdge}

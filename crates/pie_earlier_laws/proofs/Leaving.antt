@@ -1,30 +1,29 @@
 -- What an accepted build wrote stands where it was left, and what is not named is as it was left.
-use Rattle.std.proofs.Common.{ℕ, ◌≡◌, ◌⊎◌, inl, inr, Bool, true, false, cond, Option, Some, None, option_map, List, [], ◌∷◌, ◌++◌, sym, ◌∙◌, ap, subst, refl}
+use Rattle.std.proofs.Common.{ℕ, ◌≡◌, inl, inr, Bool, true, false, cond, Option, Some, None, option_map, List, [], ◌∷◌, ◌++◌, sym, ◌∙◌, ap, subst, refl}
 use Rattle.std.proofs.Common.{bytes_eq, codes, eqb}
 use Rattle.std.specs.FinMap as fin
 use Rattle.pie_model.specs.Paths.{Path, among, kind_of, kind_by, below_out, kept_names, segments, longer_first, first_segment}
-use Rattle.pie_model.specs.declared.words.Kind.{Kind}
 use Rattle.pie_model.specs.declared.words.Kind.TheVariants.{Out, Kept, Source}
 use Rattle.pie_model.specs.Tasks.{Task}
 use Rattle.pie_model.specs.Trees.{trace_of, writes_of}
 use Rattle.pie_model.specs.Seen.{first_write}
 use Rattle.pie_model.specs.Evaluation.{World, Project, evaluation}
-use Rattle.pie_model.specs.Records.{Record, record_of, hashed}
+use Rattle.pie_model.specs.Records.{Record, hashed}
 use Rattle.pie_model.specs.Forest.{entered_tasks, live_evaluations}
 use Rattle.pie_model.specs.Verdict.{verdict}
 use Rattle.pie_model.specs.declared.words.Verdict.TheVariants.{Accepted}
-use Rattle.pie_model.specs.Built.{Directory, bytes_at, provided_at, store_rows, built_by, IsBuilt}
+use Rattle.pie_model.specs.Built.{Directory, store_rows, built_by, IsBuilt}
 use Rattle.pie_model.specs.inner.Changes.{NamesAllChanges}
 use Rattle.pie_model.specs.inner.Reasons.{WriteIsMissing}
-use Rattle.pie_model.proofs.Basics.{clash, cases, among_left, among_right, same_bytes, bytes_same}
+use Rattle.pie_model.proofs.Basics.{clash, among_left, among_right}
 use Rattle.pie_model.proofs.LooksLemmas.{first_write-hashed, some_same}
 use Rattle.pie_step_laws.proofs.Tables.{none_some}
 use Rattle.pie_step_laws.proofs.FileLemmas.{written_provided}
-use Rattle.pie_earlier_laws.specs.Rows.{record_among, IsOldRow}
+use Rattle.pie_earlier_laws.specs.Rows.{record_among}
 use Rattle.pie_earlier_laws.specs.Left.{IsEarlierBuild, WriteOnce, IsThere, AreThere, NamedAreThere, AgreeButKept}
 use Rattle.pie_earlier_laws.proofs.Accepting.{all_between, live_record}
 use Rattle.pie_earlier_laws.proofs.OldRows.{old_row}
-use Rattle.pie_earlier_laws.proofs.Writing.{Once, AreFirst, AreOut, evaluation_once, hashed_once, once_first, evaluation_out}
+use Rattle.pie_earlier_laws.proofs.Writing.{AreFirst, AreOut, evaluation_once, hashed_once, once_first, evaluation_out}
 
 -- ---- what was written
 

@@ -1,9 +1,8 @@
 -- What holds of every pipeline, over directories.
 use Rattle.std.proofs.Common.{ℕ, ◌≡◌, ◌||◌, Bool, true, false, cond, Option, Some, None, List, [], ◌∷◌, ◌++◌, map, Ok, Err, ◌⊎◌, inl, inr, sym, ◌∙◌, ap}
-use Rattle.std.proofs.Common.{subst, refl, Contains, option_map, bytes_eq, codes, eqb}
+use Rattle.std.proofs.Common.{subst, refl, Contains, bytes_eq, codes, eqb}
 use Rattle.std.specs.Prelude.{is_some, ◌==◌}
 use Rattle.std.specs.List.{list_any}
-use Rattle.std.specs.FinMap as fin
 use Rattle.std.proofs.lemmas.Bool.Decides.{Decides-eqb}
 use Rattle.pie_base.specs.Path.{is_out, is_source, is_below, rest_below}
 use Rattle.pie_value.specs.declared.task.Task.{Task}
@@ -15,9 +14,8 @@ use Rattle.pie_value.specs.Canonical.{enc, enc_task}
 use Rattle.pie_value.specs.inner.Reading.{Parsed, task_prefix}
 use Rattle.pie_operators.specs.Domain.{Outcome, done, fails, wants}
 use Rattle.pie_parser.specs.FunctionTrees.{FunctionTree}
-use Rattle.pie_files.specs.Directory.{Directory, file_at, entries_of}
+use Rattle.pie_files.specs.Directory.{Directory, file_at}
 use Rattle.pie_model.specs.Paths.{Path, among, kind_of, kind_by, below_out, kept_names, first_segment, segments}
-use Rattle.pie_model.specs.declared.words.Kind.{Kind}
 use Rattle.pie_model.specs.declared.words.Kind.TheVariants.{Out, Kept, Source}
 use Rattle.pie_model.specs.declared.words.Answer.{Answer as ModelAnswer}
 use Rattle.pie_model.specs.declared.words.Event.{Event as ModelEvent}
@@ -29,7 +27,7 @@ use Rattle.pie_model.specs.declared.words.Verdict.TheVariants.{Accepted}
 use Rattle.pie_model.specs.Built.{bytes_at, provided_at}
 use Rattle.pie_model.specs.inner.Changes.{NamesAllChanges}
 use Rattle.pie_model.proofs.Basics.{clash, among_split}
-use Rattle.pie_model_pipeline.specs.Words.{fault_of, how_of, look_by, event_of, effect_of}
+use Rattle.pie_model_pipeline.specs.Words.{how_of, event_of, effect_of}
 use Rattle.pie_model_pipeline.specs.inner.Answers.{answer_of}
 use Rattle.pie_model_pipeline.specs.World.{world, next, next_if_read, task_evaluates_to, project}
 use Rattle.pie_model_pipeline.specs.Clean.{AreProvided}
@@ -38,7 +36,7 @@ use Rattle.pie_manner_laws.proofs.Whole.{has_manners, writes_once}
 use Rattle.pie_earlier_laws.specs.Sources.{SourcesAgree}
 use Rattle.pie_earlier_laws.specs.Left.{IsEarlierBuild, WriteOnce}
 use Rattle.pie_earlier_laws.specs.Begins.{HasManners}
-use Rattle.pie_earlier_laws.proofs.Leaving.{headed, source_apart}
+use Rattle.pie_earlier_laws.proofs.Leaving.{headed}
 use Rattle.pie_earlier_laws.proofs.Entries.{same_entries}
 
 -- ---- kinds

@@ -1,5 +1,5 @@
 -- Reasons by records are reasons, and right records give none.
-use Rattle.std.proofs.Common.{ℕ, ◌≡◌, true, false, Option, Some, None, List, [], ◌∷◌, ◌⊎◌, inl, inr, sym, ◌∙◌, subst, refl}
+use Rattle.std.proofs.Common.{ℕ, ◌≡◌, true, false, Option, Some, List, [], ◌∷◌, ◌⊎◌, inl, inr, sym, ◌∙◌, subst, refl}
 use Rattle.pie_model.specs.Paths.{Path, among}
 use Rattle.pie_model.specs.Tasks.{Task}
 use Rattle.pie_model.specs.Trees.{outcome_of, is_done}

@@ -1,13 +1,12 @@
 -- Functions with one digest take the same arguments and mean the same.
 use Rattle.std.proofs.Common.{ℕ, zero, suc, ◌+◌, ◌<◌, ◌≡◌, Bool, true, false, cond, Option, Some, None, Ok, Err, List, [], ◌∷◌, ◌++◌, map, length, sym, ◌∙◌, ap}
-use Rattle.std.proofs.Common.{subst, refl, arith, bytes_eq, Contains, IsPermutation, IsTrue, slice_get, nat_lt, codes, ltb-true, ◌&&◌, ◌||◌, ◌==◌, ◌⊎◌}
+use Rattle.std.proofs.Common.{subst, refl, arith, bytes_eq, Contains, IsTrue, slice_get, nat_lt, codes, ltb-true, ◌&&◌, ◌||◌, ◌==◌, ◌⊎◌}
 use Rattle.std.proofs.Common.{inl, inr}
 use Rattle.std.specs.Prelude.{slice_index_or, is_some}
 use Rattle.std.specs.Ordering.{nat_cmp, is_lt}
 use Rattle.std.specs.Cmp.Lexicographic.{slice_cmp}
 use Rattle.std.proofs.lemmas.Cmp.{tied_itself, nat_list_cmp_total}
 use Rattle.std.proofs.lemmas.List.Sorted.{IsPermutation-trans, IsPermutation-sym, IsPermutation-map, Contains-permutation}
-use Rattle.sha2.specs.Sha256.{sha256}
 use Rattle.pie_lexer.specs.declared.token.Token.{Token}
 use Rattle.pie_parser.specs.declared.tree.Name.{Name}
 use Rattle.pie_parser.specs.declared.tree.Param.{Param}
@@ -21,11 +20,11 @@ use Rattle.pie_value.specs.Tree.{items_of}
 use Rattle.pie_value.specs.HasType.{have_types}
 use Rattle.pie_value.specs.Canonical.{enc_task, IsCanonicalTask}
 use Rattle.pie_types.specs.Faults.{TypingResult, refuse, then_on, UnknownName, Duplicate, TooManyNames}
-use Rattle.pie_types.specs.Written.{written, written_each, named_type}
+use Rattle.pie_types.specs.Written.{written, written_each}
 use Rattle.pie_types.specs.Scope.{Entry, type_in, may_enter, with_name}
 use Rattle.pie_types.specs.Headings.{Heading, with_param, params_from, signature_of}
 use Rattle.pie_types.specs.Whole.{types_in, takes, number_from}
-use Rattle.pie_digest.specs.Digests.{digests_of, row_names, function_names, HasNames}
+use Rattle.pie_digest.specs.Digests.{digests_of, row_names, function_names}
 use Rattle.pie_spelling_laws.specs.Spans.{bare_name, bare_type, bare_types, bare_param, bare_params, bare_function}
 use Rattle.pie_spelling_laws.specs.Spelling.{tokens_within, function_spelling}
 use Rattle.pie_spelling_laws.specs.Standing.{IsFunctionOf}
@@ -35,10 +34,8 @@ use Rattle.pie_spelling_laws.proofs.Equal.{one_tree, equal_spellings}
 use Rattle.pie_digest_laws.specs.Digests.{digest_in}
 use Rattle.pie_digest_laws.proofs.Stretch.{each_has_its_digest}
 use Rattle.pie_store.specs.Canonical.{name_before, AreFuncs}
-use Rattle.pie_model.specs.Paths.{among}
 use Rattle.pie_model.specs.Evaluation.{Project}
-use Rattle.pie_model.specs.declared.words.Answer.{Answer as ModelAnswer}
-use Rattle.pie_model.specs.inner.Changes.{BuildsSeparate, IsMet}
+use Rattle.pie_model.specs.inner.Changes.{BuildsSeparate}
 use Rattle.pie_model.specs.inner.Changes.IsMet.{named}
 use Rattle.pie_model.specs.inner.Reasons.{SameCode}
 use Rattle.pie_model.proofs.Basics.{same_bytes, bytes_same, clash}

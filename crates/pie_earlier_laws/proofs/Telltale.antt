@@ -1,15 +1,13 @@
 -- A row comes back from the record of the model.
-use Rattle.std.proofs.Common.{ℕ, ◌≡◌, Bool, true, false, List, [], ◌∷◌, map, All, IsTrue, Ok, Err, refl, sym, ap, ap₂, ◌∙◌}
+use Rattle.std.proofs.Common.{ℕ, ◌≡◌, List, [], ◌∷◌, map, All, IsTrue, Ok, Err, refl, sym, ap, ap₂, ◌∙◌}
 use Rattle.std.proofs.lemmas.List.Elements.{All-head, All-tail}
-use Rattle.pie_base.specs.Path.{is_out}
 use Rattle.pie_value.specs.declared.stamp.Stamp.{Stamp}
 use Rattle.pie_value.specs.declared.stamp.Stamp.TheVariants as stamps
 use Rattle.pie_value.specs.declared.task.Task.{Task}
 use Rattle.pie_value.specs.declared.value.Value.{Value}
 use Rattle.pie_value.specs.declared.value.Value.TheVariants.{Unit as UnitValue}
-use Rattle.pie_value.specs.Tree.{items_of}
 use Rattle.pie_value.specs.Values.{tree_of}
-use Rattle.pie_value.specs.Canonical.{enc, enc_task, IsEncodable, IsEncodableTask, HasTrueLeaves, IsCanonical, IsCanonicalTask}
+use Rattle.pie_value.specs.Canonical.{enc, enc_task, IsEncodable, IsEncodableTask, HasTrueLeaves}
 use Rattle.pie_value.specs.inner.Reading.{Parsed, task_prefix}
 use Rattle.pie_value.proofs.Decoded.{task_whole_again}
 use Rattle.pie_record.specs.declared.dep.Dep.{Dep}

@@ -1,11 +1,10 @@
 -- Stamps of sources stay where the sources do.
-use Rattle.std.proofs.Common.{ℕ, ◌≡◌, Bool, true, false, Option, Some, List, [], ◌∷◌, length, leb, sym, ◌∙◌, ap, subst, refl}
+use Rattle.std.proofs.Common.{ℕ, ◌≡◌, Bool, true, false, Some, List, [], ◌∷◌, length, leb, sym, ◌∙◌, ap, subst, refl}
 use Rattle.std.specs.List.{list_any}
 use Rattle.pie_base.specs.Path.{is_below}
 use Rattle.pie_model.specs.Paths.{Path, among, kind_of}
 use Rattle.pie_model.specs.declared.words.Kind.TheVariants.{Source}
 use Rattle.pie_model.specs.Tasks.{Task}
-use Rattle.pie_model.specs.declared.words.Answer.{Answer}
 use Rattle.pie_model.specs.declared.words.Look.{Look}
 use Rattle.pie_model.specs.declared.words.Event.{Event}
 use Rattle.pie_model.specs.declared.words.Event.TheVariants.{Done, Fail, LookAt, ListOf, Write, Require}

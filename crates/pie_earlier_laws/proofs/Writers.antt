@@ -1,12 +1,12 @@
 -- What is told by ranked records is so.
-use Rattle.std.proofs.Common.{ℕ, zero, suc, max, ◌≤◌, ◌<◌, ◌≡◌, Bool, true, false, cond, Option, Some, None, List, [], ◌∷◌, ◌++◌, ◌⊎◌, inl, inr, sym, ◌∙◌, ap}
+use Rattle.std.proofs.Common.{ℕ, zero, suc, max, ◌<◌, ◌≡◌, Bool, true, false, cond, Option, Some, None, List, [], ◌∷◌, ◌++◌, ◌⊎◌, inl, inr, sym, ◌∙◌, ap}
 use Rattle.std.proofs.Common.{subst, refl, arith, bytes_eq}
 use Rattle.std.specs.List.{flat_map}
 use Rattle.pie_model.specs.Paths.{Path, among}
 use Rattle.pie_model.specs.Tasks.{Task}
 use Rattle.pie_model.specs.Seen.{first_write, writer, all_by}
 use Rattle.pie_model.specs.Records.{Record, needs_of}
-use Rattle.pie_model.specs.inner.StampNow.{Told, Untold, ToldHash, ToldClash}
+use Rattle.pie_model.specs.inner.StampNow.{ToldHash, ToldClash}
 use Rattle.pie_model.specs.inner.Present.{Reaches, WroteByRecords, IsTold}
 use Rattle.pie_model.specs.inner.Present.Way.{here, along}
 use Rattle.pie_model.specs.inner.Ranks.{required_in, above_all}

@@ -15,10 +15,10 @@ use Rattle.pie_model.specs.declared.words.Outcome.{Outcome}
 use Rattle.pie_model.specs.declared.words.Outcome.TheVariants.{Ended, Failed, Cycled, Many}
 use Rattle.pie_model.specs.Trees.{Node, Trace, ends, looks, lists, writes, needs, trace_of, outcome_of, writes_of}
 use Rattle.pie_model.specs.Seen.{first_write, visible_at}
-use Rattle.pie_model.specs.Evaluation.{World, Project, Progress, start, answered, wrote, absent_answer, present_answer, output_answer, listing}
+use Rattle.pie_model.specs.Evaluation.{World, Project, Progress, start, wrote, absent_answer, present_answer, output_answer, listing}
 use Rattle.pie_model.specs.Evaluation.{on_seen, on_listing, on_outcome, on_event, follow, round, evaluation_with, evaluation}
 use Rattle.pie_model.specs.Records.{hashed}
-use Rattle.pie_model.proofs.Basics.{clash, among_here, among_left, among_right, same_bytes, bytes_same}
+use Rattle.pie_model.proofs.Basics.{among_here, among_left, among_right, same_bytes, bytes_same}
 use Rattle.pie_model.proofs.LooksLemmas.{first_write-hashed}
 use Rattle.pie_step_laws.proofs.Tables.{none_some}
 use Rattle.pie_manner_laws.specs.Writes.{path_written, written_paths, NeverWritesTwice}

@@ -8,7 +8,7 @@ use Rattle.pie_value.specs.declared.task.Task.{Task}
 use Rattle.pie_value.specs.Canonical.{enc_task, IsCanonicalTask}
 use Rattle.pie_digest.specs.Digests.{digests_of, HasNames}
 use Rattle.pie_spelling_laws.specs.Spelling.{function_spelling}
-use Rattle.pie_digest_laws.specs.Digests.{digest_in, AreSeparate}
+use Rattle.pie_digest_laws.specs.Digests.{AreSeparate}
 use Rattle.pie_store.specs.Canonical.{AreFuncs}
 use Rattle.pie_model.specs.Paths.{among}
 use Rattle.pie_model.specs.Evaluation.{Project}

@@ -1,5 +1,5 @@
 -- What an earlier accepted build left of a directory, and what of it is there still.
-use Rattle.std.specs.Prelude.{ℕ, ◌≡◌, ◌⊎◌, true, false, Option, Some, List, [], ◌∷◌, ◌++◌}
+use Rattle.std.specs.Prelude.{ℕ, ◌≡◌, true, Some, List, [], ◌∷◌, ◌++◌}
 use Rattle.std.specs.FinMap as fin
 use Rattle.pie_model.specs.Paths.{Path, among, kind_of}
 use Rattle.pie_model.specs.declared.words.Kind.TheVariants.{Out, Source}

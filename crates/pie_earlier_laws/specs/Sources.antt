@@ -1,5 +1,5 @@
 -- Which stamps of an old record sources alone decide, and which of these a list of changed paths leaves as they are.
-use Rattle.std.specs.Prelude.{ℕ, ◌≡◌, true, false, Some, List, [], ◌∷◌}
+use Rattle.std.specs.Prelude.{◌≡◌, true, false, Some, List, [], ◌∷◌}
 use Rattle.std.specs.List.{list_any}
 use Rattle.pie_base.specs.Path.{is_below}
 use Rattle.pie_model.specs.Paths.{Path, among, kind_of}

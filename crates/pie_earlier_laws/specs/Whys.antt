@@ -6,7 +6,7 @@ use Rattle.pie_model.specs.Trees.{outcome_of, is_done}
 use Rattle.pie_model.specs.Evaluation.{World, Project, evaluation}
 use Rattle.pie_model.specs.Records.{Record, record_of, needs_of}
 use Rattle.pie_model.specs.Built.{Directory}
-use Rattle.pie_model.specs.inner.StampNow.{Told, by_evaluation, by_records}
+use Rattle.pie_model.specs.inner.StampNow.{Told, by_records}
 use Rattle.pie_model.specs.inner.Separate.{NeverWritesWhatItSaw}
 use Rattle.pie_model.specs.inner.Present.{Reaches}
 use Rattle.pie_model.specs.inner.Consistent.{IsRecorded}

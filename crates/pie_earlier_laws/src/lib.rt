@@ -14,7 +14,9 @@ mod told;
 mod whys;
 
 pub use begins::earlier_records_begin;
-pub use directories::{earlier_pipelines_begin, pipelines_have_manners, pipelines_leave_earlier_builds};
+pub use directories::{
+    earlier_pipelines_begin, pipelines_have_manners, pipelines_leave_earlier_builds,
+};
 pub use edges::{next_paths_are_observed, requires_are_union_edges};
 pub use functions::one_digest_is_one_next;
 pub use left::{bases_go_on, unnamed_writes_are_there};
