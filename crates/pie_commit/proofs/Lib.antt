@@ -4,3 +4,4 @@ pub mod Members
 pub mod Others
 pub mod Reading
 pub mod Standing
+pub mod Stepping

@@ -1,5 +1,5 @@
 -- Calls that change no file, before a commit.
-use Rattle.std.proofs.Common.{◌≡◌, ℕ, Option, Some, None, sym, subst}
+use Rattle.std.proofs.Common.{◌≡◌, ℕ, Option, sym, subst}
 use Rattle.std.specs.Prelude.{IfSome}
 use Rattle.pie_files.specs.Directory.{Directory}
 use Rattle.pie_files.specs.Images.{Only}

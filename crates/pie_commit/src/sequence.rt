@@ -2,6 +2,7 @@
 ghost use Rattle.std.specs.Prelude.{◌≡◌, true, false, IfSome, OnOk, OnErr};
 ghost use Rattle.pie_files.specs.Images.{Only};
 ghost use Rattle.pie_files.specs.Streams.{Counted};
+ghost use Rattle.pie_commit.specs.inner.Steps.{Makes, changing, steps_of};
 ghost use Rattle.pie_commit.specs.inner.Plans.{is_sound, is_empty, wanted_by, changes};
 ghost use Rattle.pie_commit.specs.Outcomes.{HasBrought, KeepsOthers, KeepsMarked, LeavesFromRest, IsAtRest, IsOfThree, LeavesMarked};
 
@@ -19,6 +20,7 @@ pub fn commit<F: Files>(files: &mut F, plan: &Plan) -> Result<(), FilesError>
     ensures crash { LeavesFromRest F.holds F.moment F.left_since F.images (IsOfThree plan.now) files.old files.new }
     ensures failed { OnErr result (IfSome (F.holds files.old) (λ d. Only d (F.images files.old) → LeavesMarked plan.now d (F.images files.new))) }
     ensures durable { is_empty plan.now ≡ false → OnOk result (IfSome (F.holds files.old) (λ d. IsAtRest (F.holds files.new) (F.images files.new))) }
+    ensures makes { is_empty plan.now ≡ false → Makes F.asked (steps_of plan.now) files.old files.new result }
     ensures counted { Counted F.faults FilesError.Failed files.old files.new result }
 {
     if plan.is_empty() {
@@ -34,6 +36,7 @@ fn commit_all<F: Files>(files: &mut F, plan: &Plan) -> Result<(), FilesError>
     ensures crash { LeavesFromRest F.holds F.moment F.left_since F.images (IsOfThree plan.now) files.old files.new }
     ensures failed { OnErr result (IfSome (F.holds files.old) (λ d. Only d (F.images files.old) → LeavesMarked plan.now d (F.images files.new))) }
     ensures durable { OnOk result (IfSome (F.holds files.old) (λ d. IsAtRest (F.holds files.new) (F.images files.new))) }
+    ensures makes { Makes F.asked (steps_of plan.now) files.old files.new result }
     ensures counted { Counted F.faults FilesError.Failed files.old files.new result }
 {
     begin(files, plan)?;
@@ -48,6 +51,7 @@ fn change<F: Files>(files: &mut F, plan: &Plan) -> Result<(), FilesError>
     ensures outside { KeepsOthers plan.now (F.holds files.old) (F.holds files.new) }
     ensures crash { KeepsMarked F.holds F.moment F.left_since F.images plan.now files.old files.new }
     ensures durable { OnOk result (IfSome (F.holds files.old) (λ e. IsAtRest (F.holds files.new) (F.images files.new))) }
+    ensures makes { Makes F.asked (changing plan.now) files.old files.new result }
     ensures counted { Counted F.faults FilesError.Failed files.old files.new result }
 {
     remove_all(files, plan)?;

@@ -1,10 +1,13 @@
-use Rattle.std.proofs.Common.{[], inr, refl}
+use Rattle.std.proofs.Common.{rules, ◌≡◌, [], ◌∷◌, inr, refl, subst}
 use Rattle.pie_commit.specs.inner.Plans.{Bytes, at}
 use Rattle.pie_commit.proofs.Bringing.{in_any_case, write_brought, brought_still}
 use Rattle.pie_files.specs.Images.{MayWrite}
 use Rattle.pie_commit.specs.Outcomes.{IsEarly}
 use Rattle.pie_commit.proofs.Standing.{call_rest, sync_rest, early_still, begins, told_by}
 use Rattle.pie_commit.proofs.Others.{marker_own, write_keeps_others, wrote_keeps_others, keeps_both, keeps_same}
+use Rattle.std.specs.Prelude.{Ok, Err}
+use Rattle.pie_commit.specs.inner.Steps.{Writes, Syncs, Makes, beginning}
+use Rattle.pie_commit.proofs.Stepping.{makes_write, makes_then, makes_stops}
 use Rattle.pie_commit.proofs.parts.begin.Goals as goal
 
 pub returns-clause-done : goal.returns-clause-done
@@ -50,3 +53,19 @@ returns-clause-outside g c =
     keeps_both p (g.F.Files.holds c.args.files.now) (g.F.Files.holds c.write.new.self) (g.F.Files.holds c.make_last.new.files)
     (wrote_keeps_others p (g.F.Files.holds c.args.files.now) (g.F.Files.holds c.write.new.self) p.marker [] w.0 (marker_own p) w.1)
     (keeps_same p (g.F.Files.holds c.write.new.self) (g.F.Files.holds c.make_last.new.files) c.make_last.ensures.same)
+
+pub returns-in_err-write-clause-makes : goal.returns-in_err-write-clause-makes
+returns-in_err-write-clause-makes g c =
+    let marker = c.args.plan.now.marker in
+    let e = c.in_err-write.field-0.0 in
+    let same : Err e ≡ c.from_residual.result = search rules in
+    subst (λ r. Makes g.F.Files.asked (beginning c.args.plan.now) c.args.files.now c.write.new.self r) same
+    (makes_stops g.F.Files.asked e (Writes marker ∷ []) (Syncs ∷ []) c.args.files.now c.write.new.self
+    (makes_write g.F.Files.asked (Err e) g.F.Files.faults marker c.args.files.now c.write.new.self c.in_err-write.ensures.called))
+
+pub returns-clause-makes : goal.returns-clause-makes
+returns-clause-makes g c =
+    let marker = c.args.plan.now.marker in
+    makes_then g.F.Files.asked c.make_last.result c.in_ok-write.field-0 (Writes marker ∷ []) (Syncs ∷ []) c.args.files.now c.write.new.self c.make_last.new.files
+    (makes_write g.F.Files.asked (Ok c.in_ok-write.field-0) g.F.Files.faults marker c.args.files.now c.write.new.self c.in_ok-write.ensures.called)
+    c.make_last.ensures.makes

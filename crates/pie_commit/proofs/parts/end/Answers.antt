@@ -1,10 +1,13 @@
 use Rattle.pie_commit.specs.inner.Plans.{Gone, at}
 use Rattle.pie_commit.proofs.Bringing.{in_any_case, removal_brought, brought_still}
-use Rattle.std.proofs.Common.{inl, refl}
+use Rattle.std.proofs.Common.{inl, refl, rules, ◌≡◌, [], ◌∷◌, subst}
 use Rattle.pie_files.specs.Images.{MayRemove}
 use Rattle.pie_commit.specs.Outcomes.{IsEnding}
 use Rattle.pie_commit.proofs.Standing.{call_rest, sync_rest, ending_still, rests, told_by}
 use Rattle.pie_commit.proofs.Others.{marker_own, removal_keeps_others, gone_keeps_others, keeps_both, keeps_same}
+use Rattle.std.specs.Prelude.{Ok, Err}
+use Rattle.pie_commit.specs.inner.Steps.{Removes, Syncs, Makes, ending}
+use Rattle.pie_commit.proofs.Stepping.{makes_remove, makes_then, makes_stops}
 use Rattle.pie_commit.proofs.parts.end.Goals as goal
 
 pub returns-clause-done : goal.returns-clause-done
@@ -50,3 +53,20 @@ returns-clause-outside g c =
     keeps_both p (g.F.Files.holds c.args.files.now) (g.F.Files.holds c.remove.new.self) (g.F.Files.holds c.make_last.new.files)
     (gone_keeps_others p (g.F.Files.holds c.args.files.now) (g.F.Files.holds c.remove.new.self) p.marker (marker_own p) c.in_ok-remove.ensures.removed)
     (keeps_same p (g.F.Files.holds c.remove.new.self) (g.F.Files.holds c.make_last.new.files) c.make_last.ensures.same)
+
+pub returns-in_err-remove-clause-makes : goal.returns-in_err-remove-clause-makes
+returns-in_err-remove-clause-makes g c =
+    let marker = c.args.plan.now.marker in
+    let e = c.in_err-remove.field-0.0 in
+    let same : Err e ≡ c.from_residual.result = search rules in
+    subst (λ r. Makes g.F.Files.asked (ending c.args.plan.now) c.args.files.now c.remove.new.self r) same
+    (makes_stops g.F.Files.asked e (Removes marker ∷ []) (Syncs ∷ []) c.args.files.now c.remove.new.self
+    (makes_remove g.F.Files.asked (Err e) g.F.Files.faults marker c.args.files.now c.remove.new.self c.in_err-remove.ensures.called))
+
+pub returns-clause-makes : goal.returns-clause-makes
+returns-clause-makes g c =
+    let marker = c.args.plan.now.marker in
+    makes_then g.F.Files.asked c.make_last.result c.in_ok-remove.field-0 (Removes marker ∷ []) (Syncs ∷ []) c.args.files.now c.remove.new.self
+    c.make_last.new.files
+    (makes_remove g.F.Files.asked (Ok c.in_ok-remove.field-0) g.F.Files.faults marker c.args.files.now c.remove.new.self c.in_ok-remove.ensures.called)
+    c.make_last.ensures.makes

@@ -1,10 +1,13 @@
-use Rattle.std.proofs.Common.{◌≡◌, ◌+◌, ◌∷◌, ◌∙◌, ℕ, List, drop, length, refl, ap, sym, subst, arith}
+use Rattle.std.proofs.Common.{◌≡◌, ◌+◌, ◌∷◌, ◌∙◌, ℕ, List, drop, length, refl, ap, sym, subst, arith, rules}
 use Rattle.std.proofs.lemmas.List.{drop_more, drop_all}
 use Rattle.pie_commit.specs.inner.Plans.{removed, at, Gone}
 use Rattle.pie_commit.proofs.Bringing.{removed_more, removed_none, brought_none}
 use Rattle.pie_commit.proofs.Members.{AllInner, removals_inner}
 use Rattle.pie_commit.proofs.Standing.{none_marked, both_marked, told_by, told_both, told_itself}
 use Rattle.pie_commit.proofs.Others.{keeps_both, keeps_same}
+use Rattle.std.specs.Prelude.{Err}
+use Rattle.pie_commit.specs.inner.Steps.{Removes, Makes, removing}
+use Rattle.pie_commit.proofs.Stepping.{onward_more, onward_stops, onward_ends}
 use Rattle.pie_commit.proofs.parts.remove_all.Goals as goal
 
 pub loop-path-init : goal.loop-path-init
@@ -17,6 +20,7 @@ loop-path-init g c = (
     outside = keeps_same c.args.plan.now (g.F.Files.holds c.args.files.now) (g.F.Files.holds c.args.files.now) refl;
   },
   removals_inner c.args.plan.now c.requires,
+  λ r new made. made,
 )
 
 pub remove-requires : goal.remove-requires
@@ -55,6 +59,8 @@ loop-path-preserved g c =
             so_far.outside c.in_ok-remove.ensures.outside;
       },
       (subst (AllInner c.args.plan.now) next c.loop-path.invariant.2).1,
+      onward_more g.F.Files.asked (removing all) (removing (drop i all)) (removing rest) (Removes item) c.in_ok-remove.field-0 c.args.files.now c.loop-path.files
+          c.remove.new.files (ap removing next) c.in_ok-remove.ensures.makes c.loop-path.invariant.3,
     )
 
 pub returns-in_err-remove-clause-crash : goal.returns-in_err-remove-clause-crash
@@ -81,3 +87,28 @@ returns-in_err-remove-clause-outside g c =
 
 pub returns-clause-outside : goal.returns-clause-outside
 returns-clause-outside g c = c.loop-path.invariant.1.outside
+
+pub returns-in_err-remove-clause-makes : goal.returns-in_err-remove-clause-makes
+returns-in_err-remove-clause-makes g c =
+    let all = c.args.plan.now.removals.items in
+    let list = c.deref-path-items.result.now in
+    let same : list ≡ all = c.deref-path-items.ensures.value in
+    let i = c.loop-path.path-index in
+    let item = c.path-item.result in
+    let rest = drop (i + 1) all in
+    let next : drop i all ≡ item ∷ rest =
+    ap (drop i) (sym same) ∙ drop_more list i item c.loop-path-test.true ∙ ap (λ x. x ∷ drop (i + 1) list) (sym c.path-item.is)
+    ∙ ap (λ (l : List (List ℕ)). item ∷ drop (i + 1) l) same in
+    let e = c.in_err-remove.field-0.0 in
+    let failed : Err e ≡ c.from_residual.result = search rules in
+    subst (λ r. Makes g.F.Files.asked (removing all) c.args.files.now c.remove.new.files r) failed
+    (onward_stops g.F.Files.asked (removing all) (removing (drop i all)) (removing rest) (Removes item) e c.args.files.now c.loop-path.files
+    c.remove.new.files (ap removing next) c.in_err-remove.ensures.makes c.loop-path.invariant.3)
+
+pub returns-clause-makes : goal.returns-clause-makes
+returns-clause-makes g c =
+    let all = c.args.plan.now.removals.items in
+    let i = c.loop-path.path-index in
+    let same : c.deref-path-items.result.now ≡ all = c.deref-path-items.ensures.value in
+    onward_ends g.F.Files.asked (removing all) (removing (drop i all)) c.args.files.now c.loop-path.files
+    (ap removing (drop_all i all (omega (arith, c.loop-path-test.false, ap length same)))) c.loop-path.invariant.3

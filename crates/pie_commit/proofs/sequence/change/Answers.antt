@@ -1,8 +1,11 @@
-use Rattle.std.proofs.Common.{ℕ, List}
+use Rattle.std.proofs.Common.{ℕ, List, rules, ◌≡◌, [], ◌∷◌, ◌++◌, subst}
 use Rattle.pie_commit.specs.inner.Plans.{changes, removed, written, at, pended, stored, later}
 use Rattle.pie_commit.proofs.Bringing.{brought_both, brought_still, in_any_case}
 use Rattle.pie_commit.proofs.Standing.{both_marked, sync_marked, told_by, told_both, rests}
 use Rattle.pie_commit.proofs.Others.{keeps_both, keeps_same}
+use Rattle.std.specs.Prelude.{Err}
+use Rattle.pie_commit.specs.inner.Steps.{Syncs, Makes, changing, removing, writing, pending_steps, store_steps}
+use Rattle.pie_commit.proofs.Stepping.{makes_then, makes_stops}
 use Rattle.pie_commit.proofs.sequence.change.Goals as goal
 
 pub returns-clause-done : goal.returns-clause-done
@@ -145,3 +148,50 @@ returns-clause-outside g c =
     let k4 = keeps_both p a (g.F.Files.holds c.put_store.new.files) (g.F.Files.holds c.make_last.new.files)
     k3 (keeps_same p (g.F.Files.holds c.put_store.new.files) (g.F.Files.holds c.make_last.new.files) c.make_last.ensures.same) in
     k4
+
+pub returns-in_err-remove_all-clause-makes : goal.returns-in_err-remove_all-clause-makes
+returns-in_err-remove_all-clause-makes g c =
+    let p = c.args.plan.now in
+    let e = c.in_err-remove_all.field-0.0 in
+    let failed : Err e ≡ c.from_residual.result = search rules in
+    subst (λ r. Makes g.F.Files.asked (changing p) c.args.files.now c.remove_all.new.files r) failed
+    (makes_stops g.F.Files.asked e (removing p.removals.items) ((writing p.writes.items) ++ ((pending_steps p.names_place p.pending) ++ ((store_steps p.place p.store) ++ (Syncs ∷ [])))) c.args.files.now c.remove_all.new.files c.in_err-remove_all.ensures.makes)
+
+pub returns-in_err-write_all-clause-makes : goal.returns-in_err-write_all-clause-makes
+returns-in_err-write_all-clause-makes g c =
+    let p = c.args.plan.now in
+    let e = c.in_err-write_all.field-0.0 in
+    let failed : Err e ≡ c.from_residual-in_err-write_all.result = search rules in
+    subst (λ r. Makes g.F.Files.asked (changing p) c.args.files.now c.write_all.new.files r) failed
+    (makes_then g.F.Files.asked (Err e) c.in_ok-remove_all.field-0 (removing p.removals.items) ((writing p.writes.items) ++ ((pending_steps p.names_place p.pending) ++ ((store_steps p.place p.store) ++ (Syncs ∷ [])))) c.args.files.now c.remove_all.new.files c.write_all.new.files c.in_ok-remove_all.ensures.makes
+    (makes_stops g.F.Files.asked e (writing p.writes.items) ((pending_steps p.names_place p.pending) ++ ((store_steps p.place p.store) ++ (Syncs ∷ []))) c.remove_all.new.files c.write_all.new.files c.in_err-write_all.ensures.makes))
+
+pub returns-in_err-put_pending-clause-makes : goal.returns-in_err-put_pending-clause-makes
+returns-in_err-put_pending-clause-makes g c =
+    let p = c.args.plan.now in
+    let e = c.in_err-put_pending.field-0.0 in
+    let failed : Err e ≡ c.from_residual-in_err-put_pending.result = search rules in
+    subst (λ r. Makes g.F.Files.asked (changing p) c.args.files.now c.put_pending.new.files r) failed
+    (makes_then g.F.Files.asked (Err e) c.in_ok-remove_all.field-0 (removing p.removals.items) ((writing p.writes.items) ++ ((pending_steps p.names_place p.pending) ++ ((store_steps p.place p.store) ++ (Syncs ∷ [])))) c.args.files.now c.remove_all.new.files c.put_pending.new.files c.in_ok-remove_all.ensures.makes
+    (makes_then g.F.Files.asked (Err e) c.in_ok-write_all.field-0 (writing p.writes.items) ((pending_steps p.names_place p.pending) ++ ((store_steps p.place p.store) ++ (Syncs ∷ []))) c.remove_all.new.files c.write_all.new.files c.put_pending.new.files c.in_ok-write_all.ensures.makes
+    (makes_stops g.F.Files.asked e (pending_steps p.names_place p.pending) ((store_steps p.place p.store) ++ (Syncs ∷ [])) c.write_all.new.files c.put_pending.new.files c.in_err-put_pending.ensures.makes)))
+
+pub returns-in_err-put_store-clause-makes : goal.returns-in_err-put_store-clause-makes
+returns-in_err-put_store-clause-makes g c =
+    let p = c.args.plan.now in
+    let e = c.in_err-put_store.field-0.0 in
+    let failed : Err e ≡ c.from_residual-in_err-put_store.result = search rules in
+    subst (λ r. Makes g.F.Files.asked (changing p) c.args.files.now c.put_store.new.files r) failed
+    (makes_then g.F.Files.asked (Err e) c.in_ok-remove_all.field-0 (removing p.removals.items) ((writing p.writes.items) ++ ((pending_steps p.names_place p.pending) ++ ((store_steps p.place p.store) ++ (Syncs ∷ [])))) c.args.files.now c.remove_all.new.files c.put_store.new.files c.in_ok-remove_all.ensures.makes
+    (makes_then g.F.Files.asked (Err e) c.in_ok-write_all.field-0 (writing p.writes.items) ((pending_steps p.names_place p.pending) ++ ((store_steps p.place p.store) ++ (Syncs ∷ []))) c.remove_all.new.files c.write_all.new.files c.put_store.new.files c.in_ok-write_all.ensures.makes
+    (makes_then g.F.Files.asked (Err e) c.in_ok-put_pending.field-0 (pending_steps p.names_place p.pending) ((store_steps p.place p.store) ++ (Syncs ∷ [])) c.write_all.new.files c.put_pending.new.files c.put_store.new.files c.in_ok-put_pending.ensures.makes
+    (makes_stops g.F.Files.asked e (store_steps p.place p.store) (Syncs ∷ []) c.put_pending.new.files c.put_store.new.files c.in_err-put_store.ensures.makes))))
+
+pub returns-clause-makes : goal.returns-clause-makes
+returns-clause-makes g c =
+    let p = c.args.plan.now in
+    (makes_then g.F.Files.asked c.make_last.result c.in_ok-remove_all.field-0 (removing p.removals.items) ((writing p.writes.items) ++ ((pending_steps p.names_place p.pending) ++ ((store_steps p.place p.store) ++ (Syncs ∷ [])))) c.args.files.now c.remove_all.new.files c.make_last.new.files c.in_ok-remove_all.ensures.makes
+    (makes_then g.F.Files.asked c.make_last.result c.in_ok-write_all.field-0 (writing p.writes.items) ((pending_steps p.names_place p.pending) ++ ((store_steps p.place p.store) ++ (Syncs ∷ []))) c.remove_all.new.files c.write_all.new.files c.make_last.new.files c.in_ok-write_all.ensures.makes
+    (makes_then g.F.Files.asked c.make_last.result c.in_ok-put_pending.field-0 (pending_steps p.names_place p.pending) ((store_steps p.place p.store) ++ (Syncs ∷ [])) c.write_all.new.files c.put_pending.new.files c.make_last.new.files c.in_ok-put_pending.ensures.makes
+    (makes_then g.F.Files.asked c.make_last.result c.in_ok-put_store.field-0 (store_steps p.place p.store) (Syncs ∷ []) c.put_pending.new.files c.put_store.new.files c.make_last.new.files c.in_ok-put_store.ensures.makes
+    c.make_last.ensures.makes))))

@@ -1,9 +1,12 @@
-use Rattle.std.proofs.Common.{ℕ, List, []}
+use Rattle.std.proofs.Common.{ℕ, List, [], rules, ◌≡◌, ◌++◌, subst}
 use Rattle.pie_commit.specs.inner.Plans.{Bytes, Gone, changes, at, later, wanted_by}
 use Rattle.pie_commit.proofs.Bringing.{brought_both, brought_as, marked_then, on_ok}
 use Rattle.pie_commit.proofs.Standing.{told_by}
 use Rattle.pie_commit.proofs.Ending.{in_any_err, begin_failed, three_changed, three_ended, crash_of, failed_of}
 use Rattle.pie_commit.proofs.Others.{keeps_both}
+use Rattle.std.specs.Prelude.{Err}
+use Rattle.pie_commit.specs.inner.Steps.{Makes, steps_of, beginning, changing, ending}
+use Rattle.pie_commit.proofs.Stepping.{makes_then, makes_stops}
 use Rattle.pie_commit.proofs.sequence.commit_all.Goals as goal
 
 pub returns-clause-done : goal.returns-clause-done
@@ -72,3 +75,27 @@ returns-clause-outside g c =
     keeps_both p a (g.F.Files.holds c.change.new.files) (g.F.Files.holds c.end.new.files)
     (keeps_both p a (g.F.Files.holds c.begin.new.files) (g.F.Files.holds c.change.new.files) c.in_ok-begin.ensures.outside c.in_ok-change.ensures.outside)
     c.end.ensures.outside
+
+pub returns-in_err-begin-clause-makes : goal.returns-in_err-begin-clause-makes
+returns-in_err-begin-clause-makes g c =
+    let p = c.args.plan.now in
+    let e = c.in_err-begin.field-0.0 in
+    let failed : Err e ≡ c.from_residual.result = search rules in
+    subst (λ r. Makes g.F.Files.asked (steps_of p) c.args.files.now c.begin.new.files r) failed
+    (makes_stops g.F.Files.asked e (beginning p) ((changing p) ++ (ending p)) c.args.files.now c.begin.new.files c.in_err-begin.ensures.makes)
+
+pub returns-in_err-change-clause-makes : goal.returns-in_err-change-clause-makes
+returns-in_err-change-clause-makes g c =
+    let p = c.args.plan.now in
+    let e = c.in_err-change.field-0.0 in
+    let failed : Err e ≡ c.from_residual-in_err-change.result = search rules in
+    subst (λ r. Makes g.F.Files.asked (steps_of p) c.args.files.now c.change.new.files r) failed
+    (makes_then g.F.Files.asked (Err e) c.in_ok-begin.field-0 (beginning p) ((changing p) ++ (ending p)) c.args.files.now c.begin.new.files c.change.new.files c.in_ok-begin.ensures.makes
+    (makes_stops g.F.Files.asked e (changing p) (ending p) c.begin.new.files c.change.new.files c.in_err-change.ensures.makes))
+
+pub returns-clause-makes : goal.returns-clause-makes
+returns-clause-makes g c =
+    let p = c.args.plan.now in
+    (makes_then g.F.Files.asked c.end.result c.in_ok-begin.field-0 (beginning p) ((changing p) ++ (ending p)) c.args.files.now c.begin.new.files c.end.new.files c.in_ok-begin.ensures.makes
+    (makes_then g.F.Files.asked c.end.result c.in_ok-change.field-0 (changing p) (ending p) c.begin.new.files c.change.new.files c.end.new.files c.in_ok-change.ensures.makes
+    c.end.ensures.makes))
