@@ -32,18 +32,28 @@ check_status (Err e) = status.Pipeline
 abbrev pub Tells : Directory → CommandResult → Type 0
 Tells d told = (r : Result (ℕ × ℕ) Refusal) × CheckSays d r × (string_bytes told.text ≡ check_text r) × (told.status ≡ check_status r)
 
+-- whatever the definitions say of a directory, it is what is told
+abbrev pub TellsOnly : Directory → CommandResult → Type 0
+TellsOnly d told = (r : Result (ℕ × ℕ) Refusal) → CheckSays d r → (string_bytes told.text ≡ check_text r) × (told.status ≡ check_status r)
+
 -- a directory was checked: the status, and what the output gained
 abbrev pub HasChecked : Directory → Option (List ℕ) → Option (List ℕ) → Status → Type 0
 HasChecked d before after ended = (r : Result (ℕ × ℕ) Refusal) × CheckSays d r × (ended ≡ check_status r) × Gains before after (check_text r)
+
+-- whatever the definitions say of a directory, it is what was answered: the status, and what the output gained
+abbrev pub AnswersOnly : Directory → Option (List ℕ) → Option (List ℕ) → Status → Type 0
+AnswersOnly d before after ended = (r : Result (ℕ × ℕ) Refusal) → CheckSays d r → (ended ≡ check_status r) × Gains before after (check_text r)
 
 -- a text that `check` prints of this directory: its counts or its refusal
 abbrev pub IsCheckText : Directory → List ℕ → Type 0
 IsCheckText d text = (r : Result (ℕ × ℕ) Refusal) × CheckSays d r × (text ≡ check_text r)
 
--- what `check` says, whatever it ended with: an answer, what the output gained of one, and that it reads the two files of the project alone
+-- what `check` says, whatever it ended with: an answer, that the definitions have no other one, what the output gained of one, and that it reads the two
+-- files of the project alone
 pub record RunsCheck {S : Type 0} (holds : S → Option Directory) (moment : S → ℕ) (left_since : S → ℕ → Directory → Type 0) (images : S → Directory → Type 0)
     (asked : S → Option (List Call)) (faults : S → ℕ) (old new : S) (held gained : Option (List ℕ)) (ended : Status) : Type 0 where
   pub checked : is_answer ended ≡ true → IfSome (holds old) (λ d. HasChecked d held gained ended)
+  pub only : is_answer ended ≡ true → IfSome (holds old) (λ d. AnswersOnly d held gained ended)
   pub printed : IfSome (holds old) (λ d. GainsAtMost (IsCheckText d) (Rose (faults old) (faults new)) held gained ended)
   pub same : holds new ≡ holds old
   pub crash : LeavesAsBefore holds moment left_since images old new

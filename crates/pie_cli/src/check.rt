@@ -6,7 +6,7 @@ ghost use Rattle.pie_project.specs.Looking.{Asks, prefix_calls};
 ghost use Rattle.pie_project.specs.Refusals.{plain};
 ghost use Rattle.pie_report.specs.Refused as refused;
 ghost use Rattle.pie_cli.specs.Check as spec;
-ghost use Rattle.pie_cli.specs.Check.{Tells};
+ghost use Rattle.pie_cli.specs.Check.{Tells, TellsOnly};
 ghost use Rattle.pie_cli.specs.Run.{is_answer};
 
 use crate::told::CommandResult;
@@ -19,6 +19,7 @@ use std::alloc::Global;
 /// are, or the first refusal. It changes no file.
 pub(crate) fn check<F: Files>(alloc: Global, files: &mut F) -> Result<CommandResult, FilesError>
     ensures told { IfSome (F.holds files.old) (λ d. IfOk result (Tells d)) }
+    ensures only { IfSome (F.holds files.old) (λ d. IfOk result (TellsOnly d)) }
     ensures answer { IfOk result (λ told. is_answer told.status ≡ true) }
     ensures same { F.holds files.new ≡ F.holds files.old }
     ensures crash { LeavesAsBefore F.holds F.moment F.left_since F.images files.old files.new }

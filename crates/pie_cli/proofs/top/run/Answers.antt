@@ -44,6 +44,7 @@ returns-in-Err-OutOfMemory-clause-fresh g c = λ json is. record {
 pub returns-in-Err-OutOfMemory-clause-check : goal.returns-in-Err-OutOfMemory-clause-check
 returns-in-Err-OutOfMemory-clause-check g c = λ is. record {
   checked = λ a. absurd (memory_is_no_answer a);
+  only = λ a. absurd (memory_is_no_answer a);
   printed = none_gained (g.F.Files.holds c.args.files.now) IsCheckText
       (Rose (g.F.Files.faults c.args.files.now) (g.F.Files.faults c.args.files.now)) (g.K.Sink.held c.args.out.now) _ refl;
   same = refl;
