@@ -17,7 +17,7 @@ use Rattle.pie_step_laws.proofs.StepLemmas.{map_end}
 use Rattle.pie_model_pipeline.proofs.Joining.{tasks_told}
 use Rattle.pie_builder_laws.specs.Names.{AreTasks}
 use Rattle.pie_builder_laws.proofs.Naming.{canonical_at}
-use Rattle.pie_fresh.specs.declared.frame.Caller.{Caller}
+use Rattle.pie_running.specs.declared.frame.Caller.{Caller}
 use Rattle.pie_fresh.specs.declared.ledger.Ledger.{Ledger}
 use Rattle.pie_fresh.specs.inner.Ledgers.{AreOpen}
 use Rattle.pie_fresh.specs.inner.Frames.{numbers_of}

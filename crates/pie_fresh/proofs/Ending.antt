@@ -9,7 +9,7 @@ use Rattle.pie_record.specs.inner.Records.{record_of, Puts}
 use Rattle.pie_store.specs.Canonical.{needs}
 use Rattle.pie_value.specs.Canonical.{IsEncodableTask}
 use Rattle.pie_fresh.specs.declared.ledger.Ledger.{Ledger}
-use Rattle.pie_fresh.specs.inner.Noted.{Noted, tasks_on, IsSound}
+use Rattle.pie_running.specs.inner.Noted.{Noted, tasks_on, IsSound}
 use Rattle.pie_fresh.specs.inner.Ledgers.{IsLedger, IsPlaced, IsHigh, Rises, Grows}
 use Rattle.pie_fresh.proofs.Rising.{ended_grows, ended_high}
 use Rattle.pie_fresh.proofs.LedgerLemmas.{ended_ledger}

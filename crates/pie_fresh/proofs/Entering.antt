@@ -1,20 +1,18 @@
 -- What entering a task makes of a build.
 use Rattle.std.proofs.Common.{◌≡◌, ℕ, ◌+◌, ◌-◌, ◌*◌, ◌<◌, ◌≤◌, [], ◌∷◌, ◌++◌, length, get_or, Some, sym, ap, subst, refl, ◌∙◌, arith}
 use Rattle.std.specs.Prelude.{All, Contains, slice_get}
-use Rattle.pie_record.specs.Canonical.{IsStorableDep, IsStorableWrite}
 use Rattle.pie_digest.specs.Digests.{function_names}
 use Rattle.std.proofs.lemmas.List.{length-append}
 use Rattle.std.proofs.lemmas.List.Elements.{All-nil, All-push}
 use Rattle.std.proofs.lemmas.Option.{slice_get-get_or}
 use Rattle.std.proofs.Math.Seq.{get_or-append_seam}
 use Rattle.pie_value.specs.declared.task.Task.{Task}
-use Rattle.pie_value.specs.Canonical.{IsEncodableTask}
-use Rattle.pie_vm.specs.Machines.{Belongs}
-use Rattle.pie_vm.specs.declared.machine.MachineState.TheVariants.{Ready}
-use Rattle.pie_fresh.specs.declared.frame.RunningTask.{RunningTask}
-use Rattle.pie_fresh.specs.declared.frame.Caller.{Caller}
+use Rattle.pie_code.specs.declared.code.Code.{Code}
+use Rattle.pie_running.specs.declared.frame.RunningTask.{RunningTask}
+use Rattle.pie_running.specs.declared.frame.Caller.{Caller}
 use Rattle.pie_fresh.specs.declared.builder.Builder.{Builder}
-use Rattle.pie_fresh.specs.inner.Noted.{Noted, begun, IsSound}
+use Rattle.pie_running.specs.inner.Noted.{Noted}
+use Rattle.pie_running.specs.inner.Frames.{IsStarted}
 use Rattle.pie_fresh.specs.inner.Ledgers.{IsLedger, IsPlaced, AreOpen, Grows}
 use Rattle.pie_fresh.specs.inner.Frames.{IsCaller, IsTop, StandsAt, IsIdle, Running, WaitInTurn, AreKnown, numbers_of}
 use Rattle.pie_fresh.specs.inner.Turns.{Begun, waiting_left, below_left, still}
@@ -24,32 +22,26 @@ use Rattle.pie_fresh.proofs.Growing.{callers_grow, caller_grows}
 use Rattle.pie_fresh.proofs.Stepping.{left_more}
 
 -- a task that was entered and has done nothing yet
-pub begun_is : (b c : Builder) (f : RunningTask) (t : Task) (number : ℕ) → IsLedger c.ledger → Grows b.ledger c.ledger → c.ledger.names ≡ b.ledger.names ++ t ∷ []
-    → c.ledger.records ≡ b.ledger.records → c.ledger.ended ≡ b.ledger.ended → c.stack ≡ b.stack → c.typed ≡ b.typed
-    → Contains (function_names b.typed.now) t.func → number ≡ length b.ledger.names → f.machine.phase ≡ Ready → Belongs f.code.now f.machine
-    → f.notes ≡ begun t number 1000001 → IsEncodableTask t
-    → Begun b c t f
-begun_is b c f t number ledger grows names records ended stack typed known place phase belongs notes encodable =
+pub begun_is : (b c : Builder) (code : Code) (f : RunningTask) (t : Task) (number : ℕ) → IsLedger c.ledger → Grows b.ledger c.ledger
+    → c.ledger.names ≡ b.ledger.names ++ t ∷ [] → c.ledger.records ≡ b.ledger.records → c.ledger.ended ≡ b.ledger.ended → c.stack ≡ b.stack
+    → c.typed ≡ b.typed → Contains (function_names b.typed.now) t.func → number ≡ length b.ledger.names → IsStarted code t number f → Begun b c t f
+begun_is b c code f t number ledger grows names records ended stack typed known place started =
     let size : length (b.ledger.names ++ t ∷ []) ≡ length b.ledger.names + 1 = length-append b.ledger.names (t ∷ []) in
     let last : get_or (b.ledger.names ++ t ∷ []) (length b.ledger.names) t ≡ t = get_or-append_seam b.ledger.names t [] t in
     let named : slice_get (b.ledger.names ++ t ∷ []) (length b.ledger.names) ≡ Some t
     = slice_get-get_or (b.ledger.names ++ t ∷ []) (length b.ledger.names) t (omega (arith, size)) ∙ ap Some last in
     record {
       top = record {
-        ready = record {
-          phase = phase;
-          belongs = belongs;
-          sound = subst IsSound (sym notes) (record { task = encodable; deps = All-nil IsStorableDep; writes = All-nil IsStorableWrite; few = omega arith });
-        };
-        placed = subst (IsPlaced c.ledger) (sym notes) (record {
+        ready = started.ready;
+        placed = subst (IsPlaced c.ledger) (sym started.notes) (record {
           named = subst (λ ts. slice_get ts number ≡ Some t) (sym names) (subst (λ n. slice_get (b.ledger.names ++ t ∷ []) n ≡ Some t) (sym place) named);
           needs = All-nil (λ n. n < length c.ledger.names);
           low = omega arith;
           risen = refl;
         });
       };
-      task = ap (λ (n : Noted). n.task) notes;
-      number = ap (λ (n : Noted). n.number) notes ∙ place;
+      task = ap (λ (n : Noted). n.task) started.notes;
+      number = ap (λ (n : Noted). n.number) started.notes ∙ place;
       ledger = ledger;
       grows = grows;
       names = names;
@@ -58,7 +50,7 @@ begun_is b c f t number ledger grows names records ended stack typed known place
       stack = stack;
       typed = typed;
       known = known;
-      left = ap (λ (n : Noted). n.left) notes;
+      left = ap (λ (n : Noted). n.left) started.notes;
     }
 
 -- one task more

@@ -8,13 +8,15 @@ use Rattle.pie_digest.specs.Digests.{function_names}
 use Rattle.std.proofs.lemmas.List.{length-append}
 use Rattle.std.proofs.lemmas.List.Elements.{All-nil, All-pop}
 use Rattle.pie_value.specs.declared.task.Task.{Task}
-use Rattle.pie_fresh.specs.declared.frame.RunningTask.{RunningTask}
-use Rattle.pie_fresh.specs.declared.frame.Caller.{Caller}
+use Rattle.pie_running.specs.declared.frame.RunningTask.{RunningTask}
+use Rattle.pie_running.specs.declared.frame.Caller.{Caller}
 use Rattle.pie_fresh.specs.declared.builder.Builder.{Builder}
-use Rattle.pie_fresh.specs.inner.Noted.{Noted}
+use Rattle.pie_running.specs.inner.Noted.{Noted}
 use Rattle.pie_fresh.specs.inner.Ledgers.{IsLedger, IsHigh, IsPlaced, AreOpen, Grows}
-use Rattle.pie_fresh.specs.inner.Frames.{IsReady, IsCaller, Stands, StandsAt, IsIdle, Running, WaitInTurn, numbers_of}
-use Rattle.pie_fresh.specs.inner.Turns.{Given, waiting_left, below_left, still}
+use Rattle.pie_running.specs.inner.Frames.{IsReady}
+use Rattle.pie_fresh.specs.inner.Frames.{IsCaller, Stands, StandsAt, IsIdle, Running, WaitInTurn, numbers_of}
+use Rattle.pie_running.specs.inner.Steps.{Given}
+use Rattle.pie_fresh.specs.inner.Turns.{waiting_left, below_left, still}
 use Rattle.pie_fresh.proofs.Rising.{append_none}
 use Rattle.pie_fresh.proofs.Opening.{open_ended}
 use Rattle.pie_fresh.proofs.Waiting.{numbers_push, turns_less}
@@ -40,12 +42,12 @@ ended_stands b c number ledger grows names puts ended stack typed s = record {
       (subst (λ ts. All (λ (u : Task). Contains (function_names b.typed.now) u.func) ts) (sym names) s.known);
 }
 
--- by notes that are seen as others
-pub ended_stands_as : (b c : Builder) (v n : Noted) → v ≡ n → IsLedger c.ledger → Grows b.ledger c.ledger → c.ledger.names ≡ b.ledger.names
-    → ((r : TaskRecord) × Puts b.ledger.records c.ledger.records n.number r) → c.ledger.ended ≡ b.ledger.ended + 1 → c.stack ≡ b.stack → c.typed ≡ b.typed
-    → StandsAt n.number b → Stands [] v.number c
-ended_stands_as b c v n same ledger grows names puts ended stack typed s =
-    subst (λ (k : Noted). Stands [] k.number c) (sym same) (ended_stands b c n.number ledger grows names puts ended stack typed s)
+-- by its number
+pub ended_stands_as : (b c : Builder) (number : ℕ) (n : Noted) → number ≡ n.number → IsLedger c.ledger → Grows b.ledger c.ledger
+    → c.ledger.names ≡ b.ledger.names → ((r : TaskRecord) × Puts b.ledger.records c.ledger.records n.number r) → c.ledger.ended ≡ b.ledger.ended + 1
+    → c.stack ≡ b.stack → c.typed ≡ b.typed → StandsAt n.number b → Stands [] number c
+ended_stands_as b c number n same ledger grows names puts ended stack typed s =
+    subst (λ k. Stands [] k c) (sym same) (ended_stands b c n.number ledger grows names puts ended stack typed s)
 
 -- the one that waits for the task that has ended goes on
 pub resumed : (b c : Builder) (w : Caller) (number height : ℕ) (f : RunningTask) → Stands [] number b → b.stack.items ≡ c.stack.items ++ w ∷ []

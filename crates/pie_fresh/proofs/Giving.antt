@@ -7,89 +7,55 @@ use Rattle.pie_value.specs.declared.task.Task.{Task}
 use Rattle.pie_value.specs.declared.value.Value.{Value}
 use Rattle.pie_value.specs.declared.event.How.{How}
 use Rattle.pie_value.specs.declared.verdict.Refusal.TheVariants as refusals
-use Rattle.pie_value.specs.declared.event.Answer.{Answer}
 use Rattle.pie_value.specs.declared.event.Event.TheVariants as events
-use Rattle.pie_value.specs.Tree.{Tree}
 use Rattle.pie_value.specs.Values.{tree_of}
 use Rattle.pie_value.specs.Limits.{is_small_task}
 use Rattle.pie_value.specs.Canonical.{enc, enc_task, IsCanonical}
-use Rattle.pie_code.specs.declared.code.Code.{Code}
-use Rattle.pie_vm.specs.Machines.{Standing, Follows}
 use Rattle.pie_record.specs.declared.task_record.TaskRecord.{TaskRecord}
 use Rattle.pie_record.specs.declared.task_record.Outcome.TheVariants as ends
 use Rattle.pie_record.specs.inner.Records.{record_of as kept_of}
+use Rattle.pie_types.specs.Headings.{function_in}
+use Rattle.pie_type_laws.specs.Fitting.{OutputFits}
 use Rattle.pie_model.specs.declared.words.Event.TheVariants.{Require, Fail}
 use Rattle.pie_model.specs.declared.words.FaultKind.TheVariants as model_faults
 use Rattle.pie_model.specs.declared.words.Outcome.TheVariants.{Cycled}
-use Rattle.pie_model.specs.Trees.{Node}
-use Rattle.pie_model.specs.Evaluation.{required as model_required, output_answer, evaluation, round}
-use Rattle.pie_model.specs.Records.{Required, observed as observation, value_stamp}
-use Rattle.pie_model.specs.inner.Stack.{Frame as ModelFrame, tasks_of}
-use Rattle.pie_step_laws.specs.Frames.{gone_on, was_answered}
+use Rattle.pie_model.specs.Evaluation.{evaluation, round}
+use Rattle.pie_model.specs.inner.Stack.{tasks_of}
+use Rattle.pie_step_laws.specs.Frames.{was_answered}
 use Rattle.pie_step_laws.specs.UnderWay.{HasEnded}
-use Rattle.pie_step_laws.proofs.StepLemmas.{map_end, require_answered}
+use Rattle.pie_step_laws.proofs.StepLemmas.{require_answered}
 use Rattle.pie_step_laws.proofs.EndLemmas.{ends_in_a_cycle}
 use Rattle.pie_model_pipeline.specs.Words.{how_of}
-use Rattle.pie_model_pipeline.specs.inner.Answers.{answer_of}
-use Rattle.pie_model_pipeline.specs.Rows.{observation_of, record_of, outcome_of}
+use Rattle.pie_model_pipeline.specs.Rows.{record_of, outcome_of}
 use Rattle.pie_model_pipeline.specs.World.{world}
-use Rattle.pie_builder_laws.specs.Fits.{Fit}
-use Rattle.pie_builder_laws.specs.Names.{called_in}
 use Rattle.pie_builder_laws.specs.Requiring.{of_task, requiring_answer}
-use Rattle.pie_builder_laws.proofs.Required.{require_is, answer_is}
 use Rattle.pie_builder_laws.proofs.Naming.{among_at}
 use Rattle.pie_builder_laws.proofs.Tabled.{record_by_number}
-use Rattle.pie_fresh.specs.declared.frame.RunningTask.{RunningTask}
-use Rattle.pie_fresh.specs.declared.frame.Waiting.{Waiting}
+use Rattle.pie_running.specs.declared.frame.RunningTask.{RunningTask}
+use Rattle.pie_running.specs.declared.frame.Waiting.{Waiting}
 use Rattle.pie_fresh.specs.declared.ledger.Ledger.{Ledger}
 use Rattle.pie_fresh.specs.declared.builder.Builder.{Builder}
-use Rattle.pie_fresh.specs.declared.ledger.Done.{Done}
-use Rattle.pie_fresh.specs.inner.Noted.{Noted, required}
+use Rattle.pie_running.specs.declared.requiring.Done.{Done}
+use Rattle.pie_running.specs.inner.Noted.{Noted, required}
 use Rattle.pie_fresh.specs.inner.Frames.{StandsAt}
 use Rattle.pie_fresh.specs.inner.Cycles.{tasks_from}
 use Rattle.pie_fresh.specs.inner.Kept.{IsKeptAs}
-use Rattle.pie_fresh.specs.inner.Told.{IsTold, fails_by}
-use Rattle.pie_fresh.specs.inner.Means.{Site, project_of, table_of, names_of, IsKeptOutput, MeansFrame, MeansTable, Means, IsAsking, RefusesAs}
-use Rattle.pie_fresh.proofs.Fitting.{fits_output, output_kept}
-use Rattle.pie_fresh.proofs.Telling.{called_end, one_less, fails_turn}
+use Rattle.pie_running.specs.inner.Told.{IsTold}
+use Rattle.pie_fresh.specs.inner.Means.{Site, project_of, table_of, names_of, IsKeptOutput, FitsAs, MeansTable, Means, IsAsking, RefusesAs}
+use Rattle.pie_running.proofs.Fitting.{fits_output}
+use Rattle.pie_running.proofs.FrameLemmas.{one_less, given_frame}
+use Rattle.pie_fresh.proofs.Telling.{fails_by, fails_turn}
 use Rattle.pie_fresh.proofs.Cycling.{cycle_round}
-
--- a task with one more required task and its answer is the frame of the model with these
-pub given_frame : (s : Site) (l : Ledger) (code : Code) (m m2 : Standing) (n : Noted) (left k : ℕ) (g : ModelFrame) (how : How) (t : Task) (v : Value)
-    (number height : ℕ) (x : Node) → MeansFrame s l code m n left g → slice_get l.names number ≡ Some t → IsCanonical (tree_of v) (enc (tree_of v))
-    → ((args : List Tree) (given : List Answer) → Follows code args given m → Follows code args (given ++ requiring_answer how v ∷ []) m2)
-    → Fit s.functions s.headings n.task (map answer_of g.progress.answers ++ requiring_answer how v ∷ [])
-    → MeansFrame s l code m2 (required (of_task how t v) number height n) k
-    (gone_on g (model_required g.progress x (output_answer (enc (tree_of v)) (how_of how)))
-    (g.seen ++ observation (Required (how_of how) (enc_task t)) (value_stamp world (enc (tree_of v)) (how_of how)) ∷ []) k)
-given_frame s l code m m2 n left k g how t v number height x F named canonical follows fits = record {
-  task = F.task;
-  named = F.named;
-  function = F.function;
-  found = F.found;
-  coded = F.coded;
-  takes = F.takes;
-  follows = subst (λ given. Follows code n.task.args given m2)
-      (sym (map_end answer_of g.progress.answers (output_answer (enc (tree_of v)) (how_of how))
-      ∙ ap (λ y. map answer_of g.progress.answers ++ y ∷ []) (sym (answer_is how v canonical))))
-      (follows n.task.args (map answer_of g.progress.answers) F.follows);
-  fits = subst (λ given. Fit s.functions s.headings n.task given)
-      (sym (map_end answer_of g.progress.answers (output_answer (enc (tree_of v)) (how_of how))
-      ∙ ap (λ y. map answer_of g.progress.answers ++ y ∷ []) (sym (answer_is how v canonical)))) fits;
-  seen = map_end observation_of n.deps (of_task how t v) ∙ ap (λ z. z ++ observation_of (of_task how t v) ∷ []) F.seen
-      ∙ ap (λ y. g.seen ++ y ∷ []) (require_is how t v);
-  writes = F.writes;
-  needs = map_end (slice_get l.names) n.needs number ∙ ap (λ z. z ++ slice_get l.names number ∷ []) F.needs
-      ∙ ap (λ y. map Some (called_in n.deps) ++ y ∷ []) named
-      ∙ sym (map_end Some (called_in n.deps) t) ∙ ap (map Some) (sym (called_end n.deps (of_task how t v)));
-  staged = F.staged;
-  left = refl;
-}
 
 -- a task that is done has a canonical output
 pub output_canonical : (s : Site) (l : Ledger) (number : ℕ) (rec : TaskRecord) (v : Value) → MeansTable s l → kept_of l.records number ≡ Some rec
     → rec.outcome ≡ ends.Done v → IsCanonical (tree_of v) (enc (tree_of v))
 output_canonical s l number rec v T is done = subst IsKeptOutput done (subst (λ o. IfSome o (λ r. IsKeptOutput r.outcome)) is (T.outputs number))
+
+-- and an output of its function's type
+pub output_kept : (s : Site) (l : Ledger) (number : ℕ) (t : Task) (rec : TaskRecord) (v : Value) → MeansTable s l → slice_get l.names number ≡ Some t
+    → kept_of l.records number ≡ Some rec → rec.outcome ≡ ends.Done v → OutputFits (function_in t.func s.headings) (tree_of v)
+output_kept s l number t rec v T named is ended = subst (FitsAs s.headings t) ended (T.fits number t rec named is)
 
 -- a require of a task that is done is answered
 pub answered_means : (s : Site) (b : Builder) (w : Waiting) (how : How) (t : Task) (v : Value) (number height : ℕ) (rec : TaskRecord) (f : RunningTask)
@@ -103,10 +69,11 @@ answered_means s b w how t v number height rec f A left small named is done told
       waiting = A.means.waiting;
       running = was_answered world (project_of s) A.means.running (w.notes.left - 1) (how_of how) (enc_task t) (enc (tree_of v));
       stack = A.means.stack;
-      top = given_frame s b.ledger w.code.now w.machine f.machine w.notes w.notes.left (w.notes.left - 1) A.means.running how t v number height
-          (evaluation world (project_of s) (enc_task t)) A.means.top named (output_canonical s b.ledger number rec v A.means.table is done) told.follows
-          (fits_output s b A.means.there b.ledger w.code.now w.machine w.notes w.notes.left A.means.running A.means.top t how v A.came
-          (output_kept s b.ledger number t rec v A.means.table named is done));
+      top = given_frame s.functions s.headings s.codes b.ledger.names b.ledger.stage w.code.now w.machine w.notes w.notes.left A.means.running A.means.top
+          (w.notes.left - 1) f.machine how t v number height (evaluation world (project_of s) (enc_task t)) named
+          (output_canonical s b.ledger number rec v A.means.table is done) told.follows
+          (fits_output s.functions s.headings s.codes A.means.there.compiled b.ledger.names b.ledger.stage w.code.now w.machine w.notes w.notes.left
+          A.means.running A.means.top t how v A.came (output_kept s b.ledger number t rec v A.means.table named is done));
       under = require_answered world (project_of s) s.root s.base (table_of b.ledger) (names_of b.ledger) A.means.waiting A.means.running A.means.under
           (w.notes.left - 1) (how_of how) (enc_task t) (record_of rec) (enc (tree_of v)) (A.means.top.left ∙ one_less w.notes.left left)
           (A.asks ∙ ap (λ z. cond z (Require (how_of how) (enc_task t)) (Fail model_faults.Big)) small)

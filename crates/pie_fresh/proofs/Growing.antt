@@ -8,11 +8,11 @@ use Rattle.pie_value.specs.declared.task.Task.{Task}
 use Rattle.pie_value.specs.Canonical.{IsEncodableTask}
 use Rattle.pie_graph.specs.Numbers.{AllBelow}
 use Rattle.pie_fresh.specs.declared.ledger.Ledger.{Ledger}
-use Rattle.pie_fresh.specs.declared.frame.Caller.{Caller}
-use Rattle.pie_fresh.specs.inner.Noted.{Noted, tasks_on}
+use Rattle.pie_running.specs.declared.frame.Caller.{Caller}
+use Rattle.pie_running.specs.inner.Noted.{Noted, tasks_on}
 use Rattle.pie_fresh.specs.inner.Ledgers.{IsHigh, Rises, IsPlaced, Grows, Enters, Starts}
 use Rattle.pie_fresh.specs.inner.Frames.{IsCaller}
-use Rattle.pie_fresh.specs.inner.Turns.{Advanced, Given}
+use Rattle.pie_running.specs.inner.Steps.{Advanced, Given}
 use Rattle.pie_fresh.specs.inner.Builds.{Gains}
 use Rattle.pie_record.specs.declared.dep.DepOn.TheVariants.{Called}
 use Rattle.pie_fresh.proofs.Rising.{get_kept, append_none, rises_kept, rises_more, alike_keeps}

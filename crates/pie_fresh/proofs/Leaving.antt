@@ -44,15 +44,15 @@ use Rattle.pie_fresh.specs.declared.ledger.Ledger.{Ledger}
 use Rattle.pie_fresh.specs.declared.builder.Builder.{Builder}
 use Rattle.pie_fresh.specs.declared.turn.Turn.{Turn}
 use Rattle.pie_fresh.specs.declared.turn.Turn.TheVariants.{Stops}
-use Rattle.pie_fresh.specs.inner.Noted.{Noted}
+use Rattle.pie_running.specs.inner.Noted.{Noted}
 use Rattle.pie_fresh.specs.inner.Kept.{ended_with, row_ended, HasOutput}
 use Rattle.pie_fresh.specs.inner.Means.{Site, project_of, table_of, names_of, IsKeptOutput, FitsAs, MeansTable, MeanCallers, Means, EndsWith, GoesOnAfter}
 use Rattle.pie_fresh.specs.inner.Means.{HasFinished, FinishesAs, ResumesAs}
 use Rattle.pie_fresh.specs.inner.Means.{IsThere, RefusesAs, TurnMeans}
-use Rattle.pie_fresh.proofs.Fitting.{output_has}
+use Rattle.pie_running.proofs.Fitting.{output_has}
 use Rattle.pie_fresh.proofs.Moving.{callers_move}
-use Rattle.pie_fresh.proofs.Telling.{one_less}
-use Rattle.pie_fresh.proofs.Writing.{same_number, other_number}
+use Rattle.pie_running.proofs.FrameLemmas.{one_less}
+use Rattle.pie_running.proofs.Firsts.{same_number, other_number}
 
 -- ---- records that were put
 
@@ -223,7 +223,8 @@ pub finishes : (s : Site) (b c : Builder) (n : Noted) (v : Value) → EndsWith s
     → HasFinished s c n.number v
 finishes s b c n v E small canonical names puts rows stage stack there =
     finished s b E.code E.machine n E.means v c.ledger (E.ends ∙ ap (λ z. cond z (Done (enc (tree_of v))) (Fail model_faults.Big)) small) E.left canonical
-    (output_has s b E.means.there b.ledger E.code E.machine n n.left E.means.running E.means.top v E.came) names puts rows stage c refl stack there
+    (output_has s.functions s.headings s.codes E.means.there.compiled b.ledger.names b.ledger.stage E.code E.machine n n.left E.means.running E.means.top
+    E.means.there.headings v E.came) names puts rows stage c refl stack there
 
 -- a value past the limits is a fault
 pub too_big : (s : Site) (b : Builder) (n : Noted) (v : Value) (t : Turn) (task : Task) → EndsWith s b n v → is_small (tree_of v) ≡ false

@@ -1,7 +1,6 @@
 pub mod Rising
 pub mod LedgerLemmas
 pub mod Ending
-pub mod Noting
 pub mod Growing
 pub mod Opening
 pub mod Waiting
@@ -11,14 +10,11 @@ pub mod Finishing
 pub mod Heights
 pub mod Placing
 pub mod Ordering
-pub mod Known
 pub mod Roots
 pub mod RowLemmas
 pub mod FileLemmas
 pub mod BuiltLemmas
-pub mod Staging
 pub mod Seeing
-pub mod Fitting
 pub mod Telling
 pub mod Moving
 pub mod Writing
@@ -32,5 +28,4 @@ pub mod Rooting
 pub mod Cleaning
 pub mod Walks
 pub mod CleanLemmas
-pub mod TooLong
 pub mod ReadingFiles

@@ -12,12 +12,14 @@ use Rattle.pie_model.specs.Paths.{among}
 use Rattle.pie_model.specs.inner.Stack.{Frame as ModelFrame, tasks_of}
 use Rattle.pie_model.proofs.Basics.{among_here, among_there}
 use Rattle.pie_model_pipeline.specs.Rows.{record_of}
+use Rattle.pie_builder_laws.specs.Names.{called_in}
 use Rattle.pie_builder_laws.specs.Views.{AreNumbersOf}
+use Rattle.pie_running.proofs.FrameLemmas as frames
 use Rattle.pie_builder_laws.proofs.Tabled.{record_by_number}
-use Rattle.pie_fresh.specs.declared.frame.Caller.{Caller}
+use Rattle.pie_running.specs.declared.frame.Caller.{Caller}
 use Rattle.pie_fresh.specs.declared.ledger.Ledger.{Ledger}
 use Rattle.pie_fresh.specs.declared.builder.Builder.{Builder}
-use Rattle.pie_fresh.specs.inner.Noted.{Noted}
+use Rattle.pie_running.specs.inner.Noted.{Noted}
 use Rattle.pie_fresh.specs.inner.Means.{Site, table_of, MeansFrame, MeanCallers, Means}
 
 -- a task keeps its number
@@ -27,21 +29,9 @@ pub record Extends (old new : Ledger) : Type 0 where
 
 pub frame_moves : (s : Site) (old new : Ledger) (code : Code) (m : Standing) (n : Noted) (left : ℕ) (g : ModelFrame) → Extends old new
     → ((p : List ℕ) → content new.stage n.number p ≡ content old.stage n.number p) → MeansFrame s old code m n left g → MeansFrame s new code m n left g
-frame_moves s old new code m n left g x same F = record {
-  task = F.task;
-  named = x.named n.number n.task F.named;
-  function = F.function;
-  found = F.found;
-  coded = F.coded;
-  takes = F.takes;
-  follows = F.follows;
-  fits = F.fits;
-  seen = F.seen;
-  writes = F.writes;
-  needs = x.numbers n.needs _ F.needs;
-  staged = λ p. same p ∙ F.staged p;
-  left = F.left;
-}
+frame_moves s old new code m n left g x same F =
+    frames.frame_moves s.functions s.headings s.codes old.names old.stage code m n left g F new.names new.stage (x.named n.number n.task F.named)
+    (x.numbers n.needs (called_in n.deps) F.needs) same
 
 -- the contents of these tasks stay
 abbrev pub KeepsStaged : Ledger → Ledger → List ModelFrame → Type 0

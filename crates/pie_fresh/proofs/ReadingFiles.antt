@@ -24,17 +24,20 @@ use Rattle.pie_model_pipeline.specs.World.{world, next}
 use Rattle.pie_builder_laws.proofs.Naming.{canonical_at}
 use Rattle.pie_builder_laws.proofs.Coded.{event_is}
 use Rattle.pie_fresh.specs.declared.builder.Builder.{Builder}
-use Rattle.pie_fresh.specs.declared.frame.Waiting.{Waiting}
-use Rattle.pie_fresh.specs.declared.looking.Sight.{Sight}
-use Rattle.pie_fresh.specs.declared.looking.Sight.TheVariants.{File, Long, Clash as Clashes}
-use Rattle.pie_fresh.specs.declared.turn.Turn.{Turn}
-use Rattle.pie_fresh.specs.declared.turn.Turn.TheVariants.{Stops}
-use Rattle.pie_fresh.specs.inner.Sights.{found_in, most_content, Sees, SightSays}
-use Rattle.pie_fresh.specs.inner.Told.{IsToldReading, fails_by, too_much}
+use Rattle.pie_running.specs.declared.frame.Waiting.{Waiting}
+use Rattle.pie_running.specs.declared.looking.Sight.{Sight}
+use Rattle.pie_running.specs.declared.looking.Sight.TheVariants.{File, Long, Clash as Clashes}
+use Rattle.pie_running.specs.inner.Sights.{found_in, most_content, Sees, SightSays}
+use Rattle.pie_running.specs.inner.Looks.{IsToldSight}
+use Rattle.pie_running.specs.inner.Told.{HasFailed, IsToldReading, too_much}
 use Rattle.pie_fresh.specs.inner.Means.{Site, project_of, table_of, names_of, IsAsking, TurnMeans}
 use Rattle.pie_fresh.proofs.Seeing.{seen_visible}
-use Rattle.pie_fresh.proofs.Telling.{one_less, read_turn}
-use Rattle.pie_fresh.proofs.TooLong.{comes_big}
+use Rattle.pie_running.proofs.FrameLemmas.{one_less}
+use Rattle.pie_running.specs.declared.frame.Told.{Told}
+use Rattle.pie_fresh.specs.inner.Turns.{turned}
+use Rattle.pie_fresh.specs.inner.Sights.{SeesOut}
+use Rattle.pie_fresh.proofs.Telling.{failed_turn, read_turn}
+use Rattle.pie_running.proofs.TooLong.{comes_big}
 
 -- the answer of the model to a task that reads, as the language has it
 bytes_told : (by : By) (bytes : List ℕ) → answer_of (present_answer world bytes (look_by by)) ≡ answers.Bytes (Some bytes)
@@ -49,7 +52,7 @@ some_left : (n : ℕ) → 0 < n → (n == 1) ≡ false → n - 1 ≡ suc (n - 2)
 some_left n some e = grind (arith, nat_tests)
 
 module _ (s : Site) (b : Builder) (w : Waiting) (path : List ℕ) (by : By) (A : IsAsking s b w (events.Read path by)) (left : 0 < w.notes.left)
-    (f : List ℕ × ℕ) (sees : Sees s.directory b.ledger.stage b.ledger.rows w.notes path (Some (Some f))) (long : most_content < length f.0) where
+    (f : List ℕ × ℕ) (sees : Sees s.directory path (SeesOut b.ledger.stage b.ledger.rows w.notes path) (Some (Some f))) (long : most_content < length f.0) where
   -- the task is told the bytes
   under : UnderWay world (project_of s) s.root s.base (table_of b.ledger) (names_of b.ledger) A.means.waiting
       (saw_contents world A.means.running (w.notes.left - 1) (look_by by) path f.0 f.1)
@@ -81,14 +84,18 @@ module _ (s : Site) (b : Builder) (w : Waiting) (path : List ℕ) (by : By) (A :
       (saw_contents world A.means.running (w.notes.left - 1) (look_by by) path f.0 f.1) under (w.notes.left - 2) model_faults.Big
       (some_left w.notes.left left e) fails_next
 
-  pub long_turn : (t : Turn) → t ≡ Stops (fails_by w (too_much w.notes.left)) → TurnMeans s b t
-  long_turn t e =
-      subst (TurnMeans s b) (sym e)
+  pub long_turn : (t : Told) → HasFailed w.notes (too_much w.notes.left) t → TurnMeans s b (turned t)
+  long_turn t h =
+      failed_turn s b w A.means left w.notes (too_much w.notes.left) refl
       (subst (λ x. HasEnded world (project_of s) s.root s.base (names_of b.ledger) (Failed x (fault_of (too_much w.notes.left)))) A.means.top.task
-      (ended (w.notes.left == 1) refl))
+      (ended (w.notes.left == 1) refl)) t h
 
-pub reading_turn : (s : Site) (b : Builder) (w : Waiting) (path : List ℕ) (by : By) (sight : Sight) (t : Turn) → IsAsking s b w (events.Read path by)
-    → 0 < w.notes.left → SightSays sight (Sees s.directory b.ledger.stage b.ledger.rows w.notes path) → IsToldReading w by path sight t → TurnMeans s b t
-reading_turn s b w path by (File found) t A left p h = read_turn s b w path by (Some (found_in found)) t A left p h
-reading_turn s b w path by Long t A left p h = long_turn s b w path by A left p.0 p.1 p.2 t h
-reading_turn s b w path by Clashes t A left p h = read_turn s b w path by None t A left p h
+pub reading_turn : (s : Site) (b : Builder) (w : Waiting) (path : List ℕ) (by : By) (t : Told) → IsAsking s b w (events.Read path by) → 0 < w.notes.left
+    → IsToldSight s.directory (SeesOut b.ledger.stage b.ledger.rows w.notes path) w path by t → TurnMeans s b (turned t)
+reading_turn s b w path by t A left h = at h.sight h.sees h.told
+  where
+    at : (sight : Sight) → SightSays sight (Sees s.directory path (SeesOut b.ledger.stage b.ledger.rows w.notes path)) → IsToldReading w by path sight t
+        → TurnMeans s b (turned t)
+    at (File found) p k = read_turn s b w path by (Some (found_in found)) t A left p k
+    at Long p k = long_turn s b w path by A left p.0 p.1 p.2 t k
+    at Clashes p k = read_turn s b w path by None t A left p k

@@ -18,15 +18,17 @@ use Rattle.pie_model_pipeline.specs.World.{world}
 use Rattle.pie_model_pipeline.proofs.Joining.{tasks_told}
 use Rattle.pie_builder_laws.specs.Requiring.{of_task, requiring_answer}
 use Rattle.pie_builder_laws.proofs.Naming.{canonical_at}
-use Rattle.pie_fresh.specs.declared.frame.RunningTask.{RunningTask}
-use Rattle.pie_fresh.specs.declared.frame.Caller.{Caller}
+use Rattle.pie_running.specs.declared.frame.RunningTask.{RunningTask}
+use Rattle.pie_running.specs.declared.frame.Caller.{Caller}
 use Rattle.pie_fresh.specs.declared.builder.Builder.{Builder}
-use Rattle.pie_fresh.specs.inner.Noted.{required}
-use Rattle.pie_fresh.specs.inner.Told.{IsTold}
+use Rattle.pie_running.specs.inner.Noted.{required}
+use Rattle.pie_running.specs.inner.Told.{IsTold}
 use Rattle.pie_fresh.specs.inner.Means.{MeansTable}
-use Rattle.pie_fresh.specs.inner.Means.{Site, project_of, table_of, names_of, IsThere, MeansFrame, MeansCaller, MeanCallers, Means, GoesOnAfter, HasFinished, RestsAs}
-use Rattle.pie_fresh.proofs.Fitting.{fits_output, output_kept}
-use Rattle.pie_fresh.proofs.Giving.{given_frame, output_canonical}
+use Rattle.pie_running.specs.inner.Means.{MeansCaller}
+use Rattle.pie_fresh.specs.inner.Means.{Site, project_of, table_of, names_of, IsThere, MeansFrame, MeanCallers, Means, GoesOnAfter, HasFinished, RestsAs}
+use Rattle.pie_running.proofs.Fitting.{fits_output}
+use Rattle.pie_running.proofs.FrameLemmas.{given_frame}
+use Rattle.pie_fresh.proofs.Giving.{output_canonical, output_kept}
 
 -- a list without elements
 pub nothing_left : {X : Type 0} (xs : List X) → length xs ≡ 0 → xs ≡ []
@@ -71,7 +73,7 @@ resumed_means s b c w number height v f H popped same there told =
         → Means s c f.code.now f.machine f.notes
     by [] m g = absurd m
     by (x ∷ gs) m g =
-        let caller : MeansCaller s b.ledger x w = m.0 in
+        let caller : MeansCaller s.functions s.headings s.codes b.ledger.names b.ledger.stage x w = m.0 in
         let bytes : enc_task w.required ≡ enc_task H.task
         = same_task (how_of w.how) g.0.how (enc_task w.required) (enc_task H.task) (sym caller.waits ∙ g.0.next) in
         let task : w.required ≡ H.task
@@ -93,10 +95,11 @@ resumed_means s b c w number height v f H popped same there told =
               (w.waiting.notes.left - 1) (was_answered world (project_of s) x x.left (how_of w.how) (enc_task w.required) (enc (tree_of v)))) (sym same)
               (subst (λ k. MeansFrame s b.ledger w.waiting.code.now f.machine (required (of_task w.how w.required v) number height w.waiting.notes) k
               (was_answered world (project_of s) x x.left (how_of w.how) (enc_task w.required) (enc (tree_of v)))) left
-              (given_frame s b.ledger w.waiting.code.now w.waiting.machine f.machine w.waiting.notes caller.left x.left x w.how w.required v number height
-              (evaluation world (project_of s) (enc_task w.required)) caller.frame named
+              (given_frame s.functions s.headings s.codes b.ledger.names b.ledger.stage w.waiting.code.now w.waiting.machine w.waiting.notes caller.left x
+              caller.frame x.left f.machine w.how w.required v number height (evaluation world (project_of s) (enc_task w.required)) named
               (output_canonical s b.ledger number H.output.rec v H.table H.output.kept H.output.outcome) told.follows
-              (fits_output s b H.there b.ledger w.waiting.code.now w.waiting.machine w.waiting.notes caller.left x caller.frame w.required w.how v caller.came
+              (fits_output s.functions s.headings s.codes H.there.compiled b.ledger.names b.ledger.stage w.waiting.code.now w.waiting.machine w.waiting.notes
+              caller.left x caller.frame w.required w.how v caller.came
               (output_kept s b.ledger number w.required H.output.rec v H.table named H.output.kept H.output.outcome))));
           under = subst (λ l. UnderWay world (project_of s) s.root s.base (table_of l) (names_of l) gs
               (was_answered world (project_of s) x x.left (how_of w.how) (enc_task w.required) (enc (tree_of v)))) (sym same) under;

@@ -13,7 +13,7 @@ use Rattle.pie_step_laws.specs.UnderWay.{HasEnded}
 use Rattle.pie_step_laws.proofs.EndLemmas.{known_done, known_adds_nothing}
 use Rattle.pie_model_pipeline.specs.World.{world}
 use Rattle.pie_builder_laws.proofs.Naming.{among_at}
-use Rattle.pie_fresh.specs.declared.frame.RunningTask.{RunningTask}
+use Rattle.pie_running.specs.declared.frame.RunningTask.{RunningTask}
 use Rattle.pie_fresh.specs.declared.builder.Builder.{Builder}
 use Rattle.pie_fresh.specs.declared.turn.Turn.{Turn}
 use Rattle.pie_fresh.specs.declared.turn.Turn.TheVariants.{Goes, Rests, Stops}

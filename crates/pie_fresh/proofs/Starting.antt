@@ -10,14 +10,12 @@ use Rattle.pie_value.specs.declared.event.How.{How}
 use Rattle.pie_value.specs.declared.event.Event.TheVariants as events
 use Rattle.pie_value.specs.declared.verdict.Refusal.{Refusal}
 use Rattle.pie_value.specs.declared.verdict.Refusal.TheVariants as refusals
-use Rattle.pie_value.specs.Tree.{Tree}
 use Rattle.pie_value.specs.Limits.{is_small_task}
 use Rattle.pie_value.specs.Canonical.{enc_task, IsCanonicalTask}
 use Rattle.pie_graph.specs.Rows.{no_edges}
 use Rattle.pie_view.specs.Content.{content}
 use Rattle.pie_code.specs.declared.code.Code.{Code}
 use Rattle.pie_code.specs.Running.{start}
-use Rattle.pie_vm.specs.Machines.{Standing, Leads, Follows}
 use Rattle.pie_record.specs.declared.task_record.TaskRecord.{TaskRecord}
 use Rattle.pie_record.specs.inner.Records.{record_of as kept_of}
 use Rattle.pie_types.specs.Whole.{number_from}
@@ -37,24 +35,24 @@ use Rattle.pie_builder_laws.specs.Names.{AreTasks}
 use Rattle.pie_builder_laws.specs.Tables.{recorded}
 use Rattle.pie_builder_laws.specs.Views.{IsGraphOf}
 use Rattle.pie_builder_laws.specs.Events.{AreCompiled}
-use Rattle.pie_builder_laws.proofs.Fitted.{no_answers}
 use Rattle.pie_builder_laws.proofs.Naming.{canonical_at, other_back}
 use Rattle.pie_builder_laws.proofs.Numbered.{code_found}
 use Rattle.pie_builder_laws.proofs.Tabled.{no_record_named}
 use Rattle.pie_builder_laws.proofs.Provided.{numbers_stay, graph_grows}
-use Rattle.pie_fresh.specs.declared.frame.RunningTask.{RunningTask}
-use Rattle.pie_fresh.specs.declared.frame.Caller.{Caller}
-use Rattle.pie_fresh.specs.declared.frame.Waiting.{Waiting}
+use Rattle.pie_running.specs.declared.frame.RunningTask.{RunningTask}
+use Rattle.pie_running.specs.declared.frame.Caller.{Caller}
+use Rattle.pie_running.specs.declared.frame.Waiting.{Waiting}
 use Rattle.pie_fresh.specs.declared.ledger.Ledger.{Ledger}
 use Rattle.pie_fresh.specs.declared.builder.Builder.{Builder}
-use Rattle.pie_fresh.specs.inner.Noted.{Noted, begun}
-use Rattle.pie_fresh.specs.inner.Kept.{IsCodeFor, HasFunction}
+use Rattle.pie_running.specs.inner.Coded.{IsCodeFor, HasFunction}
 use Rattle.pie_fresh.specs.inner.Means as means
-use Rattle.pie_fresh.specs.inner.Means.{Site, project_of, table_of, names_of, IsThere, MeansTable, MeansFrame, MeansCaller, MeanCallers, Means, IsAsking}
+use Rattle.pie_fresh.specs.inner.Means.{Site, project_of, table_of, names_of, IsThere, MeansTable, MeansFrame, MeanCallers, Means, IsAsking}
 use Rattle.pie_fresh.specs.inner.Means.{AddsTask, HasNoRoom, RefusesNew, EntersTooMany, RefusesAs, IsResting}
-use Rattle.pie_fresh.proofs.Fitting.{required_has}
+use Rattle.pie_running.proofs.Fitting.{required_has}
 use Rattle.pie_fresh.proofs.Moving.{Extends, frame_moves, callers_move}
-use Rattle.pie_fresh.proofs.Telling.{one_less}
+use Rattle.pie_running.specs.inner.Frames.{IsStarted}
+use Rattle.pie_running.proofs.FrameLemmas as frames
+use Rattle.pie_running.proofs.FrameLemmas.{one_less, aside_frame}
 
 some_same : {X : Type 0} {x y : X} → Some x ≡ Some y → x ≡ y
 some_same h = cc
@@ -68,10 +66,6 @@ not_some h = absurd (apart h)
 pub most_tasks_is : world.most_tasks ≡ 50000
 unfolding world
 most_tasks_is = refl
-
-pub most_events_is : world.most_events ≡ 1000001
-unfolding world
-most_events_is = refl
 
 -- ---- a name more
 
@@ -136,9 +130,6 @@ module _ (s : Site) (old new : Ledger) (t : Task) (T : MeansTable s old) (names 
 
 -- ---- a new task
 
-follows_start : (code : Code) (args : List Tree) (m : Standing) → m.config ≡ start code args [] → Follows code args [] m
-follows_start code args m e = subst (λ c. Leads code (start code args []) c) (sym e) (record { ends = λ rest o h. h })
-
 -- a task without code has no function
 pub no_function : (s : Site) (t : Task) → AreCompiled s.functions s.codes → IsCodeFor s.functions s.codes t None → number_from 0 s.functions t ≡ None
 no_function s t compiled none = by (number_from 0 s.functions t) refl
@@ -163,27 +154,16 @@ added s old new t there T now names rows records stage tasks stack room absent =
 }
 
 -- a new task before its first event is the new frame of the model
-pub begun_frame : (s : Site) (old new : Builder) (t u : Task) (f : RunningTask) (number : ℕ) → AddsTask s old new t → MeansTable s old.ledger → u ≡ t
-    → number ≡ length old.ledger.names → HasFunction s.functions s.codes t f.code.now → f.machine.config ≡ start f.code.now t.args []
-    → f.notes ≡ begun u number 1000001 → MeansFrame s new.ledger f.code.now f.machine f.notes f.notes.left (model_begun world (enc_task t))
-begun_frame s old new t u f number A T same place function started notes =
-    subst (λ n. MeansFrame s new.ledger f.code.now f.machine n n.left (model_begun world (enc_task t)))
-    (sym (notes ∙ ap (λ x. begun x number 1000001) same)) (record {
-      task = refl;
-      named = subst (λ ts. slice_get ts number ≡ Some t) (sym A.names)
-          (subst (λ n. slice_get (old.ledger.names ++ t ∷ []) n ≡ Some t) (sym place) (name_new old.ledger.names t));
-      function = function.number;
-      found = function.found;
-      coded = function.coded;
-      takes = function.takes;
-      follows = follows_start f.code.now t.args f.machine started;
-      fits = no_answers s.functions s.headings t;
-      seen = refl;
-      writes = refl;
-      needs = refl;
-      staged = λ p. ap (λ z. content z number p) A.stage ∙ (T.unused number (omega (arith, place))).unstaged p;
-      left = most_events_is;
-    })
+pub begun_frame : (s : Site) (old new : Builder) (t : Task) (code : Code) (f : RunningTask) (number : ℕ) → AddsTask s old new t → MeansTable s old.ledger
+    → number ≡ length old.ledger.names → HasFunction s.functions s.codes t code → IsStarted code t number f
+    → MeansFrame s new.ledger f.code.now f.machine f.notes f.notes.left (model_begun world (enc_task t))
+begun_frame s old new t code f number A T place function started =
+    frames.begun_frame s.functions s.headings s.codes new.ledger.names new.ledger.stage t f number
+    (subst (λ ts. slice_get ts number ≡ Some t) (sym A.names)
+    (subst (λ n. slice_get (old.ledger.names ++ t ∷ []) n ≡ Some t) (sym place) (name_new old.ledger.names t)))
+    (subst (HasFunction s.functions s.codes t) (sym started.coded) function)
+    (subst (λ c. f.machine.config ≡ start c t.args []) (sym started.coded) started.config) started.notes
+    (λ p. ap (λ z. content z number p) A.stage ∙ (T.unused number (omega (arith, place))).unstaged p)
 
 -- a function by the codes of the build is one of the site
 pub function_there : (s : Site) (b : Builder) (t : Task) (o : Option Code) → IsThere s b → IsCodeFor b.typed.now b.code.now t o
@@ -222,25 +202,6 @@ names_one_more old new t e = ap (map enc_task) e ∙ map_end enc_task old.ledger
 room_left : (ts : List Task) → length ts < 50000 → length (map enc_task ts) < world.most_tasks
 room_left ts h = subst (λ k. length (map enc_task ts) < k) (sym most_tasks_is) (subst (λ k. k < 50000) (sym (length-map ts enc_task)) h)
 
--- a frame that waits is the one that ran
-aside_frame : (s : Site) (l : Ledger) (code : Code) (m : Standing) (n : Noted) (e k : ℕ) (g : ModelFrame) → MeansFrame s l code m n e g
-    → MeansFrame s l code m n k (set_aside g k)
-aside_frame s l code m n e k g F = record {
-  task = F.task;
-  named = F.named;
-  function = F.function;
-  found = F.found;
-  coded = F.coded;
-  takes = F.takes;
-  follows = F.follows;
-  fits = F.fits;
-  seen = F.seen;
-  writes = F.writes;
-  needs = F.needs;
-  staged = F.staged;
-  left = refl;
-}
-
 -- ---- a required task that is new
 
 module _ (s : Site) (b c : Builder) (w : Waiting) (t : Task) (how : How) (A : IsAsking s b w (events.Require t how)) (left : 0 < w.notes.left)
@@ -278,9 +239,9 @@ module _ (s : Site) (b c : Builder) (w : Waiting) (t : Task) (how : How) (A : Is
               record {
                 left = w.notes.left - 1;
                 is_left = one_less w.notes.left left;
-                frame = aside_frame s c.ledger w.code.now w.machine w.notes w.notes.left (w.notes.left - 1) A.means.running
-                    (frame_moves s b.ledger c.ledger w.code.now w.machine w.notes w.notes.left A.means.running (names_extend b.ledger c.ledger t E.names)
-                    (λ p. ap (λ z. content z w.notes.number p) E.stage) A.means.top);
+                frame = aside_frame s.functions s.headings s.codes c.ledger.names c.ledger.stage w.code.now w.machine w.notes w.notes.left
+                    A.means.running (frame_moves s b.ledger c.ledger w.code.now w.machine w.notes w.notes.left A.means.running (names_extend b.ledger c.ledger t E.names)
+                    (λ p. ap (λ z. content z w.notes.number p) E.stage) A.means.top) (w.notes.left - 1);
                 waits = requires;
                 canonical = canonical_at c.ledger.names E.table.tasks (length b.ledger.names) t
                     (subst (λ ts. slice_get ts (length b.ledger.names) ≡ Some t) (sym E.names) (name_new b.ledger.names t));
@@ -306,7 +267,8 @@ module _ (s : Site) (b c : Builder) (w : Waiting) (t : Task) (how : How) (A : Is
   -- it isn't started
   pub refused_means : (r : Refusal) → RefusesNew s b c t r → RefusesAs s c.ledger r
   refused_means (refusals.Fault f) h =
-      not_some (sym h ∙ (required_has s b A.means.there b.ledger w.code.now w.machine w.notes w.notes.left A.means.running A.means.top t how A.came).1)
+      not_some (sym h ∙ (required_has s.functions s.headings s.codes A.means.there.compiled b.ledger.names b.ledger.stage w.code.now w.machine w.notes
+      w.notes.left A.means.running A.means.top A.means.there.headings t how A.came).1)
   refused_means refusals.Many h = too_many h
   refused_means (refusals.Cycle ts) h = absurd h
   refused_means (refusals.Overlap p x y) h = absurd h

@@ -7,14 +7,17 @@ use Rattle.pie_record.specs.declared.task_record.TaskRecord.{TaskRecord}
 use Rattle.pie_digest.specs.Digests.{function_names}
 use Rattle.pie_value.specs.declared.task.Task.{Task}
 use Rattle.pie_fresh.specs.declared.ledger.Ledger.{Ledger}
-use Rattle.pie_fresh.specs.declared.frame.Caller.{Caller}
+use Rattle.pie_running.specs.declared.frame.Caller.{Caller}
 use Rattle.pie_fresh.specs.declared.builder.Builder.{Builder}
 use Rattle.pie_fresh.specs.declared.turn.Turn.{Turn}
 use Rattle.pie_fresh.specs.declared.turn.Turn.TheVariants.{Goes, Rests, Stops}
-use Rattle.pie_fresh.specs.inner.Noted.{Noted}
+use Rattle.pie_running.specs.declared.frame.Told.{Told}
+use Rattle.pie_running.specs.declared.frame.Told.TheVariants as told
+use Rattle.pie_running.specs.inner.Noted.{Noted}
+use Rattle.pie_running.specs.inner.Steps.{Answered as AnsweredTold}
 use Rattle.pie_fresh.specs.inner.Ledgers.{IsLedger, IsRecorded, IsPlaced, AreOpen, Grows}
 use Rattle.pie_fresh.specs.inner.Frames.{IsCaller, StandsAt, WaitInTurn, numbers_of}
-use Rattle.pie_fresh.specs.inner.Turns.{Answered, GoesOn, Nearer, waiting_left, below_left, still}
+use Rattle.pie_fresh.specs.inner.Turns.{Answered, GoesOn, Nearer, turned, waiting_left, below_left, still}
 use Rattle.pie_fresh.proofs.Rising.{alike_keeps, recorded_with}
 use Rattle.pie_fresh.proofs.Opening.{open_alike}
 use Rattle.pie_fresh.proofs.Growing.{advanced_placed, callers_grow, grows_alike, placed_grows}
@@ -22,6 +25,11 @@ use Rattle.pie_fresh.proofs.Growing.{advanced_placed, callers_grow, grows_alike,
 pub left_more : (cs : List Caller) (c : Caller) → waiting_left (cs ++ c ∷ []) ≡ waiting_left cs + (c.waiting.notes.left + 1)
 left_more [] c = omega arith
 left_more (d ∷ cs) c = let rest : waiting_left (cs ++ c ∷ []) ≡ waiting_left cs + (c.waiting.notes.left + 1) = left_more cs c in omega (arith, rest)
+
+-- a task that was told goes on, or the root fails
+pub turned_answered : (old : Noted) (t : Told) → AnsweredTold old t → Answered old (turned t)
+turned_answered old (told.Goes f) a = a
+turned_answered old (told.Fails n k) a = tt
 
 -- a task that was answered goes on
 pub answered_goes : (b : Builder) (old : Noted) (t : Turn) → StandsAt old.number b → IsPlaced b.ledger old → Answered old t → GoesOn b t

@@ -9,57 +9,35 @@ use Rattle.pie_value.specs.declared.verdict.Refusal.TheVariants.{Fault}
 use Rattle.pie_value.specs.Tree.{Tree}
 use Rattle.pie_value.specs.Values.{tree_of}
 use Rattle.pie_operators.specs.Domain.{Outcome, done, fails, wants}
-use Rattle.pie_vm.specs.Machines.{Standing, Follows}
+use Rattle.pie_vm.specs.Machines.{Follows}
 use Rattle.pie_model.specs.declared.words.Outcome.TheVariants.{Failed}
 use Rattle.pie_step_laws.specs.UnderWay.{HasEnded}
 use Rattle.pie_step_laws.proofs.EndLemmas.{failed, ran_out}
 use Rattle.pie_model_pipeline.specs.Words.{event_of, fault_of}
 use Rattle.pie_model_pipeline.specs.inner.Answers.{answer_of}
-use Rattle.pie_model_pipeline.specs.World.{world, next}
+use Rattle.pie_model_pipeline.specs.World.{world}
 use Rattle.pie_builder_laws.proofs.Naming.{canonical_at}
-use Rattle.pie_builder_laws.proofs.Coded.{event_is}
-use Rattle.pie_fresh.specs.declared.frame.RunningTask.{RunningTask}
-use Rattle.pie_fresh.specs.declared.frame.Waiting.{Waiting}
+use Rattle.pie_running.specs.declared.frame.RunningTask.{RunningTask}
+use Rattle.pie_running.specs.declared.frame.Waiting.{Waiting}
 use Rattle.pie_files.specs.Directory.{Directory}
-use Rattle.pie_fresh.specs.declared.frame.Paused.{Paused}
-use Rattle.pie_fresh.specs.declared.frame.Paused.TheVariants.{Asks, Ends, Fails}
+use Rattle.pie_running.specs.declared.frame.Paused.{Paused}
+use Rattle.pie_running.specs.declared.frame.Paused.TheVariants.{Asks, Ends, Fails}
 use Rattle.pie_fresh.specs.declared.builder.Builder.{Builder}
 use Rattle.pie_fresh.specs.declared.turn.Turn.{Turn}
 use Rattle.pie_fresh.specs.declared.turn.Turn.TheVariants.{Stops}
-use Rattle.pie_fresh.specs.inner.Noted.{Noted}
-use Rattle.pie_fresh.specs.inner.Told.{EvaluatedTo, StopsFor, ComesAs}
+use Rattle.pie_running.specs.inner.Noted.{Noted}
+use Rattle.pie_running.specs.inner.Told.{EvaluatedTo, StopsFor, ComesAs}
 use Rattle.pie_fresh.specs.inner.Means.{Site, project_of, table_of, names_of, MeansFrame, Means, IsAsking, EndsWith, RefusesAs, TurnMeans, TreatsAs}
 use Rattle.pie_fresh.specs.inner.Means.{TurnsAs, FinishesAs}
-use Rattle.pie_fresh.proofs.Telling.{one_less}
+use Rattle.pie_running.proofs.FrameLemmas.{one_less, does, moved_frame}
 
 module _ (s : Site) (b : Builder) (f : RunningTask) (M : Means s b f.code.now f.machine f.notes) where
   -- what the code evaluates to is what the task does
-  does : (o : Outcome Tree) → EvaluatedTo f.code.now f.notes.task.args (map answer_of M.running.progress.answers) o
+  does_so : (o : Outcome Tree) → EvaluatedTo f.code.now f.notes.task.args (map answer_of M.running.progress.answers) o
       → (project_of s).next M.running.task M.running.progress.answers ≡ event_of o
-  does o h =
-      ap (λ t. next s.functions t M.running.progress.answers) M.top.task
-      ∙ event_is s.functions s.codes f.notes.task M.top.function f.code.now M.running.progress.answers (map answer_of M.running.progress.answers) o h.state
-      M.there.compiled M.top.found M.top.coded M.top.takes
-      (canonical_at b.ledger.names M.table.tasks f.notes.number f.notes.task M.top.named) refl h.is
-
-  -- the frame with its machine further on
-  moved : (m : Standing) → Follows f.code.now f.notes.task.args (map answer_of M.running.progress.answers) m
-      → MeansFrame s b.ledger f.code.now m f.notes f.notes.left M.running
-  moved m h = record {
-    task = M.top.task;
-    named = M.top.named;
-    function = M.top.function;
-    found = M.top.found;
-    coded = M.top.coded;
-    takes = M.top.takes;
-    follows = h;
-    fits = M.top.fits;
-    seen = M.top.seen;
-    writes = M.top.writes;
-    needs = M.top.needs;
-    staged = M.top.staged;
-    left = M.top.left;
-  }
+  does_so =
+      does s.functions s.headings s.codes b.ledger.names b.ledger.stage f.code.now f.machine f.notes f.notes.left M.running M.top M.there.compiled
+      (canonical_at b.ledger.names M.table.tasks f.notes.number f.notes.task M.top.named)
 
   pub comes_asking : (w : Waiting) (e : Event) → w.notes ≡ f.notes → ComesAs f.code.now f.notes (map answer_of M.running.progress.answers) (Asks w e)
       → IsAsking s b w e
@@ -71,10 +49,11 @@ module _ (s : Site) (b : Builder) (f : RunningTask) (M : Means s b f.code.now f.
       running = M.running;
       stack = M.stack;
       top = subst (λ c. MeansFrame s b.ledger c w.machine w.notes w.notes.left M.running) (sym h.0)
-          (subst (λ n. MeansFrame s b.ledger f.code.now w.machine n n.left M.running) (sym same) (moved w.machine h.1));
+          (subst (λ n. MeansFrame s b.ledger f.code.now w.machine n n.left M.running) (sym same) (moved_frame s.functions s.headings s.codes b.ledger.names b.ledger.stage f.code.now
+          f.machine f.notes f.notes.left M.running M.top w.machine h.1));
       under = M.under;
     };
-    asks = does (wants e) h.2;
+    asks = does_so (wants e) h.2;
     came = subst (λ c. EvaluatedTo c w.notes.task.args (map answer_of M.running.progress.answers) (wants e)) (sym h.0)
         (subst (λ (n : Noted). EvaluatedTo f.code.now n.task.args (map answer_of M.running.progress.answers) (wants e)) (sym same) h.2);
   }
@@ -93,7 +72,7 @@ module _ (s : Site) (b : Builder) (f : RunningTask) (M : Means s b f.code.now f.
       top = subst (λ x. MeansFrame s b.ledger f.code.now f.machine x x.left M.running) (sym same) M.top;
       under = M.under;
     };
-    ends = does (done (tree_of v)) h.1;
+    ends = does_so (done (tree_of v)) h.1;
     came = subst (λ (x : Noted). EvaluatedTo f.code.now x.task.args (map answer_of M.running.progress.answers) (done (tree_of v))) (sym same) h.1;
     left = subst (λ (x : Noted). 0 < x.left) (sym same) h.0;
   }
@@ -105,12 +84,12 @@ module _ (s : Site) (b : Builder) (f : RunningTask) (M : Means s b f.code.now f.
       (ran_out world (project_of s) s.root s.base (table_of b.ledger) (names_of b.ledger) M.waiting M.running M.under (M.top.left ∙ h.0))
   fails_as k (inr h) =
       failed world (project_of s) s.root s.base (table_of b.ledger) (names_of b.ledger) M.waiting M.running M.under (f.notes.left - 1) (fault_of k)
-      (M.top.left ∙ one_less f.notes.left h.0) (does (fails k) h.1)
+      (M.top.left ∙ one_less f.notes.left h.0) (does_so (fails k) h.1)
 
-  pub comes_failing : (task : Task) (k : FaultKind) (t : Turn) → ComesAs f.code.now f.notes (map answer_of M.running.progress.answers) (Fails task k)
-      → t ≡ Stops (Fault (record { task = task; kind = k })) → TurnMeans s b t
-  comes_failing task k t h e =
-      subst (TurnMeans s b) (sym e) (subst (λ x. RefusesAs s b.ledger (Fault (record { task = x; kind = k }))) (sym h.0)
+  pub comes_failing : (n : Noted) (task : Task) (k : FaultKind) (t : Turn) → ComesAs f.code.now f.notes (map answer_of M.running.progress.answers) (Fails n k)
+      → task ≡ n.task → t ≡ Stops (Fault (record { task = task; kind = k })) → TurnMeans s b t
+  comes_failing n task k t h same e =
+      subst (TurnMeans s b) (sym e) (subst (λ x. RefusesAs s b.ledger (Fault (record { task = x; kind = k }))) (sym (same ∙ ap (λ (m : Noted). m.task) h.0))
       (subst (λ x. HasEnded world (project_of s) s.root s.base (names_of b.ledger) (Failed x (fault_of k))) M.top.task (fails_as k h.1)))
 
 -- what a machine gave, with the answers so far
@@ -128,7 +107,7 @@ pub turns_ending : (held : Option Directory) (b new : Builder) (f : RunningTask)
 turns_ending held b new f n v same came t finishes s h M =
     finishes s (comes_ending s b f M n v same (came (map answer_of M.running.progress.answers) M.top.follows))
 
-pub turns_failing : (held : Option Directory) (b : Builder) (f : RunningTask) (task : Task) (k : FaultKind) → ComesWith f (Fails task k) → (t : Turn)
-    → t ≡ Stops (Fault (record { task = task; kind = k })) → TurnsAs held b b f t
-turns_failing held b f task k came t e s h M =
-    comes_failing s b f M task k t (came (map answer_of M.running.progress.answers) M.top.follows) e
+pub turns_failing : (held : Option Directory) (b : Builder) (f : RunningTask) (n : Noted) (task : Task) (k : FaultKind) → ComesWith f (Fails n k) → (t : Turn)
+    → task ≡ n.task → t ≡ Stops (Fault (record { task = task; kind = k })) → TurnsAs held b b f t
+turns_failing held b f n task k came t same e s h M =
+    comes_failing s b f M n task k t (came (map answer_of M.running.progress.answers) M.top.follows) same e

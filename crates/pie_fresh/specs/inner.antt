@@ -1,13 +1,10 @@
 -- Definitions that no clause of `pie_cli::run` rests on: invariants, and what crates say to each other.
-pub mod Noted
-pub mod NotedCodes
 pub mod Ledgers
 pub mod Ordered
 pub mod Frames
 pub mod Turns
 pub mod Cycles
 pub mod Sights
-pub mod Told
 pub mod Kept
 pub mod Means
 pub mod Builds

@@ -1,6 +1,6 @@
 //! The one call: from the roots to what a build makes of them.
 ghost use Rattle.std.specs.Prelude.{◌≡◌, List, [], None, IfOk};
-ghost use Rattle.pie_files.specs.Reading.{LeavesAsBefore};
+ghost use Rattle.pie_files.specs.Reading.{LeavesAsBefore, ReadsOnly};
 ghost use Rattle.pie_files.specs.Streams.{Counted};
 ghost use Rattle.pie_value.specs.declared.task.Task.{Task};
 ghost use Rattle.pie_value.specs.declared.verdict.Verdict.TheVariants.{Refused};
@@ -63,9 +63,7 @@ fn evaluate_all<'a, F: Files>(
     ensures typed { builder.new.typed ≡ builder.old.typed }
     ensures enters { Enters builder.old.ledger.names builder.new.ledger.names runs.old runs.new }
     ensures starts { IfOk result (λ _. Starts builder.old.ledger.names builder.new.ledger.names runs.old runs.new) }
-    ensures same { F.holds files.new ≡ F.holds files.old }
-    ensures crash { LeavesAsBefore F.holds F.moment F.left_since F.images files.old files.new }
-    ensures counted { Counted F.faults FilesError.Failed files.old files.new result }
+    ensures reads { ReadsOnly F.holds F.moment F.left_since F.images F.faults files.old files.new result }
     ensures means { IfOk result (λ why. EvaluatesAs (F.holds files.old) builder.old builder.new roots.now why) }
 {
     for root in roots {

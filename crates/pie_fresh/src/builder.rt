@@ -2,20 +2,21 @@
 ghost use Rattle.std.specs.Prelude.{◌≡◌, ◌+◌, ◌<◌, [], None, IfOk};
 ghost use Rattle.std.specs.List.{Contains};
 ghost use Rattle.pie_value.specs.Canonical.{IsEncodableTask};
-ghost use Rattle.pie_files.specs.Reading.{LeavesAsBefore};
-ghost use Rattle.pie_files.specs.Streams.{Counted};
+ghost use Rattle.pie_files.specs.Reading.{ReadsOnly};
 ghost use Rattle.pie_fresh.specs.inner.Ledgers.{Enters, IsPlaced, Starts};
-ghost use Rattle.pie_fresh.specs.inner.Frames.{IsIdle, IsWaiting, Running, StandsAt};
-ghost use Rattle.pie_fresh.specs.inner.Turns.{GoesOn, IsEffect, Nearer, below_left};
+ghost use Rattle.pie_running.specs.inner.Frames.{IsWaiting};
+ghost use Rattle.pie_running.specs.inner.Steps.{IsEffect};
+ghost use Rattle.pie_fresh.specs.inner.Frames.{IsIdle, Running, StandsAt};
+ghost use Rattle.pie_fresh.specs.inner.Turns.{GoesOn, Nearer, below_left};
 ghost use Rattle.pie_fresh.specs.inner.Means.{TreatsAs, TurnsAs, RunsAs, BeginsAs};
 ghost use Rattle.pie_fresh.specs.Cleans.{NoRootsDone, EvaluatesRoot};
 
-use crate::frame::{Caller, Paused, RunningTask, Waiting, next};
-use crate::ledger::{Done, Ledger};
+use crate::ledger::Ledger;
 use crate::turn::{Turn, failed, fault};
 use pie_base::FaultKind;
 use pie_code::Checked;
 use pie_files::{Files, FilesError};
+use pie_running::{Caller, Paused, RunningTask, Waiting};
 use pie_types::Typed;
 use pie_value::{Event, Refusal, Task};
 use pie_vm::Runs;
@@ -73,9 +74,7 @@ impl<'a> Builder<'a> {
         ensures typed { self.new.typed ≡ self.old.typed }
         ensures enters { Enters self.old.ledger.names self.new.ledger.names runs.old runs.new }
         ensures starts { IfOk result (λ _. Starts self.old.ledger.names self.new.ledger.names runs.old runs.new) }
-        ensures same { F.holds files.new ≡ F.holds files.old }
-        ensures crash { LeavesAsBefore F.holds F.moment F.left_since F.images files.old files.new }
-        ensures counted { Counted F.faults FilesError.Failed files.old files.new result }
+        ensures reads { ReadsOnly F.holds F.moment F.left_since F.images F.faults files.old files.new result }
         ensures means { IfOk result (λ why. EvaluatesRoot (F.holds files.old) self.old self.new root.now why) }
     {
         if !root.is_small() {
@@ -103,9 +102,7 @@ impl<'a> Builder<'a> {
         ensures typed { self.new.typed ≡ self.old.typed }
         ensures enters { Enters self.old.ledger.names self.new.ledger.names runs.old runs.new }
         ensures starts { IfOk result (λ _. Starts self.old.ledger.names self.new.ledger.names runs.old runs.new) }
-        ensures same { F.holds files.new ≡ F.holds files.old }
-        ensures crash { LeavesAsBefore F.holds F.moment F.left_since F.images files.old files.new }
-        ensures counted { Counted F.faults FilesError.Failed files.old files.new result }
+        ensures reads { ReadsOnly F.holds F.moment F.left_since F.images F.faults files.old files.new result }
         ensures means { IfOk result (λ why. BeginsAs (F.holds files.old) self.old self.new root.now why) }
     {
         match self.enter(root, runs)? {
@@ -127,9 +124,7 @@ impl<'a> Builder<'a> {
         ensures typed { self.new.typed ≡ self.old.typed }
         ensures enters { Enters self.old.ledger.names self.new.ledger.names runs.old runs.new }
         ensures starts { IfOk result (λ _. Starts self.old.ledger.names self.new.ledger.names runs.old runs.new) }
-        ensures same { F.holds files.new ≡ F.holds files.old }
-        ensures crash { LeavesAsBefore F.holds F.moment F.left_since F.images files.old files.new }
-        ensures counted { Counted F.faults FilesError.Failed files.old files.new result }
+        ensures reads { ReadsOnly F.holds F.moment F.left_since F.images F.faults files.old files.new result }
         ensures means { IfOk result (λ why. RunsAs (F.holds files.old) self.old self.new frame.entry why) }
     {
         let mut frame = frame;
@@ -156,15 +151,13 @@ impl<'a> Builder<'a> {
         ensures nearer { IfOk result (λ t. Nearer (below_left self.old + frame.entry.notes.left + 1) self.new t) }
         ensures enters { Enters self.old.ledger.names self.new.ledger.names runs.old runs.new }
         ensures starts { IfOk result (λ _. Starts self.old.ledger.names self.new.ledger.names runs.old runs.new) }
-        ensures same { F.holds files.new ≡ F.holds files.old }
-        ensures crash { LeavesAsBefore F.holds F.moment F.left_since F.images files.old files.new }
-        ensures counted { Counted F.faults FilesError.Failed files.old files.new result }
+        ensures reads { ReadsOnly F.holds F.moment F.left_since F.images F.faults files.old files.new result }
         ensures means { IfOk result (λ t. TurnsAs (F.holds files.old) self.old self.new frame.entry t) }
     {
-        match next(frame)? {
+        match frame.next()? {
             Paused::Asks(waiting, event) => self.treat(waiting, event, files, runs),
             Paused::Ends(notes, output) => Ok(self.finish(notes, output)?),
-            Paused::Fails(task, kind) => Ok(failed(task, kind)),
+            Paused::Fails(notes, kind) => Ok(failed(notes.into_task(), kind)),
         }
     }
 
@@ -186,9 +179,7 @@ impl<'a> Builder<'a> {
         ensures nearer { IfOk result (λ t. Nearer (below_left self.old + waiting.entry.notes.left + 1) self.new t) }
         ensures enters { Enters self.old.ledger.names self.new.ledger.names runs.old runs.new }
         ensures starts { IfOk result (λ _. Starts self.old.ledger.names self.new.ledger.names runs.old runs.new) }
-        ensures same { F.holds files.new ≡ F.holds files.old }
-        ensures crash { LeavesAsBefore F.holds F.moment F.left_since F.images files.old files.new }
-        ensures counted { Counted F.faults FilesError.Failed files.old files.new result }
+        ensures reads { ReadsOnly F.holds F.moment F.left_since F.images F.faults files.old files.new result }
         ensures means { IfOk result (λ t. TreatsAs (F.holds files.old) self.old self.new waiting.entry event t) }
     {
         match event {

@@ -1,23 +1,17 @@
 //! Tasks that are entered.
-ghost use Rattle.std.specs.Prelude.{◌≡◌, ◌<◌, length, None, IfOk, IfSome};
-ghost use Rattle.std.specs.Option.{option_map};
+ghost use Rattle.std.specs.Prelude.{◌≡◌, ◌<◌, IfOk};
 ghost use Rattle.std.specs.List.{Contains};
 ghost use Rattle.pie_value.specs.Canonical.{IsEncodableTask};
-ghost use Rattle.pie_digest.specs.Digests.{function_names};
 ghost use Rattle.pie_fresh.specs.inner.Ledgers.{Enters, IsLedger, Starts};
 ghost use Rattle.pie_fresh.specs.inner.Turns.{Begins};
-ghost use Rattle.pie_fresh.specs.inner.Kept.{IsCodeAt, IsCodeFor};
 ghost use Rattle.pie_fresh.specs.inner.Means.{NewAs};
 
 use crate::builder::{Builder, Entered};
-use crate::frame::RunningTask;
-use crate::notes::Notes;
 use crate::turn::fault;
 use pie_base::{FaultKind, MAX_TASKS, OutOfMemory};
-use pie_code::Checked;
-use pie_types::Typed;
+use pie_running::{RunningTask, code_of};
 use pie_value::{Refusal, Task, encode_task};
-use pie_vm::{Machine, Runs};
+use pie_vm::Runs;
 
 impl<'a> Builder<'a> {
     /// Enters a task that wasn't entered before.
@@ -39,43 +33,10 @@ impl<'a> Builder<'a> {
         match code_of(self.typed, self.code, task) {
             Some(code) => {
                 let no = self.ledger.add(task.copy()?)?;
-                let machine = Machine::start(self.alloc, code, task, runs)?;
-                let notes = Notes::new(self.alloc, task.copy()?, no);
-                Ok(Entered::Runs(RunningTask {
-                    code,
-                    machine,
-                    notes,
-                }))
+                let frame = RunningTask::start(self.alloc, code, task, no, runs)?;
+                Ok(Entered::Runs(frame))
             }
             None => Ok(Entered::Refused(fault(task.copy()?, FaultKind::Unknown))),
         }
     }
-}
-
-// The code of a task's function, where it takes as many arguments.
-#[tactic(auto, using(crate::proofs::Known::found_known))]
-fn code_of<'a>(typed: &Typed, codes: &'a [Checked], task: &Task) -> Option<&'a Checked>
-    ensures takes { IfSome result (λ code. length task.now.args ≡ code.now.params) }
-    ensures known { IfSome result (λ _. Contains (function_names typed.now) task.now.func) }
-    ensures found { IsCodeFor typed.now codes.now task.now (option_map (λ code. code.now) result) }
-{
-    match typed.find(task) {
-        Some(number) => code_at(codes, number as usize, task),
-        None => None,
-    }
-}
-
-// The code with a number, where it takes as many arguments as the task has.
-fn code_at<'a>(codes: &'a [Checked], number: usize, task: &Task) -> Option<&'a Checked>
-    ensures takes { IfSome result (λ code. length task.now.args ≡ code.now.params) }
-    ensures found { IsCodeAt codes.now number task.now (option_map (λ code. code.now) result) }
-{
-    if number >= codes.len() {
-        return None;
-    }
-    let code = &codes[number];
-    if task.args.as_slice().len() != code.code().params as usize {
-        return None;
-    }
-    Some(code)
 }

@@ -2,19 +2,16 @@
 ghost use Rattle.std.specs.Prelude.{◌≡◌, ◌+◌, ◌<◌, [], None, IfOk};
 ghost use Rattle.pie_value.specs.Canonical.{IsEncodable};
 ghost use Rattle.pie_value.specs.Values.{tree_of};
-ghost use Rattle.pie_fresh.specs.inner.Noted.{IsSound};
+ghost use Rattle.pie_running.specs.inner.Noted.{IsSound};
 ghost use Rattle.pie_fresh.specs.inner.Ledgers.{IsHigh, IsPlaced};
 ghost use Rattle.pie_fresh.specs.inner.Frames.{Stands, StandsAt};
 ghost use Rattle.pie_fresh.specs.inner.Turns.{GoesOn, Nearer, below_left};
 ghost use Rattle.pie_fresh.specs.inner.Means.{FinishesAs, ResumesAs};
 
 use crate::builder::Builder;
-use crate::frame::Caller;
-use crate::ledger::Done;
-use crate::notes::Notes;
-use crate::requiring::give;
 use crate::turn::{Turn, failed};
 use pie_base::{FaultKind, OutOfMemory};
+use pie_running::{Caller, Done, Notes};
 use pie_value::{Value, encode};
 
 impl<'a> Builder<'a> {
@@ -34,8 +31,8 @@ impl<'a> Builder<'a> {
         }
         let _bytes = encode(self.alloc, &output)?;
         let done = Done {
-            no: notes.no,
-            height: notes.height,
+            no: notes.no(),
+            height: notes.height(),
             output: output.copy()?,
         };
         self.ledger.end(notes, output)?;
@@ -62,7 +59,7 @@ impl<'a> Builder<'a> {
                     required,
                     how,
                 } = caller;
-                let frame = give(self.alloc, waiting, required, how, done)?;
+                let frame = waiting.give(self.alloc, required, how, done)?;
                 Ok(Turn::Goes(frame))
             }
             None => Ok(Turn::Rests),

@@ -8,15 +8,15 @@ ghost use Rattle.pie_graph.specs.Numbers.{AllBelow, numbers};
 ghost use Rattle.pie_graph.specs.Rows.{no_edges};
 ghost use Rattle.pie_builder_laws.specs.Names.{AreTasks};
 ghost use Rattle.pie_fresh.specs.inner.Kept.{IsKeptAs, ended_with, row_ended, row_with};
-ghost use Rattle.pie_fresh.specs.inner.Noted.{IsSound};
+ghost use Rattle.pie_running.specs.inner.Noted.{IsSound};
 ghost use Rattle.pie_record.specs.inner.Records.{record_of, Puts};
 ghost use Rattle.pie_fresh.specs.inner.Collected.{output_at};
 ghost use Rattle.pie_fresh.specs.inner.Ledgers.{Grows, IsHigh, IsLedger, IsPlaced};
 
-use crate::notes::Notes;
 use pie_base::{OutOfMemory, Path};
 use pie_graph::{Edges, IndexedRows, TaskNo, TaskRows};
 use pie_record::{Deps, Outcome, Records, TaskNames, TaskRecord, Writes};
+use pie_running::{Done, NoteParts, Notes};
 use pie_value::{Task, Value};
 use pie_view::Stage;
 use std::alloc::Global;
@@ -32,14 +32,6 @@ pub(crate) struct Ledger {
     pub(crate) stage: Stage,
     /// How many tasks have ended.
     pub(crate) ended: u32,
-}
-
-/// What a task gave that is done.
-#[derive(Drop)]
-pub(crate) struct Done {
-    pub(crate) no: TaskNo,
-    pub(crate) height: u32,
-    pub(crate) output: Value,
 }
 
 impl Ledger {
@@ -129,15 +121,14 @@ impl Ledger {
         ensures rows { OnOk result (self.new.rows ≡ slice_set self.old.rows notes.number (row_ended notes)) }
         ensures stage { self.new.stage ≡ self.old.stage }
     {
-        let Notes {
+        let NoteParts {
             task,
             no,
             deps,
             writes,
             needs,
             height,
-            left: _,
-        } = notes;
+        } = notes.into_parts();
         self.set_row(no, needs, writes.as_slice())?;
         self.heights[no.0 as usize] = height;
         self.ended += 1;

@@ -1,32 +1,23 @@
 //! Tasks that a running task requires.
-ghost use Rattle.std.specs.Prelude.{◌≡◌, ◌+◌, ◌<◌, ◌-◌, ◌^◌, [], ◌∷◌, ◌++◌, length, true, Some, slice_get, IfOk, OnOk};
+ghost use Rattle.std.specs.Prelude.{◌≡◌, ◌+◌, ◌<◌, [], ◌∷◌, ◌++◌, length, true, Some, slice_get, IfOk, OnOk};
 ghost use Rattle.pie_value.specs.declared.event.Event.TheVariants as events;
 ghost use Rattle.pie_value.specs.Limits.{is_small_task};
 ghost use Rattle.std.specs.List.{Contains};
-ghost use Rattle.pie_value.specs.Canonical.{IsEncodable, IsEncodableTask};
-ghost use Rattle.pie_value.specs.Values.{tree_of};
-ghost use Rattle.pie_record.specs.Canonical.{IsStorableDep};
-ghost use Rattle.pie_record.specs.declared.dep.DepOn.TheVariants.{Called};
-ghost use Rattle.pie_builder_laws.specs.Requiring.{of_task, requiring_answer};
-ghost use Rattle.pie_fresh.specs.inner.Noted.{required as with_task};
-ghost use Rattle.pie_fresh.specs.inner.Told.{IsTold};
+ghost use Rattle.pie_value.specs.Canonical.{IsEncodableTask};
 ghost use Rattle.pie_fresh.specs.inner.Means.{GoesAs};
 ghost use Rattle.pie_fresh.specs.inner.Ledgers.{Enters, IsPlaced, Starts};
-ghost use Rattle.pie_fresh.specs.inner.Frames.{IsReady, IsWaiting, StandsAt};
-ghost use Rattle.pie_fresh.specs.inner.Turns.{Given, GoesOn, Nearer, below_left};
+ghost use Rattle.pie_running.specs.inner.Frames.{IsWaiting};
+ghost use Rattle.pie_fresh.specs.inner.Frames.{StandsAt};
+ghost use Rattle.pie_fresh.specs.inner.Turns.{GoesOn, Nearer, below_left};
 ghost use Rattle.pie_fresh.specs.inner.Cycles.{tasks_from};
 
 use crate::builder::{Builder, Entered};
-use crate::frame::{Caller, RunningTask, Waiting};
-use crate::ledger::Done;
 use crate::turn::{Turn, failed};
 use pie_base::{FaultKind, OutOfMemory};
 use pie_graph::TaskNo;
-use pie_record::{Dep, DepKind, DepOn};
-use pie_stamp::{ByHash, Observed, Stamper};
-use pie_value::{Answer, How, Refusal, Stamp, Task, Tasks, Value};
+use pie_running::{Caller, Waiting};
+use pie_value::{How, Refusal, Task, Tasks};
 use pie_vm::Runs;
-use std::alloc::Global;
 
 impl<'a> Builder<'a> {
     /// A task is required: it is answered from what it gave, or runs first.
@@ -78,7 +69,7 @@ impl<'a> Builder<'a> {
     {
         match self.ledger.done(no)? {
             Some(done) => {
-                let frame = give(self.alloc, waiting, required, how, done)?;
+                let frame = waiting.give(self.alloc, required, how, done)?;
                 Ok(Turn::Goes(frame))
             }
             None => {
@@ -141,85 +132,8 @@ fn note(tasks: &mut Vec<Task>, caller: &Caller, no: TaskNo) -> Result<(), OutOfM
     ensures { OnOk result (tasks.new.items ≡ tasks.old.items ++ tasks_from no.0 (caller.now ∷ [])) }
 {
     let notes = &caller.waiting.notes;
-    if notes.no.0 >= no.0 {
-        tasks.push(notes.task.copy()?)?;
+    if notes.no().0 >= no.0 {
+        tasks.push(notes.task().copy()?)?;
     }
     Ok(())
-}
-
-/// A task is told what the task that it requires gave.
-pub(crate) fn give<'a>(
-    alloc: Global,
-    waiting: Waiting<'a>,
-    required: Task,
-    how: How,
-    done: Done,
-) -> Result<RunningTask<'a>, OutOfMemory>
-    requires waits { IsWaiting waiting }
-    requires required { IsEncodableTask required }
-    requires output { IsEncodable (tree_of done.output) }
-    requires height { done.height < 2 ^ 32 - 1 }
-    ensures ready { IfOk result (λ f. IsReady f × Given (Called required) done.no.0 done.height waiting.entry.notes f.notes) }
-    ensures told { IfOk result (λ f. IsTold waiting.entry f (with_task (of_task how required done.output) done.no.0 done.height waiting.entry.notes)
-        (requiring_answer how done.output)) }
-{
-    let Done { no, height, output } = done;
-    let dep = dep_of(alloc, how, required, &output)?;
-    told_output(waiting, dep, no, height, output_answer(how, output))
-}
-
-// A task that is told the output of the task with this number and height.
-#[tactic(auto, using(crate::proofs::Noting::required_sound_as, crate::proofs::Noting::required_given))]
-fn told_output<'a>(
-    waiting: Waiting<'a>,
-    dep: Dep,
-    no: TaskNo,
-    height: u32,
-    answer: Answer,
-) -> Result<RunningTask<'a>, OutOfMemory>
-    requires waits { IsWaiting waiting }
-    requires dep { IsStorableDep dep }
-    requires height { height < 2 ^ 32 - 1 }
-    ensures ready { IfOk result (λ f. IsReady f × Given dep.what no.0 height waiting.entry.notes f.notes) }
-    ensures told { IfOk result (λ f. IsTold waiting.entry f (with_task dep no.0 height waiting.entry.notes) answer) }
-{
-    let mut waiting = waiting;
-    waiting.notes.required(dep, no, height)?;
-    Ok(waiting.answered(answer))
-}
-
-// The observation of a required task that has this output.
-fn dep_of(alloc: Global, how: How, required: Task, output: &Value) -> Result<Dep, OutOfMemory>
-    requires required { IsEncodableTask required }
-    requires output { IsEncodable (tree_of output.now) }
-    ensures storable { IfOk result IsStorableDep }
-    ensures on { IfOk result (λ d. d.what ≡ Called required) }
-    ensures is { IfOk result (λ d. d ≡ of_task how required output.now) }
-{
-    match how {
-        How::Whole => Ok(Dep {
-            kind: DepKind::Require,
-            what: DepOn::Called(required),
-            stamp: Stamp::Whole(output.copy()?),
-        }),
-        How::Hashed => Ok(Dep {
-            kind: DepKind::RequireHash,
-            what: DepOn::Called(required),
-            stamp: ByHash.stamp(alloc, &Observed::Output(output.copy()?))?,
-        }),
-        How::Ran => Ok(Dep {
-            kind: DepKind::Run,
-            what: DepOn::Called(required),
-            stamp: Stamp::Done,
-        }),
-    }
-}
-
-fn output_answer(how: How, output: Value) -> Answer
-    ensures { result ≡ requiring_answer how output }
-{
-    match how {
-        How::Whole | How::Hashed => Answer::Output(output),
-        How::Ran => Answer::Ran,
-    }
 }

@@ -16,10 +16,11 @@ ghost use Rattle.pie_fresh.specs.inner.Frames.{AreEntered};
 ghost use Rattle.pie_fresh.specs.inner.Ledgers.{AreOpen, IsLedger};
 ghost use Rattle.pie_fresh.specs.inner.Ordered.{ArePlaces, AreOrdered, recorded};
 
-use crate::ledger::{Done, Ledger};
+use crate::ledger::Ledger;
 use pie_base::{OutOfMemory, Path};
 use pie_graph::TaskNo;
 use pie_record::TaskRecord;
+use pie_running::Done;
 use pie_value::{Task, Value, encode_task};
 use std::alloc::Global;
 use std::collections::BTreeMap;

@@ -1,9 +1,10 @@
 //! How a step ends.
 ghost use Rattle.std.specs.Prelude.{◌≡◌};
 ghost use Rattle.pie_fresh.specs.declared.turn.Turn.TheVariants.{Stops};
+ghost use Rattle.pie_fresh.specs.inner.Turns.{turned};
 
-use crate::frame::RunningTask;
 use pie_base::FaultKind;
+use pie_running::{RunningTask, Told};
 use pie_value::{Fault, Refusal, Task};
 
 /// How a step of a root's evaluation ends.
@@ -15,6 +16,16 @@ pub(crate) enum Turn<'a> {
     Rests,
     /// The root fails.
     Stops(Refusal),
+}
+
+/// The running task goes on as it was told, or the root fails with it.
+pub(crate) fn turn_of<'a>(told: Told<'a>) -> Turn<'a>
+    ensures { result ≡ turned told.entry }
+{
+    match told {
+        Told::Goes(frame) => Turn::Goes(frame),
+        Told::Fails(notes, kind) => failed(notes.into_task(), kind),
+    }
 }
 
 /// The root fails, since a task did.

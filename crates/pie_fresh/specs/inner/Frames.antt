@@ -1,30 +1,14 @@
--- Tasks that run and tasks that wait.
+-- The tasks of a build that run and those that wait.
 use Rattle.std.specs.Prelude.{◌≡◌, ℕ, ◌+◌, ◌<◌, ◌≤◌, List, [], ◌∷◌, ◌++◌, length, map, Some, slice_get, All, Contains}
 use Rattle.pie_value.specs.declared.task.Task.{Task}
 use Rattle.pie_value.specs.Canonical.{IsEncodableTask}
 use Rattle.pie_digest.specs.Digests.{function_names}
-use Rattle.pie_vm.specs.Machines.{Belongs}
-use Rattle.pie_vm.specs.declared.machine.MachineState.TheVariants.{Ready, Waiting as Waits}
-use Rattle.pie_fresh.specs.declared.frame.RunningTask.{RunningTask}
-use Rattle.pie_fresh.specs.declared.frame.Waiting.{Waiting}
-use Rattle.pie_fresh.specs.declared.frame.Caller.{Caller}
+use Rattle.pie_running.specs.declared.frame.RunningTask.{RunningTask}
+use Rattle.pie_running.specs.declared.frame.Caller.{Caller}
 use Rattle.pie_fresh.specs.declared.ledger.Ledger.{Ledger}
 use Rattle.pie_fresh.specs.declared.builder.Builder.{Builder}
-use Rattle.pie_fresh.specs.inner.Noted.{IsSound}
+use Rattle.pie_running.specs.inner.Frames.{IsReady, IsWaiting}
 use Rattle.pie_fresh.specs.inner.Ledgers.{IsLedger, IsPlaced, AreOpen}
-
--- a task whose machine can go on with its code
-pub record IsReady (f : RunningTask) : Type 0 where
-  pub phase : f.machine.phase ≡ Ready
-  pub belongs : Belongs f.code.now f.machine
-  pub sound : IsSound f.notes
-
--- a task whose machine waits for an answer
-pub record IsWaiting (w : Waiting) : Type 0 where
-  pub phase : w.machine.phase ≡ Waits
-  pub belongs : Belongs w.code.now w.machine
-  pub sound : IsSound w.notes
-  pub left : 0 < w.notes.left
 
 -- a task that waits for one that it requires
 pub record IsCaller (l : Ledger) (c : Caller) : Type 0 where

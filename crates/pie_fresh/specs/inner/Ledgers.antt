@@ -9,7 +9,7 @@ use Rattle.pie_record.specs.Canonical.{IsStorable}
 use Rattle.pie_record.specs.inner.Records.{record_of}
 use Rattle.pie_store.specs.Canonical.{needs}
 use Rattle.pie_fresh.specs.declared.ledger.Ledger.{Ledger}
-use Rattle.pie_fresh.specs.inner.Noted.{Noted, tasks_on}
+use Rattle.pie_running.specs.inner.Noted.{Noted, tasks_on}
 
 -- the task with this number has ended at this height: it has a record
 pub record IsHigh (l : Ledger) (number height : ℕ) : Type 0 where

@@ -43,17 +43,18 @@ use Rattle.pie_builder_laws.specs.Tables.{recorded}
 use Rattle.pie_builder_laws.specs.Views.{AreNumbersOf, IsGraphOf, IsStaged}
 use Rattle.pie_builder_laws.specs.Events.{AreCompiled}
 use Rattle.pie_builder_laws.specs.Fits.{HasHeadings, Fit}
-use Rattle.pie_fresh.specs.declared.frame.RunningTask.{RunningTask}
-use Rattle.pie_fresh.specs.declared.frame.Waiting.{Waiting}
-use Rattle.pie_fresh.specs.declared.frame.Caller.{Caller}
+use Rattle.pie_running.specs.declared.frame.RunningTask.{RunningTask}
+use Rattle.pie_running.specs.declared.frame.Waiting.{Waiting}
+use Rattle.pie_running.specs.declared.frame.Caller.{Caller}
 use Rattle.pie_fresh.specs.declared.ledger.Ledger.{Ledger}
 use Rattle.pie_fresh.specs.declared.builder.Builder.{Builder}
 use Rattle.pie_fresh.specs.declared.builder.Entered.{Entered}
 use Rattle.pie_fresh.specs.declared.builder.Entered.TheVariants.{Runs, Refused as NotStarted}
 use Rattle.pie_fresh.specs.declared.turn.Turn.{Turn}
 use Rattle.pie_fresh.specs.declared.turn.Turn.TheVariants.{Goes, Rests, Stops}
-use Rattle.pie_fresh.specs.inner.Noted.{Noted}
-use Rattle.pie_fresh.specs.inner.Told.{EvaluatedTo}
+use Rattle.pie_running.specs.inner.Noted.{Noted}
+use Rattle.pie_running.specs.inner.Means as running
+use Rattle.pie_running.specs.inner.Told.{EvaluatedTo}
 use Rattle.pie_fresh.specs.inner.Kept.{HasOutput}
 
 -- where a root is under way: the functions with their headings and codes, the directory, the root, and the tasks that were entered before it,
@@ -108,37 +109,13 @@ pub record MeansTable (s : Site) (l : Ledger) : Type 0 where
 
 -- ---- tasks that run or wait
 
--- a task that has come so far, by its code, its machine and its notes, is this one of the model, which may make so many events more
-pub record MeansFrame (s : Site) (l : Ledger) (code : Code) (m : Standing) (n : Noted) (events : ℕ) (g : ModelFrame) : Type 0 where
-  pub task : g.task ≡ enc_task n.task
-  pub named : slice_get l.names n.number ≡ Some n.task
-  pub function : ℕ
-  pub found : number_from 0 s.functions n.task ≡ Some function
-  pub coded : slice_get s.codes function ≡ Some code
-  pub takes : length n.task.args ≡ code.params
-  pub follows : Follows code n.task.args (map answer_of g.progress.answers) m
-  pub fits : Fit s.functions s.headings n.task (map answer_of g.progress.answers)
-  pub seen : map observation_of n.deps ≡ g.seen
-  pub writes : n.writes ≡ hashed world g.progress.own
-  pub needs : AreNumbersOf l.names n.needs (called_in n.deps)
-  pub staged : (p : List ℕ) → content l.stage n.number p ≡ first_write p g.progress.own
-  pub left : g.left ≡ events
+-- a task that has come so far is this one of the model, which may make so many events more
+abbrev pub MeansFrame : Site → Ledger → Code → Standing → Noted → ℕ → ModelFrame → Type 0
+MeansFrame s l code m n events g = running.MeansFrame s.functions s.headings s.codes l.names l.stage code m n events g
 
--- a task that waits is this one of the model, and waits for the same task
-pub record MeansCaller (s : Site) (l : Ledger) (g : ModelFrame) (c : Caller) : Type 0 where
-  pub left : ℕ
-  pub is_left : c.waiting.notes.left ≡ suc left
-  pub frame : MeansFrame s l c.waiting.code.now c.waiting.machine c.waiting.notes left g
-  pub waits : (project_of s).next g.task g.progress.answers ≡ Require (how_of c.how) (enc_task c.required)
-  pub canonical : IsCanonicalTask c.required (enc_task c.required)
-  pub came : EvaluatedTo c.waiting.code.now c.waiting.notes.task.args (map answer_of g.progress.answers) (wants (events.Require c.required c.how))
-
--- and so for all, the newest first
+-- the tasks that wait are these of the model, the newest first
 abbrev pub MeanCallers : Site → Ledger → List ModelFrame → List Caller → Type 0
-MeanCallers s l [] [] = Unit {0}
-MeanCallers s l (g ∷ gs) (c ∷ cs) = MeansCaller s l g c × MeanCallers s l gs cs
-MeanCallers s l [] (c ∷ cs) = ⊥
-MeanCallers s l (g ∷ gs) [] = ⊥
+MeanCallers s l gs cs = running.MeanCallers s.functions s.headings s.codes l.names l.stage gs cs
 
 -- the functions and codes of a build are those of the site
 pub record IsThere (s : Site) (b : Builder) : Type 0 where

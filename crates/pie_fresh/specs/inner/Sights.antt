@@ -1,56 +1,13 @@
--- What a task sees at a path, by the contents that are staged, the rows of the graph and the files.
-use Rattle.std.specs.Prelude.{◌≡◌, ◌<◌, ℕ, Bool, true, false, cond, List, length, Option, Some, None, is_some}
-use Rattle.std.specs.Option.{option_map}
-use Rattle.sha2.specs.Sha256.{sha256}
-use Rattle.pie_base.specs.Path.{is_out, is_source}
+-- What a task sees at a path under `out/`, by the contents that are staged and the rows of the graph.
+use Rattle.std.specs.Prelude.{◌≡◌, ℕ, List, Option, Some, None}
 use Rattle.pie_graph.specs.Rows.{Row}
 use Rattle.pie_view.specs.Content.{Staged, content}
-use Rattle.pie_files.specs.Directory.{Directory, file_at, entries_of}
-use Rattle.pie_files.specs.declared.files.Found.{Found}
-use Rattle.pie_files.specs.declared.files.Within.{Within}
-use Rattle.pie_files.specs.declared.files.Within.TheVariants as within
 use Rattle.pie_view.specs.declared.seen.Seen.{Seen}
 use Rattle.pie_view.specs.declared.seen.Seen.TheVariants.{Absent, By, Clash}
 use Rattle.pie_view.specs.Seen.{Visible, IsOnly}
 use Rattle.pie_builder_laws.specs.Views.{unmarked}
-use Rattle.pie_fresh.specs.declared.looking.Sight.{Sight}
-use Rattle.pie_fresh.specs.declared.looking.Sight.TheVariants.{File, Long, Clash as Clashes}
-use Rattle.pie_fresh.specs.declared.looking.Provided.{Provided}
-use Rattle.pie_fresh.specs.declared.looking.Provided.TheVariants.{Nothing, Content, Clash as Clashing}
-use Rattle.pie_fresh.specs.inner.Noted.{Noted}
-
--- what is seen: a file with its mark, or none; or nothing at all where two tasks wrote it
-abbrev pub Sighted : Type 0
-Sighted = Option (Option (List ℕ × ℕ))
-
--- a file as it was found, with its mark
-abbrev pub found_in : Option Found → Option (List ℕ × ℕ)
-found_in found = option_map (λ (f : Found). (f.bytes.items, f.mark)) found
-
--- the hash of what is seen
-abbrev pub hash_in : Option (List ℕ × ℕ) → Option (List ℕ)
-hash_in seen = option_map (λ (f : List ℕ × ℕ). sha256 f.0) seen
-
--- the most bytes that a value may hold
-abbrev pub most_content : ℕ
-most_content = 1048571
-
--- this holds of what is seen by a task that reads: of a file that is too long to be read it holds with some bytes, which are too many
-abbrev pub SightSays : Sight → (Sighted → Type 0) → Type 0
-SightSays (File found) P = P (Some (found_in found))
-SightSays Long P = (f : List ℕ × ℕ) × P (Some (Some f)) × (most_content < length f.0)
-SightSays Clashes P = P None
-
--- a source, as a task sees it that reads
-abbrev pub sight_within : Within → Sight
-sight_within within.Absent = File None
-sight_within within.Long = Long
-sight_within (within.Whole found) = File (Some found)
-
-abbrev pub provided_sight : Provided → Sighted
-provided_sight Nothing = Some None
-provided_sight (Content bytes) = Some (Some (bytes.now, 0))
-provided_sight Clashing = None
+use Rattle.pie_running.specs.inner.Noted.{Noted}
+use Rattle.pie_running.specs.inner.Sights.{Sighted}
 
 -- what is seen of others, whose contents at the path are these
 abbrev pub sight_by : (ℕ → Option (List ℕ)) → Seen → Sighted
@@ -72,35 +29,3 @@ OwnFirst None others sight = others
 -- a task sees this at a path under `out/`
 abbrev pub SeesOut : Staged → List Row → Noted → List ℕ → Sighted → Type 0
 SeesOut staged rows n path sight = OwnFirst (content staged n.number path) (SeesOthers staged rows n.needs path sight) sight
-
--- a task sees this at a path: under `out/` what was written, at a source path the file, and else nothing
-pub record Sees (d : Directory) (staged : Staged) (rows : List Row) (n : Noted) (path : List ℕ) (sight : Sighted) : Type 0 where
-  pub out : is_out path ≡ true → SeesOut staged rows n path sight
-  pub source : is_out path ≡ false → is_source path ≡ true → sight ≡ Some (file_at d path)
-  pub kept : is_out path ≡ false → is_source path ≡ false → sight ≡ Some None
-
--- a task sees whether a file is there
-pub record SeesPresence (d : Directory) (staged : Staged) (rows : List Row) (n : Noted) (path : List ℕ) (presence : Option Bool) : Type 0 where
-  pub sight : Sighted
-  pub sees : Sees d staged rows n path sight
-  pub is : presence ≡ option_map is_some sight
-
--- a task sees the hash of what is there
-pub record SeesDigest (d : Directory) (staged : Staged) (rows : List Row) (n : Noted) (path : List ℕ) (hash : Option (Option (List ℕ))) : Type 0 where
-  pub sight : Sighted
-  pub sees : Sees d staged rows n path sight
-  pub is : hash ≡ option_map hash_in sight
-
--- so it is of the directory that the files hold
-abbrev pub SeesHeldReading : Option Directory → Staged → List Row → Noted → List ℕ → Sight → Type 0
-SeesHeldReading held staged rows n path sight = (d : Directory) → held ≡ Some d → SightSays sight (Sees d staged rows n path)
-
-abbrev pub SeesHeldDigest : Option Directory → Staged → List Row → Noted → List ℕ → Option (Option (List ℕ)) → Type 0
-SeesHeldDigest held staged rows n path hash = (d : Directory) → held ≡ Some d → SeesDigest d staged rows n path hash
-
-abbrev pub SeesHeldPresence : Option Directory → Staged → List Row → Noted → List ℕ → Option Bool → Type 0
-SeesHeldPresence held staged rows n path presence = (d : Directory) → held ≡ Some d → SeesPresence d staged rows n path presence
-
--- the entries of a source directory
-abbrev pub listing_in : Directory → List ℕ → Option (List (List ℕ))
-listing_in d dir = cond (is_source dir) (Some (entries_of d dir)) None

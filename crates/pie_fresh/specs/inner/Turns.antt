@@ -1,58 +1,27 @@
 -- How a step ends.
-use Rattle.std.specs.Prelude.{◌≡◌, ℕ, ◌+◌, ◌-◌, ◌*◌, ◌<◌, max, List, [], ◌∷◌, ◌++◌, length, Contains}
+use Rattle.std.specs.Prelude.{◌≡◌, ℕ, ◌+◌, ◌-◌, ◌*◌, ◌<◌, List, [], ◌∷◌, ◌++◌, length, Contains}
 use Rattle.pie_value.specs.declared.task.Task.{Task}
-use Rattle.pie_record.specs.declared.dep.DepOn.{DepOn}
-use Rattle.pie_store.specs.Canonical.{required_on}
 use Rattle.pie_digest.specs.Digests.{function_names}
-use Rattle.pie_value.specs.declared.event.Event.{Event}
-use Rattle.pie_value.specs.declared.event.Event.TheVariants.{Exists, Read, Digest, List as Listing, Write, Require, Done, Fail}
-use Rattle.pie_fresh.specs.declared.frame.RunningTask.{RunningTask}
-use Rattle.pie_fresh.specs.declared.frame.Caller.{Caller}
-use Rattle.pie_fresh.specs.declared.frame.Paused.{Paused}
-use Rattle.pie_fresh.specs.declared.frame.Paused.TheVariants.{Asks, Ends, Fails}
+use Rattle.pie_value.specs.declared.verdict.Refusal.TheVariants.{Fault}
+use Rattle.pie_running.specs.declared.frame.RunningTask.{RunningTask}
+use Rattle.pie_running.specs.declared.frame.Caller.{Caller}
+use Rattle.pie_running.specs.declared.frame.Told.{Told}
+use Rattle.pie_running.specs.declared.frame.Told.TheVariants.{Goes as GoesOnTold, Fails as FailsTold}
 use Rattle.pie_fresh.specs.declared.turn.Turn.{Turn}
 use Rattle.pie_fresh.specs.declared.turn.Turn.TheVariants.{Goes, Rests, Stops}
 use Rattle.pie_fresh.specs.declared.builder.Builder.{Builder}
 use Rattle.pie_fresh.specs.declared.builder.Entered.{Entered}
 use Rattle.pie_fresh.specs.declared.builder.Entered.TheVariants.{Runs, Refused}
-use Rattle.pie_fresh.specs.inner.Noted.{Noted, tasks_on}
+use Rattle.pie_running.specs.inner.Noted.{Noted}
+use Rattle.pie_running.specs.inner.Frames.{IsReady}
+use Rattle.pie_running.specs.inner.Steps.{Advanced}
 use Rattle.pie_fresh.specs.inner.Ledgers.{IsLedger, Grows}
-use Rattle.pie_fresh.specs.inner.Frames.{IsReady, IsWaiting, IsTop, Running, IsIdle}
+use Rattle.pie_fresh.specs.inner.Frames.{IsTop, Running, IsIdle}
 
--- an event that asks
-abbrev pub IsEffect : Event → Type 0
-IsEffect (Exists p) = Unit {0}
-IsEffect (Read p by) = Unit {0}
-IsEffect (Digest p) = Unit {0}
-IsEffect (Listing d) = Unit {0}
-IsEffect (Write p bytes) = Unit {0}
-IsEffect (Require t how) = Unit {0}
-IsEffect (Done v) = ⊥
-IsEffect (Fail k) = ⊥
-
--- a task waits for an answer, has ended, or fails
-abbrev pub Comes : Noted → Paused → Type 0
-Comes old (Asks w e) = IsWaiting w × (w.notes ≡ old) × IsEffect e
-Comes old (Ends n v) = n ≡ old
-Comes old (Fails t k) = Unit {0}
-
--- the same task as before, with the tasks that it required, and one answer less to come
-pub record Advanced (old new : Noted) : Type 0 where
-  pub task : new.task ≡ old.task
-  pub number : new.number ≡ old.number
-  pub needs : new.needs ≡ old.needs
-  pub tasks : tasks_on new.deps ≡ tasks_on old.deps
-  pub height : new.height ≡ old.height
-  pub left : new.left + 1 ≡ old.left
-
--- the same task as before, which required one more, of this number and height
-pub record Given (what : DepOn) (number height : ℕ) (old new : Noted) : Type 0 where
-  pub task : new.task ≡ old.task
-  pub same : new.number ≡ old.number
-  pub needs : new.needs ≡ old.needs ++ number ∷ []
-  pub tasks : tasks_on new.deps ≡ tasks_on old.deps ++ required_on what
-  pub high : new.height ≡ max old.height (height + 1)
-  pub left : new.left + 1 ≡ old.left
+-- how a step ends by what the running task was told
+abbrev pub turned : Told → Turn
+turned (GoesOnTold f) = Goes f
+turned (FailsTold n k) = Stops (Fault (record { task = n.task; kind = k }))
 
 -- the task was answered, or the root fails
 abbrev pub Answered : Noted → Turn → Type 0

@@ -16,8 +16,8 @@ loop-root-preserved g c =
           c.evaluate.ensures.enters.kept c.loop-root-test.true c.root-item.is (c.in_ok-refusal.ensures.small c.in-None.is)
           (c.in_ok-refusal.ensures.named c.in-None.is) before.2,
       c.evaluate.ensures.typed ∙ before.3,
-      c.evaluate.ensures.same ∙ before.4,
-      c.in_ok-refusal.ensures.counted.steady ∙ before.5,
+      c.evaluate.ensures.reads.same ∙ before.4,
+      c.in_ok-refusal.ensures.reads.counted.steady ∙ before.5,
       starts_then c.args.builder.now.ledger.names c.loop-root.builder.ledger.names c.evaluate.new.self.ledger.names c.args.runs.now c.loop-root.runs
           c.evaluate.new.runs before.6 c.in_ok-refusal.ensures.starts,
       does_more (g.F.Files.holds c.args.files.now) (g.F.Files.holds c.loop-root.files) c.args.builder.now c.loop-root.builder c.evaluate.new.self
@@ -25,7 +25,7 @@ loop-root-preserved g c =
           (subst (EvaluatesRoot (g.F.Files.holds c.loop-root.files) c.loop-root.builder c.evaluate.new.self c.root-item.result) c.in-None.is
           c.in_ok-refusal.ensures.means),
       both_before g.F.Files.holds g.F.Files.moment g.F.Files.left_since g.F.Files.images c.args.files.now c.loop-root.files c.evaluate.new.files before.4
-          before.8 c.evaluate.ensures.crash,
+          before.8 c.evaluate.ensures.reads.crash,
     )
 
 pub returns-clause-entered : goal.returns-clause-entered

@@ -1,6 +1,4 @@
-use Rattle.std.proofs.Common.{refl, sym, ap, ◌∙◌}
-use Rattle.pie_fresh.specs.contracts.notes.Notes.{the_view}
-use Rattle.pie_fresh.specs.inner.Noted.{Noted}
+use Rattle.std.proofs.Common.{refl, sym, ◌∙◌}
 use Rattle.pie_fresh.proofs.Finishing.{ended_stands_as}
 use Rattle.pie_fresh.proofs.Leaving.{too_big, finishes_as, if_ok}
 use Rattle.pie_fresh.proofs.builder.Builder.finish.Goals as goal
@@ -12,12 +10,12 @@ returns-then-not-is_small-clause-means c = λ s E.
 
 pub resume-requires-clause-stands : goal.resume-requires-clause-stands
 resume-requires-clause-stands c =
-    ended_stands_as c.args.self.now _ (the_view c.notes.inside) c.args.notes c.notes.view_is c.in_ok-end.ensures.ledger c.in_ok-end.ensures.grows
+    ended_stands_as c.args.self.now _ c.no.result.0 c.args.notes c.no.ensures c.in_ok-end.ensures.ledger c.in_ok-end.ensures.grows
     c.in_ok-end.ensures.names (_, c.in_ok-end.ensures.puts) c.in_ok-end.ensures.ended refl refl c.requires.stands
 
 pub returns-clause-means : goal.returns-clause-means
 returns-clause-means c =
-    if_ok _ _ c.resume.result (finishes_as c.args.self.now _ c.args.notes c.args.output c.in_ok-copy.field-0 c.notes.inside.no.0 c.in_ok-_bytes._bytes.items
+    if_ok _ _ c.resume.result (finishes_as c.args.self.now _ c.args.notes c.args.output c.in_ok-copy.field-0 c.no.result.0 c.in_ok-_bytes._bytes.items
     (sym c.is_small.ensures.limits ∙ c.if-not-is_small.false) c.in_ok-_bytes.ensures.canonical c.in_ok-_bytes.ensures.bytes c.in_ok-end.ensures.names
-    c.in_ok-end.ensures.puts c.in_ok-end.ensures.rows c.in_ok-end.ensures.stage refl refl refl (ap (λ (n : Noted). n.number) c.notes.view_is)
+    c.in_ok-end.ensures.puts c.in_ok-end.ensures.rows c.in_ok-end.ensures.stage refl refl refl c.no.ensures
     c.in_ok-copy.ensures c.resume.new.self) c.resume.ensures.means

@@ -12,14 +12,14 @@ turns-preserved g c =
       enters_then c.args.self.now.ledger.names c.turns.self.ledger.names c.turn.new.self.ledger.names c.args.runs.now c.turns.runs c.turn.new.runs
           before.1 c.turn.ensures.enters,
       c.turn.ensures.typed ∙ before.2,
-      c.turn.ensures.same ∙ before.3,
-      c.in_ok-next.ensures.counted.steady ∙ before.4,
+      c.turn.ensures.reads.same ∙ before.3,
+      c.in_ok-next.ensures.reads.counted.steady ∙ before.4,
       starts_then c.args.self.now.ledger.names c.turns.self.ledger.names c.turn.new.self.ledger.names c.args.runs.now c.turns.runs c.turn.new.runs
           before.5 c.in_ok-next.ensures.starts,
       runs_on (g.F.Files.holds c.args.files.now) (g.F.Files.holds c.turns.files) c.args.self.now c.turns.self c.turn.new.self c.args.frame c.turns.frame
           before.3 before.6 c.in_ok-next.field-0 c.in_ok-next.ensures.means c.in-Goes.next c.in-Goes.is,
       both_before g.F.Files.holds g.F.Files.moment g.F.Files.left_since g.F.Files.images c.args.files.now c.turns.files c.turn.new.files before.3
-          before.7 c.turn.ensures.crash,
+          before.7 c.turn.ensures.reads.crash,
     )
 
 pub returns-in-Rests-clause-means : goal.returns-in-Rests-clause-means

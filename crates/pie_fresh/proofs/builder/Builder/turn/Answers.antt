@@ -1,5 +1,5 @@
 use Rattle.std.proofs.Common.{subst}
-use Rattle.pie_fresh.specs.inner.Turns.{Comes}
+use Rattle.pie_running.specs.inner.Steps.{Comes}
 use Rattle.pie_fresh.proofs.Leaving.{if_ok}
 use Rattle.pie_fresh.proofs.Turning.{ComesWith, turns_asking, turns_ending, turns_failing}
 use Rattle.pie_fresh.proofs.builder.Builder.turn.Goals as goal
@@ -18,5 +18,5 @@ returns-in_ok-finish-in-Ends-clause-means g c =
 
 pub returns-in-Fails-clause-means : goal.returns-in-Fails-clause-means
 returns-in-Fails-clause-means g c =
-    turns_failing (g.F.Files.holds c.args.files.now) c.args.self.now c.args.frame c.in-Fails.task c.in-Fails.kind
-    (subst (ComesWith c.args.frame) c.in-Fails.is c.in_ok-waiting.ensures.means) c.failed.result c.failed.ensures
+    turns_failing (g.F.Files.holds c.args.files.now) c.args.self.now c.args.frame c.in-Fails.notes c.into_task.result c.in-Fails.kind
+    (subst (ComesWith c.args.frame) c.in-Fails.is c.in_ok-waiting.ensures.means) c.failed.result c.into_task.ensures c.failed.ensures

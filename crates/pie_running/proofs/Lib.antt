@@ -1,0 +1,10 @@
+pub mod Asking
+pub mod Noting
+pub mod Staging
+pub mod Known
+pub mod Seeing
+pub mod TooLong
+pub mod Fitting
+pub mod Firsts
+pub mod FrameLemmas
+pub mod Sighting
