@@ -59,7 +59,7 @@ use Rattle.pie_fresh.specs.declared.turn.Turn.TheVariants.{Stops}
 use Rattle.pie_fresh.specs.inner.Turns.{turned}
 use Rattle.pie_fresh.specs.inner.Sights.{SeesOut}
 use Rattle.pie_fresh.specs.inner.Means.{Site, project_of, table_of, names_of, Means, IsAsking, RefusesAs, TurnMeans}
-use Rattle.pie_fresh.proofs.Seeing.{seen_visible}
+use Rattle.pie_fresh.proofs.Seeing.{seen_by, seen_visible}
 
 -- the running task fails for this
 abbrev pub fails_by : Waiting → FaultKind → Refusal
