@@ -75,6 +75,7 @@ impl<'a> RunningTask<'a> {
         requires encodable { IsEncodableTask task.now }
         ensures started { IfOk result (IsStarted code.now task.now no.0) }
         ensures runs { OnOk result (runs.new ≡ runs.old ++ task.now ∷ []) }
+        ensures unchanged { OnErr result (runs.new ≡ runs.old) }
     {
         let notes = Notes::new(alloc, task.copy()?, no)?;
         let machine = Machine::start(alloc, code, task, runs)?;

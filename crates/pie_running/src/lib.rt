@@ -13,7 +13,7 @@ mod writes;
 
 pub use code::code_of;
 pub use frame::{Caller, Paused, RunningTask, Told, Waiting};
-pub use looking::{Provided, Shows};
+pub use looking::{Provided, Shows, Sight};
 pub use notes::Notes;
 pub use page::NoteParts;
 pub use requiring::Done;

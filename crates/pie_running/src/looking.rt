@@ -41,7 +41,7 @@ pub trait Shows {
 
 /// What a task sees that reads, at any path.
 #[derive(Drop)]
-pub(crate) enum Sight {
+pub enum Sight {
     File(Option<Found>),
     /// A source of more bytes than a value may hold. None of them is read.
     Long,
