@@ -1,12 +1,14 @@
 -- Ascending numbers: where a number is found, and one more or one fewer.
-use Rattle.std.proofs.Common.{◌≡◌, ◌&&◌, ◌||◌, not, ℕ, suc, ◌+◌, ◌-◌, ◌<◌, ◌≤◌, true, false, List, ◌∷◌, ◌++◌, map, length, take, drop, get_or, sym, ap, ◌∙◌, subst, inl, inr, arith, eqb}
+use Rattle.std.proofs.Common.{◌≡◌, ◌&&◌, ◌||◌, not, ℕ, suc, ◌+◌, ◌-◌, ◌<◌, ◌≤◌, true, false, List, ◌∷◌, ◌++◌, map, length, take, drop, get_or, sym, ap, ◌∙◌}
+use Rattle.std.proofs.Common.{subst, inl, inr, arith, eqb}
 use Rattle.std.specs.Prelude.{Result, Ok, Err, is_ok}
 use Rattle.std.specs.Ordering.{nat_cmp}
 use Rattle.std.specs.List.{insert, remove}
 use Rattle.std.specs.List.Sorted.{IsBinarySearchResult, IsStrictlyIncreasing}
 use Rattle.std.proofs.lemmas.Bool.{cases_lt}
 use Rattle.std.proofs.lemmas.List.{map-append, take-map, drop-map, length-map, get_or_default}
-use Rattle.std.proofs.lemmas.List.Edits.{length-insert, length-remove, get_or-insert_below, get_or-insert_at, get_or-insert_above, get_or-remove_below, get_or-remove_above}
+use Rattle.std.proofs.lemmas.List.Edits.{length-insert, get_or-insert_below, get_or-insert_at, get_or-insert_above}
+use Rattle.std.proofs.lemmas.List.Edits.{length-remove, get_or-remove_below, get_or-remove_above}
 use Rattle.std.proofs.lemmas.List.Kept.{AllPairs-from_increasing}
 use Rattle.std.proofs.lemmas.List.Sorted.{searched}
 use Rattle.std.proofs.Math.ListN as at
@@ -25,7 +27,13 @@ up_insert : (xs : List ℕ) (i y : ℕ) → IsStrictlyIncreasing xs → IsPlace 
 up_insert xs i y up p = λ k l.
     let long = length-insert xs i y p.within in
     elim (cases_lt (k + 1) i) [
-      | inl both ↦ omega (arith, get_or-insert_below xs i y 0 k (omega arith) p.within, get_or-insert_below xs i y 0 (k + 1) both p.within, up k (omega (arith, p.within)))
+      | inl both ↦
+          omega (
+            arith,
+            get_or-insert_below xs i y 0 k (omega arith) p.within,
+            get_or-insert_below xs i y 0 (k + 1) both p.within,
+            up k (omega (arith, p.within)),
+          )
       | inr past ↦ elim (cases_lt k i) [
         | inl under ↦
             let here : k + 1 ≡ i = omega arith in
@@ -52,7 +60,8 @@ up_remove xs i up l = λ k lt.
     elim (cases_lt (k + 1) i) [
       | inl both ↦ omega (arith, get_or-remove_below xs i 0 k (omega arith) l, get_or-remove_below xs i 0 (k + 1) both l, up k (omega arith))
       | inr past ↦ elim (cases_lt k i) [
-        | inl under ↦ omega (arith, get_or-remove_below xs i 0 k under l, get_or-remove_above xs i 0 (k + 1) past l, up k (omega arith), up (k + 1) (omega arith))
+        | inl under ↦
+            omega (arith, get_or-remove_below xs i 0 k under l, get_or-remove_above xs i 0 (k + 1) past l, up k (omega arith), up (k + 1) (omega arith))
         | inr over ↦ omega (arith, get_or-remove_above xs i 0 k over l, get_or-remove_above xs i 0 (k + 1) past l, up (k + 1) (omega arith))
       ]
     ]
@@ -123,12 +132,13 @@ pub shown : (x : ℕ) (now ts : List TaskNo) (r : Result ℕ ℕ) → now ≡ ts
     → IsBinarySearchResult (λ (t : TaskNo). nat_cmp t.0 x) ts r
 shown x now ts r e h = subst (λ (ts : List TaskNo). IsBinarySearchResult (λ (t : TaskNo). nat_cmp t.0 x) ts r) e h
 
-pub inserted_up : (ts after : List TaskNo) (i : ℕ) (t : TaskNo) → IsStrictlyIncreasing (numbers ts) → IsBinarySearchResult (λ (s : TaskNo). nat_cmp s.0 t.0) ts (Err i)
-    → after ≡ insert ts i t → IsStrictlyIncreasing (numbers after)
+pub inserted_up : (ts after : List TaskNo) (i : ℕ) (t : TaskNo) → IsStrictlyIncreasing (numbers ts)
+    → IsBinarySearchResult (λ (s : TaskNo). nat_cmp s.0 t.0) ts (Err i) → after ≡ insert ts i t → IsStrictlyIncreasing (numbers after)
 inserted_up ts after i t up h e =
     subst IsStrictlyIncreasing (sym (ap numbers e ∙ numbers_insert ts i t)) (up_insert (numbers ts) i t.0 up (place_at ts t.0 up i h))
 
-pub inserted_among : (ts after : List TaskNo) (i : ℕ) (t : TaskNo) (k : ℕ) → after ≡ insert ts i t → among (numbers after) k ≡ (among (numbers ts) k || eqb k t.0)
+pub inserted_among : (ts after : List TaskNo) (i : ℕ) (t : TaskNo) (k : ℕ) → after ≡ insert ts i t
+    → among (numbers after) k ≡ (among (numbers ts) k || eqb k t.0)
 inserted_among ts after i t k e =
     ap (λ (ns : List ℕ). among ns k) (ap numbers e ∙ numbers_insert ts i t) ∙ among_insert (numbers ts) i t.0 k
 

@@ -18,7 +18,8 @@ on_err (Ok x) q = tt
 on_err (Err x) q = q
 
 -- room is made, and then a task is pushed
-pub numbers_pushed : (before reserved after : List TaskNo) (t : TaskNo) → after ≡ reserved ++ t ∷ [] → reserved ≡ before → numbers after ≡ numbers before ++ t.0 ∷ []
+pub numbers_pushed : (before reserved after : List TaskNo) (t : TaskNo) → after ≡ reserved ++ t ∷ [] → reserved ≡ before
+    → numbers after ≡ numbers before ++ t.0 ∷ []
 numbers_pushed before reserved after t p r =
     ap numbers (p ∙ ap (λ (ts : List TaskNo). ts ++ t ∷ []) r) ∙ map_push (λ (s : TaskNo). s.0) before t
 
@@ -39,7 +40,8 @@ module _ (edges : List Edges) (i : ℕ) (e f : Edges) (l : i < length edges) (is
       map-set row_of edges i f ∙ ap (set rows i) (h ∙ row_read edges rows i e refl l is) ∙ set-get_or rows i no_edges
 
   -- edges with one more required task are written over those that stood there
-  pub pushed_rows : (k : ℕ) → row_of f ≡ requiring (row_of e) k → map row_of (set edges i f) ≡ set (map row_of edges) i (requiring (row_at (map row_of edges) i) k)
+  pub pushed_rows : (k : ℕ) → row_of f ≡ requiring (row_of e) k
+      → map row_of (set edges i f) ≡ set (map row_of edges) i (requiring (row_at (map row_of edges) i) k)
   pushed_rows k h =
       let rows = map row_of edges in
       map-set row_of edges i f ∙ ap (set rows i) (h ∙ ap (λ (row : Row). requiring row k) (row_read edges rows i e refl l is))
@@ -60,7 +62,8 @@ module _ (index new : Index) (rows : List Row) (kept : AreKept index rows) where
     told = told;
   }
 
-  pub kept_pushed : (i k : ℕ) → k < length rows → IsIndex new (set rows i (requiring (row_at rows i) k)) → AreKept new (set rows i (requiring (row_at rows i) k))
+  pub kept_pushed : (i k : ℕ) → k < length rows → IsIndex new (set rows i (requiring (row_at rows i) k))
+      → AreKept new (set rows i (requiring (row_at rows i) k))
   kept_pushed i k l told =
       kept_set i (requiring (row_at rows i) k) (below_push (length rows) (row_at rows i).needs k (needs_below_at rows i kept.needs_below) l) told
 

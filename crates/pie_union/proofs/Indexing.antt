@@ -27,8 +27,8 @@ callers_exactly index count rows b found t e up = record {
 }
 
 -- a row of rows whose numbers are below their count
-pub row_below : (edges : List Edges) (i : ℕ) (e : Edges) (count : ℕ) → NeedsBelow (map row_of edges) → i < length edges → e ≡ get_or edges i e → count ≡ length edges
-    → AllBelow count (numbers e.needs.items)
+pub row_below : (edges : List Edges) (i : ℕ) (e : Edges) (count : ℕ) → NeedsBelow (map row_of edges) → i < length edges
+    → e ≡ get_or edges i e → count ≡ length edges → AllBelow count (numbers e.needs.items)
 row_below edges i e count below l is same =
     let rows = map row_of edges in
     let read : row_of e ≡ row_at rows i = row_read edges rows i e refl l is in

@@ -75,7 +75,8 @@ and_false : (a : Bool) → (a && not true) ≡ false
 and_false true = refl
 and_false false = refl
 
-pub among_remove : (xs : List ℕ) (i x k : ℕ) → IsStrictlyIncreasing xs → i < length xs → x ≡ get_or xs i 0 → among (remove xs i) k ≡ (among xs k && not (eqb k x))
+pub among_remove : (xs : List ℕ) (i x k : ℕ) → IsStrictlyIncreasing xs → i < length xs → x ≡ get_or xs i 0
+    → among (remove xs i) k ≡ (among xs k && not (eqb k x))
 among_remove xs i x k up l is =
     elim (eqb_tells k x) [
       | inl e ↦

@@ -1,5 +1,6 @@
 -- The pairs between two bounds: the writers of one path.
-use Rattle.std.proofs.Common.{◌≡◌, ◌&&◌, ℕ, ◌<◌, ◌≤◌, Bool, true, false, cond, not, List, [], ◌∷◌, ◌++◌, map, length, refl, sym, ap, ◌∙◌, subst, inl, inr, arith}
+use Rattle.std.proofs.Common.{◌≡◌, ◌&&◌, ℕ, ◌<◌, ◌≤◌, Bool, true, false, cond, not, List, [], ◌∷◌, ◌++◌, map, length, refl, sym, ap, ◌∙◌}
+use Rattle.std.proofs.Common.{subst, inl, inr, arith}
 use Rattle.std.specs.declared.cmp.Ordering.{Ordering}
 use Rattle.std.specs.declared.cmp.Ordering.TheVariants.{Less, Equal, Greater}
 use Rattle.std.specs.declared.ops.Bound.TheVariants.{Included, Excluded}
@@ -138,8 +139,8 @@ writers_exactly pairs path rows found up few is e =
           (between_at path n l);
     })
 
-pub range_start : (path first end : List ℕ) (pairs : BTreeSet (List ℕ × ℕ)) (found : List TaskNo) (left : List (List ℕ × ℕ)) → found ≡ [] → first ≡ path → end ≡ path
-    → left ≡ keys_between pair_cmp (Included (first, 0)) (Excluded (end, 50000)) pairs
+pub range_start : (path first end : List ℕ) (pairs : BTreeSet (List ℕ × ℕ)) (found : List TaskNo) (left : List (List ℕ × ℕ))
+    → found ≡ [] → first ≡ path → end ≡ path → left ≡ keys_between pair_cmp (Included (first, 0)) (Excluded (end, 50000)) pairs
     → numbers found ++ map (λ (e : List ℕ × ℕ). e.1) left ≡ tasks_in (between path) pairs.keys
 range_start path first end pairs found left none f l e =
     ap (λ (ts : List TaskNo). numbers ts ++ map (λ (e : List ℕ × ℕ). e.1) left) none

@@ -55,8 +55,8 @@ written_more false true held w = refl
 written_more false false held w = refl
 
 -- one more path of a task is in the set: what it holds with the rest is as before
-pub write_step : (paths : List (List ℕ)) (i : ℕ) (path : List ℕ) (n : ℕ) (pair : List ℕ × ℕ) (held now all : Bool) → i < length paths → path ≡ get_or paths i path
-    → now ≡ cond (is_eq (pair_cmp (path, n) pair)) true held → (held || (eqb pair.1 n && wrote (drop i paths) pair.0)) ≡ all
+pub write_step : (paths : List (List ℕ)) (i : ℕ) (path : List ℕ) (n : ℕ) (pair : List ℕ × ℕ) (held now all : Bool)
+    → i < length paths → path ≡ get_or paths i path → now ≡ cond (is_eq (pair_cmp (path, n) pair)) true held → (held || (eqb pair.1 n && wrote (drop i paths) pair.0)) ≡ all
     → (now || (eqb pair.1 n && wrote (drop (i + 1) paths) pair.0)) ≡ all
 write_step paths i path n pair held now all l is e inv =
     let rest = wrote (drop (i + 1) paths) pair.0 in

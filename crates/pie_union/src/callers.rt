@@ -80,7 +80,8 @@ impl Callers {
     /// Takes a caller from those of these tasks that don't stay.
     pub(crate) fn remove_all(&mut self, callees: &[TaskNo], staying: &Ascending, caller: TaskNo)
         requires { AllBelow (length self.old) (numbers callees.now) }
-        ensures removed { (a b : ℕ) → calls self.new a b ≡ (calls self.old a b && not (a == caller.0 && (among (numbers callees.now) b && not (among staying.now b)))) }
+        ensures removed { (a b : ℕ) → calls self.new a b ≡
+            (calls self.old a b && not (a == caller.0 && (among (numbers callees.now) b && not (among staying.now b)))) }
         ensures count { length self.new ≡ length self.old }
     {
         for callee in callees {

@@ -52,7 +52,8 @@ impl Writers {
 
     /// Removes pairs that don't stay.
     pub(crate) fn remove_all(&mut self, pairs: &Writers, staying: &Writers)
-        ensures { (pair : List ℕ × ℕ) → holds self.new.pairs pair ≡ (holds self.old.pairs pair && not (holds pairs.now.pairs pair && not (holds staying.now.pairs pair))) }
+        ensures { (pair : List ℕ × ℕ) → holds self.new.pairs pair ≡
+            (holds self.old.pairs pair && not (holds pairs.now.pairs pair && not (holds staying.now.pairs pair))) }
     {
         for pair in &pairs.pairs {
             self.remove_unless(pair, staying);
@@ -61,7 +62,8 @@ impl Writers {
 
     // Removes a pair that doesn't stay.
     fn remove_unless(&mut self, gone: &(Path, u32), staying: &Writers)
-        ensures { (pair : List ℕ × ℕ) → holds self.new.pairs pair ≡ (holds self.old.pairs pair && not (is_eq (pair_cmp gone.now pair) && not (holds staying.now.pairs gone.now))) }
+        ensures { (pair : List ℕ × ℕ) → holds self.new.pairs pair ≡
+            (holds self.old.pairs pair && not (is_eq (pair_cmp gone.now pair) && not (holds staying.now.pairs gone.now))) }
     {
         if !staying.pairs.contains(gone) {
             self.pairs.remove(gone);

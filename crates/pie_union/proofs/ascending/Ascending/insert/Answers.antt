@@ -8,7 +8,8 @@ pub invariant_of-self-in-Err : goal.invariant_of-self-in-Err
 invariant_of-self-in-Err c =
     let ts = c.self.inside.nos.items in
     let i = c.in-Err.place in
-    inserted_up ts c.insert.new.self.items i c.args.no c.self.invariant (shown c.args.no.0 c.deref.result.now ts (Err i) c.deref.ensures.value c.in-Err.ensures.position)
+    inserted_up ts c.insert.new.self.items i c.args.no c.self.invariant
+    (shown c.args.no.0 c.deref.result.now ts (Err i) c.deref.ensures.value c.in-Err.ensures.position)
     c.in_ok-insert-in-Err.ensures.items
 
 pub returns-in-Ok-clause-inserted : goal.returns-in-Ok-clause-inserted

@@ -14,7 +14,8 @@ returns c = λ rows few is.
 pub loop-pair-init : goal.loop-pair-init
 loop-pair-init c =
     range_start c.args.path.now c.in_ok-copy.field-0 c.in_ok-copy-2.field-0 c.args.self.now.pairs c.new-found.result.items c.into_iter-pair-iterator.result
-    c.new-found.ensures.items c.in_ok-copy.ensures c.in_ok-copy-2.ensures (c.into_iter-pair-iterator.ensures.into_iter_gives ∙ c.range-pair-items.ensures.between tt)
+    c.new-found.ensures.items c.in_ok-copy.ensures c.in_ok-copy-2.ensures
+    (c.into_iter-pair-iterator.ensures.into_iter_gives ∙ c.range-pair-items.ensures.between tt)
 
 pub loop-pair-preserved : goal.loop-pair-preserved
 loop-pair-preserved c =
