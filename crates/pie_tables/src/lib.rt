@@ -2,5 +2,7 @@
 #![tactic(auto)]
 
 mod tables;
+#[cfg(test)]
+mod tests;
 
 pub use tables::Tables;
