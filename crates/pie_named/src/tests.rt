@@ -99,8 +99,8 @@ fn recorded_stamps_are_held_against_the_files(rt: HostRuntime) -> Result<(), Fai
     put(alloc, &mut files)?;
     let mut named = Named::new(alloc);
     let said = asked(alloc, &mut named, &mut files)?;
-    // By hash, by presence and by mark: three questions.
-    assert!(rt; said.as_str() == "nynny" && files.log().len() == 3);
+    // The file that was put, and three questions: by hash, by presence and by mark.
+    assert!(rt; said.as_str() == "nynny" && files.log().len() == 4);
     Ok(())
 }
 
