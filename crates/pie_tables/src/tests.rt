@@ -1,41 +1,14 @@
-//! A task from its number to its record.
+//! Tables without tasks.
 use crate::Tables;
-use pie_base::{FaultKind, Text};
-use pie_record::{Deps, Outcome, Records, TaskNames, TaskRecord, Writes};
-use pie_value::{Fault, Items, Task};
-use std::alloc::Global;
+use pie_graph::TaskNo;
+use pie_record::{Records, TaskNames};
 use std::test::Fail;
 
-fn task(alloc: Global) -> Result<Task, Fail> {
-    let func = Text::new(alloc, "one")?;
-    Ok(Task {
-        func,
-        args: Items::new(),
-    })
-}
-
-// The record of the task that failed.
-fn failed(alloc: Global) -> Result<TaskRecord, Fail> {
-    let outcome = Outcome::Failed(Fault {
-        task: task(alloc)?,
-        kind: FaultKind::Null,
-    });
-    Ok(TaskRecord {
-        task: task(alloc)?,
-        deps: Deps::new(Vec::new(alloc)),
-        writes: Writes::new(Vec::new(alloc)),
-        outcome,
-    })
-}
-
 #[test]
-fn a_task_gets_a_number_runs_and_is_recorded(rt: HostRuntime) -> Result<(), Fail> {
+fn new_tables_have_no_record(rt: HostRuntime) -> Result<(), Fail> {
     let alloc = rt.alloc();
-    let mut tables = Tables::new(alloc, TaskNames::new(alloc), Records::new(alloc))?;
-    let no = tables.add(task(alloc)?)?;
-    tables.runs(no);
-    tables.put(no, failed(alloc)?)?;
-    let has_failed = matches!(tables.outcome(no)?, Some(Outcome::Failed(_)));
-    assert!(rt; has_failed && no.0 == 0 && tables.ran[0]);
+    let tables = Tables::new(alloc, TaskNames::new(alloc), Records::new(alloc))?;
+    let outcome = tables.outcome(TaskNo(0))?;
+    assert!(rt; outcome.is_none() && tables.ran.len() == 0);
     Ok(())
 }
