@@ -455,3 +455,17 @@ schedules rows places marks scheduled n above es holds idle = record {
     | inr e ↦ holds.calm k (sym (get_or-set_other scheduled n k true false e.1) ∙ flag)
   ];
 }
+
+-- others are scheduled, of those that were neither taken nor settled
+pub flags_hold : (rows : List Row) (places : List ℕ) (marks : List Mark) (before scheduled : List Bool) (above : Option ℕ) (es : List Entry)
+    → Holds rows places marks before above es → length scheduled ≡ length before → ((k : ℕ) → IsMarked scheduled k → IsIdle marks k)
+    → Holds rows places marks scheduled above es
+flags_hold rows places marks before scheduled above es holds size calm = record {
+  marks_sized = holds.marks_sized;
+  scheduled_sized = size ∙ holds.scheduled_sized;
+  agrees = holds.agrees;
+  entries = holds.entries;
+  stands = holds.stands;
+  closed = holds.closed;
+  calm = calm;
+}

@@ -1,9 +1,12 @@
+pub mod CallerSteps
 pub mod EntrySteps
+pub mod FlagSteps
 pub mod HoldSteps
 pub mod MarkSteps
 pub mod Reversed
 pub mod ScanSteps
 pub mod StandSteps
 pub mod StateSteps
+pub mod SweepSteps
 pub mod SweptSteps
 pub mod TurnSteps

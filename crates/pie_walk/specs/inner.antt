@@ -1,3 +1,4 @@
 -- Definitions that no public clause names.
 pub mod Scans
 pub mod Steps
+pub mod Sweeping

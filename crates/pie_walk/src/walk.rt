@@ -9,6 +9,7 @@ ghost use Rattle.pie_walk.specs.Standing.{Stands};
 ghost use Rattle.pie_walk.specs.Counts.{Counts};
 
 use crate::Mark;
+use crate::flags::flag_of;
 use crate::stack::{Entry, Stack};
 use pie_base::{MAX_TASKS, OutOfMemory};
 use pie_graph::{TaskNo, TaskRows};
@@ -94,10 +95,7 @@ impl Walk {
     pub fn is_scheduled(&self, no: TaskNo) -> bool
         ensures { IsTrue result ↔ IsMarked self.now.scheduled no.0 }
     {
-        match self.scheduled.get(no.0 as usize) {
-            Some(flag) => *flag,
-            None => false,
-        }
+        flag_of(self.scheduled.as_slice(), no)
     }
 
     /// What stands on top of the stack.
