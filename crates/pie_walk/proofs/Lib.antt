@@ -1,4 +1,5 @@
 pub mod CallerSteps
+pub mod EarlierSteps
 pub mod EntrySteps
 pub mod FlagSteps
 pub mod HoldSteps

@@ -33,14 +33,19 @@ one_swept begin task w at k ks so_far reach swept_in scheduled_in = by (is_due w
   where
     now : Sweep
     now = record { state = sweeping w.state k; work = w.work ++ k ∷ [] }
+
     looks : Bool
     looks = get_or w.state.looks_out k false
+
     in_swept : k < length w.state.swept
     in_swept = omega (arith, swept_in, so_far.swept_sized)
+
     in_scheduled : k < length w.state.scheduled
     in_scheduled = omega (arith, scheduled_in, so_far.scheduled_sized)
+
     as_begun : (b : Bool) → is_due w.state k ≡ b → (is_idle (mark_of begin.marks k) && not (get_or w.state.swept k false)) ≡ b
     as_begun b e = ap (λ (ms : List Mark). is_idle (mark_of ms k) && not (get_or w.state.swept k false)) (sym (ap (λ (s : WalkState). s.marks) so_far.same)) ∙ e
+
     by : (b : Bool) → is_due w.state k ≡ b → Sweeping begin task (cond b (record { state = sweeping w.state k; work = w.work ++ k ∷ [] }) w) at ks
     by true e =
         let due = due_tells (mark_of begin.marks k) (get_or w.state.swept k false) (as_begun true e) in

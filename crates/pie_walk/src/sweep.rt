@@ -133,7 +133,10 @@ impl Walk {
         requires scheduled { no.0 < length self.old.scheduled }
         ensures { self.new ≡ sweeping self.old no.0 }
     {
-        let flag = either(flag_of(self.scheduled.as_slice(), no), flag_of(self.looks_out.as_slice(), no));
+        let flag = either(
+            flag_of(self.scheduled.as_slice(), no),
+            flag_of(self.looks_out.as_slice(), no),
+        );
         self.swept[no.0 as usize] = true;
         self.scheduled[no.0 as usize] = flag;
     }
