@@ -1,6 +1,7 @@
 //! What is asked of the files, each question once.
 ghost use Rattle.std.specs.Prelude.{IfOk};
 ghost use Rattle.pie_files.specs.Reading.{ReadsOnly};
+ghost use Rattle.pie_named.specs.Names.{SameNames};
 ghost use Rattle.pie_record.specs.declared.dep.DepKind.TheVariants as kinds;
 ghost use Rattle.pie_named.specs.inner.Known.{Learns};
 
@@ -19,6 +20,7 @@ impl Named {
         files: &mut F,
     ) -> Result<Option<FileStamp>, FilesError>
         ensures reads { ReadsOnly F.holds F.moment F.left_since F.images F.faults files.old files.new result }
+        ensures names { SameNames self.old self.new }
         ensures learns { IfOk result (Learns (F.holds files.old) self.old self.new kinds.Exists path.now) }
     {
         if let Some(stamp) = self.there.get(path) {
@@ -37,6 +39,7 @@ impl Named {
         files: &mut F,
     ) -> Result<Option<FileStamp>, FilesError>
         ensures reads { ReadsOnly F.holds F.moment F.left_since F.images F.faults files.old files.new result }
+        ensures names { SameNames self.old self.new }
         ensures learns { IfOk result (Learns (F.holds files.old) self.old self.new kinds.ReadHash path.now) }
     {
         if let Some(stamp) = self.hashes.get(path) {
@@ -55,6 +58,7 @@ impl Named {
         files: &mut F,
     ) -> Result<Option<FileStamp>, FilesError>
         ensures reads { ReadsOnly F.holds F.moment F.left_since F.images F.faults files.old files.new result }
+        ensures names { SameNames self.old self.new }
         ensures learns { IfOk result (Learns (F.holds files.old) self.old self.new kinds.ReadMark path.now) }
     {
         if let Some(stamp) = self.marks.get(path) {
@@ -73,6 +77,7 @@ impl Named {
         files: &mut F,
     ) -> Result<Option<FileStamp>, FilesError>
         ensures reads { ReadsOnly F.holds F.moment F.left_since F.images F.faults files.old files.new result }
+        ensures names { SameNames self.old self.new }
         ensures learns { IfOk result (Learns (F.holds files.old) self.old self.new kinds.List dir.now) }
     {
         if let Some(stamp) = self.lists.get(dir) {

@@ -1,6 +1,7 @@
 //! Whether what is recorded is what is there now.
 ghost use Rattle.std.specs.Prelude.{◌≡◌, IfOk};
 ghost use Rattle.pie_files.specs.Reading.{ReadsOnly};
+ghost use Rattle.pie_named.specs.Names.{SameNames};
 ghost use Rattle.pie_record.specs.declared.dep.DepKind.TheVariants as kinds;
 ghost use Rattle.pie_value.specs.declared.stamp.Stamp.TheVariants as stamps;
 ghost use Rattle.pie_named.specs.Stamped.{differs_from};
@@ -24,6 +25,7 @@ impl Named {
         files: &mut F,
     ) -> Result<bool, FilesError>
         ensures reads { ReadsOnly F.holds F.moment F.left_since F.images F.faults files.old files.new result }
+        ensures names { SameNames self.old self.new }
         ensures compares { IfOk result (Compares (F.holds files.old) self.old self.new kind path.now recorded.now) }
     {
         let now = self.stamp(kind, path, files)?;
@@ -39,6 +41,7 @@ impl Named {
         files: &mut F,
     ) -> Result<bool, FilesError>
         ensures reads { ReadsOnly F.holds F.moment F.left_since F.images F.faults files.old files.new result }
+        ensures names { SameNames self.old self.new }
         ensures compares { IfOk result (Compares (F.holds files.old) self.old self.new kinds.ReadHash path.now (stamps.Hash recorded)) }
     {
         let now = self.hash(path, files)?;
@@ -64,6 +67,7 @@ impl Named {
         files: &mut F,
     ) -> Result<Option<FileStamp>, FilesError>
         ensures reads { ReadsOnly F.holds F.moment F.left_since F.images F.faults files.old files.new result }
+        ensures names { SameNames self.old self.new }
         ensures learns { IfOk result (Learns (F.holds files.old) self.old self.new kind path.now) }
     {
         match kind {

@@ -1,0 +1,4 @@
+pub mod Sights
+pub mod Touches
+pub mod Turns
+pub mod Written

@@ -1,0 +1,30 @@
+use Rattle.std.proofs.Common.{◌∙◌}
+use Rattle.pie_files.proofs.Reading.{both_before}
+use Rattle.pie_compare.specs.inner.Touching.{dep_differs}
+use Rattle.pie_compare.proofs.Touches.{dep_same, names_stay, passes_on, finds, finds_none}
+use Rattle.pie_compare.proofs.touched.is_any_sight_touched.Goals as goal
+
+pub returns-then-branch-clause-found : goal.returns-then-branch-clause-found
+returns-then-branch-clause-found g c =
+    let before = c.loop-dep.invariant in
+    finds dep_differs dep_same (g.F.Files.holds c.args.files.now) c.args.named.now c.args.deps.now (g.F.Files.holds c.loop-dep.files) c.loop-dep.named
+    c.is_dep_touched.new.named c.loop-dep.dep-index c.dep-item.result c.in_ok-is_dep_touched.field-0 before.0 before.3 c.loop-dep-test.true
+    c.dep-item.is c.if-branch.true before.4 c.in_ok-is_dep_touched.ensures.answer
+
+pub loop-dep-preserved : goal.loop-dep-preserved
+loop-dep-preserved g c =
+    let before = c.loop-dep.invariant in (
+      c.is_dep_touched.ensures.reads.same ∙ before.0,
+      c.in_ok-is_dep_touched.ensures.reads.counted.steady ∙ before.1,
+      both_before g.F.Files.holds g.F.Files.moment g.F.Files.left_since g.F.Files.images c.args.files.now c.loop-dep.files
+          c.is_dep_touched.new.files before.0 before.2 c.is_dep_touched.ensures.reads.crash,
+      names_stay c.args.named.now c.loop-dep.named c.is_dep_touched.new.named before.3 c.is_dep_touched.ensures.names,
+      passes_on dep_differs dep_same (g.F.Files.holds c.args.files.now) c.args.named.now c.args.deps.now (g.F.Files.holds c.loop-dep.files)
+          c.loop-dep.named c.is_dep_touched.new.named c.loop-dep.dep-index c.dep-item.result c.in_ok-is_dep_touched.field-0 before.0 before.3
+          c.loop-dep-test.true c.dep-item.is c.if-branch.false before.4 c.in_ok-is_dep_touched.ensures.answer,
+    )
+
+pub returns-clause-found : goal.returns-clause-found
+returns-clause-found g c =
+    finds_none dep_differs dep_same (g.F.Files.holds c.args.files.now) c.args.named.now c.args.deps.now c.loop-dep.named c.loop-dep.dep-index
+    c.loop-dep-test.false c.loop-dep.invariant.4
