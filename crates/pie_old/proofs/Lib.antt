@@ -1,0 +1,6 @@
+pub mod Earlier
+pub mod Keeping
+pub mod Needing
+pub mod Noting
+pub mod Placing
+pub mod Rowing

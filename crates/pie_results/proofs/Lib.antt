@@ -1,0 +1,9 @@
+pub mod Deciding
+pub mod FileLemmas
+pub mod Giving
+pub mod Heights
+pub mod MadeLemmas
+pub mod Ordering
+pub mod Placing
+pub mod Starting
+pub mod Storing
