@@ -1,0 +1,7 @@
+//! Tests of `pie_frames`: small builds by hand.
+#![tactic(auto)]
+
+#[cfg(test)]
+mod starts;
+#[cfg(test)]
+mod tests;
