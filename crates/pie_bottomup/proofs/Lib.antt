@@ -1,0 +1,5 @@
+pub mod Beginning
+pub mod Cycles
+pub mod Moving
+pub mod Parts
+pub mod Twice

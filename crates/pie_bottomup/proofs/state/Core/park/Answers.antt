@@ -1,0 +1,14 @@
+use Rattle.std.proofs.Common.{◌≡◌, subst, sym, length}
+use Rattle.pie_graph.specs.Numbers.{AllBelow, numbers}
+use Rattle.pie_order.specs.Cycles.{IsCycle, WouldCall}
+use Rattle.pie_bottomup.proofs.Cycles.{cycle_in_hand, there_is}
+use Rattle.pie_bottomup.proofs.state.Core.park.Goals as goal
+
+pub tasks_of-requires : goal.tasks_of-requires
+tasks_of-requires c =
+    let frames = c.args.self.now.frames in
+    let cycle : IsCycle (WouldCall frames.walk.rows c.args.no.0 c.args.callee.0) (numbers c.in-Some.cycle.items) =
+    there_is (λ found. IsCycle (WouldCall frames.walk.rows c.args.no.0 c.args.callee.0) (numbers found.items)) c.in_ok-cycle.field-0 c.in-Some.cycle
+    c.in-Some.is c.in_ok-cycle.ensures.cycle in
+    subst (λ nos. AllBelow (length c.args.self.now.tables.names) (numbers nos)) (sym c.as_slice.ensures.value)
+    (cycle_in_hand c.args.no frames c.args.callee.0 (length c.args.self.now.tables.names) (numbers c.in-Some.cycle.items) c.requires.site.sized c.requires.holds cycle)

@@ -1,0 +1,156 @@
+//! What the task that runs sees under `out/`.
+ghost use Rattle.std.specs.Prelude.{◌≡◌, ◌<◌, length};
+ghost use Rattle.pie_graph.specs.Numbers.{numbers, AllBelow};
+ghost use Rattle.pie_files.specs.Reading.{ReadsOnly};
+
+use crate::state::Core;
+use pie_base::{OutOfMemory, Path};
+use pie_files::{Files, FilesError, Within};
+use pie_graph::{TaskNo, TaskRows};
+use pie_running::{Notes, Provided, Shows};
+use pie_union::UnionRows;
+use pie_view::{Seen, Stage, view};
+use std::alloc::Global;
+
+/// The most bytes of a file that a task wrote: as a value it has five more.
+const MAX_CONTENT_BYTES: usize = 1_048_571;
+
+/// What a task sees under `out/` that has required the tasks of its row from a place on.
+#[derive(Drop)]
+pub(crate) struct OutSight<'b> {
+    alloc: Global,
+    rows: &'b UnionRows,
+    stage: &'b Stage,
+    no: TaskNo,
+    from: usize,
+}
+
+impl<'b> Shows for OutSight<'b> {
+    ghost use Rattle.std.specs.Prelude.{◌<◌, length};
+
+    ghost knows = { λ s _. s.no.0 < length s.rows.now };
+
+    ghost sees = { λ _ _ _ _. Unit {0} };
+
+    fn shown<'c>(&'c self, _notes: &Notes, path: &Path) -> Result<Provided<'c>, OutOfMemory> {
+        match self.stage.get(self.no, path) {
+            Some(content) => Ok(Provided::Content(content)),
+            None => self.by_others(path),
+        }
+    }
+}
+
+impl<'b> OutSight<'b> {
+    // What tasks wrote that this one required.
+    fn by_others<'c>(&'c self, path: &Path) -> Result<Provided<'c>, OutOfMemory>
+        requires { self.now.no.0 < length self.now.rows.now }
+    {
+        match self.seen(path)? {
+            Seen::Absent => Ok(Provided::Nothing),
+            Seen::By(no) => Ok(content_of(self.stage.get(no, path))),
+            Seen::Clash => Ok(Provided::Clash),
+        }
+    }
+
+    // Whose file the task sees that wrote nothing there.
+    fn seen(&self, path: &Path) -> Result<Seen, OutOfMemory>
+        requires { self.now.no.0 < length self.now.rows.now }
+    {
+        let required = since(self.rows, self.no, self.from);
+        let seen = view(self.alloc, self.rows, self.no, &[], required, path)?;
+        Ok(seen)
+    }
+
+    // Whose file it is that the task sees, where its content isn't staged.
+    fn lacking(&self, path: &Path) -> Result<Option<TaskNo>, OutOfMemory>
+        requires { self.now.no.0 < length self.now.rows.now }
+    {
+        if self.stage.get(self.no, path).is_some() {
+            return Ok(None);
+        }
+        match self.seen(path)? {
+            Seen::By(no) => Ok(if self.stage.get(no, path).is_some() {
+                None
+            } else {
+                Some(no)
+            }),
+            _ => Ok(None),
+        }
+    }
+}
+
+impl<'a> Core<'a> {
+    /// What a task sees under `out/`.
+    pub(crate) fn sight<'b>(&'b self, no: TaskNo, from: usize) -> OutSight<'b>
+        ensures rows { result.rows.now ≡ self.now.frames.walk.rows }
+        ensures task { result.no ≡ no }
+    {
+        OutSight {
+            alloc: self.alloc,
+            rows: self.frames.walk().rows(),
+            stage: &self.stage,
+            no,
+            from,
+        }
+    }
+
+    /// Where a task is about to look at a file under `out/` of a task that didn't run, the file is read and staged as that one's.
+    #[tactic(auto, using(pie_files::proofs::Reading::reads))]
+    pub(crate) fn fetch<F: Files>(
+        &mut self,
+        no: TaskNo,
+        from: usize,
+        path: &Path,
+        files: &mut F,
+    ) -> Result<(), FilesError>
+        requires { no.0 < length self.old.frames.walk.rows }
+        ensures same { self.new ≡ record self.old { stage = self.new.stage } }
+        ensures reads { ReadsOnly F.holds F.moment F.left_since F.images F.faults files.old files.new result }
+    {
+        if !path.under_out() {
+            return Ok(());
+        }
+        match self.sight(no, from).lacking(path)? {
+            Some(writer) => self.stage_file(writer, path, files),
+            None => Ok(()),
+        }
+    }
+
+    // A file of a task that didn't run is staged as it is there.
+    #[tactic(auto, using(pie_files::proofs::Reading::reads))]
+    fn stage_file<F: Files>(
+        &mut self,
+        writer: TaskNo,
+        path: &Path,
+        files: &mut F,
+    ) -> Result<(), FilesError>
+        ensures same { self.new ≡ record self.old { stage = self.new.stage } }
+        ensures reads { ReadsOnly F.holds F.moment F.left_since F.images F.faults files.old files.new result }
+    {
+        match files.read_within(path, MAX_CONTENT_BYTES)? {
+            Within::Whole(found) => {
+                self.stage.put(writer, path.copy()?, found.bytes)?;
+                Ok(())
+            }
+            _ => Ok(()),
+        }
+    }
+}
+
+/// What a task has required from a place in its row on.
+#[tactic(auto, using(crate::proofs::Parts::part_below))]
+pub(crate) fn since<'b, R: TaskRows>(rows: &'b R, no: TaskNo, from: usize) -> &'b [TaskNo]
+    requires { no.0 < length (R.rows rows.now) }
+    ensures { AllBelow (length (R.rows rows.now)) (numbers result.now) }
+{
+    let all = rows.callees(no);
+    let from = from.min(all.len());
+    &all[from..]
+}
+
+fn content_of<'b>(content: Option<&'b [u8]>) -> Provided<'b> {
+    match content {
+        Some(content) => Provided::Content(content),
+        None => Provided::Nothing,
+    }
+}

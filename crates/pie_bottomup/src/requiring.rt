@@ -1,0 +1,130 @@
+//! Tasks that the task that runs requires.
+ghost use Rattle.std.specs.Prelude.{◌≡◌, ◌<◌, ◌+◌, ◌*◌, length, None, All, IfOk, OnOk};
+ghost use Rattle.std.specs.List.{Contains};
+ghost use Rattle.pie_graph.specs.Numbers.{numbers, AllBelow};
+ghost use Rattle.pie_value.specs.Canonical.{IsEncodableTask};
+ghost use Rattle.pie_running.specs.inner.Frames.{IsWaiting};
+ghost use Rattle.pie_frames.specs.inner.Standing.{Holds};
+ghost use Rattle.pie_bottomup.specs.inner.States.{IsSite, TurnsTo, Nearer, rest};
+
+use crate::cycle::turned;
+use crate::state::{Core, Turn};
+use pie_base::{FaultKind, OutOfMemory};
+use pie_graph::TaskNo;
+use pie_running::{Caller, Waiting};
+use pie_store::Cause;
+use pie_value::{How, Task, Tasks};
+
+impl<'a> Core<'a> {
+    /// A task is required: the one that requires it waits until it is settled.
+    pub(crate) fn require(
+        &mut self,
+        no: TaskNo,
+        from: usize,
+        waiting: Waiting<'a>,
+        required: Task,
+        how: How,
+    ) -> Result<Turn, OutOfMemory>
+        requires site { IsSite self.old }
+        requires free { self.old.hand ≡ None }
+        requires holds { Holds no self.old.frames }
+        requires waits { IsWaiting waiting }
+        ensures turns { IfOk result (TurnsTo self.new) }
+        ensures nearer { IfOk result (Nearer (rest self.old + 2 * waiting.entry.notes.left + 1) self.new) }
+    {
+        if !required.is_small() {
+            return self.fail(no, from, waiting.into_notes(), FaultKind::Big);
+        }
+        match self.tables.names.number(&required)? {
+            Some(callee) => self.park(no, from, caller_of(waiting, required, how), callee),
+            None => self.require_new(no, from, caller_of(waiting, required, how)),
+        }
+    }
+
+    // A task without a record is required.
+    fn require_new(
+        &mut self,
+        no: TaskNo,
+        from: usize,
+        caller: Caller<'a>,
+    ) -> Result<Turn, OutOfMemory>
+        requires site { IsSite self.old }
+        requires free { self.old.hand ≡ None }
+        requires holds { Holds no self.old.frames }
+        requires waits { IsWaiting caller.waiting }
+        requires required { IsEncodableTask caller.required }
+        requires absent { ¬ (Contains self.old.tables.names caller.required) }
+        ensures turns { IfOk result (TurnsTo self.new) }
+        ensures nearer { IfOk result (Nearer (rest self.old + 2 * caller.entry.waiting.notes.left + 1) self.new) }
+    {
+        let required = caller.required.copy()?;
+        if self.is_full() {
+            return Ok(Turn::StartAfresh(self.too_many(required)));
+        }
+        let callee = self.add(required)?;
+        self.park(no, from, caller, callee)
+    }
+
+    // The task waits for another, unless that one waits for it.
+    fn park(
+        &mut self,
+        no: TaskNo,
+        from: usize,
+        caller: Caller<'a>,
+        callee: TaskNo,
+    ) -> Result<Turn, OutOfMemory>
+        requires site { IsSite self.old }
+        requires free { self.old.hand ≡ None }
+        requires holds { Holds no self.old.frames }
+        requires waits { IsWaiting caller.waiting }
+        requires required { IsEncodableTask caller.required }
+        requires number { callee.0 < length self.old.frames.walk.rows }
+        ensures turns { IfOk result (TurnsTo self.new) }
+        ensures nearer { IfOk result (Nearer (rest self.old + 2 * caller.entry.waiting.notes.left + 1) self.new) }
+    {
+        match self.frames.park(no, caller, from, callee)? {
+            Some(cycle) => {
+                let tasks = self.tasks_of(cycle.as_slice())?;
+                Ok(Turn::StartAfresh(Cause::UnionCycle(tasks)))
+            }
+            None => Ok(Turn::Went),
+        }
+    }
+
+    // The tasks of a cycle, the least first.
+    #[tactic(auto, using(crate::proofs::Cycles::number_below))]
+    fn tasks_of(&self, cycle: &[TaskNo]) -> Result<Tasks, OutOfMemory>
+        requires { AllBelow (length self.now.tables.names) (numbers cycle.now) }
+    {
+        let mut tasks = Vec::new(self.alloc);
+        for no in cycle {
+            self.push_task(&mut tasks, *no)?;
+        }
+        let tasks = turned(self.alloc, tasks)?;
+        Ok(Tasks::new(tasks))
+    }
+
+    // The task with a number is added to some.
+    #[tactic(auto, using(crate::proofs::Parts::named_encodable, crate::proofs::Cycles::encodable_more))]
+    fn push_task(&self, tasks: &mut Vec<Task>, no: TaskNo) -> Result<(), OutOfMemory>
+        requires number { no.0 < length self.now.tables.names }
+        requires tasks { All IsEncodableTask tasks.old.items }
+        ensures { OnOk result (All IsEncodableTask tasks.new.items) }
+    {
+        let _names = self.tables.names.as_slice();
+        let task = self.tables.names.task(no).copy()?;
+        tasks.push(task)?;
+        Ok(())
+    }
+}
+
+fn caller_of<'a>(waiting: Waiting<'a>, required: Task, how: How) -> Caller<'a>
+    ensures waiting { result.waiting ≡ waiting.entry }
+    ensures required { result.required ≡ required }
+{
+    Caller {
+        waiting,
+        required,
+        how,
+    }
+}

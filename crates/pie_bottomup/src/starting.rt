@@ -1,0 +1,120 @@
+//! How a build by what changed begins.
+ghost use Rattle.std.specs.Prelude.{◌≡◌, All, IfOk};
+ghost use Rattle.pie_value.specs.Canonical.{IsEncodableTask};
+ghost use Rattle.pie_record.specs.Canonical.{IsStorable};
+ghost use Rattle.pie_store.specs.Canonical.{AreInOrder};
+ghost use Rattle.pie_bottomup.specs.inner.States.{IsCore, MayBegin};
+
+use crate::state::{Core, First};
+use pie_base::{OutOfMemory, Path, Text};
+use pie_code::Checked;
+use pie_frames::Frames;
+use pie_named::Named;
+use pie_old::{Loaded, Old, load, same_code};
+use pie_record::{Records, TaskNames};
+use pie_store::{Rows, StoreImage};
+use pie_tables::Tables;
+use pie_types::Typed;
+use pie_union::UnionRows;
+use pie_value::Task;
+use pie_view::Stage;
+use pie_walk::Walk;
+use std::alloc::Global;
+
+impl<'a> Core<'a> {
+    /// A build of these roots, from the records of an earlier one, where these paths may have changed since. The digests are those of the
+    /// pipeline's functions. Nothing is asked of the files yet.
+    pub fn new(
+        alloc: Global,
+        typed: &'a Typed,
+        code: &'a [Checked],
+        digests: &[(Text, [u8; 32])],
+        image: StoreImage,
+        roots: &[Task],
+        changes: &[Path],
+    ) -> Result<Core<'a>, OutOfMemory>
+        requires storable { All IsStorable image.rows }
+        requires order { AreInOrder image.rows }
+        requires roots { All IsEncodableTask roots.now }
+        ensures { IfOk result IsCore }
+    {
+        let named = names_of(alloc, changes)?;
+        let roots = copies(alloc, roots)?;
+        let StoreImage { funcs, rows, .. } = image;
+        let (old, first) = loaded(alloc, rows)?;
+        let same = same_code(
+            alloc,
+            old.tables.names.as_slice(),
+            funcs.as_slice(),
+            digests,
+        )?;
+        let Old {
+            tables,
+            rows,
+            looks_out,
+        } = old;
+        let walk = Walk::new(alloc, rows, looks_out)?;
+        let earlier = walk.count();
+        Ok(Core {
+            alloc,
+            typed,
+            code,
+            tables,
+            earlier,
+            same,
+            frames: Frames::new(alloc, walk),
+            stage: Stage::new(alloc),
+            named,
+            roots,
+            at: 0,
+            hand: None,
+            first,
+        })
+    }
+}
+
+// The old tasks, or none where there are too many.
+#[tactic(auto, using(crate::proofs::Beginning::old_begins))]
+fn loaded(alloc: Global, rows: Rows) -> Result<(Old, First), OutOfMemory>
+    requires storable { All IsStorable rows }
+    requires order { AreInOrder rows }
+    ensures { IfOk result (λ o. MayBegin o.0) }
+{
+    match load(alloc, rows)? {
+        Loaded::Whole(old) => Ok((old, First::Tests)),
+        Loaded::Many(task) => {
+            let old = none(alloc)?;
+            Ok((old, First::TooMany(task)))
+        }
+    }
+}
+
+// No old tasks.
+fn none(alloc: Global) -> Result<Old, OutOfMemory>
+    ensures { IfOk result MayBegin }
+{
+    let tables = Tables::new(alloc, TaskNames::new(alloc), Records::new(alloc))?;
+    Ok(Old {
+        tables,
+        rows: UnionRows::new(alloc),
+        looks_out: Vec::new(alloc),
+    })
+}
+
+fn names_of(alloc: Global, changes: &[Path]) -> Result<Named, OutOfMemory> {
+    let mut named = Named::new(alloc);
+    for path in changes {
+        named.name(path)?;
+    }
+    Ok(named)
+}
+
+fn copies(alloc: Global, tasks: &[Task]) -> Result<Vec<Task>, OutOfMemory>
+    ensures { IfOk result (λ copied. copied.items ≡ tasks.now) }
+{
+    let mut copied = Vec::new(alloc);
+    for task in tasks {
+        copied.push(task.copy()?)?;
+    }
+    Ok(copied)
+}

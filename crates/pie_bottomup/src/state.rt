@@ -1,0 +1,111 @@
+//! The state of a build by what changed, and its steps.
+ghost use Rattle.std.specs.Prelude.{IfOk};
+ghost use Rattle.pie_files.specs.Reading.{ReadsOnly};
+ghost use Rattle.pie_results.specs.inner.Made.{IsEmptyWhereRefused, IsKept};
+ghost use Rattle.pie_bottomup.specs.inner.States.{StartsOne, IsCore, HasSettled, TurnsTo, Nearer, mass};
+
+use pie_base::{OutOfMemory, Path, Text};
+use pie_checks::Built;
+use pie_code::Checked;
+use pie_files::{Files, FilesError};
+use pie_frames::Frames;
+use pie_graph::TaskNo;
+use pie_named::Named;
+use pie_results::results;
+use pie_running::RunningTask;
+use pie_store::Cause;
+use pie_tables::Tables;
+use pie_types::Typed;
+use pie_value::Task;
+use pie_view::Stage;
+use pie_vm::Runs;
+use std::alloc::Global;
+
+/// A build by what changed, between two steps. After a call that fails it is of no use.
+/// Rule: docs/BUILDING.md, "A build by what changed".
+#[derive(Drop)]
+pub struct Core<'a> {
+    pub(crate) alloc: Global,
+    pub(crate) typed: &'a Typed,
+    pub(crate) code: &'a [Checked],
+    pub(crate) tables: Tables,
+    /// How many tasks the earlier build had.
+    pub(crate) earlier: u32,
+    /// Of each of these: its function has the digest that the store kept.
+    pub(crate) same: Vec<bool>,
+    pub(crate) frames: Frames<'a>,
+    pub(crate) stage: Stage,
+    pub(crate) named: Named,
+    pub(crate) roots: Vec<Task>,
+    /// How many roots were begun.
+    pub(crate) at: usize,
+    /// The task that runs.
+    pub(crate) hand: Option<InHand<'a>>,
+    /// What is still to be done before the first task is taken.
+    pub(crate) first: First,
+}
+
+/// What the first step does before it goes on.
+#[derive(Drop)]
+pub(crate) enum First {
+    /// The old records are held against what changed.
+    Tests,
+    /// It starts afresh: there are more old tasks than a build may have, and this is the first past the limit.
+    TooMany(Task),
+    Done,
+}
+
+/// The task that runs.
+#[derive(Drop)]
+pub(crate) struct InHand<'a> {
+    pub(crate) no: TaskNo,
+    /// From where on its row has what it required in this run.
+    pub(crate) from: usize,
+    pub(crate) task: RunningTask<'a>,
+}
+
+/// How a step ends.
+#[derive(Drop)]
+pub enum Turn {
+    /// There is more to do.
+    Went,
+    /// All roots are settled, or one that failed is.
+    Settled,
+    /// The build has to start afresh, for this cause.
+    StartAfresh(Cause),
+}
+
+impl<'a> Core<'a> {
+    /// Treats one event of the task that runs, or takes, starts or ends one task, or begins a root. The first step holds the old records
+    /// against what changed. The tasks that are started are added to the runs.
+    #[tactic(auto, using(pie_files::proofs::Reading::reads))]
+    pub fn step<F: Files>(&mut self, files: &mut F, runs: &mut Runs) -> Result<Turn, FilesError>
+        requires { IsCore self.old }
+        ensures turns { IfOk result (TurnsTo self.new) }
+        ensures nearer { IfOk result (Nearer (mass self.old) self.new) }
+        ensures starts { StartsOne runs.old runs.new }
+        ensures reads { ReadsOnly F.holds F.moment F.left_since F.images F.faults files.old files.new result }
+    {
+        match self.hand.take() {
+            Some(hand) => self.event(hand, files),
+            None => self.go_on(files, runs),
+        }
+    }
+
+    /// What the build makes of its records, once it is settled.
+    #[tactic(auto, using(crate::proofs::Parts::rests_acyclic))]
+    pub fn end(self) -> Result<Built, OutOfMemory>
+        requires { HasSettled self }
+        ensures refused_empty { IfOk result IsEmptyWhereRefused }
+        ensures kept { IfOk result IsKept }
+    {
+        let built = results(
+            self.alloc,
+            &self.tables,
+            self.frames.walk().rows(),
+            &self.stage,
+            self.roots.as_slice(),
+        )?;
+        Ok(built)
+    }
+}

@@ -1,0 +1,124 @@
+//! Tasks that are taken: they are kept, run, or are no tasks any more.
+ghost use Rattle.std.specs.Prelude.{◌≡◌, ◌<◌, ◌+◌, length, None, slice_get, IfOk, IfSome};
+ghost use Rattle.pie_frames.specs.inner.Standing.{Holds};
+ghost use Rattle.pie_bottomup.specs.inner.States.{StartsOne, HasSettled, IsSite, TurnsTo, Nearer, rest};
+
+use crate::flags::flag_of;
+use crate::state::{Core, InHand, Turn};
+use pie_base::{FaultKind, OutOfMemory};
+use pie_code::Checked;
+use pie_compare::stands;
+use pie_frames::Next;
+use pie_graph::{TaskNo, TaskRows};
+use pie_record::{Deps, Outcome, TaskRecord, Writes};
+use pie_running::{RunningTask, code_of};
+use pie_value::Fault;
+use pie_vm::Runs;
+
+impl<'a> Core<'a> {
+    /// The walk goes on, up to the next task that is taken or answered, or to the next root.
+    pub(crate) fn walk_on(&mut self, runs: &mut Runs) -> Result<Turn, OutOfMemory>
+        requires settled { HasSettled self.old }
+        requires free { self.old.hand ≡ None }
+        ensures turns { IfOk result (TurnsTo self.new) }
+        ensures nearer { IfOk result (Nearer (rest self.old) self.new) }
+        ensures starts { StartsOne runs.old runs.new }
+    {
+        match self.frames.next()? {
+            Next::Takes(no) => self.take(no, runs),
+            Next::Answers(no, parked) => self.answer(no, parked),
+            Next::Idle => self.next_root(),
+        }
+    }
+
+    // A task was taken.
+    fn take(&mut self, no: TaskNo, runs: &mut Runs) -> Result<Turn, OutOfMemory>
+        requires site { IsSite self.old }
+        requires free { self.old.hand ≡ None }
+        requires holds { Holds no self.old.frames }
+        ensures turns { IfOk result (TurnsTo self.new) }
+        ensures nearer { IfOk result (Nearer (rest self.old + 2000004) self.new) }
+        ensures starts { StartsOne runs.old runs.new }
+    {
+        match code_of(self.typed, self.code, self.tables.names.task(no)) {
+            Some(code) => self.take_known(no, code, runs),
+            None => self.lose(no),
+        }
+    }
+
+    // A task of the pipeline was taken: its record stands, or it runs.
+    fn take_known(
+        &mut self,
+        no: TaskNo,
+        code: &'a Checked,
+        runs: &mut Runs,
+    ) -> Result<Turn, OutOfMemory>
+        requires site { IsSite self.old }
+        requires free { self.old.hand ≡ None }
+        requires holds { Holds no self.old.frames }
+        requires takes { IfSome (slice_get self.old.tables.names no.0) (λ t. length t.args ≡ code.now.params) }
+        ensures turns { IfOk result (TurnsTo self.new) }
+        ensures nearer { IfOk result (Nearer (rest self.old + 2000004) self.new) }
+        ensures starts { StartsOne runs.old runs.new }
+    {
+        if self.stands(no)? {
+            self.frames.keep(no);
+            return Ok(Turn::Went);
+        }
+        self.start(no, code, runs)
+    }
+
+    // Whether the record of a task stands.
+    fn stands(&self, no: TaskNo) -> Result<bool, OutOfMemory>
+        requires site { IsSite self.now }
+        requires number { no.0 < length self.now.tables.names }
+    {
+        if !flag_of(self.same.as_slice(), no) {
+            return Ok(false);
+        }
+        let rows = self.frames.walk().rows();
+        let stands = stands(self.alloc, &self.tables, rows, &self.named, no)?;
+        Ok(stands)
+    }
+
+    // A task that was taken starts to run.
+    #[tactic(auto, using(crate::proofs::Parts::named_encodable))]
+    fn start(&mut self, no: TaskNo, code: &'a Checked, runs: &mut Runs) -> Result<Turn, OutOfMemory>
+        requires site { IsSite self.old }
+        requires free { self.old.hand ≡ None }
+        requires holds { Holds no self.old.frames }
+        requires takes { IfSome (slice_get self.old.tables.names no.0) (λ t. length t.args ≡ code.now.params) }
+        ensures turns { IfOk result (TurnsTo self.new) }
+        ensures nearer { IfOk result (Nearer (rest self.old + 2000004) self.new) }
+        ensures starts { StartsOne runs.old runs.new }
+    {
+        let _names = self.tables.names.as_slice();
+        let from = self.frames.walk().rows().callees(no).len();
+        let task = RunningTask::start(self.alloc, code, self.tables.names.task(no), no, runs)?;
+        self.tables.runs(no);
+        self.hand = Some(InHand { no, from, task });
+        Ok(Turn::Went)
+    }
+
+    // A task that was taken isn't one of the pipeline: it fails without having run.
+    fn lose(&mut self, no: TaskNo) -> Result<Turn, OutOfMemory>
+        requires site { IsSite self.old }
+        requires free { self.old.hand ≡ None }
+        requires holds { Holds no self.old.frames }
+        ensures turns { IfOk result (TurnsTo self.new) }
+        ensures nearer { IfOk result (Nearer (rest self.old + 1) self.new) }
+    {
+        let task = self.tables.names.task(no).copy()?;
+        let fault = Fault {
+            task: task.copy()?,
+            kind: FaultKind::Unknown,
+        };
+        let rec = TaskRecord {
+            task,
+            deps: Deps::new(Vec::new(self.alloc)),
+            writes: Writes::new(Vec::new(self.alloc)),
+            outcome: Outcome::Failed(fault),
+        };
+        self.end_with(no, usize::MAX, rec)
+    }
+}
