@@ -1,0 +1,4 @@
+pub mod Adding
+pub mod Holding
+pub mod Keeping
+pub mod Removing

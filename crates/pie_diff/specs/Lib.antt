@@ -1,0 +1,4 @@
+pub mod Hashes
+pub mod Known
+pub mod Removals
+pub mod inner
