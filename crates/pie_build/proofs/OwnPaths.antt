@@ -71,11 +71,11 @@ none_of_five a b c d e p q r s t =
     ap (λ x. x || b || c || d || e) p ∙ ap (λ x. false || x || c || d || e) q ∙ ap (λ x. false || false || x || d || e) r
     ∙ ap (λ x. false || false || false || x || e) s ∙ ap (λ x. false || false || false || false || x) t
 
--- a path that no build may change is none of the plan's own
-pub none_own : (removed : List (List ℕ)) (contents : List (List ℕ × Vec ℕ Global)) (pending : Pending) (store : Vec ℕ Global) (p : Plan)
-    → IsPlanOf removed contents pending store p → (q : List ℕ) → may_change q ≡ false → is_own p q ≡ false
-none_own removed contents pending store p plan q h =
-    let at = places p plan.places in
+-- a path that no build may change is none of the own paths of a plan that changes files under `out/` alone
+pub never_own : (p : Plan) → has_own_places p ≡ true → list_all is_out p.removals.items ≡ true
+    → list_all (λ (w : List ℕ × Vec ℕ Global). is_out w.0) p.writes.items ≡ true → (q : List ℕ) → may_change q ≡ false → is_own p q ≡ false
+never_own p sound removals writes q h =
+    let at = places p sound in
     let o = same_text q (codes ".pie/open") in
     let s = same_text q (codes ".pie/store") in
     let n = same_text q (codes ".pie/pending") in
@@ -87,8 +87,15 @@ none_own removed contents pending store p plan q h =
     (ap (same_text q) at.marker ∙ or_right (is_out q) o two)
     (ap (same_text q) at.store ∙ or_right (is_out q || o) s three)
     (ap (same_text q) at.names ∙ or_right (is_out q || o || s) n h)
-    (ap (list_any (same_text q)) plan.removals ∙ none_removed q removed out plan.removals_out)
-    (ap (list_any (λ w. same_text q w.0)) plan.writes ∙ none_written q contents out plan.writes_out)
+    (none_removed q p.removals.items out removals)
+    (none_written q p.writes.items out writes)
+
+-- the same of a plan of removals and contents
+pub none_own : (removed : List (List ℕ)) (contents : List (List ℕ × Vec ℕ Global)) (pending : Pending) (store : Vec ℕ Global) (p : Plan)
+    → IsPlanOf removed contents pending store p → (q : List ℕ) → may_change q ≡ false → is_own p q ≡ false
+none_own removed contents pending store p plan =
+    never_own p plan.places (ap (list_all is_out) plan.removals ∙ plan.removals_out)
+    (ap (list_all (λ (w : List ℕ × Vec ℕ Global). is_out w.0)) plan.writes ∙ plan.writes_out)
 
 -- ---- what is kept
 
@@ -109,6 +116,17 @@ commit_keeps removed contents pending store p plan before after h = record { kep
 kept_same : (before after : Option Directory) → after ≡ before → Kept before after
 kept_same None after is = tt
 kept_same (Some d) after is = (d, is, λ q off. refl)
+
+kept_by : (p : Plan) → ((q : List ℕ) → may_change q ≡ false → is_own p q ≡ false) → (before after : Option Directory)
+    → IfSome before (λ d. (e : Directory) × (after ≡ Some e) × ((q : List ℕ) → is_own p q ≡ false → file_at e q ≡ file_at d q)) → Kept before after
+kept_by p never None after h = tt
+kept_by p never (Some d) after h = (h.0, h.1, λ q off. h.2 q (never q off))
+
+-- what a commit keeps of a plan that changes files under `out/` alone
+pub plan_keeps : (p : Plan) → has_own_places p ≡ true → list_all is_out p.removals.items ≡ true
+    → list_all (λ (w : List ℕ × Vec ℕ Global). is_out w.0) p.writes.items ≡ true → (before after : Option Directory) → KeepsOthers p before after
+    → KeepsRest before after
+plan_keeps p sound removals writes before after h = record { kept = kept_by p (never_own p sound removals writes) before after h.kept }
 
 -- a directory that is as it was
 pub same_keeps : (before after : Option Directory) → after ≡ before → KeepsRest before after

@@ -9,3 +9,6 @@ mod store;
 mod tasks;
 
 pub use building::rebuild;
+pub use outcome::{accepted, refused};
+pub use paths::{copies, paths_of};
+pub use tasks::copies as copies_of_tasks;

@@ -8,7 +8,7 @@ use pie_value::{Refusal, Task, Value, Verdict};
 use std::alloc::Global;
 
 /// The report of a refused build.
-pub(crate) fn refused(alloc: Global, refusal: Refusal, ran: Vec<Task>) -> Report
+pub fn refused(alloc: Global, refusal: Refusal, ran: Vec<Task>) -> Report
     ensures verdict { result.verdict ≡ verdicts.Refused refusal }
     ensures fresh { result.fresh ≡ None }
     ensures ran { result.ran ≡ ran }
@@ -29,7 +29,7 @@ pub(crate) fn refused(alloc: Global, refusal: Refusal, ran: Vec<Task>) -> Report
 }
 
 /// The report of an accepted build with so many live tasks.
-pub(crate) fn accepted(
+pub fn accepted(
     live: usize,
     ran: Vec<Task>,
     wrote: Vec<Path>,

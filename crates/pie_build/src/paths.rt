@@ -7,7 +7,7 @@ use pie_base::{OutOfMemory, Path};
 use std::alloc::Global;
 
 /// The paths of some files.
-pub(crate) fn paths_of(alloc: Global, files: &[(Path, Vec<u8>)]) -> Result<Vec<Path>, OutOfMemory>
+pub fn paths_of(alloc: Global, files: &[(Path, Vec<u8>)]) -> Result<Vec<Path>, OutOfMemory>
     ensures { IfOk result (λ paths. paths.items ≡ map (λ f. f.0) files.now) }
 {
     let mut paths = Vec::new(alloc);
@@ -18,7 +18,7 @@ pub(crate) fn paths_of(alloc: Global, files: &[(Path, Vec<u8>)]) -> Result<Vec<P
 }
 
 /// Equal paths, in a list of their own.
-pub(crate) fn copies(alloc: Global, paths: &[Path]) -> Result<Vec<Path>, OutOfMemory>
+pub fn copies(alloc: Global, paths: &[Path]) -> Result<Vec<Path>, OutOfMemory>
     ensures { IfOk result (λ copied. copied.items ≡ paths.now) }
 {
     let mut copied = Vec::new(alloc);

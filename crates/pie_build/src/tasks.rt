@@ -6,7 +6,7 @@ use pie_value::Task;
 use std::alloc::Global;
 
 /// Equal tasks, in a list of their own.
-pub(crate) fn copies(alloc: Global, tasks: &[Task]) -> Result<Vec<Task>, OutOfMemory>
+pub fn copies(alloc: Global, tasks: &[Task]) -> Result<Vec<Task>, OutOfMemory>
     ensures { IfOk result (λ copied. copied.items ≡ tasks.now) }
 {
     let mut copied = Vec::new(alloc);

@@ -1,4 +1,4 @@
--- What is printed of a project that is refused.
+-- What is printed of a project or an input that is refused.
 use Rattle.std.specs.Prelude.{ℕ, List, ◌++◌, codes}
 use Rattle.std.specs.Fmt.{decimal}
 use Rattle.pie_lexer.specs.declared.error.LexError.{LexError}
@@ -6,6 +6,8 @@ use Rattle.pie_lexer.specs.declared.error.LexError.TheVariants as lexer
 use Rattle.pie_parser.specs.declared.error.ParseError.{ParseError}
 use Rattle.pie_parser.specs.declared.error.ParseError.TheVariants as parser
 use Rattle.pie_types.specs.Faults.{Kind, UnknownName, UnknownFunction, Mismatch, Arity, Duplicate, TooManyNames}
+use Rattle.pie_script.specs.declared.fault.InputFault.{InputFault}
+use Rattle.pie_script.specs.declared.fault.InputFault.TheVariants as inputs
 use Rattle.pie_project.specs.declared.fault.RootsReason.{RootsReason}
 use Rattle.pie_project.specs.declared.fault.RootsReason.TheVariants as reasons
 use Rattle.pie_project.specs.Refusals.{Refusal, OfPipeline, OfRoots, PipelineRefusal, Absent, TooLong, NotText, Lex, Parse, Types}
@@ -65,3 +67,19 @@ bad_roots_text r = codes "bad roots: " ++ (roots_reason r ++ codes "\n")
 abbrev pub refusal_line : Refusal → List ℕ
 refusal_line (OfPipeline f) = bad_pipeline_text f
 refusal_line (OfRoots r) = bad_roots_text r
+
+-- a kind of refusal at a line
+abbrev pub at_line : ℕ → List ℕ → List ℕ
+at_line n kind = codes "line " ++ (decimal n ++ (codes ": " ++ kind))
+
+-- why an input is refused; it is never out of memory
+abbrev pub input_reason : InputFault → List ℕ
+input_reason (inputs.NotText n) = at_line n (codes "NotText")
+input_reason (inputs.BadPath n) = at_line n (codes "BadPath")
+input_reason (inputs.BadWord n) = at_line n (codes "BadWord")
+input_reason inputs.TooLong = codes "too long"
+input_reason inputs.OutOfMemory = codes "out of memory"
+
+-- what is printed where an input is refused
+abbrev pub bad_input_text : InputFault → List ℕ
+bad_input_text f = codes "bad input: " ++ (input_reason f ++ codes "\n")

@@ -11,6 +11,6 @@ mod text;
 mod verdict;
 
 pub use object::print_json;
-pub use reason::{bad_pipeline, bad_roots};
+pub use reason::{bad_input, bad_pipeline, bad_roots};
 pub use report::Report;
 pub use text::print;

@@ -1,4 +1,4 @@
-//! Why a project is refused, as it is printed.
+//! Why a project or an input is refused, as it is printed.
 ghost use Rattle.std.specs.Prelude.{◌≡◌, IfOk, string_bytes};
 ghost use Rattle.pie_types.specs.Faults as types;
 ghost use Rattle.pie_project.specs.declared.fault.RootsReason.TheVariants as reasons;
@@ -9,6 +9,7 @@ use pie_base::OutOfMemory;
 use pie_lexer::LexError;
 use pie_parser::ParseError;
 use pie_project::{PipelineFault, RootsReason};
+use pie_script::InputFault;
 use pie_types::{TypeFault, TypeKind};
 use std::alloc::Global;
 
@@ -29,6 +30,17 @@ pub fn bad_roots(alloc: Global, reason: RootsReason) -> Result<String, OutOfMemo
 {
     let reason = roots_reason(alloc, reason)?;
     let mut text = String::from_str(alloc, "bad roots: ")?;
+    text.push_str(reason.as_str())?;
+    text.push_str("\n")?;
+    Ok(text)
+}
+
+/// The line of an input that is refused, with its line end. Rule: docs/BUILDING.md, "What is printed".
+pub fn bad_input(alloc: Global, fault: InputFault) -> Result<String, OutOfMemory>
+    ensures { IfOk result (λ text. string_bytes text ≡ spec.bad_input_text fault) }
+{
+    let reason = input_reason(alloc, fault)?;
+    let mut text = String::from_str(alloc, "bad input: ")?;
     text.push_str(reason.as_str())?;
     text.push_str("\n")?;
     Ok(text)
@@ -55,6 +67,18 @@ fn roots_reason(alloc: Global, reason: RootsReason) -> Result<String, OutOfMemor
         RootsReason::TooLong => word(alloc, "too long"),
         RootsReason::NotText => word(alloc, "not text"),
         RootsReason::Line(n) => line(alloc, n),
+    }
+}
+
+fn input_reason(alloc: Global, fault: InputFault) -> Result<String, OutOfMemory>
+    ensures { IfOk result (λ text. string_bytes text ≡ spec.input_reason fault) }
+{
+    match fault {
+        InputFault::NotText(n) => at_line(alloc, n, "NotText"),
+        InputFault::BadPath(n) => at_line(alloc, n, "BadPath"),
+        InputFault::BadWord(n) => at_line(alloc, n, "BadWord"),
+        InputFault::TooLong => word(alloc, "too long"),
+        InputFault::OutOfMemory => word(alloc, "out of memory"),
     }
 }
 
@@ -111,6 +135,13 @@ fn placed(alloc: Global, at: usize, kind: &str) -> Result<String, OutOfMemory>
     ensures { IfOk result (λ text. string_bytes text ≡ spec.placed at kind.now) }
 {
     Ok(format!(in alloc; "at {at}: {kind}")?)
+}
+
+// A kind of refusal and the line where it stands.
+fn at_line(alloc: Global, n: u32, kind: &str) -> Result<String, OutOfMemory>
+    ensures { IfOk result (λ text. string_bytes text ≡ spec.at_line n kind.now) }
+{
+    Ok(format!(in alloc; "line {n}: {kind}")?)
 }
 
 fn word(alloc: Global, text: &str) -> Result<String, OutOfMemory>

@@ -12,10 +12,10 @@ use Rattle.pie_base.specs.Path.{is_path}
 use Rattle.pie_script.specs.declared.fault.InputFault.{InputFault}
 use Rattle.pie_script.specs.declared.fault.InputFault.TheVariants as fault
 use Rattle.pie_script.specs.Line.{Line, Blank, Content, Put, Del, Change, Build, Wrong, NotText, BadPath, with_word, after_word, word_line, script_line}
-use Rattle.pie_script.specs.LineReads.{PathNamed, PathRead, ScriptPathRead, IsRead, StandsAfter}
+use Rattle.pie_script.specs.inner.LineReads.{PathNamed, PathRead, ScriptPathRead, IsRead, StandsAfter}
 use Rattle.pie_script.specs.Steps.{first_wrong}
 use Rattle.pie_script.specs.Reading.{ReadsOne}
-use Rattle.pie_script.specs.Taking.{placed_one}
+use Rattle.pie_script.specs.inner.Taking.{placed_one}
 
 -- a path that is read makes the line of its word
 pub word_ok : (made : List ℕ → Line) (found : Option (List ℕ)) (rest path : List ℕ) (other : Line) (n : ℕ) → found ≡ Some rest

@@ -8,7 +8,7 @@ use Rattle.pie_script.specs.declared.fault.InputFault.TheVariants as fault
 use Rattle.pie_script.specs.Line.{change_line, script_line, is_newline, texts}
 use Rattle.pie_script.specs.Steps.{Plain, names, first_wrong, placed, steps}
 use Rattle.pie_script.specs.Reading.{Reads, ReadsOne, change_lines, script_lines, most}
-use Rattle.pie_script.specs.Taking.{Taken, nothing, taken, taken_all, placed_one, closed, settled}
+use Rattle.pie_script.specs.inner.Taking.{Taken, nothing, taken, taken_all, placed_one, closed, settled}
 use Rattle.pie_script.proofs.TakingLemmas.{fine_here, wrong_here, steps_are}
 
 -- an input has at most one line more than bytes

@@ -5,7 +5,7 @@ use Rattle.std.proofs.lemmas.List.{append-nil, append_assoc}
 use Rattle.pie_script.specs.declared.fault.InputFault.{InputFault}
 use Rattle.pie_script.specs.Line.{Line, Blank, Content, Put, Del, Change, Build, Wrong}
 use Rattle.pie_script.specs.Steps.{Plain, PutFile, DelFile, Name, BuildNow, first_wrong, names, placed, gathered, steps}
-use Rattle.pie_script.specs.Taking.{Taken, nothing, put_with, closed, taken, taken_all, placed_one}
+use Rattle.pie_script.specs.inner.Taking.{Taken, nothing, put_with, closed, taken, taken_all, placed_one}
 
 closed_prefix : (ls : List Line) → (gathered (placed false ls)).0 ≡ []
 closed_prefix [] = refl

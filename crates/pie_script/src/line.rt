@@ -2,7 +2,7 @@
 ghost use Rattle.std.specs.Prelude.{◌≡◌, true};
 ghost use Rattle.pie_base.specs.Path.{is_path};
 ghost use Rattle.pie_script.specs.Line.{after_word, build_line, change_or, content_line, del_or, word_line};
-ghost use Rattle.pie_script.specs.LineReads.{IsRead, LineRead, PathNamed, PathRead, ScriptPathRead, StandsAfter};
+ghost use Rattle.pie_script.specs.inner.LineReads.{IsRead, LineRead, PathNamed, PathRead, ScriptPathRead, StandsAfter};
 
 use crate::InputFault;
 use pie_base::{Path, PathError};

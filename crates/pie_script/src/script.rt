@@ -3,7 +3,7 @@ ghost use Rattle.std.specs.Prelude.{◌≡◌, ◌∷◌, ◌++◌, [], Some, le
 ghost use Rattle.pie_script.specs.Line.{script_line};
 ghost use Rattle.pie_script.specs.Steps.{plain, steps};
 ghost use Rattle.pie_script.specs.Reading.{Reads, ReadsOne, script_lines};
-ghost use Rattle.pie_script.specs.Taking.{nothing, closed, settled, taken, placed_one, content_of};
+ghost use Rattle.pie_script.specs.inner.Taking.{nothing, closed, settled, taken, placed_one, content_of};
 
 use crate::line::{Read, read_line};
 use crate::lines::Lines;
@@ -41,12 +41,12 @@ pub(crate) struct Script {
 
 impl Model for Script {
     ghost use Rattle.std.specs.Prelude.{map};
-    ghost use Rattle.pie_script.specs.Taking.{Taken};
+    ghost use Rattle.pie_script.specs.inner.Taking.{Taken};
 
     ghost Value = { Taken };
 
     ghost use Rattle.pie_script.specs.Steps.{plain};
-    ghost use Rattle.pie_script.specs.Under.{under_of};
+    ghost use Rattle.pie_script.specs.inner.Under.{under_of};
 
     ghost view = { λ s. record { done = map plain s.steps.items; under = under_of s.path s.content.items } };
 }

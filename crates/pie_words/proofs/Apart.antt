@@ -1,7 +1,7 @@
 -- Words ask for one command at most.
 use Rattle.std.proofs.Common.{◌≡◌, ℕ, true, false, List, [], ◌∷◌, length, refl, ap, arith}
 use Rattle.pie_words.specs.declared.command.Command.{Command}
-use Rattle.pie_words.specs.declared.command.Command.TheVariants.{Check, Fresh}
+use Rattle.pie_words.specs.declared.command.Command.TheVariants.{Check, Fresh, Build}
 use Rattle.pie_words.specs.Commands.{words_of}
 
 -- the first byte of the first word, or 0
@@ -14,9 +14,25 @@ pub same_command : (c e : Command) → words_of c ≡ words_of e → c ≡ e
 same_command Check Check is = refl
 same_command Check (Fresh false) is = let h : ◌≡◌ {A = ℕ} 99 102 = ap first_byte is in absurd (omega arith)
 same_command Check (Fresh true) is = let h : ◌≡◌ {A = ℕ} 99 102 = ap first_byte is in absurd (omega arith)
+same_command Check (Build false) is = let h : ◌≡◌ {A = ℕ} 99 98 = ap first_byte is in absurd (omega arith)
+same_command Check (Build true) is = let h : ◌≡◌ {A = ℕ} 99 98 = ap first_byte is in absurd (omega arith)
 same_command (Fresh false) Check is = let h : ◌≡◌ {A = ℕ} 102 99 = ap first_byte is in absurd (omega arith)
 same_command (Fresh false) (Fresh false) is = refl
 same_command (Fresh false) (Fresh true) is = let h : ◌≡◌ {A = ℕ} 1 2 = ap (λ (words : List (List ℕ)). length words) is in absurd (omega arith)
+same_command (Fresh false) (Build false) is = let h : ◌≡◌ {A = ℕ} 102 98 = ap first_byte is in absurd (omega arith)
+same_command (Fresh false) (Build true) is = let h : ◌≡◌ {A = ℕ} 102 98 = ap first_byte is in absurd (omega arith)
 same_command (Fresh true) Check is = let h : ◌≡◌ {A = ℕ} 102 99 = ap first_byte is in absurd (omega arith)
 same_command (Fresh true) (Fresh false) is = let h : ◌≡◌ {A = ℕ} 2 1 = ap (λ (words : List (List ℕ)). length words) is in absurd (omega arith)
 same_command (Fresh true) (Fresh true) is = refl
+same_command (Fresh true) (Build false) is = let h : ◌≡◌ {A = ℕ} 102 98 = ap first_byte is in absurd (omega arith)
+same_command (Fresh true) (Build true) is = let h : ◌≡◌ {A = ℕ} 102 98 = ap first_byte is in absurd (omega arith)
+same_command (Build false) Check is = let h : ◌≡◌ {A = ℕ} 98 99 = ap first_byte is in absurd (omega arith)
+same_command (Build false) (Fresh false) is = let h : ◌≡◌ {A = ℕ} 98 102 = ap first_byte is in absurd (omega arith)
+same_command (Build false) (Fresh true) is = let h : ◌≡◌ {A = ℕ} 98 102 = ap first_byte is in absurd (omega arith)
+same_command (Build false) (Build false) is = refl
+same_command (Build false) (Build true) is = let h : ◌≡◌ {A = ℕ} 1 2 = ap (λ (words : List (List ℕ)). length words) is in absurd (omega arith)
+same_command (Build true) Check is = let h : ◌≡◌ {A = ℕ} 98 99 = ap first_byte is in absurd (omega arith)
+same_command (Build true) (Fresh false) is = let h : ◌≡◌ {A = ℕ} 98 102 = ap first_byte is in absurd (omega arith)
+same_command (Build true) (Fresh true) is = let h : ◌≡◌ {A = ℕ} 98 102 = ap first_byte is in absurd (omega arith)
+same_command (Build true) (Build false) is = let h : ◌≡◌ {A = ℕ} 2 1 = ap (λ (words : List (List ℕ)). length words) is in absurd (omega arith)
+same_command (Build true) (Build true) is = refl

@@ -1,5 +1,6 @@
 -- What `clap` takes from the words of each command.
 use Rattle.std.proofs.Common.{◌≡◌, ℕ, Bool, true, false, List, [], ◌∷◌, Option, Some, None, option_map, codes, refl, ap, arith, ◌∙◌, rules}
+use Rattle.std.proofs.lemmas.Bool.{false≢true}
 use Rattle.clap.specs.Walk.{Row, Text, one_of, rows_of}
 use Rattle.clap.specs.Simple.{subcommand_of, subcommand_rows_of}
 use Rattle.clap.specs.Takes.{takes}
@@ -14,12 +15,13 @@ use Rattle.clap.proofs.OnLiterals.{clap_on_literals}
 use Rattle.pie_words.specs.Commands.{words_of}
 use Rattle.pie_words.specs.inner.Grammar.{commands}
 use Rattle.pie_words.specs.declared.command.Command.{Command}
-use Rattle.pie_words.specs.declared.command.Command.TheVariants.{Check, Fresh}
+use Rattle.pie_words.specs.declared.command.Command.TheVariants.{Check, Fresh, Build}
 
 -- the name of a command
 abbrev pub name_of : Command → Text
 name_of Check = codes "check"
 name_of (Fresh json) = codes "fresh"
+name_of (Build json) = codes "build"
 
 -- a flag as text
 abbrev pub flag_text : Bool → Text
@@ -40,27 +42,59 @@ unfolding clap_on_literals
 named Check = refl
 named (Fresh false) = refl
 named (Fresh true) = refl
+named (Build false) = refl
+named (Build true) = refl
 
 pub met : (c : Command) → subcommand_of commands (words_of c) ≡ Some (name_in (subcommand_of commands (words_of c)), rows_in (subcommand_of commands (words_of c)))
 unfolding clap_on_literals
 met Check = refl
 met (Fresh false) = refl
 met (Fresh true) = refl
+met (Build false) = refl
+met (Build true) = refl
 
-pub flagged : (json : Bool) → one_of (codes "json") (rows_in (subcommand_of commands (words_of (Fresh json)))) ≡ Some (flag_text json)
+-- the flag that a command may have
+abbrev pub flag_of : Command → Bool
+flag_of Check = false
+flag_of (Fresh json) = json
+flag_of (Build json) = json
+
+-- a command with the flag
+abbrev pub is_flagged : Command → Bool
+is_flagged Check = false
+is_flagged (Fresh json) = true
+is_flagged (Build json) = true
+
+pub flagged : (c : Command) → is_flagged c ≡ true → one_of (codes "json") (rows_in (subcommand_of commands (words_of c))) ≡ Some (flag_text (flag_of c))
 unfolding clap_on_literals
-flagged false = refl
-flagged true = refl
+flagged Check has = absurd (false≢true has)
+flagged (Fresh false) has = refl
+flagged (Fresh true) has = refl
+flagged (Build false) has = refl
+flagged (Build true) has = refl
 
-pub flag_read : (f : Found) (json : Bool) → rows_of f ≡ rows_in (subcommand_of commands (words_of (Fresh json)))
-    → one_text f (codes "json") ≡ Some (flag_text json)
-flag_read f json is = one_text-rows f (codes "json") ∙ (ap (one_of (codes "json")) is ∙ flagged json)
+pub flag_read : (f : Found) (c : Command) → is_flagged c ≡ true → rows_of f ≡ rows_in (subcommand_of commands (words_of c))
+    → one_text f (codes "json") ≡ Some (flag_text (flag_of c))
+flag_read f c has is = one_text-rows f (codes "json") ∙ (ap (one_of (codes "json")) is ∙ flagged c has)
+
+-- the flag that was read off the words of a command is the one that the command has
+pub flag_is : (c : Command) (read : Bool) (f : Found) → is_flagged c ≡ true → rows_of f ≡ rows_in (subcommand_of commands (words_of c))
+    → (one_text f (codes "json") ≡ Some (codes "true") → read ≡ true)
+    → (one_text f (codes "json") ≡ Some (codes "false") → read ≡ false)
+    → read ≡ flag_of c
+flag_is Check read f has rows set unset = absurd (false≢true has)
+flag_is (Fresh false) read f has rows set unset = unset (flag_read f (Fresh false) has rows)
+flag_is (Fresh true) read f has rows set unset = set (flag_read f (Fresh true) has rows)
+flag_is (Build false) read f has rows set unset = unset (flag_read f (Build false) has rows)
+flag_is (Build true) read f has rows set unset = set (flag_read f (Build true) has rows)
 
 pub taken : (c : Command) → takes commands (words_of c) ≡ true
 unfolding clap_on_literals
 taken Check = refl
 taken (Fresh false) = refl
 taken (Fresh true) = refl
+taken (Build false) = refl
+taken (Build true) = refl
 
 abbrev first_byte : Text → ℕ
 first_byte [] = 0
@@ -69,6 +103,7 @@ first_byte (b ∷ bytes) = b
 pub check_named : (c : Command) → name_of c ≡ codes "check" → c ≡ Check
 check_named Check is = refl
 check_named (Fresh json) is = let h : ◌≡◌ {A = ℕ} 102 99 = ap first_byte is in absurd (omega arith)
+check_named (Build json) is = let h : ◌≡◌ {A = ℕ} 98 99 = ap first_byte is in absurd (omega arith)
 
 pub fresh_named : (c : Command) (read : Bool) (f : Found) → name_of c ≡ codes "fresh"
     → rows_of f ≡ rows_in (subcommand_of commands (words_of c))
@@ -76,12 +111,22 @@ pub fresh_named : (c : Command) (read : Bool) (f : Found) → name_of c ≡ code
     → (one_text f (codes "json") ≡ Some (codes "false") → read ≡ false)
     → Fresh read ≡ c
 fresh_named Check read f name rows set unset = let h : ◌≡◌ {A = ℕ} 99 102 = ap first_byte name in absurd (omega arith)
-fresh_named (Fresh false) read f name rows set unset = ap Fresh (unset (flag_read f false rows))
-fresh_named (Fresh true) read f name rows set unset = ap Fresh (set (flag_read f true rows))
+fresh_named (Fresh json) read f name rows set unset = ap Fresh (flag_is (Fresh json) read f refl rows set unset)
+fresh_named (Build json) read f name rows set unset = let h : ◌≡◌ {A = ℕ} 98 102 = ap first_byte name in absurd (omega arith)
 
-pub is_named : (c : Command) → (name_of c ≡ codes "check" → ⊥) → (name_of c ≡ codes "fresh" → ⊥) → ⊥
-is_named Check check fresh = check refl
-is_named (Fresh json) check fresh = fresh refl
+pub build_named : (c : Command) (read : Bool) (f : Found) → name_of c ≡ codes "build"
+    → rows_of f ≡ rows_in (subcommand_of commands (words_of c))
+    → (one_text f (codes "json") ≡ Some (codes "true") → read ≡ true)
+    → (one_text f (codes "json") ≡ Some (codes "false") → read ≡ false)
+    → Build read ≡ c
+build_named Check read f name rows set unset = let h : ◌≡◌ {A = ℕ} 99 98 = ap first_byte name in absurd (omega arith)
+build_named (Fresh json) read f name rows set unset = let h : ◌≡◌ {A = ℕ} 102 98 = ap first_byte name in absurd (omega arith)
+build_named (Build json) read f name rows set unset = ap Build (flag_is (Build json) read f refl rows set unset)
+
+pub is_named : (c : Command) → (name_of c ≡ codes "check" → ⊥) → (name_of c ≡ codes "fresh" → ⊥) → (name_of c ≡ codes "build" → ⊥) → ⊥
+is_named Check check fresh build = check refl
+is_named (Fresh json) check fresh build = fresh refl
+is_named (Build json) check fresh build = build refl
 
 -- what was found, from its name and its matches apart
 pub paired : {A B X Y : Type 0} (f : X → A) (g : X → B) (h : Y → A) (k : Y → B) (r : Option X) (o : Option Y)

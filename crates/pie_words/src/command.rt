@@ -7,4 +7,6 @@ pub enum Command {
     Check,
     /// `fresh`, true with `--json`: build as from an empty store.
     Fresh(bool),
+    /// `build`, true with `--json`: build what the change list of the input and the last build leave to do.
+    Build(bool),
 }

@@ -49,6 +49,7 @@ fn named(name: &str, flags: &ArgMatches<'_>) -> Result<Command, WordsFault>
     match name {
         "check" => Ok(Command::Check),
         "fresh" => Ok(Command::Fresh(flags.get_flag("json"))),
+        "build" => Ok(Command::Build(flags.get_flag("json"))),
         _ => Err(WordsFault::Usage),
     }
 }
@@ -58,8 +59,9 @@ fn commands<'a>(alloc: Global) -> Result<clap::Command<'a>, AllocError>
     ensures { IfOk result (λ commands. app_of commands ≡ spec.commands) }
 {
     let commands = clap::Command::new(alloc, "pie").no_binary_name(true);
-    let commands = commands.subcommand(clap::Command::new(alloc, "check"))?;
-    commands.subcommand(with_json(alloc, "fresh")?)
+    let checks = commands.subcommand(clap::Command::new(alloc, "check"))?;
+    let builds = checks.subcommand(with_json(alloc, "fresh")?)?;
+    builds.subcommand(with_json(alloc, "build")?)
 }
 
 // A command with the flag `--json`.

@@ -21,6 +21,11 @@ fn each_command_is_read(rt: HostRuntime) -> Result<(), Fail> {
         read(alloc, &["fresh", "--json"])?,
         Ok(Command::Fresh(true))
     );
+    assert_eq!(rt; read(alloc, &["build"])?, Ok(Command::Build(false)));
+    assert_eq!(rt;
+        read(alloc, &["build", "--json"])?,
+        Ok(Command::Build(true))
+    );
     Ok(())
 }
 
@@ -36,7 +41,7 @@ fn other_words_are_refused(rt: HostRuntime) -> Result<(), Fail> {
         &["--json", "fresh"],
         &["fresh", "--json", "--json"],
         &["fresh", ""],
-        &["build"],
+        &["build", "--jso"],
         &["--help"],
     ];
     for words in cases {

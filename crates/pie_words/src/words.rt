@@ -72,6 +72,7 @@ fn one_word(word: &str) -> bool
     match word {
         "check" => true,
         "fresh" => true,
+        "build" => true,
         _ => false,
     }
 }
@@ -82,6 +83,7 @@ fn two_words(first: &str, second: &str) -> bool
 {
     match (first, second) {
         ("fresh", "--json") => true,
+        ("build", "--json") => true,
         _ => false,
     }
 }

@@ -19,5 +19,7 @@ unnamed = on_top (λ s. record s { no_binary_name = true })
 -- each command is a subcommand of the program
 abbrev pub commands : App
 commands = with_subcommand
+    (with_subcommand
     (with_subcommand (unnamed (new_app (codes "pie"))) (new_app (codes "check")).top)
-    (with_json (codes "fresh")).top
+    (with_json (codes "fresh")).top)
+    (with_json (codes "build")).top

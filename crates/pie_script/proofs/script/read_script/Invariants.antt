@@ -3,7 +3,7 @@ use Rattle.std.specs.Prelude.{is_some}
 use Rattle.pie_script.specs.Line.{script_line, texts}
 use Rattle.pie_script.specs.Steps.{first_wrong, placed}
 use Rattle.pie_script.specs.Reading.{script_lines, most}
-use Rattle.pie_script.specs.Taking.{nothing, taken_all}
+use Rattle.pie_script.specs.inner.Taking.{nothing, taken_all}
 use Rattle.pie_script.proofs.script.read_script.Given as goal
 
 abbrev pub invariant-loop-text : goal.invariant-loop-text

@@ -8,7 +8,9 @@ use Rattle.pie_words.proofs.grammar.commands.Goals as goal
 pub returns : goal.returns
 returns c =
     let unnamed_is : app_of c.no_binary_name-commands.result ≡ spec.unnamed (app_of c.new.result) = ap app_of_fields c.no_binary_name-commands.ensures in
-    let first_is = c.in_ok-commands.ensures.shape (search rules)
+    let first_is = c.in_ok-checks.ensures.shape (search rules)
     ∙ ap₂ with_subcommand (unnamed_is ∙ ap spec.unnamed c.new.ensures.app) (ap (λ (a : App). a.top) c.new-2.ensures.app) in
-    IfOk-weaker c.subcommand-2.result _ _ (λ made h. h.shape (search rules)
-    ∙ ap₂ with_subcommand first_is (ap (λ (a : App). a.top) c.in_ok-with_json.ensures.app)) c.subcommand-2.ensures
+    let second_is = c.in_ok-builds.ensures.shape (search rules)
+    ∙ ap₂ with_subcommand first_is (ap (λ (a : App). a.top) c.in_ok-with_json.ensures.app) in
+    IfOk-weaker c.subcommand-3.result _ _ (λ made h. h.shape (search rules)
+    ∙ ap₂ with_subcommand second_is (ap (λ (a : App). a.top) c.in_ok-with_json-2.ensures.app)) c.subcommand-3.ensures

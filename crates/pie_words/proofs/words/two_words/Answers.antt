@@ -1,6 +1,9 @@
 use Rattle.std.proofs.Common.{true, rules}
-use Rattle.pie_words.specs.declared.command.Command.TheVariants.{Fresh}
+use Rattle.pie_words.specs.declared.command.Command.TheVariants.{Fresh, Build}
 use Rattle.pie_words.proofs.words.two_words.Goals as goal
 
 pub returns-in-fresh-text-clause-accepted : goal.returns-in-fresh-text-clause-accepted
 returns-in-fresh-text-clause-accepted c = λ is. (Fresh true, search rules)
+
+pub returns-in-build-text-clause-accepted : goal.returns-in-build-text-clause-accepted
+returns-in-build-text-clause-accepted c = λ is. (Build true, search rules)

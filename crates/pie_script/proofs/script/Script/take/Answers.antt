@@ -1,7 +1,7 @@
 use Rattle.std.proofs.Common.{◌≡◌}
 use Rattle.std.specs.Prelude.{is_some}
 use Rattle.pie_script.specs.Line.{script_line}
-use Rattle.pie_script.specs.Taking.{taken}
+use Rattle.pie_script.specs.inner.Taking.{taken}
 use Rattle.pie_script.proofs.LineLemmas.{take_err}
 use Rattle.pie_script.proofs.script.Script.take.Goals as goal
 
