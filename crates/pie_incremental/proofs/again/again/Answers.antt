@@ -1,0 +1,10 @@
+use Rattle.pie_incremental.proofs.Joining.{rest_both, retold_encodable}
+use Rattle.pie_incremental.proofs.again.again.Goals as goal
+
+pub returns-in-Ok-clause-rest : goal.returns-in-Ok-clause-rest
+returns-in-Ok-clause-rest g c = rest_both (g.F.Files.holds c.args.files.now) (g.F.Files.holds c.rebuild.new.files) (g.F.Files.holds c.retell.new.files)
+    c.in-Ok.ensures.rest c.retell.ensures.rest
+
+pub returns-in-Ok-clause-encodable : goal.returns-in-Ok-clause-encodable
+returns-in-Ok-clause-encodable g c = retold_encodable c.args.before c.args.runs.now c.rebuild.new.runs c.in-Ok.report.ran.items c.retell.result c.requires.before
+    c.in-Ok.ensures.ran c.requires.encodable c.in-Ok.ensures.encodable c.retell.ensures.ran

@@ -1,0 +1,131 @@
+//! A build by what changed.
+ghost use Rattle.std.specs.Prelude.{◌≡◌, ◌++◌, All, IfOk, IsTrue};
+ghost use Rattle.pie_build.specs.Left.{KeepsRest};
+ghost use Rattle.pie_build.specs.inner.Rebuilt.{IsRefusal, Tells};
+ghost use Rattle.pie_value.specs.Canonical.{IsEncodableTask};
+ghost use Rattle.pie_store.specs.Canonical.{AreFuncs};
+ghost use Rattle.pie_incremental.specs.inner.Joined.{IsBase};
+
+use crate::again::again;
+use crate::cause::with_cause;
+use crate::run::{Done, run};
+use crate::{Base, Start, find_start};
+use pie_base::Path;
+use pie_build::rebuild;
+use pie_files::{Files, FilesError};
+use pie_project::{BuildError, Project, read_project};
+use pie_report::Report;
+use pie_store::Cause;
+use pie_value::Task;
+use pie_vm::Runs;
+use std::alloc::Global;
+
+/// Builds the project of a directory by what changed since the build before: these paths, and those that were kept of refused builds. Where there is
+/// nothing to build from, or where old and new requires close a cycle or are too many, it builds afresh, and the report tells the cause.
+/// An accepted build leaves what a clean build would; a refused one keeps the names for the next one. The whole plan and the report are made before
+/// the first write. The tasks that are started are added to the runs, and reported.
+/// Rule: docs/BUILDING.md, "A build by what changed".
+#[tactic(auto, using(pie_build::proofs::OwnPaths::same_keeps, crate::proofs::Joining::rest_then))]
+pub fn build<F: Files>(
+    alloc: Global,
+    files: &mut F,
+    changes: &[Path],
+    runs: &mut Runs,
+) -> Result<Report, BuildError>
+    ensures rest { KeepsRest (F.holds files.old) (F.holds files.new) }
+    ensures refused { IsRefusal result → F.holds files.new ≡ F.holds files.old }
+    ensures ran { IfOk result (λ r. runs.new ≡ runs.old ++ r.ran.items) }
+    ensures encodable { IfOk result (λ r. All IsEncodableTask r.ran.items) }
+    ensures told { Tells F.faults files.old files.new result }
+{
+    match find_start(alloc, files) {
+        Ok(Start::Afresh(cause)) => afresh(alloc, files, cause, runs),
+        Ok(Start::From(base)) => from(alloc, files, base, changes, runs),
+        Err(FilesError::Failed) => Err(BuildError::Files),
+        Err(FilesError::OutOfMemory) => Err(BuildError::OutOfMemory),
+    }
+}
+
+// Builds afresh, for this cause.
+fn afresh<F: Files>(
+    alloc: Global,
+    files: &mut F,
+    cause: Cause,
+    runs: &mut Runs,
+) -> Result<Report, BuildError>
+    ensures rest { KeepsRest (F.holds files.old) (F.holds files.new) }
+    ensures refused { IsRefusal result → F.holds files.new ≡ F.holds files.old }
+    ensures ran { IfOk result (λ r. runs.new ≡ runs.old ++ r.ran.items) }
+    ensures encodable { IfOk result (λ r. All IsEncodableTask r.ran.items) }
+    ensures told { Tells F.faults files.old files.new result }
+{
+    match rebuild(alloc, files, runs) {
+        Ok(report) => Ok(with_cause(report, cause)),
+        Err(error) => Err(error),
+    }
+}
+
+// Builds from what the build before left.
+#[tactic(auto, using(pie_build::proofs::OwnPaths::same_keeps, crate::proofs::Joining::rest_then))]
+fn from<F: Files>(
+    alloc: Global,
+    files: &mut F,
+    base: Box<Base>,
+    changes: &[Path],
+    runs: &mut Runs,
+) -> Result<Report, BuildError>
+    requires { IsBase base.value }
+    ensures rest { KeepsRest (F.holds files.old) (F.holds files.new) }
+    ensures refused { IsRefusal result → F.holds files.new ≡ F.holds files.old }
+    ensures ran { IfOk result (λ r. runs.new ≡ runs.old ++ r.ran.items) }
+    ensures encodable { IfOk result (λ r. All IsEncodableTask r.ran.items) }
+    ensures told { Tells F.faults files.old files.new result }
+{
+    match read_project(alloc, files) {
+        Ok(project) => with_project(alloc, files, base, &project, changes, runs),
+        Err(error) => Err(error),
+    }
+}
+
+// Builds a project from what the build before left. Roots beyond the limits of values are left to the clean build, which refuses them.
+#[tactic(auto, using(pie_build::proofs::OwnPaths::same_keeps, crate::proofs::Joining::rest_then, crate::proofs::Joining::rest_both))]
+fn with_project<F: Files>(
+    alloc: Global,
+    files: &mut F,
+    base: Box<Base>,
+    project: &Project,
+    changes: &[Path],
+    runs: &mut Runs,
+) -> Result<Report, BuildError>
+    requires base { IsBase base.value }
+    requires funcs { AreFuncs project.now.digests.items }
+    ensures rest { KeepsRest (F.holds files.old) (F.holds files.new) }
+    ensures refused { IsRefusal result → F.holds files.new ≡ F.holds files.old }
+    ensures ran { IfOk result (λ r. runs.new ≡ runs.old ++ r.ran.items) }
+    ensures encodable { IfOk result (λ r. All IsEncodableTask r.ran.items) }
+    ensures told { Tells F.faults files.old files.new result }
+{
+    if !are_small(project.roots.as_slice()) {
+        return rebuild(alloc, files, runs);
+    }
+    let before = runs.count();
+    match run(alloc, files, base, project, changes, runs) {
+        Ok(Done::Reported(report)) => Ok(report),
+        Ok(Done::Stopped(stop)) => again(alloc, files, stop, before, runs),
+        Err(FilesError::Failed) => Err(BuildError::Files),
+        Err(FilesError::OutOfMemory) => Err(BuildError::OutOfMemory),
+    }
+}
+
+// Whether each root is within the limits of values.
+#[tactic(auto, using(crate::proofs::Joining::none_small, crate::proofs::Joining::small_more, crate::proofs::Joining::all_small))]
+fn are_small(roots: &[Task]) -> bool
+    ensures { IsTrue result → All IsEncodableTask roots.now }
+{
+    for root in roots {
+        if !root.is_small() {
+            return false;
+        }
+    }
+    true
+}
