@@ -1,10 +1,10 @@
 -- What was printed of a check.
-use Rattle.std.proofs.Common.{◌≡◌, ℕ, List, Option, None, Some, Result, sym, ◌∙◌, subst, inl}
+use Rattle.std.proofs.Common.{◌≡◌, ℕ, List, Option, None, Some, ◌∙◌, subst, inl}
 use Rattle.std.specs.Prelude.{IfSome, string_bytes}
 use Rattle.pie_base.specs.declared.status.Status.{Status}
 use Rattle.pie_files.specs.Directory.{Directory}
 use Rattle.pie_cli.specs.declared.told.CommandResult.{CommandResult}
-use Rattle.pie_cli.specs.Check.{Tells, TellsOnly, AnswersOnly, HasChecked, IsCheckText, check_text, check_status}
+use Rattle.pie_cli.specs.Check.{Tells, TellsOnly, AnswersOnly, HasChecked, IsCheckText}
 use Rattle.pie_cli.specs.Run.{Gains, GainsAtMost, GainsPrefix, GainsSome}
 
 -- all of it

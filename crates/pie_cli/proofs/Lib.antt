@@ -1,6 +1,9 @@
+pub mod Building
 pub mod Checking
+pub mod Ending
 pub mod Fresh
 pub mod Gaining
+pub mod Making
 pub mod Printing
 pub mod Rest
 pub mod Statuses

@@ -1,3 +1,5 @@
+pub mod Build
 pub mod Check
 pub mod Fresh
 pub mod Run
+pub mod inner

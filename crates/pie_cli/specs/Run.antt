@@ -5,14 +5,23 @@ use Rattle.pie_base.specs.declared.status.Status.TheVariants as status
 use Rattle.pie_files.specs.Faults.{Rose}
 use Rattle.pie_words.specs.Commands.{words_of, usage_text}
 use Rattle.pie_words.specs.declared.command.Command.{Command}
+use Rattle.pie_words.specs.declared.command.Command.TheVariants as commands
 
 -- no command has these words
 abbrev pub IsUsage : List (List ℕ) → Type 0
 IsUsage words = (command : Command) → words ≢ words_of command
 
+-- no command that reads its input has these words
+abbrev pub NeedsNoInput : List (List ℕ) → Type 0
+NeedsNoInput words = (json : Bool) → words ≢ words_of (commands.Build json)
+
 -- what is printed where a call on the files failed
 abbrev pub files_fault_text : List ℕ
 files_fault_text = codes "files fault\n"
+
+-- what is printed where the input failed
+abbrev pub input_fault_text : List ℕ
+input_fault_text = codes "input fault\n"
 
 -- a status that says what became of the command: not that a fault or out of memory ended it
 abbrev pub is_answer : Status → Bool
@@ -51,12 +60,15 @@ abbrev pub Shows : Option (List ℕ) → Option (List ℕ) → List ℕ → Stat
 Shows before after text wanted ended = is_told ended ≡ true → (ended ≡ wanted) × Gains before after text
 
 -- why a run ended: a status that is no answer has its cause, out of memory alone has none; and the counts of faults rose only where it says so
-pub record Ends (asked_before asked_after printed_before printed_after : ℕ) (held gained : Option (List ℕ)) (ended : Status) : Type 0 where
+pub record Ends (asked_before asked_after read_before read_after printed_before printed_after : ℕ) (held gained : Option (List ℕ)) (ended : Status)
+    : Type 0 where
   pub files : ended ≡ status.Files → Rose asked_before asked_after × Gains held gained files_fault_text
+  pub input : ended ≡ status.Input → Rose read_before read_after × Gains held gained input_fault_text
   pub output : ended ≡ status.Output → Rose printed_before printed_after
-  pub no_input : ended ≢ status.Input
-  pub steady : is_answer ended ≡ true → (asked_after ≡ asked_before) × (printed_after ≡ printed_before)
+  pub steady : is_answer ended ≡ true → (asked_after ≡ asked_before) × (read_after ≡ read_before) × (printed_after ≡ printed_before)
   pub output_steady : ended ≡ status.Files → printed_after ≡ printed_before
+  pub input_steady : ended ≡ status.Files → read_after ≡ read_before
+  pub input_alone : ended ≡ status.Input → (asked_after ≡ asked_before) × (printed_after ≡ printed_before)
 
 -- the output gained a prefix of a text that is allowed, or of the line of a fault of the files where a call on them failed
 abbrev pub GainsSome : (List ℕ → Type 0) → Type 0 → Option (List ℕ) → Option (List ℕ) → Type 0

@@ -1,20 +1,16 @@
 //! A clean build, and what is told of it.
-ghost use Rattle.std.specs.Prelude.{◌≡◌, true, All, IfSome, IfOk, OnOk, string_bytes};
+ghost use Rattle.std.specs.Prelude.{◌≡◌, true, IfSome, IfOk, OnOk, string_bytes};
 ghost use Rattle.pie_build.specs.Crashes.{StaysAtRest, Withstands};
 ghost use Rattle.pie_build.specs.Left.{ChangesIfAccepted, KeepsRest, Leaves};
 ghost use Rattle.pie_files.specs.Streams.{Counted};
-ghost use Rattle.pie_value.specs.Canonical.{IsEncodableTask};
-ghost use Rattle.pie_cli.specs.Fresh.{FreshSays, IsPrinted, verdict_status};
+ghost use Rattle.pie_cli.specs.Fresh.{FreshSays};
 ghost use Rattle.pie_cli.specs.Run.{is_answer};
 
 use crate::check::{bad_pipeline, bad_roots};
-use crate::told::CommandResult;
-use pie_base::{OutOfMemory, Status};
+use crate::told::{CommandResult, of_report};
 use pie_build::rebuild;
 use pie_files::{Files, FilesError};
 use pie_project::BuildError;
-use pie_report::{Report, print, print_json};
-use pie_value::Verdict;
 use pie_vm::Runs;
 use std::alloc::Global;
 
@@ -40,39 +36,5 @@ pub(crate) fn fresh<F: Files>(
         Err(BuildError::Roots(reason)) => Ok(bad_roots(alloc, reason)?),
         Err(BuildError::Files) => Err(FilesError::Failed),
         Err(BuildError::OutOfMemory) => Err(FilesError::OutOfMemory),
-    }
-}
-
-// What is told of a report.
-fn of_report(alloc: Global, report: Report, json: bool) -> Result<CommandResult, OutOfMemory>
-    requires { All IsEncodableTask report.ran.items }
-    ensures text { IfOk result (λ told. IsPrinted json report (string_bytes told.text)) }
-    ensures status { IfOk result (λ told. told.status ≡ verdict_status report.verdict) }
-    ensures answer { IfOk result (λ told. is_answer told.status ≡ true) }
-{
-    let text = printed(alloc, &report, json)?;
-    let status = status_of(&report.verdict);
-    Ok(CommandResult { text, status })
-}
-
-fn printed(alloc: Global, report: &Report, json: bool) -> Result<String, OutOfMemory>
-    requires { All IsEncodableTask report.now.ran.items }
-    ensures { IfOk result (λ text. IsPrinted json report.now (string_bytes text)) }
-{
-    if json {
-        print_json(alloc, report)
-    } else {
-        print(alloc, report)
-    }
-}
-
-// The status that a build with this verdict ends with.
-fn status_of(verdict: &Verdict) -> Status
-    ensures status { result ≡ verdict_status verdict.now }
-    ensures answer { is_answer result ≡ true }
-{
-    match verdict {
-        Verdict::Accepted => Status::Ok,
-        Verdict::Refused(_) => Status::Refused,
     }
 }

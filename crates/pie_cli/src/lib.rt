@@ -3,6 +3,7 @@
 
 mod check;
 mod clean;
+mod incremental;
 mod print;
 mod told;
 mod top;

@@ -1,20 +1,26 @@
 //! The top call.
-ghost use Rattle.std.specs.Prelude.{◌≡◌, Bool, true, string_bytes};
+ghost use Rattle.std.specs.Prelude.{◌≡◌, ◌≢◌, Bool, ℕ, true, string_bytes};
 ghost use Rattle.pie_build.specs.Left.{KeepsRest};
 ghost use Rattle.pie_files.specs.Faults.{Rose};
 ghost use Rattle.pie_files.specs.Streams.{StaysInfallible};
 ghost use Rattle.pie_words.specs.Commands.{words_of, texts_of};
 ghost use Rattle.pie_words.specs.declared.command.Command.TheVariants as commands;
+ghost use Rattle.pie_cli.specs.Build.{RunsBuild};
 ghost use Rattle.pie_cli.specs.Check.{RunsCheck};
 ghost use Rattle.pie_cli.specs.Fresh.{RunsFresh};
-ghost use Rattle.pie_cli.specs.Run.{is_answer, is_told, Ends, GainsPrefix, IsUsage, PrintsUsage, Shows};
+ghost use Rattle.pie_cli.specs.Run.{is_answer, is_told, Ends, GainsPrefix, IsUsage, NeedsNoInput, PrintsUsage, Shows};
+ghost use Rattle.pie_cli.specs.inner.Unread.{EndsUnread, Makes};
+ghost use Rattle.pie_report.specs.Refused.{bad_input_text};
 
 use crate::check::check;
 use crate::clean::fresh;
+use crate::incremental::{bad_input, build};
 use crate::print::print_text;
 use crate::told::CommandResult;
-use pie_base::Status;
+use pie_base::{OutOfMemory, Path, Status};
 use pie_files::{Files, FilesError, Sink, SinkError, Source};
+use pie_input::{NamesError, read_names};
+use pie_script::InputFault;
 use pie_words::{Command, USAGE, WordsFault, read_words};
 use std::alloc::Global;
 
@@ -33,14 +39,17 @@ pub fn run<F: Files, I: Source, K: Sink>(
         → RunsFresh F.holds F.moment F.left_since F.images F.faults json files.old files.new (K.held out.old) (K.held out.new) result }
     ensures check { texts_of words.now ≡ words_of commands.Check
         → RunsCheck F.holds F.moment F.left_since F.images F.asked F.faults files.old files.new (K.held out.old) (K.held out.new) result }
+    ensures build { (json : Bool) → texts_of words.now ≡ words_of (commands.Build json)
+        → RunsBuild F.holds F.faults I.left I.faults json files.old files.new input.old input.new (K.held out.old) (K.held out.new) result }
     ensures usage { IsUsage (texts_of words.now) → PrintsUsage files.old files.new (K.held out.old) (K.held out.new) result }
     ensures rest { KeepsRest (F.holds files.old) (F.holds files.new) }
-    ensures ends { Ends (F.faults files.old) (F.faults files.new) (K.faults out.old) (K.faults out.new) (K.held out.old) (K.held out.new) result }
+    ensures ends { Ends (F.faults files.old) (F.faults files.new) (I.faults input.old) (I.faults input.new) (K.faults out.old) (K.faults out.new) (K.held out.old) (K.held out.new) result }
     ensures infallible { StaysInfallible K.infallible K.faults out.old out.new }
-    ensures input { input.new ≡ input.old }
+    ensures input_infallible { StaysInfallible I.infallible I.faults input.old input.new }
+    ensures input { NeedsNoInput (texts_of words.now) → (input.new ≡ input.old) × (result ≢ Status.Input) }
 {
     match read_words(alloc, words) {
-        Ok(command) => run_command(alloc, command, files, out),
+        Ok(command) => run_command(alloc, command, files, input, out),
         Err(WordsFault::Usage) => show(out, USAGE, Status::Usage),
         Err(WordsFault::OutOfMemory) => Status::Memory,
     }
@@ -48,23 +57,29 @@ pub fn run<F: Files, I: Source, K: Sink>(
 
 // Does what a command asks for.
 #[tactic(auto, using(crate::proofs::Rest::keeps_same))]
-fn run_command<F: Files, K: Sink>(
+fn run_command<F: Files, I: Source, K: Sink>(
     alloc: Global,
     command: Command,
     files: &mut F,
+    input: &mut I,
     out: &mut K,
 ) -> Status
     ensures fresh { (json : Bool) → command ≡ commands.Fresh json
         → RunsFresh F.holds F.moment F.left_since F.images F.faults json files.old files.new (K.held out.old) (K.held out.new) result }
     ensures check { command ≡ commands.Check
         → RunsCheck F.holds F.moment F.left_since F.images F.asked F.faults files.old files.new (K.held out.old) (K.held out.new) result }
+    ensures build { (json : Bool) → command ≡ commands.Build json
+        → RunsBuild F.holds F.faults I.left I.faults json files.old files.new input.old input.new (K.held out.old) (K.held out.new) result }
     ensures rest { KeepsRest (F.holds files.old) (F.holds files.new) }
-    ensures ends { Ends (F.faults files.old) (F.faults files.new) (K.faults out.old) (K.faults out.new) (K.held out.old) (K.held out.new) result }
+    ensures ends { Ends (F.faults files.old) (F.faults files.new) (I.faults input.old) (I.faults input.new) (K.faults out.old) (K.faults out.new) (K.held out.old) (K.held out.new) result }
     ensures infallible { StaysInfallible K.infallible K.faults out.old out.new }
+    ensures input_infallible { StaysInfallible I.infallible I.faults input.old input.new }
+    ensures input { ((json : Bool) → command ≢ commands.Build json) → (input.new ≡ input.old) × (result ≢ Status.Input) }
 {
     match command {
         Command::Check => run_check(alloc, files, out),
         Command::Fresh(json) => run_fresh(alloc, files, out, json),
+        Command::Build(json) => run_build(alloc, files, input, out, json),
     }
 }
 
@@ -72,7 +87,7 @@ fn run_command<F: Files, K: Sink>(
 fn run_fresh<F: Files, K: Sink>(alloc: Global, files: &mut F, out: &mut K, json: bool) -> Status
     ensures fresh { RunsFresh F.holds F.moment F.left_since F.images F.faults json files.old files.new (K.held out.old) (K.held out.new) result }
     ensures rest { KeepsRest (F.holds files.old) (F.holds files.new) }
-    ensures ends { Ends (F.faults files.old) (F.faults files.new) (K.faults out.old) (K.faults out.new) (K.held out.old) (K.held out.new) result }
+    ensures ends { EndsUnread (F.faults files.old) (F.faults files.new) (K.faults out.old) (K.faults out.new) (K.held out.old) (K.held out.new) result }
     ensures infallible { StaysInfallible K.infallible K.faults out.old out.new }
 {
     match fresh(alloc, files, json) {
@@ -87,13 +102,70 @@ fn run_fresh<F: Files, K: Sink>(alloc: Global, files: &mut F, out: &mut K, json:
 fn run_check<F: Files, K: Sink>(alloc: Global, files: &mut F, out: &mut K) -> Status
     ensures check { RunsCheck F.holds F.moment F.left_since F.images F.asked F.faults files.old files.new (K.held out.old) (K.held out.new) result }
     ensures rest { KeepsRest (F.holds files.old) (F.holds files.new) }
-    ensures ends { Ends (F.faults files.old) (F.faults files.new) (K.faults out.old) (K.faults out.new) (K.held out.old) (K.held out.new) result }
+    ensures ends { EndsUnread (F.faults files.old) (F.faults files.new) (K.faults out.old) (K.faults out.new) (K.held out.old) (K.held out.new) result }
     ensures infallible { StaysInfallible K.infallible K.faults out.old out.new }
 {
     match check(alloc, files) {
         Ok(told) => show_told(out, told),
         Err(FilesError::Failed) => show(out, "files fault\n", Status::Files),
         Err(FilesError::OutOfMemory) => Status::Memory,
+    }
+}
+
+// An incremental build, with its report. The input is read first.
+#[tactic(auto, using(crate::proofs::Rest::keeps_same))]
+fn run_build<F: Files, I: Source, K: Sink>(
+    alloc: Global,
+    files: &mut F,
+    input: &mut I,
+    out: &mut K,
+    json: bool,
+) -> Status
+    ensures build { RunsBuild F.holds F.faults I.left I.faults json files.old files.new input.old input.new (K.held out.old) (K.held out.new) result }
+    ensures rest { KeepsRest (F.holds files.old) (F.holds files.new) }
+    ensures ends { Ends (F.faults files.old) (F.faults files.new) (I.faults input.old) (I.faults input.new) (K.faults out.old) (K.faults out.new) (K.held out.old) (K.held out.new) result }
+    ensures infallible { StaysInfallible K.infallible K.faults out.old out.new }
+    ensures input_infallible { StaysInfallible I.infallible I.faults input.old input.new }
+{
+    match read_names(alloc, input) {
+        Ok(changes) => make(alloc, files, out, changes.as_slice(), json),
+        Err(NamesError::Bad(fault)) => show_bad(alloc, out, fault),
+        Err(NamesError::Failed) => show(out, "input fault\n", Status::Input),
+        Err(NamesError::OutOfMemory) => Status::Memory,
+    }
+}
+
+// A build with these names, with its report.
+fn make<F: Files, K: Sink>(
+    alloc: Global,
+    files: &mut F,
+    out: &mut K,
+    changes: &[Path],
+    json: bool,
+) -> Status
+    ensures makes { Makes F.holds F.faults json files.old files.new (K.held out.old) (K.held out.new) result }
+    ensures rest { KeepsRest (F.holds files.old) (F.holds files.new) }
+    ensures ends { EndsUnread (F.faults files.old) (F.faults files.new) (K.faults out.old) (K.faults out.new) (K.held out.old) (K.held out.new) result }
+    ensures infallible { StaysInfallible K.infallible K.faults out.old out.new }
+{
+    match build(alloc, files, changes, json) {
+        Ok(told) => show_told(out, told),
+        Err(FilesError::Failed) => show(out, "files fault\n", Status::Files),
+        Err(FilesError::OutOfMemory) => Status::Memory,
+    }
+}
+
+// Why an input is refused.
+fn show_bad<K: Sink>(alloc: Global, out: &mut K, fault: InputFault) -> Status
+    ensures shown { Shows (K.held out.old) (K.held out.new) (bad_input_text fault) Status.BadInput result }
+    ensures prefix { GainsPrefix (K.held out.old) (K.held out.new) (bad_input_text fault) }
+    ensures output { result ≡ Status.Output → Rose (K.faults out.old) (K.faults out.new) }
+    ensures steady { is_told result ≡ true → K.faults out.new ≡ K.faults out.old }
+    ensures infallible { StaysInfallible K.infallible K.faults out.old out.new }
+{
+    match bad_input(alloc, fault) {
+        Ok(told) => show_told(out, told),
+        Err(OutOfMemory) => Status::Memory,
     }
 }
 

@@ -4,4 +4,6 @@
 #[cfg(test)]
 mod build_tests;
 #[cfg(test)]
+mod input_tests;
+#[cfg(test)]
 mod tests;

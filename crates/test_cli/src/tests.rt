@@ -17,13 +17,23 @@ pub(crate) fn run_words<F: Files>(
     words: &[&str],
     files: &mut F,
 ) -> Result<(Status, String), Fail> {
+    let mut input = MemSource::new(alloc, Vec::new(alloc));
+    run_with_input(alloc, words, files, &mut input)
+}
+
+// The same with this input.
+pub(crate) fn run_with_input<F: Files>(
+    alloc: Global,
+    words: &[&str],
+    files: &mut F,
+    input: &mut MemSource,
+) -> Result<(Status, String), Fail> {
     let mut list = Vec::new(alloc);
     for word in words {
         list.push(String::from_str(alloc, word)?)?;
     }
-    let mut input = MemSource::new(alloc, Vec::new(alloc));
     let mut out = MemSink::new(alloc);
-    let status = run(alloc, &list, files, &mut input, &mut out);
+    let status = run(alloc, &list, files, input, &mut out);
     let text = String::from_utf8(out.bytes().to_vec(alloc)?)?;
     Ok((status, text))
 }

@@ -1,4 +1,4 @@
-use Rattle.std.proofs.Common.{◌≡◌, true, Err, refl, sym, ap, ◌∙◌}
+use Rattle.std.proofs.Common.{Err, refl, sym, ap, ◌∙◌}
 use Rattle.pie_build.proofs.Changing.{untouched}
 use Rattle.pie_build.proofs.Crashing.{withstands_none}
 use Rattle.pie_build.specs.Left.{Leaves}
@@ -7,9 +7,12 @@ use Rattle.pie_files.specs.Faults.{Rose}
 use Rattle.pie_project.specs.Looking.{prefix_calls}
 use Rattle.pie_words.proofs.Apart.{same_command}
 use Rattle.pie_words.specs.declared.command.Command.TheVariants as commands
-use Rattle.pie_words.specs.Commands.{usage_text}
+use Rattle.pie_words.specs.Commands.{usage_text, words_of}
+use Rattle.pie_base.specs.declared.status.Status.TheVariants as status
 use Rattle.pie_cli.specs.Check.{IsCheckText}
 use Rattle.pie_cli.specs.Fresh.{IsFreshText}
+use Rattle.pie_cli.proofs.Building.{runs_memory}
+use Rattle.pie_cli.proofs.Ending.{ends_memory, ends_shown, not_shown}
 use Rattle.pie_cli.proofs.Gaining.{none_gained}
 use Rattle.pie_cli.proofs.Rest.{asks_none, gains_none}
 use Rattle.pie_cli.proofs.Statuses.{memory_is_no_answer}
@@ -58,3 +61,38 @@ returns-in-Err-OutOfMemory-clause-usage g c = λ none. record {
   prefix = gains_none (g.K.Sink.held c.args.out.now) usage_text;
   nothing_asked = refl;
 }
+
+pub returns-in-Ok-clause-build : goal.returns-in-Ok-clause-build
+returns-in-Ok-clause-build g c = λ json is. c.run_command.ensures.build json (same_command _ _ (sym c.in-Ok.ensures.accepted ∙ is))
+
+pub returns-in-Ok-clause-input : goal.returns-in-Ok-clause-input
+returns-in-Ok-clause-input g c = λ none. c.run_command.ensures.input (λ json is. none json (c.in-Ok.ensures.accepted ∙ ap words_of is))
+
+pub returns-in-Err-Usage-clause-build : goal.returns-in-Err-Usage-clause-build
+returns-in-Err-Usage-clause-build g c = λ json is. absurd (c.in-Err-Usage.ensures.refused (ap Err c.in-Err-Usage.field-0-is) (commands.Build json) is)
+
+pub returns-in-Err-Usage-clause-input : goal.returns-in-Err-Usage-clause-input
+returns-in-Err-Usage-clause-input g c = λ none. (
+  refl,
+  not_shown (g.K.Sink.held c.args.out.now) (g.K.Sink.held c.show.new.out) usage_text status.Usage
+      c.show.result status.Input c.show.ensures.shown refl (λ is. absurd (cc)),
+)
+
+pub returns-in-Err-OutOfMemory-clause-build : goal.returns-in-Err-OutOfMemory-clause-build
+returns-in-Err-OutOfMemory-clause-build g c = λ json is.
+    runs_memory g.F.Files.holds g.F.Files.faults g.I.Source.left g.I.Source.faults json c.args.files.now c.args.input.now c.args.input.now
+    (g.K.Sink.held c.args.out.now)
+
+pub returns-in-Err-OutOfMemory-clause-input : goal.returns-in-Err-OutOfMemory-clause-input
+returns-in-Err-OutOfMemory-clause-input g c = λ none. (refl, λ is. absurd (cc))
+
+pub returns-in-Err-Usage-clause-ends : goal.returns-in-Err-Usage-clause-ends
+returns-in-Err-Usage-clause-ends g c =
+    ends_shown _ (g.I.Source.faults c.args.input.now) (g.I.Source.faults c.args.input.now) (g.K.Sink.faults c.args.out.now)
+    (g.K.Sink.faults c.show.new.out) (g.K.Sink.held c.args.out.now) (g.K.Sink.held c.show.new.out) usage_text status.Usage c.show.result
+    (λ is. absurd (cc)) (λ is. absurd (cc)) c.show.ensures.shown c.show.ensures.output c.show.ensures.steady refl
+
+pub returns-in-Err-OutOfMemory-clause-ends : goal.returns-in-Err-OutOfMemory-clause-ends
+returns-in-Err-OutOfMemory-clause-ends g c =
+    ends_memory _ (g.I.Source.faults c.args.input.now) (g.I.Source.faults c.args.input.now) (g.K.Sink.faults c.args.out.now)
+    (g.K.Sink.held c.args.out.now) (g.K.Sink.held c.args.out.now)

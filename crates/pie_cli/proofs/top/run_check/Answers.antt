@@ -1,4 +1,4 @@
-use Rattle.std.proofs.Common.{◌≡◌, Err, refl, ap}
+use Rattle.std.proofs.Common.{Err, refl, ap}
 use Rattle.pie_files.specs.Faults.{Rose}
 use Rattle.pie_cli.specs.Check.{IsCheckText}
 use Rattle.pie_cli.proofs.Checking.{checked, answers_only, check_printed}

@@ -1,4 +1,4 @@
-use Rattle.std.proofs.Common.{◌≡◌, ℕ, List, Err, refl, ap}
+use Rattle.std.proofs.Common.{ℕ, List, Err, refl, ap}
 use Rattle.std.specs.Prelude.{string_bytes}
 use Rattle.pie_files.specs.Directory.{Directory}
 use Rattle.pie_files.specs.Faults.{Rose}

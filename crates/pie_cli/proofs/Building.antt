@@ -1,0 +1,129 @@
+-- What `build` says of an input and of a build.
+use Rattle.std.proofs.Common.{◌≡◌, ◌⊎◌, ℕ, Bool, true, List, [], Option, None, Some, inl, inr, refl, sym, ◌∙◌, subst, arith, rules}
+use Rattle.std.specs.Prelude.{IfSome, Vec, Err}
+use Rattle.std.proofs.lemmas.Bool.{false≢true}
+use Rattle.std.specs.declared.alloc.Global.{Global}
+use Rattle.pie_base.specs.declared.status.Status.{Status}
+use Rattle.pie_base.specs.declared.status.Status.TheVariants as status
+use Rattle.pie_files.specs.Directory.{Directory}
+use Rattle.pie_files.specs.Faults.{Rose}
+use Rattle.pie_input.specs.Names.{AreNames, IsBad}
+use Rattle.pie_input.specs.inner.Answers.{IsTold, NamesRead}
+use Rattle.pie_input.specs.declared.names.NamesError.{NamesError}
+use Rattle.pie_input.specs.declared.names.NamesError.TheVariants.{Bad}
+use Rattle.pie_report.specs.Refused.{bad_input_text}
+use Rattle.pie_script.specs.declared.fault.InputFault.{InputFault}
+use Rattle.pie_words.specs.declared.command.Command.{Command}
+use Rattle.pie_words.specs.declared.command.Command.TheVariants as commands
+use Rattle.pie_cli.specs.Build.{BuildSays, IsBuildText, IsRead, MakeSays, RunsBuild}
+use Rattle.pie_cli.specs.Run.{is_answer, input_fault_text, GainsAtMost, GainsPrefix, GainsSome, Shows}
+use Rattle.pie_cli.specs.inner.Unread.{Makes}
+use Rattle.pie_cli.proofs.Statuses.{answer_is_told, memory_is_no_answer}
+
+-- the input is refused with this
+pub bad_read : (left after : Option (List ℕ)) (e : NamesError) (fault : InputFault) → e ≡ Bad fault
+    → IfSome left (λ bytes. NamesRead bytes after (Err e)) → IfSome left (λ bytes. IsBad bytes fault)
+bad_read left after e fault is h = subst (λ x. IfSome left (λ bytes. NamesRead bytes after (Err x))) is h
+
+pub bad_told : (e : NamesError) (fault : InputFault) → e ≡ Bad fault → IsTold {A = Vec (List ℕ) Global} (Err e)
+bad_told e fault is = subst (λ x. IsTold {A = Vec (List ℕ) Global} (Err x)) (sym is) (tt {0})
+
+-- no change list has names and is refused
+no_names : (bytes : List ℕ) (names : List (List ℕ)) (fault : InputFault) → AreNames bytes names → IsBad bytes fault → ⊥
+no_names bytes names fault has (inl long) = absurd (omega (arith, long.0, has.0))
+no_names bytes names fault has (inr wrong) = let both = sym has.1 ∙ wrong.1 in absurd (search rules)
+
+-- the names of an input were read
+abbrev pub HasNamed : Option (List ℕ) → Option (List ℕ) → List (List ℕ) → Type 0
+HasNamed left after names = IfSome left (λ bytes. AreNames bytes names × (after ≡ Some []))
+
+read_whole : (left after : Option (List ℕ)) (names : List (List ℕ)) → HasNamed left after names → IsRead left after
+read_whole None after names h = tt {0}
+read_whole (Some bytes) after names h = ((names, h.0), h.1)
+
+never_bad : (left after : Option (List ℕ)) (names : List (List ℕ)) (P : Type 0) → HasNamed left after names
+    → IfSome left (λ bytes. (fault : InputFault) → IsBad bytes fault → P)
+never_bad None after names P h = tt {0}
+never_bad (Some bytes) after names P h = λ fault bad. absurd (no_names bytes names fault h.0 bad)
+
+-- it holds whatever the input is
+in_any_case : (left : Option (List ℕ)) (P : Type 0) → P → IfSome left (λ bytes. (fault : InputFault) → IsBad bytes fault → P)
+in_any_case None P p = tt {0}
+in_any_case (Some bytes) P p = λ fault bad. p
+
+-- more texts are allowed
+allows_more : (Fewer More : List ℕ → Type 0) (Failed : Type 0) (held gained : Option (List ℕ)) → ((text : List ℕ) → Fewer text → More text)
+    → GainsSome Fewer Failed held gained → GainsSome More Failed held gained
+allows_more Fewer More Failed held gained more (inl some) = inl (some.0, more some.0 some.1, some.2)
+allows_more Fewer More Failed held gained more (inr failed) = inr failed
+
+gains_more : (Fewer More : List ℕ → Type 0) (Failed : Type 0) (held gained : Option (List ℕ)) (ended : Status) → ((text : List ℕ) → Fewer text → More text)
+    → GainsAtMost Fewer Failed held gained ended → GainsAtMost More Failed held gained ended
+gains_more Fewer More Failed held gained ended more h =
+    record { prefix = either h.prefix; cut = λ is. allows_more Fewer More Failed held gained more (h.cut is) }
+  where
+    either : GainsSome Fewer Failed held gained ⊎ (gained ≡ held) → GainsSome More Failed held gained ⊎ (gained ≡ held)
+    either (inl some) = inl (allows_more Fewer More Failed held gained more some)
+    either (inr none) = inr none
+
+module _ {S I : Type 0} (holds : S → Option Directory) (faults : S → ℕ) (left : I → Option (List ℕ)) (input_faults : I → ℕ) (json : Bool) where
+  -- a build with the names of the input
+  pub runs_made : (old new : S) (input after : I) (names : List (List ℕ)) (held gained : Option (List ℕ)) (ended : Status)
+      → HasNamed (left input) (left after) names → Makes holds faults json old new held gained ended → (ended ≡ status.Input → ⊥)
+      → RunsBuild holds faults left input_faults json old new input after held gained ended
+  runs_made old new input after names held gained ended named makes no_input =
+      let read : IsRead (left input) (left after) = read_whole (left input) (left after) names named in
+      record {
+        built = λ a. let made = makes.made a in (made.0, inr (read, made.1), made.2);
+        printed = gains_more (λ text. (said : Status) × MakeSays json (holds old) (holds new) text said)
+            (IsBuildText holds json old new (left input) (left after) (Rose (input_faults input) (input_faults after))) (Rose (faults old) (faults new)) held gained ended
+            (λ text says. inl (says.0, inr (read, says.1))) makes.printed;
+        bad = never_bad (left input) (left after) names (new ≡ old) named;
+        unread = λ is. absurd (no_input is);
+      }
+
+  -- a change list that is refused
+  pub runs_bad : (old : S) (input after : I) (fault : InputFault) (held gained : Option (List ℕ)) (ended : Status)
+      → IfSome (left input) (λ bytes. IsBad bytes fault) → Shows held gained (bad_input_text fault) status.BadInput ended
+      → GainsPrefix held gained (bad_input_text fault) → RunsBuild holds faults left input_faults json old old input after held gained ended
+  runs_bad old input after fault held gained ended bad shows prefix =
+      let says : BuildSays holds json old old (left input) (left after) (bad_input_text fault) status.BadInput = inl ((fault, bad, refl, refl), refl) in
+      let some : GainsSome (IsBuildText holds json old old (left input) (left after) (Rose (input_faults input) (input_faults after))) (Rose (faults old) (faults old)) held
+      gained = inl (bad_input_text fault, inl (status.BadInput, says), prefix) in
+      record {
+        built = λ a. let s = shows (answer_is_told ended a) in
+            (bad_input_text fault, subst (λ x. BuildSays holds json old old (left input) (left after) (bad_input_text fault) x) (sym s.0) says, s.1);
+        printed = record { prefix = inl some; cut = λ is. some };
+        bad = in_any_case (left input) (old ≡ old) refl;
+        unread = λ is. refl;
+      }
+
+  -- an input that failed
+  pub runs_failed : (old : S) (input after : I) (held gained : Option (List ℕ)) (ended : Status) → Rose (input_faults input) (input_faults after)
+      → Shows held gained input_fault_text status.Input ended → GainsPrefix held gained input_fault_text
+      → RunsBuild holds faults left input_faults json old old input after held gained ended
+  runs_failed old input after held gained ended rose shows prefix =
+      let some : GainsSome (IsBuildText holds json old old (left input) (left after) (Rose (input_faults input) (input_faults after))) (Rose (faults old) (faults old)) held
+      gained = inl (input_fault_text, inr (rose, refl), prefix) in
+      record {
+        built = λ a. absurd (false≢true (subst (λ x. is_answer x ≡ true) (shows (answer_is_told ended a)).0 a));
+        printed = record { prefix = inl some; cut = λ is. some };
+        bad = in_any_case (left input) (old ≡ old) refl;
+        unread = λ is. refl;
+      }
+
+  -- out of memory before anything was asked of the files
+  pub runs_memory : (old : S) (input after : I) (held : Option (List ℕ))
+      → RunsBuild holds faults left input_faults json old old input after held held status.Memory
+  runs_memory old input after held = record {
+    built = λ a. absurd (memory_is_no_answer a);
+    printed = record { prefix = inr refl; cut = λ is. absurd (cc) };
+    bad = in_any_case (left input) (old ≡ old) refl;
+    unread = λ is. refl;
+  }
+
+-- a command has one flag
+pub at_build_flag : (P : Bool → Type 0) (command : Command) (a b : Bool) → command ≡ commands.Build a → command ≡ commands.Build b → P a → P b
+at_build_flag P command a b first second p =
+    let both : commands.Build a ≡ commands.Build b = sym first ∙ second in
+    let same : a ≡ b = cc in subst P same p

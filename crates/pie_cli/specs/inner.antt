@@ -1,0 +1,2 @@
+-- Definitions that no clause of `run` rests on: what its parts say of how they end.
+pub mod Unread
