@@ -1,0 +1,2 @@
+# It is mended.
+sed -i "s/a thing/a text/" records.txt

@@ -1,0 +1,2 @@
+# A page goes: so does its file.
+rm pages/news.txt

@@ -1,0 +1,2 @@
+# Somebody wrote to a file that a task provides: it is made anew.
+printf "spoilt" >out/about.html

@@ -1,0 +1,2 @@
+# The footer goes: the build is refused, and the names are kept.
+mv inc/footer.html ..
