@@ -43,11 +43,11 @@ impl Disk {
 
     /// The SHA-256 of the file at a path. A piece of it is in memory at a time.
     pub(crate) fn digest(&self, path: &Path) -> Result<Option<[u8; 32]>, FilesError> {
-        if self.file_at(path)?.is_none() {
+        let Some(seen) = self.file_at(path)? else {
             return Ok(None);
-        }
+        };
         let place = self.place(path)?;
-        let mut piece = vec![in self.alloc(); 0u8; PIECE]?;
+        let mut piece = vec![in self.alloc(); 0u8; room_for(seen.len).min(PIECE)]?;
         let Some(mut file) = self.open(place.as_str())? else {
             return Ok(None);
         };

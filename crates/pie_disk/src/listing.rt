@@ -1,7 +1,7 @@
 //! Listings: the entries of a directory, and the files below it.
 
 use crate::disk::{Disk, MOST, dir_at, is_absent, is_own};
-use crate::seen::Seen;
+use crate::seen::{Kind, Seen};
 use pie_base::{OutOfMemory, Path, PathError};
 use pie_files::FilesError;
 use std::alloc::Global;
@@ -52,36 +52,40 @@ impl Disk {
         Ok(files)
     }
 
-    /// Whether a file is below a directory. It stops at the first, and looks into no directory twice.
+    /// Whether a file is below a directory that stands there. It stops at the first, and looks into no directory twice.
     pub(crate) fn holds_file(&self, dir: &Path) -> Result<bool, FilesError> {
-        let mut looked = BTreeSet::new(self.alloc());
         let mut dirs = Vec::new(self.alloc());
-        dirs.push(dir.copy()?)?;
+        if self.has_file(dir, &mut dirs)? {
+            return Ok(true);
+        }
+        self.hold_file(dirs)
+    }
+
+    // Whether a file is below one of some directories.
+    fn hold_file(&self, mut dirs: Vec<Path>) -> Result<bool, FilesError> {
+        let mut looked = BTreeSet::new(self.alloc());
         for _ in 0..u64::MAX {
             let Some(dir) = dirs.pop() else {
                 break;
             };
-            if self.has_file(&dir, &mut looked, &mut dirs)? {
+            if self.is_new(&dir, &mut looked)? && self.has_file(&dir, &mut dirs)? {
                 return Ok(true);
             }
         }
         Ok(false)
     }
 
-    // Whether a file is right below a directory; if not, adds the directories below it.
-    fn has_file(
-        &self,
-        dir: &Path,
-        looked: &mut BTreeSet<(u64, u64)>,
-        dirs: &mut Vec<Path>,
-    ) -> Result<bool, FilesError> {
-        let Some(seen) = self.look("list", dir)? else {
-            return Ok(false);
-        };
-        if !looked.insert(seen.identity)? {
-            return Ok(false);
+    // Whether a directory stands there that wasn't looked into yet.
+    fn is_new(&self, dir: &Path, looked: &mut BTreeSet<(u64, u64)>) -> Result<bool, FilesError> {
+        match self.look("list", dir)? {
+            Some(seen) => Ok(looked.insert(seen.identity)?),
+            None => Ok(false),
         }
-        let Some(mut listing) = self.opened(dir)? else {
+    }
+
+    // Whether a file is right below a directory; if not, adds the directories below it.
+    fn has_file(&self, dir: &Path, dirs: &mut Vec<Path>) -> Result<bool, FilesError> {
+        let Some(mut listing) = self.listing(dir)? else {
             return Ok(false);
         };
         for _ in 0..u64::MAX {
@@ -117,6 +121,11 @@ impl Disk {
         if !seen.is_some_and(|s| s.is_dir()) {
             return Ok(None);
         }
+        self.listing(dir)
+    }
+
+    // Opens a directory that was looked at, unless it has gone meanwhile.
+    fn listing(&self, dir: &Path) -> Result<Option<ReadDir>, FilesError> {
         let place = self.place(dir)?;
         match fs::read_dir(&self.rt, place.as_str()) {
             Ok(listing) => Ok(Some(listing)),
@@ -148,25 +157,31 @@ impl Disk {
             return Ok(None);
         };
         let place = self.place(&path)?;
-        let own = is_own(&path);
-        match self.seen("list", place.as_str(), !own)? {
-            Some(seen) if seen.is_dir() => {
-                if !own && self.leads_back(place.as_str(), &seen)? {
-                    return Ok(None);
-                }
-                Ok(Some(Entry::Dir(path)))
-            }
-            Some(seen) if own || seen.is_file() => Ok(Some(Entry::File(path))),
-            _ => Ok(None),
+        let Some(seen) = self.seen("list", place.as_str(), false)? else {
+            return Ok(None);
+        };
+        if is_own(&path) {
+            return Ok(Some(own_entry(path, &seen)));
         }
+        if seen.is_link() {
+            return self.linked(path, place.as_str());
+        }
+        Ok(source_entry(path, &seen))
     }
 
-    // Whether a directory, reached by a link, stands above that link: so the listing would go round in a cycle.
-    fn leads_back(&self, place: &str, seen: &Seen) -> Result<bool, FilesError> {
-        let entry = self.seen("list", place, false)?;
-        if !entry.is_some_and(|e| e.is_link()) {
-            return Ok(false);
+    // The entry of a source that is a link, by what it leads to.
+    fn linked(&self, path: Path, place: &str) -> Result<Option<Entry>, FilesError> {
+        let Some(seen) = self.seen("list", place, true)? else {
+            return Ok(None);
+        };
+        if seen.is_dir() && self.leads_back(place, &seen)? {
+            return Ok(None);
         }
+        Ok(source_entry(path, &seen))
+    }
+
+    // Whether a directory to which a link leads stands above that link: so the listing would go round in a cycle.
+    fn leads_back(&self, place: &str, seen: &Seen) -> Result<bool, FilesError> {
         let top = self.top_place()?;
         if self.is_same(top.as_str(), seen)? {
             return Ok(true);
@@ -189,6 +204,24 @@ impl Disk {
     fn is_same(&self, place: &str, seen: &Seen) -> Result<bool, FilesError> {
         let other = self.seen("list", place, true)?;
         Ok(other.is_some_and(|o| o.identity == seen.identity))
+    }
+}
+
+// An entry below `out` or `.pie`: each that is no directory counts.
+fn own_entry(path: Path, seen: &Seen) -> Entry {
+    if seen.is_dir() {
+        Entry::Dir(path)
+    } else {
+        Entry::File(path)
+    }
+}
+
+// An entry elsewhere, where it is a directory or a file.
+fn source_entry(path: Path, seen: &Seen) -> Option<Entry> {
+    match seen.kind {
+        Kind::Dir => Some(Entry::Dir(path)),
+        Kind::File => Some(Entry::File(path)),
+        _ => None,
     }
 }
 
