@@ -1,5 +1,15 @@
+pub mod Agreeing
 pub mod Beginning
+pub mod Calling
+pub mod Closing
 pub mod Cycles
+pub mod Finishing
+pub mod FirstStep
+pub mod Going
+pub mod Growing
 pub mod Moving
+pub mod Owning
 pub mod Parts
+pub mod Settling
+pub mod Sites
 pub mod Twice

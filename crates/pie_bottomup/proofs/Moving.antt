@@ -1,9 +1,7 @@
 -- What the steps of a walk leave of the sizes of its tables.
-use Rattle.std.proofs.Common.{◌≡◌, ℕ, ◌<◌, ◌+◌, List, [], ◌∷◌, ◌++◌, length, set, length-set, sym, ap, ◌∙◌, subst, refl, arith}
-use Rattle.std.proofs.lemmas.List.{length-append}
+use Rattle.std.proofs.Common.{◌≡◌, ℕ, ◌<◌, length, length-set, sym, ap, ◌∙◌, subst}
 use Rattle.pie_graph.specs.declared.edges.TaskNo.{TaskNo}
 use Rattle.pie_graph.specs.Rows.{Row}
-use Rattle.pie_walk.specs.declared.marks.Mark.{Mark}
 use Rattle.pie_walk.specs.declared.marks.Mark.TheVariants.{Settled}
 use Rattle.pie_walk.specs.declared.stack.Entry.TheVariants.{Waits}
 use Rattle.pie_walk.specs.Marks.{IsSettled}

@@ -1,5 +1,5 @@
 -- Two calls that change no file, one after the other.
-use Rattle.std.proofs.Common.{◌≡◌, ◌∙◌, ℕ, subst, arith}
+use Rattle.std.proofs.Common.{◌∙◌, ℕ, subst, arith}
 use Rattle.std.specs.Prelude.{Option, Result, Ok, Err}
 use Rattle.pie_files.specs.Directory.{Directory}
 use Rattle.pie_files.specs.Faults.{Rose}

@@ -1,2 +1,5 @@
 -- Definitions that no clause of `pie_cli::run` rests on: invariants, and what functions say to each other.
+pub mod Ended
+pub mod Recorded
+pub mod Running
 pub mod States

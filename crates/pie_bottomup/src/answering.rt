@@ -1,9 +1,13 @@
 //! Tasks that waited, and are answered.
-ghost use Rattle.std.specs.Prelude.{◌≡◌, ◌+◌, length, None, IfOk};
+ghost use Rattle.std.specs.Prelude.{◌≡◌, ◌+◌, true, None, IfOk, OnOk};
 ghost use Rattle.pie_tables.specs.Tabled.{IsTables, IsGiven};
-ghost use Rattle.pie_frames.specs.inner.Standing.{Holds, IsParked};
+ghost use Rattle.pie_frames.specs.inner.Standing.{Holds, IsParked, number_of};
 ghost use Rattle.pie_frames.specs.inner.Weights.{left_of};
-ghost use Rattle.pie_bottomup.specs.inner.States.{IsSite, TurnsTo, Nearer, rest};
+ghost use Rattle.pie_walk.specs.Marks.{IsSettled};
+ghost use Rattle.pie_results.specs.inner.Failures.{is_done};
+ghost use Rattle.pie_bottomup.specs.inner.Recorded.{HasOutput};
+ghost use Rattle.pie_bottomup.specs.inner.Running.{IsCaller};
+ghost use Rattle.pie_bottomup.specs.inner.States.{IsSite, GoesTo, Keeps, Nearer, rest};
 
 use crate::state::{Core, InHand, Turn};
 use pie_base::{FaultKind, OutOfMemory};
@@ -19,9 +23,13 @@ impl<'a> Core<'a> {
         requires site { IsSite self.old }
         requires free { self.old.hand ≡ None }
         requires holds { Holds no self.old.frames }
-        requires parked { IsParked (length self.old.frames.walk.rows) parked }
-        ensures turns { IfOk result (TurnsTo self.new) }
+        requires parked { IsParked self.old.frames.walk.rows parked }
+        requires number { number_of parked ≡ no.0 }
+        requires caller { IsCaller self.old.plan self.old.tables.names self.old.tables.records self.old.frames.walk.marks parked }
+        requires settled { IsSettled self.old.frames.walk.marks parked.callee.0 }
+        ensures turns { IfOk result (GoesTo self.new) }
         ensures nearer { IfOk result (Nearer (rest self.old + left_of parked.entry) self.new) }
+        ensures kept { OnOk result (Keeps self.old self.new) }
     {
         let Parked {
             caller,
@@ -51,7 +59,8 @@ impl<'a> Core<'a> {
     // How the required task ended. One that has no record counts as one of no function.
     fn outcome_of(&self, callee: TaskNo, caller: &Caller<'a>) -> Result<Outcome, OutOfMemory>
         requires { IsTables self.now.tables }
-        ensures { IfOk result IsGiven }
+        ensures given { IfOk result IsGiven }
+        ensures output { IfOk result (λ o. is_done o ≡ true → HasOutput self.now.tables.records callee.0) }
     {
         match self.tables.outcome(callee)? {
             Some(outcome) => Ok(outcome),

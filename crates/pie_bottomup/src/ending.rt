@@ -4,7 +4,8 @@ ghost use Rattle.pie_walk.specs.Marks.{IsSettled};
 ghost use Rattle.pie_tables.specs.Tabled.{IsKept};
 ghost use Rattle.pie_running.specs.inner.Noted.{IsSound};
 ghost use Rattle.pie_frames.specs.inner.Standing.{Holds};
-ghost use Rattle.pie_bottomup.specs.inner.States.{HasSettled, IsSite, IsTested, MayEnd, TurnsTo, Nearer, rest};
+ghost use Rattle.pie_bottomup.specs.inner.Running.{EndsSo};
+ghost use Rattle.pie_bottomup.specs.inner.States.{AreCalled, HasCalled, IsAtRest, IsOwn, IsSite, HasScheduled, MayEnd, GoesTo, Keeps, Nearer, rest};
 
 use crate::placing::{has_other_output, has_other_writes, is_twice, paths_of};
 use crate::state::{Core, Turn};
@@ -27,8 +28,10 @@ impl<'a> Core<'a> {
         requires free { self.old.hand ≡ None }
         requires holds { Holds no self.old.frames }
         requires sound { IsSound notes }
-        ensures turns { IfOk result (TurnsTo self.new) }
+        requires own { IsOwn self.old no from notes }
+        ensures turns { IfOk result (GoesTo self.new) }
         ensures nearer { IfOk result (Nearer (rest self.old + 1) self.new) }
+        ensures kept { OnOk result (Keeps self.old self.new) }
     {
         if !output.is_small() {
             return self.fail(no, from, notes, FaultKind::Big);
@@ -47,8 +50,9 @@ impl<'a> Core<'a> {
         requires site { IsSite self.old }
         requires free { self.old.hand ≡ None }
         requires holds { Holds no self.old.frames }
-        ensures turns { IfOk result (TurnsTo self.new) }
+        ensures turns { IfOk result (GoesTo self.new) }
         ensures nearer { IfOk result (Nearer (rest self.old + 1) self.new) }
+        ensures kept { OnOk result (Keeps self.old self.new) }
     {
         let fault = Fault {
             task: self.tables.names.task(no).copy()?,
@@ -69,9 +73,10 @@ impl<'a> Core<'a> {
         requires site { IsSite self.old }
         requires free { self.old.hand ≡ None }
         requires holds { Holds no self.old.frames }
-        requires ends { MayEnd notes outcome }
-        ensures turns { IfOk result (TurnsTo self.new) }
+        requires ends { MayEnd self.old no from notes outcome }
+        ensures turns { IfOk result (GoesTo self.new) }
         ensures nearer { IfOk result (Nearer (rest self.old + 1) self.new) }
+        ensures kept { OnOk result (Keeps self.old self.new) }
     {
         let NoteParts { deps, writes, .. } = notes.into_parts();
         let _names = self.tables.names.as_slice();
@@ -96,30 +101,59 @@ impl<'a> Core<'a> {
         requires holds { Holds no self.old.frames }
         requires named { slice_get self.old.tables.names no.0 ≡ Some rec.task }
         requires kept { IsKept rec }
-        ensures turns { IfOk result (TurnsTo self.new) }
+        requires ends { EndsSo self.old.plan self.old.tables.names self.old.tables.records self.old.frames.walk no.0 from rec }
+        ensures turns { IfOk result (GoesTo self.new) }
         ensures nearer { IfOk result (Nearer (rest self.old + 1) self.new) }
+        ensures kept { OnOk result (Keeps self.old self.new) }
     {
         let old = self.tables.records.get(no);
         let output = has_other_output(old, &rec);
         let edges = has_other_writes(old, &rec)
             || !is_twice(self.frames.walk().rows().callees(no), from);
-        let writes = paths_of(self.alloc, rec.writes.as_slice())?;
-        self.tables.put(no, rec)?;
-        self.frames.finish(no, from, writes)?;
-        self.tell_callers(no, output, edges)?;
+        self.call_callers(no, output)?;
+        self.settle_with(no, from, rec)?;
+        self.sweep_above(no, edges)?;
         Ok(Turn::Went)
     }
 
-    // Schedules those that a task concerns that ended with another output, or with other requires or writes.
-    fn tell_callers(&mut self, no: TaskNo, output: bool, edges: bool) -> Result<(), OutOfMemory>
-        requires rests { HasSettled self.old }
-        requires settled { IsSettled self.old.frames.walk.marks no.0 }
-        requires number { no.0 < length self.old.frames.walk.rows }
-        ensures told { OnOk result (IsTested self.old self.new) }
+    // The tasks that require one that ends with another output are scheduled.
+    fn call_callers(&mut self, no: TaskNo, output: bool) -> Result<(), OutOfMemory>
+        requires site { IsSite self.old }
+        requires holds { Holds no self.old.frames }
+        ensures called { OnOk result (HasCalled self.old self.new no.0 output) }
+        ensures holds { OnOk result (Holds no self.new.frames) }
     {
         if output {
             self.frames.schedule_callers(no)?;
         }
+        Ok(())
+    }
+
+    // The task that was taken is settled with this record.
+    fn settle_with(&mut self, no: TaskNo, from: usize, rec: TaskRecord) -> Result<(), OutOfMemory>
+        requires site { IsSite self.old }
+        requires holds { Holds no self.old.frames }
+        requires named { slice_get self.old.tables.names no.0 ≡ Some rec.task }
+        requires kept { IsKept rec }
+        requires ends { EndsSo self.old.plan self.old.tables.names self.old.tables.records self.old.frames.walk no.0 from rec }
+        requires called { AreCalled self.old no.0 rec }
+        ensures ended { OnOk result (HasScheduled self.old self.new) }
+        ensures settled { OnOk result (IsSettled self.new.frames.walk.marks no.0) }
+        ensures inside { OnOk result (no.0 < length self.new.frames.walk.rows) }
+    {
+        let writes = paths_of(self.alloc, rec.writes.as_slice())?;
+        self.tables.put(no, rec)?;
+        self.frames.finish(no, from, writes)?;
+        Ok(())
+    }
+
+    // Schedules those that looked under `out` above a task that ended with other requires or writes.
+    fn sweep_above(&mut self, no: TaskNo, edges: bool) -> Result<(), OutOfMemory>
+        requires rests { IsAtRest self.old }
+        requires settled { IsSettled self.old.frames.walk.marks no.0 }
+        requires number { no.0 < length self.old.frames.walk.rows }
+        ensures swept { OnOk result (HasScheduled self.old self.new) }
+    {
         if edges {
             self.frames.sweep(no)?;
         }

@@ -1,9 +1,9 @@
 //! Events of the task that runs.
-ghost use Rattle.std.specs.Prelude.{◌≡◌, ◌+◌, ◌*◌, None, IfOk};
+ghost use Rattle.std.specs.Prelude.{◌≡◌, ◌+◌, ◌*◌, None, IfOk, OnOk};
 ghost use Rattle.pie_files.specs.Reading.{ReadsOnly};
 ghost use Rattle.pie_running.specs.inner.Frames.{IsWaiting};
 ghost use Rattle.pie_frames.specs.inner.Standing.{Holds};
-ghost use Rattle.pie_bottomup.specs.inner.States.{IsInHand, IsSite, MayGo, TurnsTo, Nearer, rest, told_mass};
+ghost use Rattle.pie_bottomup.specs.inner.States.{IsInHand, IsOwn, IsSite, MayGo, GoesTo, Keeps, Nearer, rest, told_mass};
 
 use crate::state::{Core, InHand, Turn};
 use pie_base::{FaultKind, OutOfMemory, Path};
@@ -22,9 +22,10 @@ impl<'a> Core<'a> {
     ) -> Result<Turn, FilesError>
         requires site { IsSite self.old }
         requires free { self.old.hand ≡ None }
-        requires hand { IsInHand self.old.frames hand }
-        ensures turns { IfOk result (TurnsTo self.new) }
+        requires hand { IsInHand self.old hand }
+        ensures turns { IfOk result (GoesTo self.new) }
         ensures nearer { IfOk result (Nearer (rest self.old + 2 * hand.entry.task.notes.left + 1) self.new) }
+        ensures kept { OnOk result (Keeps self.old self.new) }
         ensures reads { ReadsOnly F.holds F.moment F.left_since F.images F.faults files.old files.new result }
     {
         let InHand { no, from, task } = hand;
@@ -49,8 +50,10 @@ impl<'a> Core<'a> {
         requires free { self.old.hand ≡ None }
         requires holds { Holds no self.old.frames }
         requires waits { IsWaiting waiting }
-        ensures turns { IfOk result (TurnsTo self.new) }
+        requires own { IsOwn self.old no from waiting.notes }
+        ensures turns { IfOk result (GoesTo self.new) }
         ensures nearer { IfOk result (Nearer (rest self.old + 2 * waiting.entry.notes.left + 1) self.new) }
+        ensures kept { OnOk result (Keeps self.old self.new) }
         ensures reads { ReadsOnly F.holds F.moment F.left_since F.images F.faults files.old files.new result }
     {
         match event {
@@ -85,8 +88,10 @@ impl<'a> Core<'a> {
         requires free { self.old.hand ≡ None }
         requires holds { Holds no self.old.frames }
         requires waits { IsWaiting waiting }
-        ensures turns { IfOk result (TurnsTo self.new) }
+        requires own { IsOwn self.old no from waiting.notes }
+        ensures turns { IfOk result (GoesTo self.new) }
         ensures nearer { IfOk result (Nearer (rest self.old + 2 * waiting.entry.notes.left + 1) self.new) }
+        ensures kept { OnOk result (Keeps self.old self.new) }
         ensures reads { ReadsOnly F.holds F.moment F.left_since F.images F.faults files.old files.new result }
     {
         self.fetch(no, from, &path, files)?;
@@ -106,8 +111,10 @@ impl<'a> Core<'a> {
         requires free { self.old.hand ≡ None }
         requires holds { Holds no self.old.frames }
         requires waits { IsWaiting waiting }
-        ensures turns { IfOk result (TurnsTo self.new) }
+        requires own { IsOwn self.old no from waiting.notes }
+        ensures turns { IfOk result (GoesTo self.new) }
         ensures nearer { IfOk result (Nearer (rest self.old + 2 * waiting.entry.notes.left + 1) self.new) }
+        ensures kept { OnOk result (Keeps self.old self.new) }
         ensures reads { ReadsOnly F.holds F.moment F.left_since F.images F.faults files.old files.new result }
     {
         let told = waiting.exists(&self.sight(no, from), path, files)?;
@@ -128,8 +135,10 @@ impl<'a> Core<'a> {
         requires free { self.old.hand ≡ None }
         requires holds { Holds no self.old.frames }
         requires waits { IsWaiting waiting }
-        ensures turns { IfOk result (TurnsTo self.new) }
+        requires own { IsOwn self.old no from waiting.notes }
+        ensures turns { IfOk result (GoesTo self.new) }
         ensures nearer { IfOk result (Nearer (rest self.old + 2 * waiting.entry.notes.left + 1) self.new) }
+        ensures kept { OnOk result (Keeps self.old self.new) }
         ensures reads { ReadsOnly F.holds F.moment F.left_since F.images F.faults files.old files.new result }
     {
         self.fetch(no, from, &path, files)?;
@@ -150,8 +159,10 @@ impl<'a> Core<'a> {
         requires free { self.old.hand ≡ None }
         requires holds { Holds no self.old.frames }
         requires waits { IsWaiting waiting }
-        ensures turns { IfOk result (TurnsTo self.new) }
+        requires own { IsOwn self.old no from waiting.notes }
+        ensures turns { IfOk result (GoesTo self.new) }
         ensures nearer { IfOk result (Nearer (rest self.old + 2 * waiting.entry.notes.left + 1) self.new) }
+        ensures kept { OnOk result (Keeps self.old self.new) }
         ensures reads { ReadsOnly F.holds F.moment F.left_since F.images F.faults files.old files.new result }
     {
         let told = waiting.read(self.alloc, &self.sight(no, from), path, by, files)?;
@@ -171,8 +182,10 @@ impl<'a> Core<'a> {
         requires free { self.old.hand ≡ None }
         requires holds { Holds no self.old.frames }
         requires waits { IsWaiting waiting }
-        ensures turns { IfOk result (TurnsTo self.new) }
+        requires own { IsOwn self.old no from waiting.notes }
+        ensures turns { IfOk result (GoesTo self.new) }
         ensures nearer { IfOk result (Nearer (rest self.old + 2 * waiting.entry.notes.left + 1) self.new) }
+        ensures kept { OnOk result (Keeps self.old self.new) }
         ensures reads { ReadsOnly F.holds F.moment F.left_since F.images F.faults files.old files.new result }
     {
         self.fetch(no, from, &path, files)?;
@@ -192,8 +205,10 @@ impl<'a> Core<'a> {
         requires free { self.old.hand ≡ None }
         requires holds { Holds no self.old.frames }
         requires waits { IsWaiting waiting }
-        ensures turns { IfOk result (TurnsTo self.new) }
+        requires own { IsOwn self.old no from waiting.notes }
+        ensures turns { IfOk result (GoesTo self.new) }
         ensures nearer { IfOk result (Nearer (rest self.old + 2 * waiting.entry.notes.left + 1) self.new) }
+        ensures kept { OnOk result (Keeps self.old self.new) }
         ensures reads { ReadsOnly F.holds F.moment F.left_since F.images F.faults files.old files.new result }
     {
         let told = waiting.digest(&self.sight(no, from), path, files)?;
@@ -205,9 +220,10 @@ impl<'a> Core<'a> {
         requires site { IsSite self.old }
         requires free { self.old.hand ≡ None }
         requires holds { Holds no self.old.frames }
-        requires goes { MayGo told }
-        ensures turns { IfOk result (TurnsTo self.new) }
+        requires goes { MayGo self.old no from told }
+        ensures turns { IfOk result (GoesTo self.new) }
         ensures nearer { IfOk result (Nearer (rest self.old + told_mass told.entry) self.new) }
+        ensures kept { OnOk result (Keeps self.old self.new) }
     {
         match told {
             Told::Goes(task) => {

@@ -8,6 +8,7 @@ mod events;
 mod flags;
 mod looking;
 mod placing;
+mod plan;
 mod requiring;
 mod roots;
 mod starting;

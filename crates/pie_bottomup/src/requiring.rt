@@ -1,11 +1,11 @@
 //! Tasks that the task that runs requires.
-ghost use Rattle.std.specs.Prelude.{◌≡◌, ◌<◌, ◌+◌, ◌*◌, length, None, All, IfOk, OnOk};
+ghost use Rattle.std.specs.Prelude.{◌≡◌, ◌<◌, ◌+◌, ◌*◌, length, None, Some, All, slice_get, IfOk, OnOk};
 ghost use Rattle.std.specs.List.{Contains};
 ghost use Rattle.pie_graph.specs.Numbers.{numbers, AllBelow};
 ghost use Rattle.pie_value.specs.Canonical.{IsEncodableTask};
 ghost use Rattle.pie_running.specs.inner.Frames.{IsWaiting};
 ghost use Rattle.pie_frames.specs.inner.Standing.{Holds};
-ghost use Rattle.pie_bottomup.specs.inner.States.{IsSite, TurnsTo, Nearer, rest};
+ghost use Rattle.pie_bottomup.specs.inner.States.{IsOwn, IsSite, GoesTo, Keeps, Nearer, rest};
 
 use crate::cycle::turned;
 use crate::state::{Core, Turn};
@@ -29,8 +29,10 @@ impl<'a> Core<'a> {
         requires free { self.old.hand ≡ None }
         requires holds { Holds no self.old.frames }
         requires waits { IsWaiting waiting }
-        ensures turns { IfOk result (TurnsTo self.new) }
+        requires own { IsOwn self.old no from waiting.notes }
+        ensures turns { IfOk result (GoesTo self.new) }
         ensures nearer { IfOk result (Nearer (rest self.old + 2 * waiting.entry.notes.left + 1) self.new) }
+        ensures kept { OnOk result (Keeps self.old self.new) }
     {
         if !required.is_small() {
             return self.fail(no, from, waiting.into_notes(), FaultKind::Big);
@@ -52,10 +54,12 @@ impl<'a> Core<'a> {
         requires free { self.old.hand ≡ None }
         requires holds { Holds no self.old.frames }
         requires waits { IsWaiting caller.waiting }
+        requires own { IsOwn self.old no from caller.waiting.notes }
         requires required { IsEncodableTask caller.required }
         requires absent { ¬ (Contains self.old.tables.names caller.required) }
-        ensures turns { IfOk result (TurnsTo self.new) }
+        ensures turns { IfOk result (GoesTo self.new) }
         ensures nearer { IfOk result (Nearer (rest self.old + 2 * caller.entry.waiting.notes.left + 1) self.new) }
+        ensures kept { OnOk result (Keeps self.old self.new) }
     {
         let required = caller.required.copy()?;
         if self.is_full() {
@@ -77,10 +81,13 @@ impl<'a> Core<'a> {
         requires free { self.old.hand ≡ None }
         requires holds { Holds no self.old.frames }
         requires waits { IsWaiting caller.waiting }
+        requires own { IsOwn self.old no from caller.waiting.notes }
         requires required { IsEncodableTask caller.required }
         requires number { callee.0 < length self.old.frames.walk.rows }
-        ensures turns { IfOk result (TurnsTo self.new) }
+        requires named { slice_get self.old.tables.names callee.0 ≡ Some caller.required }
+        ensures turns { IfOk result (GoesTo self.new) }
         ensures nearer { IfOk result (Nearer (rest self.old + 2 * caller.entry.waiting.notes.left + 1) self.new) }
+        ensures kept { OnOk result (Keeps self.old self.new) }
     {
         match self.frames.park(no, caller, from, callee)? {
             Some(cycle) => {

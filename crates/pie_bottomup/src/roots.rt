@@ -1,11 +1,15 @@
 //! The roots, one after another.
-ghost use Rattle.std.specs.Prelude.{◌≡◌, ◌<◌, ◌≤◌, ◌+◌, [], length, None, nat_le, IfOk, OnOk};
+ghost use Rattle.std.specs.Prelude.{◌≡◌, ℕ, ◌<◌, ◌≤◌, true, [], length, None, Some, IsSome, nat_le, slice_get, slice_index_or, IfOk, OnOk};
 ghost use Rattle.std.specs.List.{Contains};
 ghost use Rattle.pie_value.specs.Canonical.{IsEncodableTask};
 ghost use Rattle.pie_graph.specs.declared.edges.TaskNo.{TaskNo};
 ghost use Rattle.pie_walk.specs.Standing.{Stands};
 ghost use Rattle.pie_frames.specs.inner.Standing.{Holds, Rests};
-ghost use Rattle.pie_bottomup.specs.inner.States.{HasSettled, IsSite, TurnsTo, Nearer, rest};
+ghost use Rattle.pie_value.specs.declared.task.Task.{Task};
+ghost use Rattle.pie_record.specs.inner.Records.{record_of};
+ghost use Rattle.pie_results.specs.inner.Failures.{refusal_by};
+ghost use Rattle.pie_running.specs.inner.Noted.{Noted};
+ghost use Rattle.pie_bottomup.specs.inner.States.{IsAtRest, IsNextRoot, IsOwn, IsSite, GoesTo, Keeps, Nearer, RootFailed, rest, room};
 
 use crate::state::{Core, Turn};
 use pie_base::{MAX_TASKS, OutOfMemory};
@@ -17,59 +21,84 @@ use pie_value::Task;
 impl<'a> Core<'a> {
     /// Begins the next root, unless there is none or the one before it failed.
     pub(crate) fn next_root(&mut self) -> Result<Turn, OutOfMemory>
-        requires settled { HasSettled self.old }
+        requires rests { IsAtRest self.old }
         requires free { self.old.hand ≡ None }
         requires idle { self.old.frames.walk.stack ≡ [] }
-        ensures turns { IfOk result (TurnsTo self.new) }
+        ensures turns { IfOk result (GoesTo self.new) }
         ensures nearer { IfOk result (Nearer (rest self.old) self.new) }
+        ensures kept { OnOk result (Keeps self.old self.new) }
     {
-        if self.at >= self.roots.len() || self.has_failed()? {
+        if self.at >= self.plan.roots.len() || self.has_failed()? {
             return Ok(Turn::Settled);
         }
-        let root = self.roots[self.at].copy()?;
-        self.at += 1;
+        let root = self.plan.roots[self.at].copy()?;
         match self.tables.names.number(&root)? {
-            Some(no) => {
-                self.frames.begin(no)?;
-                Ok(Turn::Went)
-            }
+            Some(no) => self.begin(no),
             None => self.begin_new(root),
         }
+    }
+
+    // Begins the next root, which has this number.
+    fn begin(&mut self, no: TaskNo) -> Result<Turn, OutOfMemory>
+        requires rests { IsAtRest self.old }
+        requires free { self.old.hand ≡ None }
+        requires idle { self.old.frames.walk.stack ≡ [] }
+        requires at { self.old.at < length self.old.plan.roots.items }
+        requires root { IsNextRoot self.old no.0 }
+        ensures turns { IfOk result (GoesTo self.new) }
+        ensures nearer { IfOk result (Nearer (rest self.old) self.new) }
+        ensures kept { OnOk result (Keeps self.old self.new) }
+    {
+        self.frames.begin(no)?;
+        self.at += 1;
+        Ok(Turn::Went)
     }
 
     // Whether the root before the next one has failed.
     fn has_failed(&self) -> Result<bool, OutOfMemory>
         requires site { IsSite self.now }
-        requires at { self.now.at ≤ length self.now.roots.items }
+        requires at { self.now.at ≤ length self.now.plan.roots.items }
+        ensures { IfOk result (λ failed. failed ≡ true → RootFailed self.now) }
     {
         if self.at == 0 {
             return Ok(false);
         }
-        let Some(no) = self.tables.names.number(&self.roots[self.at - 1])? else {
+        let Some(no) = self.tables.names.number(&self.plan.roots[self.at - 1])? else {
             return Ok(false);
         };
-        Ok(match self.tables.outcome(no)? {
-            Some(Outcome::Failed(_)) | Some(Outcome::Cycled(_)) => true,
-            _ => false,
-        })
+        self.fails(no)
+    }
+
+    // Whether a task has failed.
+    fn fails(&self, no: TaskNo) -> Result<bool, OutOfMemory>
+        requires site { IsSite self.now }
+        ensures { IfOk result (λ fails. fails ≡ true → IsSome (refusal_by (record_of self.now.tables.records no.0))) }
+    {
+        match self.tables.outcome(no)? {
+            Some(Outcome::Failed(_)) => Ok(true),
+            Some(Outcome::Cycled(_)) => Ok(true),
+            _ => Ok(false),
+        }
     }
 
     // Begins a root without a record.
     fn begin_new(&mut self, root: Task) -> Result<Turn, OutOfMemory>
-        requires settled { HasSettled self.old }
+        requires rests { IsAtRest self.old }
         requires free { self.old.hand ≡ None }
         requires idle { self.old.frames.walk.stack ≡ [] }
         requires encodable { IsEncodableTask root }
         requires absent { ¬ (Contains self.old.tables.names root) }
-        ensures turns { IfOk result (TurnsTo self.new) }
-        ensures nearer { IfOk result (Nearer (rest self.old + 1) self.new) }
+        requires at { self.old.at < length self.old.plan.roots.items }
+        requires next { (d : Task) → slice_index_or self.old.plan.roots.items self.old.at d ≡ root }
+        ensures turns { IfOk result (GoesTo self.new) }
+        ensures nearer { IfOk result (Nearer (rest self.old) self.new) }
+        ensures kept { OnOk result (Keeps self.old self.new) }
     {
         if self.is_full() {
             return Ok(Turn::StartAfresh(self.too_many(root)));
         }
         let no = self.add(root)?;
-        self.frames.begin(no)?;
-        Ok(Turn::Went)
+        self.begin(no)
     }
 
     /// Whether no task may get a number any more.
@@ -97,7 +126,11 @@ impl<'a> Core<'a> {
         ensures holds { (task : TaskNo) → Holds task self.old.frames → OnOk result (Holds task self.new.frames) }
         ensures stack { OnOk result (self.new.frames.walk.stack ≡ self.old.frames.walk.stack) }
         ensures inside { IfOk result (λ no. no.0 < length self.new.frames.walk.rows) }
+        ensures named { IfOk result (λ no. slice_get self.new.tables.names no.0 ≡ Some task) }
+        ensures own { (no : TaskNo) (from : ℕ) (n : Noted) → IsOwn self.old no from n → OnOk result (IsOwn self.new no from n) }
         ensures hand { self.new.hand ≡ self.old.hand }
+        ensures at { self.new.at ≡ self.old.at }
+        ensures kept { OnOk result (Keeps self.old self.new) }
         ensures weight { OnOk result (rest self.new ≤ rest self.old) }
     {
         let no = self.frames.add()?;

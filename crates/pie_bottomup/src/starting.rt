@@ -1,12 +1,14 @@
 //! How a build by what changed begins.
-ghost use Rattle.std.specs.Prelude.{◌≡◌, All, IfOk};
+ghost use Rattle.std.specs.Prelude.{◌≡◌, ◌≤◌, All, IfOk};
 ghost use Rattle.pie_value.specs.Canonical.{IsEncodableTask};
 ghost use Rattle.pie_record.specs.Canonical.{IsStorable};
 ghost use Rattle.pie_store.specs.Canonical.{AreInOrder};
-ghost use Rattle.pie_bottomup.specs.inner.States.{IsCore, MayBegin};
+ghost use Rattle.pie_bottomup.specs.declared.state.First.TheVariants.{Done};
+ghost use Rattle.pie_bottomup.specs.inner.States.{IsCore, IsPlanOf, MayBegin, room};
 
+use crate::plan::Plan;
 use crate::state::{Core, First};
-use pie_base::{OutOfMemory, Path, Text};
+use pie_base::{MAX_TASKS, OutOfMemory, Path, Text};
 use pie_code::Checked;
 use pie_frames::Frames;
 use pie_named::Named;
@@ -28,7 +30,7 @@ impl<'a> Core<'a> {
         alloc: Global,
         typed: &'a Typed,
         code: &'a [Checked],
-        digests: &[(Text, [u8; 32])],
+        digests: &'a [(Text, [u8; 32])],
         image: StoreImage,
         roots: &[Task],
         changes: &[Path],
@@ -36,7 +38,9 @@ impl<'a> Core<'a> {
         requires storable { All IsStorable image.rows }
         requires order { AreInOrder image.rows }
         requires roots { All IsEncodableTask roots.now }
-        ensures { IfOk result IsCore }
+        ensures core { IfOk result IsCore }
+        ensures plan { IfOk result (λ c. IsPlanOf typed.now digests.now roots.now c.plan) }
+        ensures room { IfOk result (λ c. room c ≤ MAX_TASKS) }
     {
         let named = names_of(alloc, changes)?;
         let roots = copies(alloc, roots)?;
@@ -57,15 +61,18 @@ impl<'a> Core<'a> {
         let earlier = walk.count();
         Ok(Core {
             alloc,
-            typed,
-            code,
+            plan: Plan {
+                typed,
+                code,
+                digests,
+                roots,
+                same,
+            },
             tables,
             earlier,
-            same,
             frames: Frames::new(alloc, walk),
             stage: Stage::new(alloc),
             named,
-            roots,
             at: 0,
             hand: None,
             first,
@@ -78,7 +85,8 @@ impl<'a> Core<'a> {
 fn loaded(alloc: Global, rows: Rows) -> Result<(Old, First), OutOfMemory>
     requires storable { All IsStorable rows }
     requires order { AreInOrder rows }
-    ensures { IfOk result (λ o. MayBegin o.0) }
+    ensures begins { IfOk result (λ o. MayBegin o.0) }
+    ensures first { IfOk result (λ o. o.1 ≡ Done → ⊥) }
 {
     match load(alloc, rows)? {
         Loaded::Whole(old) => Ok((old, First::Tests)),
@@ -90,6 +98,7 @@ fn loaded(alloc: Global, rows: Rows) -> Result<(Old, First), OutOfMemory>
 }
 
 // No old tasks.
+#[tactic(auto, using(crate::proofs::Beginning::none_begins))]
 fn none(alloc: Global) -> Result<Old, OutOfMemory>
     ensures { IfOk result MayBegin }
 {

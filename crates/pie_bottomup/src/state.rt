@@ -1,12 +1,13 @@
 //! The state of a build by what changed, and its steps.
-ghost use Rattle.std.specs.Prelude.{IfOk};
+ghost use Rattle.std.specs.Prelude.{◌≤◌, ◌+◌, length, IfOk, OnOk};
 ghost use Rattle.pie_files.specs.Reading.{ReadsOnly};
 ghost use Rattle.pie_results.specs.inner.Made.{IsEmptyWhereRefused, IsKept};
-ghost use Rattle.pie_bottomup.specs.inner.States.{StartsOne, IsCore, HasSettled, TurnsTo, Nearer, mass};
+ghost use Rattle.pie_bottomup.specs.inner.States.{StartsOne, IsCore, HasSettled, TurnsTo, Nearer, Spends, mass, room};
+ghost use Rattle.pie_bottomup.specs.inner.Ended.{StoredIf};
 
-use pie_base::{OutOfMemory, Path, Text};
+use crate::plan::Plan;
+use pie_base::OutOfMemory;
 use pie_checks::Built;
-use pie_code::Checked;
 use pie_files::{Files, FilesError};
 use pie_frames::Frames;
 use pie_graph::TaskNo;
@@ -15,7 +16,6 @@ use pie_results::results;
 use pie_running::RunningTask;
 use pie_store::Cause;
 use pie_tables::Tables;
-use pie_types::Typed;
 use pie_value::Task;
 use pie_view::Stage;
 use pie_vm::Runs;
@@ -26,17 +26,13 @@ use std::alloc::Global;
 #[derive(Drop)]
 pub struct Core<'a> {
     pub(crate) alloc: Global,
-    pub(crate) typed: &'a Typed,
-    pub(crate) code: &'a [Checked],
+    pub(crate) plan: Plan<'a>,
     pub(crate) tables: Tables,
     /// How many tasks the earlier build had.
     pub(crate) earlier: u32,
-    /// Of each of these: its function has the digest that the store kept.
-    pub(crate) same: Vec<bool>,
     pub(crate) frames: Frames<'a>,
     pub(crate) stage: Stage,
     pub(crate) named: Named,
-    pub(crate) roots: Vec<Task>,
     /// How many roots were begun.
     pub(crate) at: usize,
     /// The task that runs.
@@ -84,6 +80,8 @@ impl<'a> Core<'a> {
         ensures turns { IfOk result (TurnsTo self.new) }
         ensures nearer { IfOk result (Nearer (mass self.old) self.new) }
         ensures starts { StartsOne runs.old runs.new }
+        ensures spends { OnOk result (Spends self.old self.new runs.old runs.new) }
+        ensures few { length runs.new ≤ length runs.old + room self.old }
         ensures reads { ReadsOnly F.holds F.moment F.left_since F.images F.faults files.old files.new result }
     {
         match self.hand.take() {
@@ -93,18 +91,20 @@ impl<'a> Core<'a> {
     }
 
     /// What the build makes of its records, once it is settled.
-    #[tactic(auto, using(crate::proofs::Parts::rests_acyclic))]
+    #[tactic(auto, using(crate::proofs::Parts::rests_acyclic, crate::proofs::Finishing::made_stored))]
     pub fn end(self) -> Result<Built, OutOfMemory>
         requires { HasSettled self }
         ensures refused_empty { IfOk result IsEmptyWhereRefused }
         ensures kept { IfOk result IsKept }
+        ensures stored { IfOk result (λ b. StoredIf b.verdict self.entry.plan b) }
     {
+        let _names = self.tables.names.as_slice();
         let built = results(
             self.alloc,
             &self.tables,
             self.frames.walk().rows(),
             &self.stage,
-            self.roots.as_slice(),
+            self.plan.roots.as_slice(),
         )?;
         Ok(built)
     }

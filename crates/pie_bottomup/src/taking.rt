@@ -1,7 +1,9 @@
 //! Tasks that are taken: they are kept, run, or are no tasks any more.
-ghost use Rattle.std.specs.Prelude.{◌≡◌, ◌<◌, ◌+◌, length, None, slice_get, IfOk, IfSome};
+ghost use Rattle.std.specs.Prelude.{◌≡◌, ◌<◌, ◌≤◌, ◌+◌, true, length, None, slice_get, IfOk, IfSome, OnOk};
 ghost use Rattle.pie_frames.specs.inner.Standing.{Holds};
-ghost use Rattle.pie_bottomup.specs.inner.States.{StartsOne, HasSettled, IsSite, TurnsTo, Nearer, rest};
+ghost use Rattle.pie_compare.specs.inner.Standing.{RecordStands};
+ghost use Rattle.pie_bottomup.specs.inner.Running.{IsKnown};
+ghost use Rattle.pie_bottomup.specs.inner.States.{StartsOne, IsAsRecorded, IsAtRest, IsSite, GoesTo, Keeps, Nearer, Spends, SpendsOne, rest, room};
 
 use crate::flags::flag_of;
 use crate::state::{Core, InHand, Turn};
@@ -18,11 +20,13 @@ use pie_vm::Runs;
 impl<'a> Core<'a> {
     /// The walk goes on, up to the next task that is taken or answered, or to the next root.
     pub(crate) fn walk_on(&mut self, runs: &mut Runs) -> Result<Turn, OutOfMemory>
-        requires settled { HasSettled self.old }
+        requires rests { IsAtRest self.old }
         requires free { self.old.hand ≡ None }
-        ensures turns { IfOk result (TurnsTo self.new) }
+        ensures turns { IfOk result (GoesTo self.new) }
         ensures nearer { IfOk result (Nearer (rest self.old) self.new) }
+        ensures spends { OnOk result (Spends self.old self.new runs.old runs.new) }
         ensures starts { StartsOne runs.old runs.new }
+        ensures few { length runs.new ≤ length runs.old + room self.old }
     {
         match self.frames.next()? {
             Next::Takes(no) => self.take(no, runs),
@@ -36,11 +40,13 @@ impl<'a> Core<'a> {
         requires site { IsSite self.old }
         requires free { self.old.hand ≡ None }
         requires holds { Holds no self.old.frames }
-        ensures turns { IfOk result (TurnsTo self.new) }
+        requires recorded { IsAsRecorded self.old no.0 }
+        ensures turns { IfOk result (GoesTo self.new) }
         ensures nearer { IfOk result (Nearer (rest self.old + 2000004) self.new) }
+        ensures spends { OnOk result (SpendsOne self.old self.new runs.old runs.new) }
         ensures starts { StartsOne runs.old runs.new }
     {
-        match code_of(self.typed, self.code, self.tables.names.task(no)) {
+        match code_of(self.plan.typed, self.plan.code, self.tables.names.task(no)) {
             Some(code) => self.take_known(no, code, runs),
             None => self.lose(no),
         }
@@ -56,24 +62,44 @@ impl<'a> Core<'a> {
         requires site { IsSite self.old }
         requires free { self.old.hand ≡ None }
         requires holds { Holds no self.old.frames }
+        requires recorded { IsAsRecorded self.old no.0 }
         requires takes { IfSome (slice_get self.old.tables.names no.0) (λ t. length t.args ≡ code.now.params) }
-        ensures turns { IfOk result (TurnsTo self.new) }
+        requires known { IfSome (slice_get self.old.tables.names no.0) (IsKnown self.old.plan) }
+        ensures turns { IfOk result (GoesTo self.new) }
         ensures nearer { IfOk result (Nearer (rest self.old + 2000004) self.new) }
+        ensures spends { OnOk result (SpendsOne self.old self.new runs.old runs.new) }
         ensures starts { StartsOne runs.old runs.new }
     {
         if self.stands(no)? {
-            self.frames.keep(no);
-            return Ok(Turn::Went);
+            return Ok(self.keep(no));
         }
         self.start(no, code, runs)
+    }
+
+    // The record of a task that was taken stands.
+    fn keep(&mut self, no: TaskNo) -> Turn
+        requires site { IsSite self.old }
+        requires free { self.old.hand ≡ None }
+        requires holds { Holds no self.old.frames }
+        requires recorded { IsAsRecorded self.old no.0 }
+        requires known { IfSome (slice_get self.old.tables.names no.0) (IsKnown self.old.plan) }
+        requires stands { RecordStands self.old.tables self.old.frames.walk.rows self.old.named no.0 }
+        ensures turns { GoesTo self.new result }
+        ensures nearer { Nearer (rest self.old + 1) self.new result }
+        ensures kept { Keeps self.old self.new }
+    {
+        let _names = self.tables.names.as_slice();
+        self.frames.keep(no);
+        Turn::Went
     }
 
     // Whether the record of a task stands.
     fn stands(&self, no: TaskNo) -> Result<bool, OutOfMemory>
         requires site { IsSite self.now }
         requires number { no.0 < length self.now.tables.names }
+        ensures { IfOk result (λ stands. stands ≡ true → RecordStands self.now.tables self.now.frames.walk.rows self.now.named no.0) }
     {
-        if !flag_of(self.same.as_slice(), no) {
+        if !flag_of(self.plan.same.as_slice(), no) {
             return Ok(false);
         }
         let rows = self.frames.walk().rows();
@@ -88,8 +114,10 @@ impl<'a> Core<'a> {
         requires free { self.old.hand ≡ None }
         requires holds { Holds no self.old.frames }
         requires takes { IfSome (slice_get self.old.tables.names no.0) (λ t. length t.args ≡ code.now.params) }
-        ensures turns { IfOk result (TurnsTo self.new) }
+        requires known { IfSome (slice_get self.old.tables.names no.0) (IsKnown self.old.plan) }
+        ensures turns { IfOk result (GoesTo self.new) }
         ensures nearer { IfOk result (Nearer (rest self.old + 2000004) self.new) }
+        ensures spends { OnOk result (SpendsOne self.old self.new runs.old runs.new) }
         ensures starts { StartsOne runs.old runs.new }
     {
         let _names = self.tables.names.as_slice();
@@ -105,8 +133,9 @@ impl<'a> Core<'a> {
         requires site { IsSite self.old }
         requires free { self.old.hand ≡ None }
         requires holds { Holds no self.old.frames }
-        ensures turns { IfOk result (TurnsTo self.new) }
+        ensures turns { IfOk result (GoesTo self.new) }
         ensures nearer { IfOk result (Nearer (rest self.old + 1) self.new) }
+        ensures kept { OnOk result (Keeps self.old self.new) }
     {
         let task = self.tables.names.task(no).copy()?;
         let fault = Fault {

@@ -1,7 +1,8 @@
 //! The first step: old records are held against what changed.
-ghost use Rattle.std.specs.Prelude.{◌≡◌, ◌<◌, length, None, IfOk, OnOk};
+ghost use Rattle.std.specs.Prelude.{◌≡◌, ◌⊎◌, ℕ, ◌<◌, ◌≤◌, ◌+◌, false, true, length, None, slice_index_or, IfOk, OnOk};
+ghost use Rattle.pie_bottomup.specs.declared.state.First.TheVariants.{Tests};
 ghost use Rattle.pie_files.specs.Reading.{ReadsOnly};
-ghost use Rattle.pie_bottomup.specs.inner.States.{StartsOne, HasSettled, IsTested, TurnsTo, Nearer, rest};
+ghost use Rattle.pie_bottomup.specs.inner.States.{StartsOne, IsAtRest, IsDue, IsTested, IsUntested, Keeps, TurnsTo, Nearer, Spends, rest, room};
 
 use crate::flags::flag_of;
 use crate::state::{Core, First, Turn};
@@ -22,20 +23,18 @@ impl<'a> Core<'a> {
         files: &mut F,
         runs: &mut Runs,
     ) -> Result<Turn, FilesError>
-        requires settled { HasSettled self.old }
+        requires state { IsUntested self.old ⊎ IsAtRest self.old }
         requires free { self.old.hand ≡ None }
         ensures turns { IfOk result (TurnsTo self.new) }
         ensures nearer { IfOk result (Nearer (rest self.old) self.new) }
         ensures starts { StartsOne runs.old runs.new }
+        ensures spends { OnOk result (Spends self.old self.new runs.old runs.new) }
+        ensures few { length runs.new ≤ length runs.old + room self.old }
         ensures reads { ReadsOnly F.holds F.moment F.left_since F.images F.faults files.old files.new result }
     {
         match &self.first {
             First::Done => Ok(self.walk_on(runs)?),
-            First::Tests => {
-                self.test_all(files)?;
-                self.first = First::Done;
-                Ok(Turn::Went)
-            }
+            First::Tests => self.begin_tested(files),
             First::TooMany(task) => Ok(Turn::StartAfresh(Cause::UnionMany(
                 MAX_TASKS,
                 0,
@@ -44,11 +43,27 @@ impl<'a> Core<'a> {
         }
     }
 
-    // Schedules each old task whose code or record isn't as it was.
+    // Tests the old records, and is done with the first step.
     #[tactic(auto, using(pie_files::proofs::Reading::reads))]
+    fn begin_tested<F: Files>(&mut self, files: &mut F) -> Result<Turn, FilesError>
+        requires untested { IsUntested self.old }
+        requires first { self.old.first ≡ Tests }
+        ensures turns { IfOk result (TurnsTo self.new) }
+        ensures nearer { IfOk result (Nearer (rest self.old) self.new) }
+        ensures kept { OnOk result (Keeps self.old self.new) }
+        ensures reads { ReadsOnly F.holds F.moment F.left_since F.images F.faults files.old files.new result }
+    {
+        self.test_all(files)?;
+        self.first = First::Done;
+        Ok(Turn::Went)
+    }
+
+    // Schedules each old task whose code or record isn't as it was.
+    #[tactic(auto, using(pie_files::proofs::Reading::reads, crate::proofs::FirstStep::tested_on, crate::proofs::FirstStep::due_more))]
     fn test_all<F: Files>(&mut self, files: &mut F) -> Result<(), FilesError>
-        requires settled { HasSettled self.old }
+        requires untested { IsUntested self.old }
         ensures tested { OnOk result (IsTested self.old self.new) }
+        ensures due { OnOk result ((n : ℕ) → n < length self.old.frames.walk.rows → IsDue self.new n) }
         ensures reads { ReadsOnly F.holds F.moment F.left_since F.images F.faults files.old files.new result }
     {
         let count = self.frames.walk().count();
@@ -61,9 +76,10 @@ impl<'a> Core<'a> {
     // Schedules a task whose code or record isn't as it was.
     #[tactic(auto, using(pie_files::proofs::Reading::reads))]
     fn test<F: Files>(&mut self, no: TaskNo, files: &mut F) -> Result<(), FilesError>
-        requires settled { HasSettled self.old }
+        requires untested { IsUntested self.old }
         requires number { no.0 < length self.old.frames.walk.rows }
         ensures tested { OnOk result (IsTested self.old self.new) }
+        ensures due { OnOk result (IsDue self.new no.0) }
         ensures reads { ReadsOnly F.holds F.moment F.left_since F.images F.faults files.old files.new result }
     {
         let due = self.is_due(no, files)?;
@@ -77,9 +93,10 @@ impl<'a> Core<'a> {
     #[tactic(auto, using(pie_files::proofs::Reading::reads))]
     fn is_due<F: Files>(&mut self, no: TaskNo, files: &mut F) -> Result<bool, FilesError>
         ensures same { self.new ≡ record self.old { named = self.new.named } }
+        ensures due { IfOk result (λ due. slice_index_or self.old.plan.same.items no.0 false ≡ false → due ≡ true) }
         ensures reads { ReadsOnly F.holds F.moment F.left_since F.images F.faults files.old files.new result }
     {
-        if !flag_of(self.same.as_slice(), no) {
+        if !flag_of(self.plan.same.as_slice(), no) {
             return Ok(true);
         }
         match self.tables.records.get(no) {

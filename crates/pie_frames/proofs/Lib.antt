@@ -1,4 +1,4 @@
-pub mod Counting
 pub mod Handing
 pub mod Rest
+pub mod Tying
 pub mod Weighing

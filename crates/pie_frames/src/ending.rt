@@ -1,6 +1,7 @@
 //! Tasks that end.
 ghost use Rattle.std.specs.Prelude.{◌≡◌, ◌<◌, ◌≤◌, drop, length, IfOk, OnOk};
 ghost use Rattle.pie_graph.specs.Rows.{row_at};
+ghost use Rattle.pie_walk.specs.Counts.{begins};
 ghost use Rattle.pie_walk.specs.States.{settled, with_row};
 ghost use Rattle.pie_frames.specs.inner.Standing.{Rests, Holds};
 ghost use Rattle.pie_frames.specs.inner.Weights.{weight};
@@ -19,6 +20,7 @@ impl<'a> Frames<'a> {
         ensures parked { self.new.parked ≡ self.old.parked }
         ensures rests { Rests self.new }
         ensures weight { weight self.new ≤ weight self.old }
+        ensures room { begins self.new.walk ≤ begins self.old.walk }
     {
         self.walk.keep(no);
     }
@@ -30,6 +32,7 @@ impl<'a> Frames<'a> {
         ensures parked { self.new.parked ≡ self.old.parked }
         ensures rests { OnOk result (Rests self.new) }
         ensures weight { OnOk result (weight self.new ≤ weight self.old) }
+        ensures room { OnOk result (begins self.new.walk ≤ begins self.old.walk) }
     {
         let needs = rest(self.alloc, self.walk.rows().callees(no), from)?;
         let edges = Edges {

@@ -1,6 +1,7 @@
 //! The walk of a build with the tasks that wait on it.
 ghost use Rattle.std.specs.Prelude.{◌≡◌, ◌<◌, ◌≤◌, [], length, IfOk, OnOk};
 ghost use Rattle.pie_graph.specs.declared.edges.TaskNo.{TaskNo};
+ghost use Rattle.pie_walk.specs.Counts.{begins};
 ghost use Rattle.pie_walk.specs.States.{met, with_one_more};
 ghost use Rattle.pie_walk.specs.Standing.{Stands};
 ghost use Rattle.pie_frames.specs.inner.Standing.{Rests, Holds};
@@ -55,6 +56,7 @@ impl<'a> Frames<'a> {
         ensures rests { Rests self.old → OnOk result (Rests self.new) }
         ensures holds { (task : TaskNo) → Holds task self.old → OnOk result (Holds task self.new) }
         ensures weight { OnOk result (weight self.new ≤ weight self.old) }
+        ensures room { OnOk result (begins self.new.walk ≤ begins self.old.walk) }
     {
         let no = self.walk.add()?;
         Ok(no)
@@ -69,6 +71,7 @@ impl<'a> Frames<'a> {
         ensures parked { self.new.parked ≡ self.old.parked }
         ensures rests { OnOk result (Rests self.new) }
         ensures weight { OnOk result (weight self.new ≤ weight self.old) }
+        ensures room { OnOk result (begins self.new.walk ≤ begins self.old.walk) }
     {
         self.walk.begin(root)?;
         Ok(())

@@ -1,9 +1,12 @@
 //! Tasks that are scheduled.
 ghost use Rattle.std.specs.Prelude.{◌≡◌, ◌<◌, ◌≤◌, length, OnOk};
+ghost use Rattle.pie_walk.specs.Counts.{begins};
 ghost use Rattle.pie_walk.specs.Callers.{SchedulesCallers, Sweeps};
 ghost use Rattle.pie_walk.specs.Marks.{IsIdle, IsSettled};
+ghost use Rattle.pie_walk.specs.Standing.{Stands};
 ghost use Rattle.pie_walk.specs.States.{with_scheduled};
-ghost use Rattle.pie_frames.specs.inner.Standing.{Rests};
+ghost use Rattle.pie_frames.specs.inner.Standing.{Rests, Holds};
+ghost use Rattle.pie_graph.specs.declared.edges.TaskNo.{TaskNo};
 ghost use Rattle.pie_frames.specs.inner.Weights.{weight};
 
 use crate::Frames;
@@ -20,18 +23,21 @@ impl<'a> Frames<'a> {
         ensures parked { self.new.parked ≡ self.old.parked }
         ensures rests { Rests self.new }
         ensures weight { weight self.new ≤ weight self.old }
+        ensures room { begins self.new.walk ≤ begins self.old.walk }
     {
         self.walk.schedule(no);
     }
 
     /// Each task that requires this one, and was neither taken nor settled, is scheduled.
     pub fn schedule_callers(&mut self, no: TaskNo) -> Result<(), OutOfMemory>
-        requires rests { Rests self.old }
+        requires stands { Stands self.old.walk }
         requires number { no.0 < length self.old.walk.rows }
         ensures scheduled { OnOk result (SchedulesCallers self.old.walk self.new.walk no.0) }
         ensures parked { self.new.parked ≡ self.old.parked }
-        ensures rests { OnOk result (Rests self.new) }
+        ensures rests { Rests self.old → OnOk result (Rests self.new) }
+        ensures holds { (task : TaskNo) → Holds task self.old → OnOk result (Holds task self.new) }
         ensures weight { OnOk result (weight self.new ≤ weight self.old) }
+        ensures room { OnOk result (begins self.new.walk ≤ begins self.old.walk) }
     {
         self.walk.schedule_callers(no)
     }
@@ -46,6 +52,7 @@ impl<'a> Frames<'a> {
         ensures parked { self.new.parked ≡ self.old.parked }
         ensures rests { OnOk result (Rests self.new) }
         ensures weight { OnOk result (weight self.new ≤ weight self.old) }
+        ensures room { OnOk result (begins self.new.walk ≤ begins self.old.walk) }
     {
         self.walk.sweep(no)
     }

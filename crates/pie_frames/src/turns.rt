@@ -1,10 +1,11 @@
 //! The walk goes on, up to the next task that is in hand; a task in hand waits.
 ghost use Rattle.std.specs.Prelude.{◌≡◌, ◌<◌, ◌∷◌, ◌++◌, [], length, IfOk, MatchOption};
 ghost use Rattle.pie_graph.specs.Numbers.{numbers};
+ghost use Rattle.pie_graph.specs.Rows.{row_at};
 ghost use Rattle.pie_order.specs.Cycles.{IsCycle, WouldCall};
 ghost use Rattle.pie_value.specs.Canonical.{IsEncodableTask};
 ghost use Rattle.pie_running.specs.inner.Frames.{IsWaiting};
-ghost use Rattle.pie_frames.specs.inner.Standing.{Rests, Holds};
+ghost use Rattle.pie_frames.specs.inner.Standing.{Rests, Holds, HasFrom};
 ghost use Rattle.pie_frames.specs.inner.Turns.{ComesNext, HasParked, Stays};
 
 use crate::Frames;
@@ -63,6 +64,8 @@ impl<'a> Frames<'a> {
         requires waits { IsWaiting caller.waiting }
         requires required { IsEncodableTask caller.required }
         requires number { callee.0 < length self.old.walk.rows }
+        requires own { caller.waiting.notes.number ≡ no.0 }
+        requires row { HasFrom (row_at self.old.walk.rows no.0) from caller.waiting.notes.needs }
         ensures parked { IfOk result (λ found. MatchOption found (HasParked self.old self.new no (record { caller = caller.entry; from = from; callee = callee }))
             (λ cycle. Stays self.old self.new)) }
         ensures cycle { IfOk result (λ found. MatchOption found Unit

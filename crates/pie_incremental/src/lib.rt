@@ -17,8 +17,6 @@ mod keep;
 mod names;
 mod pending;
 mod run;
-#[cfg(test)]
-mod tests;
 
 pub use base::{Base, OwnFiles, Start};
 pub use begin::find_start;

@@ -1,57 +1,147 @@
 -- What holds of a build by what changed between two steps, and by what it falls.
+use Rattle.std.specs.Prelude.{List, [], ◌∷◌, ◌++◌, ◌≡◌, ◌⊎◌, ℕ, ◌<◌, ◌≤◌, ◌+◌, ◌-◌, ◌*◌, Bool, true, false, length, All, Option, None, Some, IsSome, slice_get, slice_index_or}
+use Rattle.std.specs.List.{Contains}
 use Rattle.pie_value.specs.declared.task.Task.{Task}
-use Rattle.std.specs.Prelude.{List, [], ◌∷◌, ◌++◌, ◌≡◌, ◌⊎◌, ℕ, ◌<◌, ◌≤◌, ◌+◌, ◌-◌, ◌*◌, length, All, Option, None, Some}
 use Rattle.pie_value.specs.Canonical.{IsEncodableTask}
+use Rattle.pie_graph.specs.declared.edges.TaskNo.{TaskNo}
+use Rattle.pie_graph.specs.Numbers.{IsMarked}
+use Rattle.pie_graph.specs.Rows.{Row, row_at, Calls}
+use Rattle.pie_parser.specs.FunctionTrees.{FunctionTree}
 use Rattle.pie_record.specs.Canonical.{IsStorableOutcome}
 use Rattle.pie_record.specs.declared.task_record.Outcome.{Outcome}
+use Rattle.pie_record.specs.declared.records.Records.{Records}
+use Rattle.pie_record.specs.declared.task_record.TaskRecord.{TaskRecord}
+use Rattle.pie_record.specs.inner.Records.{record_of}
+use Rattle.pie_store.specs.Canonical.{names_of}
 use Rattle.pie_tables.specs.Tabled.{IsTables, HasFailed}
 use Rattle.pie_old.specs.declared.old.Old.{Old}
+use Rattle.pie_old.specs.inner.Rows.{IsRowOf}
+use Rattle.pie_walk.specs.declared.marks.Mark.TheVariants.{New}
+use Rattle.pie_walk.specs.Counts.{begins}
+use Rattle.pie_walk.specs.Marks.{mark_of, IsIdle}
 use Rattle.pie_walk.specs.States.{NeedsAreEarlier}
 use Rattle.pie_running.specs.declared.frame.Told.{Told}
 use Rattle.pie_running.specs.declared.frame.Told.TheVariants.{Goes, Fails}
 use Rattle.pie_running.specs.inner.Noted.{Noted, IsSound}
 use Rattle.pie_running.specs.inner.Frames.{IsReady}
-use Rattle.pie_frames.specs.declared.frames.Frames.{Frames}
-use Rattle.pie_frames.specs.inner.Standing.{Rests, Holds}
+use Rattle.pie_frames.specs.inner.Standing.{Rests, Holds, HasFrom}
 use Rattle.pie_frames.specs.inner.Weights.{weight}
+use Rattle.pie_results.specs.inner.Failures.{is_done, refusal_by}
+use Rattle.pie_bottomup.specs.declared.plan.Plan.{Plan}
 use Rattle.pie_bottomup.specs.declared.state.Core.{Core}
 use Rattle.pie_bottomup.specs.declared.state.First.{First}
 use Rattle.pie_bottomup.specs.declared.state.First.TheVariants.{Tests, TooMany, Done}
 use Rattle.pie_bottomup.specs.declared.state.InHand.{InHand}
 use Rattle.pie_bottomup.specs.declared.state.Turn.{Turn}
 use Rattle.pie_bottomup.specs.declared.state.Turn.TheVariants.{Went, Settled, StartAfresh}
+use Rattle.pie_bottomup.specs.inner.Recorded.{AreRecorded, HasOutput}
+use Rattle.pie_bottomup.specs.inner.Running.{IsNoted, Agree}
 
--- the tables and the rows of the walk are of the same tasks, and the roots have canonical bytes
+-- a plan of these functions, digests and roots
+pub record IsPlanOf (fs : List FunctionTree) (funcs : List (List ℕ × List ℕ)) (ts : List Task) (p : Plan) : Type 0 where
+  pub typed : p.typed.now ≡ fs
+  pub digests : p.digests.now ≡ funcs
+  pub roots : p.roots.items ≡ ts
+
+-- ---- before the first step
+
+-- each task whose function kept its digest is of one that has one
+abbrev pub HaveDigests : Plan → List Task → Type 0
+HaveDigests p names = (n : ℕ) (t : Task) → IsMarked p.same.items n → slice_get names n ≡ Some t → Contains (names_of p.digests.now) t.func
+
+-- no task was met, none waits, and no root was begun
+pub record IsAtStart (c : Core) : Type 0 where
+  pub first : c.first ≡ Done → ⊥
+  pub hand : c.hand ≡ None
+  pub at : c.at ≡ 0
+  pub parked : c.frames.parked.items ≡ []
+  pub fresh : (n : ℕ) → mark_of c.frames.walk.marks n ≡ New
+  pub recorded : AreRecorded c.tables.names c.tables.records c.frames.walk
+  pub digests : HaveDigests c.plan c.tables.names
+
+-- the old records aren't tested yet
+pub record IsUntested (c : Core) : Type 0 where
+  pub tables : IsTables c.tables
+  pub sized : length c.tables.names ≡ length c.frames.walk.rows
+  pub roots : All IsEncodableTask c.plan.roots.items
+  pub rests : Rests c.frames
+  pub start : IsAtStart c
+
+-- ---- from then on
+
+-- the old records were tested, the tables and the rows of the walk are of the same tasks and agree, and the roots have canonical bytes
 pub record IsSite (c : Core) : Type 0 where
   pub tables : IsTables c.tables
   pub sized : length c.tables.names ≡ length c.frames.walk.rows
-  pub roots : All IsEncodableTask c.roots.items
+  pub roots : All IsEncodableTask c.plan.roots.items
+  pub tested : c.first ≡ Done
+  pub agree : Agree c.plan c.tables.names c.tables.records c.frames.walk c.frames.parked.items c.at
+
+-- these are the notes of the task in hand
+pub record IsOwn (c : Core) (no : TaskNo) (from : ℕ) (n : Noted) : Type 0 where
+  pub number : n.number ≡ no.0
+  pub row : HasFrom (row_at c.frames.walk.rows no.0) from n.needs
+  pub noted : IsNoted c.plan c.tables.names c.tables.records c.frames.walk.marks n
 
 -- a task was taken, and can go on
-pub record IsInHand (f : Frames) (h : InHand) : Type 0 where
-  pub holds : Holds h.no f
+pub record IsInHand (c : Core) (h : InHand) : Type 0 where
+  pub holds : Holds h.no c.frames
   pub ready : IsReady h.task
+  pub own : IsOwn c h.no h.from h.task.notes
 
 -- no task is in hand, or this one
-abbrev pub RunsOrRests : Frames → Option InHand → Type 0
-RunsOrRests f None = Rests f
-RunsOrRests f (Some h) = IsInHand f h
+abbrev pub RunsOrRests : Core → Option InHand → Type 0
+RunsOrRests c None = Rests c.frames
+RunsOrRests c (Some h) = IsInHand c h
+
+-- a build whose first step is done
+pub record IsGoing (c : Core) : Type 0 where
+  pub site : IsSite c
+  pub state : RunsOrRests c c.hand
 
 -- what holds of a build between two steps
-pub record IsCore (c : Core) : Type 0 where
-  pub site : IsSite c
-  pub state : RunsOrRests c.frames c.hand
+abbrev pub IsCore : Core → Type 0
+IsCore c = IsUntested c ⊎ IsGoing c
 
--- a build whose roots are settled
+-- a build in which no task is in hand
+pub record IsAtRest (c : Core) : Type 0 where
+  pub site : IsSite c
+  pub rests : Rests c.frames
+
+-- the next root has this number
+pub record IsNextRoot (c : Core) (n : ℕ) : Type 0 where
+  pub root : Task
+  pub next : (d : Task) → slice_index_or c.plan.roots.items c.at d ≡ root
+  pub named : slice_get c.tables.names n ≡ Some root
+
+-- a root that failed
+pub record RootFailed (c : Core) : Type 0 where
+  pub root : Task
+  pub among : Contains c.plan.roots.items root
+  pub number : ℕ
+  pub named : slice_get c.tables.names number ≡ Some root
+  pub failed : IsSome (refusal_by (record_of c.tables.records number))
+
+-- a build whose roots are settled, or one that failed
 pub record HasSettled (c : Core) : Type 0 where
   pub site : IsSite c
   pub rests : Rests c.frames
+  pub empty : c.frames.walk.stack ≡ []
+  pub over : (length c.plan.roots.items ≤ c.at) ⊎ RootFailed c
 
 -- what a step leaves
 abbrev pub TurnsTo : Core → Turn → Type 0
 TurnsTo c Went = IsCore c
 TurnsTo c Settled = HasSettled c
 TurnsTo c (StartAfresh cause) = Unit {0}
+
+-- what a step leaves after the first one
+abbrev pub GoesTo : Core → Turn → Type 0
+GoesTo c Went = IsGoing c
+GoesTo c Settled = HasSettled c
+GoesTo c (StartAfresh cause) = Unit {0}
+
+-- ---- what is left to do
 
 -- what the task in hand may still do
 abbrev pub in_hand : Option InHand → ℕ
@@ -65,7 +155,7 @@ untested Done = 0
 
 -- what may still be done beside the task in hand
 abbrev pub rest : Core → ℕ
-rest c = weight c.frames + 2 * (length c.roots.items - c.at) + untested c.first
+rest c = weight c.frames + 2 * (length c.plan.roots.items - c.at) + untested c.first
 
 abbrev pub mass : Core → ℕ
 mass c = rest c + in_hand c.hand
@@ -76,27 +166,95 @@ Nearer bound c Went = mass c < bound
 Nearer bound c Settled = Unit {0}
 Nearer bound c (StartAfresh cause) = Unit {0}
 
+-- how many tasks may yet be started
+abbrev pub room : Core → ℕ
+room c = begins c.frames.walk
+
+-- a build stays that of its plan, and no more tasks may be started than before
+pub record Keeps (old new : Core) : Type 0 where
+  pub plan : new.plan ≡ old.plan
+  pub room : room new ≤ room old
+
+-- each task that was started takes of that
+pub record Spends (old new : Core) (runs_old runs_new : List Task) : Type 0 where
+  pub plan : new.plan ≡ old.plan
+  pub room : length runs_new + room new ≤ length runs_old + room old
+
+-- the same of a task that may be started
+pub record SpendsOne (old new : Core) (runs_old runs_new : List Task) : Type 0 where
+  pub plan : new.plan ≡ old.plan
+  pub room : room new ≤ room old
+  pub one : length runs_new ≤ length runs_old + 1
+
+-- ---- the task in hand
+
+-- the row of a task that was taken is that of its record, if that has an output
+abbrev pub IsAsRecorded : Core → ℕ → Type 0
+IsAsRecorded c n =
+    (r : TaskRecord) → record_of c.tables.records n ≡ Some r → is_done r.outcome ≡ true → IsRowOf c.tables.names r (row_at c.frames.walk.rows n)
+
 -- a task that was told something can go on
-abbrev pub MayGo : Told → Type 0
-MayGo (Goes f) = IsReady f
-MayGo (Fails n k) = Unit {0}
+abbrev pub MayGo : Core → TaskNo → ℕ → Told → Type 0
+MayGo c task from (Goes f) = IsReady f × IsOwn c task from f.notes
+MayGo c task from (Fails n k) = Unit {0}
 
 -- what a task that was told something may still do
 abbrev pub told_mass : Told → ℕ
 told_mass (Goes f) = 2 * f.notes.left + 2
 told_mass (Fails n k) = 1
 
+-- what a task noted that ends with an output
+pub record IsFull (c : Core) (no : TaskNo) (from : ℕ) (n : Noted) (o : Outcome) : Type 0 where
+  pub sound : IsSound n
+  pub outcome : IsStorableOutcome o
+  pub own : IsOwn c no from n
+
 -- a task may end so: it failed, or what was noted and its output can be stored
-abbrev pub MayEnd : Noted → Outcome → Type 0
-MayEnd n o = HasFailed o ⊎ (IsSound n × IsStorableOutcome o)
+abbrev pub MayEnd : Core → TaskNo → ℕ → Noted → Outcome → Type 0
+MayEnd c task from n o = HasFailed o ⊎ IsFull c task from n o
+
+-- the task in hand ends without an output that it had before: then all that require it and may be scheduled are
+abbrev pub AreCalled : Core → ℕ → TaskRecord → Type 0
+AreCalled c n r =
+    is_done r.outcome ≡ false → HasOutput c.tables.records n → (k : ℕ) → Calls c.frames.walk.rows k n → IsIdle c.frames.walk.marks k
+    → IsMarked c.frames.walk.scheduled k
+
+-- the walk alone may have scheduled more, and where it had to, all that require a task and may be
+pub record HasCalled (old new : Core) (n : ℕ) (has_to : Bool) : Type 0 where
+  pub site : IsSite new
+  pub walk : new.frames.walk ≡ record old.frames.walk { scheduled = new.frames.walk.scheduled }
+  pub tables : new.tables ≡ old.tables
+  pub hand : new.hand ≡ old.hand
+  pub nearer : rest new ≤ rest old
+  pub keeps : Keeps old new
+  pub called : has_to ≡ true → (k : ℕ) → Calls old.frames.walk.rows k n → IsIdle old.frames.walk.marks k → IsMarked new.frames.walk.scheduled k
+
+-- the walk alone may have scheduled more
+pub record HasScheduled (old new : Core) : Type 0 where
+  pub rests : IsAtRest new
+  pub hand : new.hand ≡ old.hand
+  pub nearer : rest new ≤ rest old
+  pub keeps : Keeps old new
+
+-- ---- the first step
 
 -- the walk alone may have scheduled more, and what is named may be better known
 pub record IsTested (old new : Core) : Type 0 where
-  pub settled : HasSettled new
-  pub hand : new.hand ≡ old.hand
-  pub first : new.first ≡ old.first
+  pub untested : IsUntested new
   pub rows : length new.frames.walk.rows ≡ length old.frames.walk.rows
+  pub first : new.first ≡ old.first
   pub nearer : rest new ≤ rest old
+  pub keeps : Keeps old new
+  pub more : (n : ℕ) → IsMarked old.frames.walk.scheduled n → IsMarked new.frames.walk.scheduled n
+
+-- a task whose function hasn't kept its digest is scheduled
+abbrev pub IsDue : Core → ℕ → Type 0
+IsDue c n = slice_index_or c.plan.same.items n false ≡ false → IsMarked c.frames.walk.scheduled n
+
+-- a task has a record with an output, and its row is that of the record
+pub record IsOldTask (names : List Task) (records : Records) (rows : List Row) (n : ℕ) : Type 0 where
+  pub output : HasOutput records n
+  pub row : IsRowOf names output.rec (row_at rows n)
 
 -- what a walk over old tasks asks for
 pub record MayBegin (o : Old) : Type 0 where
@@ -104,6 +262,7 @@ pub record MayBegin (o : Old) : Type 0 where
   pub sized : length o.tables.names ≡ length o.rows
   pub looks : length o.looks_out.items ≡ length o.rows
   pub earlier : NeedsAreEarlier o.rows
+  pub each : (n : ℕ) → n < length o.rows → IsOldTask o.tables.names o.tables.records o.rows n
 
 -- no task was started, or one that has canonical bytes
 abbrev pub StartsOne : List Task → List Task → Type 0

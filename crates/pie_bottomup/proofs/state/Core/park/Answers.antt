@@ -1,6 +1,10 @@
-use Rattle.std.proofs.Common.{◌≡◌, subst, sym, length}
+use Rattle.std.proofs.Common.{subst, sym, length}
 use Rattle.pie_graph.specs.Numbers.{AllBelow, numbers}
 use Rattle.pie_order.specs.Cycles.{IsCycle, WouldCall}
+use Rattle.pie_frames.specs.declared.parked.Parked.{Parked}
+use Rattle.pie_frames.specs.inner.Turns.{HasParked}
+use Rattle.pie_bottomup.specs.inner.States.{RunsOrRests}
+use Rattle.pie_bottomup.proofs.Sites.{site_parked}
 use Rattle.pie_bottomup.proofs.Cycles.{cycle_in_hand, there_is}
 use Rattle.pie_bottomup.proofs.state.Core.park.Goals as goal
 
@@ -12,3 +16,12 @@ tasks_of-requires c =
     c.in-Some.is c.in_ok-cycle.ensures.cycle in
     subst (λ nos. AllBelow (length c.args.self.now.tables.names) (numbers nos)) (sym c.as_slice.ensures.value)
     (cycle_in_hand c.args.no frames c.args.callee.0 (length c.args.self.now.tables.names) (numbers c.in-Some.cycle.items) c.requires.site.sized c.requires.holds cycle)
+
+pub returns-in-None-clause-turns : goal.returns-in-None-clause-turns
+returns-in-None-clause-turns c =
+    let p : Parked = record { caller = c.args.caller; from = c.args.from; callee = c.args.callee } in
+    let has : HasParked c.args.self.now.frames c.park.new.self c.args.no p = rw c.in-None.is at c.in_ok-cycle.ensures.parked in
+    record {
+      site = site_parked c.args.self.now c.park.new.self c.args.no p c.requires.site c.requires.holds has c.requires.number c.requires.own c.requires.named;
+      state = subst (RunsOrRests (record c.args.self.now { frames = c.park.new.self })) (sym c.requires.free) has.rests;
+    }

@@ -1,8 +1,9 @@
 use Rattle.std.proofs.Common.{◌≡◌, ◌∙◌, ℕ, List, drop, ap, subst}
 use Rattle.std.specs.List.{Contains}
 use Rattle.pie_graph.specs.Numbers.{numbers}
-use Rattle.pie_graph.specs.Rows.{Row, row_at}
+use Rattle.pie_graph.specs.Rows.{Row, row_at, row_of}
 use Rattle.pie_walk.specs.States.{settled, with_row}
+use Rattle.pie_frames.proofs.Handing.{finished_rests}
 use Rattle.pie_frames.proofs.Rest.{numbers_from, in_rest, is_row_from}
 use Rattle.pie_frames.proofs.frames.Frames.finish.Goals as goal
 use Rattle.pie_frames.proofs.frames.Frames.finish.Goals.{In_ok-needs}
@@ -21,3 +22,8 @@ returns-clause-finished c =
     c.in_ok-finish.ensures.finished ∙ ap (λ (row : Row). settled (with_row c.args.self.now.walk c.args.no.0 row) c.args.no.0)
     (is_row_from (row_at c.args.self.now.walk.rows c.args.no.0) c.args.from (numbers c.in_ok-needs.needs.items) c.new.result.items c.new-2.result.items
     c.args.writes.items (needs (goal.at.returns-clause-finished c).In_ok-needs) c.new.ensures.items c.new-2.ensures.items)
+
+pub returns-clause-rests : goal.returns-clause-rests
+returns-clause-rests c =
+    finished_rests c.args.self.now c.finish.new.self c.args.no (row_of (record { needs = c.in_ok-needs.needs; reads = c.new.result; lists = c.new-2.result; writes = c.args.writes }))
+    c.requires c.in_ok-finish.ensures.stands c.in_ok-finish.ensures.finished c.in_ok-finish.ensures.counts

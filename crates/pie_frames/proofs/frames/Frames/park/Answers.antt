@@ -9,5 +9,5 @@ returns-in_ok-push-in-None-clause-parked c =
     = rw c.in-None.is at c.in_ok-cycle.ensures.required in
     parks c.args.self.now (record { alloc = c.args.self.now.alloc; walk = c.require.new.self; parked = c.push.new.self }) c.args.no
     (record { caller = c.args.caller; from = c.args.from; callee = c.args.callee }) c.requires.holds c.in_ok-cycle.ensures.stands
-    c.in_ok-cycle.ensures.counts required c.in_ok-push-in-None.ensures.items
-    (record { waits = c.requires.waits; required = c.requires.required; callee = c.requires.number })
+    c.in_ok-cycle.ensures.counts required c.in_ok-push-in-None.ensures.items c.requires.own c.requires.row c.requires.waits c.requires.required
+    c.requires.number

@@ -1,12 +1,12 @@
 //! What builds begin from, and what they keep and put into place.
-use crate::{
-    Base, OwnFiles, Start, changes_plan, commit_plan, find_start, joined_names, keep_names,
-    put_digests,
-};
 use pie_base::{OutOfMemory, Path, Text};
 use pie_commit::Plan;
 use pie_diff::Held;
 use pie_files::{Files, MemFiles};
+use pie_incremental::{
+    Base, OwnFiles, Start, changes_plan, commit_plan, find_start, joined_names, keep_names,
+    put_digests,
+};
 use pie_stamp::hash_of;
 use pie_store::{Cause, Funcs, Rows, StoreFault, StoreImage};
 use pie_value::Tasks;

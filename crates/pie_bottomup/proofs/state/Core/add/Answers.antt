@@ -1,0 +1,19 @@
+use Rattle.std.proofs.Common.{◌≡◌, ◌∙◌, List, Some, sym, subst}
+use Rattle.std.specs.Prelude.{slice_get}
+use Rattle.pie_value.specs.declared.task.Task.{Task}
+use Rattle.pie_bottomup.proofs.Sites.{site_grown, own_grown, last_named}
+use Rattle.pie_bottomup.proofs.state.Core.add.Goals as goal
+
+pub returns-clause-site : goal.returns-clause-site
+returns-clause-site c =
+    site_grown c.args.self.now c.add.new.self c.add-2.new.self c.args.task c.requires.site c.requires.stands.holds c.in_ok-_same.ensures.tables
+    c.in_ok-no.ensures.added c.add.ensures.parked c.in_ok-_same.ensures.added c.add-2.ensures.records
+
+pub returns-clause-named : goal.returns-clause-named
+returns-clause-named c =
+    subst (λ (names : List Task). slice_get names c.in_ok-no.no.0 ≡ Some c.args.task) (sym c.in_ok-_same.ensures.added)
+    (last_named c.args.self.now.tables.names c.args.task c.in_ok-no.no.0 (c.in_ok-no.ensures.number ∙ sym c.requires.site.sized))
+
+pub returns-clause-own : goal.returns-clause-own
+returns-clause-own c =
+    own_grown c.args.self.now c.add.new.self c.add-2.new.self c.args.task c.in_ok-no.ensures.added c.in_ok-_same.ensures.added c.add-2.ensures.records

@@ -1,0 +1,19 @@
+use Rattle.std.proofs.Common.{ap, refl}
+use Rattle.pie_results.specs.inner.Failures.{is_done}
+use Rattle.pie_bottomup.proofs.Owning.{given_own}
+use Rattle.pie_bottomup.proofs.state.Core.answer.Goals as goal
+
+pub returns-in_ok-task-in-Done-clause-turns : goal.returns-in_ok-task-in-Done-clause-turns
+returns-in_ok-task-in-Done-clause-turns c =
+    let site = c.requires.site in
+    let ready = c.in_ok-task-in-Done.ensures.ready in
+    let own = given_own c.args.self.now c.args.no c.args.parked c.in_ok-task-in-Done.task.notes c.args.parked.caller.required 0 c.requires.number c.requires.parked
+    c.requires.caller refl ready.1 (c.in_ok-failed.ensures.output (ap is_done c.in-Done.is)) c.requires.settled in
+    record {
+      site = record { tables = site.tables; sized = site.sized; roots = site.roots; tested = site.tested; agree = site.agree };
+      state = record {
+        holds = c.requires.holds;
+        ready = ready.0;
+        own = record { number = own.number; row = own.row; noted = own.noted };
+      };
+    }

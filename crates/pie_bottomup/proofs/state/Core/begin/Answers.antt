@@ -1,0 +1,11 @@
+use Rattle.std.proofs.Common.{◌+◌, sym, subst}
+use Rattle.pie_bottomup.specs.inner.States.{RunsOrRests}
+use Rattle.pie_bottomup.proofs.Sites.{site_begun}
+use Rattle.pie_bottomup.proofs.state.Core.begin.Goals as goal
+
+pub returns-clause-turns : goal.returns-clause-turns
+returns-clause-turns c = record {
+  site = site_begun c.args.self.now c.begin.new.self c.args.no c.requires.rests.site c.requires.rests.rests c.requires.at c.requires.root
+      c.in_ok-begin.ensures.began c.begin.ensures.parked;
+  state = subst (RunsOrRests (record c.args.self.now { frames = c.begin.new.self; at = c.args.self.now.at + 1 })) (sym c.requires.free) c.in_ok-begin.ensures.rests;
+}

@@ -1,0 +1,15 @@
+use Rattle.std.proofs.Common.{sym, subst, inr, arith}
+use Rattle.pie_bottomup.specs.declared.state.First.TheVariants.{Done}
+use Rattle.pie_bottomup.specs.inner.States.{RunsOrRests}
+use Rattle.pie_bottomup.proofs.FirstStep.{begun_rests}
+use Rattle.pie_bottomup.proofs.state.Core.begin_tested.Goals as goal
+
+pub returns-clause-turns : goal.returns-clause-turns
+returns-clause-turns g c =
+    let now = c.test_all.new.self in
+    let tested = c.in_ok-test_all.ensures.tested in
+    let rests = begun_rests now tested.untested (λ n l. c.in_ok-test_all.ensures.due n (omega (arith, l, tested.rows))) in
+    inr (record {
+      site = rests.site;
+      state = subst (RunsOrRests (record now { first = Done })) (sym tested.untested.start.hand) rests.rests;
+    })

@@ -1,0 +1,12 @@
+use Rattle.std.proofs.Common.{◌∙◌, Some, sym, ap, subst}
+use Rattle.pie_running.specs.inner.Noted.{Noted}
+use Rattle.pie_bottomup.specs.inner.States.{MayEnd}
+use Rattle.pie_bottomup.proofs.Owning.{ends_so}
+use Rattle.pie_bottomup.proofs.state.Core.end_as.Goals as goal
+
+pub end_with-requires-clause-ends : goal.end_with-requires-clause-ends
+end_with-requires-clause-ends c =
+    ends_so c.args.self.now c.args.no c.args.from c.args.notes.left c.into_parts-deps.result
+    (record { task = c.in_ok-copy.field-0; deps = c.new.result; writes = c.new-2.result; outcome = c.args.outcome })
+    (subst (λ (n : Noted). MayEnd c.args.self.now c.args.no c.args.from n c.args.outcome) c.into_parts-deps.ensures c.requires.ends)
+    (c.task.ensures ∙ ap Some (sym c.in_ok-copy.ensures)) c.new.ensures

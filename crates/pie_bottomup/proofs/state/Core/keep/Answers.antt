@@ -1,0 +1,11 @@
+use Rattle.std.proofs.Common.{sym, subst}
+use Rattle.pie_bottomup.specs.inner.States.{RunsOrRests}
+use Rattle.pie_bottomup.proofs.Settling.{site_kept}
+use Rattle.pie_bottomup.proofs.state.Core.keep.Goals as goal
+
+pub returns-clause-turns : goal.returns-clause-turns
+returns-clause-turns c = record {
+  site = site_kept c.args.self.now c.keep.new.self c.args.no c.as_slice-names.ensures.distinct c.requires.site c.requires.holds c.requires.recorded c.requires.known
+      c.requires.stands c.keep.ensures.kept c.keep.ensures.parked;
+  state = subst (RunsOrRests (record c.args.self.now { frames = c.keep.new.self })) (sym c.requires.free) c.keep.ensures.rests;
+}

@@ -1,0 +1,20 @@
+use Rattle.std.proofs.Common.{◌∙◌, ap, refl, arith}
+use Rattle.pie_old.specs.inner.Rows.{paths_in}
+use Rattle.pie_bottomup.proofs.Settling.{site_ended}
+use Rattle.pie_bottomup.proofs.state.Core.settle_with.Goals as goal
+
+pub returns-clause-ended : goal.returns-clause-ended
+returns-clause-ended c =
+    let now = c.in_ok-finish.ensures in
+    let put = c.in_ok-put.ensures in
+    record {
+      rests = record {
+        site = site_ended c.args.self.now c.put.new.self c.finish.new.self c.args.no c.args.from c.args.rec c.in_ok-writes.writes.items c.requires.site
+            c.requires.holds put.tables c.put.ensures.names put.puts c.requires.named c.requires.ends c.requires.called
+            (c.in_ok-writes.ensures ∙ ap paths_in c.as_slice.ensures) now.finished c.finish.ensures.parked;
+        rests = now.rests;
+      };
+      hand = refl;
+      nearer = omega (arith, now.weight);
+      keeps = record { plan = refl; room = now.room };
+    }

@@ -1,0 +1,30 @@
+use Rattle.std.proofs.Common.{◌≡◌, ◌∙◌, List, Some, length, sym, ap, subst}
+use Rattle.std.specs.Prelude.{IfSome}
+use Rattle.std.proofs.lemmas.List.{length-map}
+use Rattle.pie_graph.specs.declared.edges.TaskNo.{TaskNo}
+use Rattle.pie_graph.specs.Numbers.{numbers}
+use Rattle.pie_graph.specs.Rows.{Row, row_at}
+use Rattle.pie_bottomup.specs.declared.state.InHand.{InHand}
+use Rattle.pie_bottomup.specs.inner.Running.{IsKnown}
+use Rattle.pie_bottomup.proofs.Owning.{started_own, own_tables}
+use Rattle.pie_bottomup.proofs.Sites.{site_tables}
+use Rattle.pie_bottomup.proofs.state.Core.start.Goals as goal
+
+pub returns-clause-turns : goal.returns-clause-turns
+returns-clause-turns c =
+    let self = c.args.self.now in
+    let needs : numbers c.callees-from.result.now ≡ (row_at self.frames.walk.rows c.args.no.0).needs =
+    c.callees-from.ensures.callees ∙ ap (λ (rows : List Row). (row_at rows c.args.no.0).needs) (c.rows.ensures ∙ ap (λ w. w.rows) c.walk.ensures) in
+    let hand : InHand = record { no = c.args.no; from = length c.callees-from.result.now; task = c.in_ok-task.task } in
+    record {
+      site = site_tables self c.runs.new.self c.requires.site c.runs.ensures.tables c.runs.ensures.names c.runs.ensures.records
+          (Some hand);
+      state = record {
+        holds = c.requires.holds;
+        ready = c.in_ok-task.ensures.started.ready;
+        own = own_tables self c.runs.new.self c.args.no (length c.callees-from.result.now) c.in_ok-task.task.notes c.runs.ensures.names c.runs.ensures.records
+            (Some hand) (started_own self c.args.no (length c.callees-from.result.now) c.task.result.now c.in_ok-task.task.notes c.task.ensures
+            (subst (λ o. IfSome o (IsKnown self.plan)) c.task.ensures c.requires.known) (sym (length-map c.callees-from.result.now (λ (t : TaskNo). t.0)) ∙ ap length needs)
+            c.in_ok-task.ensures.started.notes);
+      };
+    }

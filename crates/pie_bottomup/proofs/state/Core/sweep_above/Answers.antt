@@ -1,0 +1,18 @@
+use Rattle.std.proofs.Common.{refl, arith}
+use Rattle.pie_bottomup.proofs.Sites.{site_sweeping}
+use Rattle.pie_bottomup.proofs.state.Core.sweep_above.Goals as goal
+
+pub returns-in_ok-sweep : goal.returns-in_ok-sweep
+returns-in_ok-sweep c =
+    let now = c.in_ok-sweep.ensures in
+    record {
+      swept = record {
+        rests = record {
+          site = site_sweeping c.args.self.now c.sweep.new.self c.args.no.0 c.requires.rests.site now.sweeps c.sweep.ensures.parked;
+          rests = now.rests;
+        };
+        hand = refl;
+        nearer = omega (arith, now.weight);
+        keeps = record { plan = refl; room = now.room };
+      };
+    }

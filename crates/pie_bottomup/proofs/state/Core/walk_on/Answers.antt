@@ -1,0 +1,33 @@
+use Rattle.pie_frames.specs.inner.Turns.{HasTaken, HasAnswered, IsOver}
+use Rattle.pie_bottomup.proofs.Sites.{site_taken, taken_recorded, site_answered, callee_settled, rests_over}
+use Rattle.pie_bottomup.proofs.state.Core.walk_on.Goals as goal
+
+pub take-requires-clause-site : goal.take-requires-clause-site
+take-requires-clause-site c =
+    let has : HasTaken c.args.self.now.frames c.next.new.self c.in-Takes.no = rw c.in-Takes.is at c.in_ok-no.ensures in
+    site_taken c.args.self.now c.next.new.self c.in-Takes.no c.requires.rests.site has
+
+pub take-requires-clause-recorded : goal.take-requires-clause-recorded
+take-requires-clause-recorded c =
+    let has : HasTaken c.args.self.now.frames c.next.new.self c.in-Takes.no = rw c.in-Takes.is at c.in_ok-no.ensures in
+    taken_recorded c.args.self.now c.next.new.self c.in-Takes.no c.requires.rests.site c.requires.rests.rests.stands.holds has
+
+pub answer-requires-clause-site : goal.answer-requires-clause-site
+answer-requires-clause-site c =
+    let has : HasAnswered c.args.self.now.frames c.next.new.self c.in-Answers.no c.in-Answers.parked = rw c.in-Answers.is at c.in_ok-no.ensures in
+    (site_answered c.args.self.now c.next.new.self c.in-Answers.no c.in-Answers.parked c.requires.rests.site has).0
+
+pub answer-requires-clause-caller : goal.answer-requires-clause-caller
+answer-requires-clause-caller c =
+    let has : HasAnswered c.args.self.now.frames c.next.new.self c.in-Answers.no c.in-Answers.parked = rw c.in-Answers.is at c.in_ok-no.ensures in
+    (site_answered c.args.self.now c.next.new.self c.in-Answers.no c.in-Answers.parked c.requires.rests.site has).1
+
+pub answer-requires-clause-settled : goal.answer-requires-clause-settled
+answer-requires-clause-settled c =
+    let has : HasAnswered c.args.self.now.frames c.next.new.self c.in-Answers.no c.in-Answers.parked = rw c.in-Answers.is at c.in_ok-no.ensures in
+    callee_settled c.args.self.now.frames c.next.new.self c.in-Answers.no c.in-Answers.parked has
+
+pub next_root-requires-clause-rests : goal.next_root-requires-clause-rests
+next_root-requires-clause-rests c =
+    let over : IsOver c.args.self.now.frames c.next.new.self = rw c.in-Idle.is at c.in_ok-no.ensures in
+    rests_over c.args.self.now c.next.new.self c.requires.rests.site over
