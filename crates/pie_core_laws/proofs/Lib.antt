@@ -1,0 +1,15 @@
+pub mod Sources
+pub mod Compared
+pub mod Numbers
+pub mod Exactly
+pub mod Finished
+pub mod Moved
+pub mod Visited
+pub mod Grown
+pub mod Kept
+pub mod Begun
+pub mod Fallen
+pub mod Seen
+pub mod Rooted
+pub mod Runs
+pub mod Joined

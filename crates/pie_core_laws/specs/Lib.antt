@@ -1,0 +1,12 @@
+pub mod Update
+pub mod Comparing
+pub mod Exact
+pub mod Finishing
+pub mod Moving
+pub mod Beginning
+pub mod Keeping
+pub mod Reasons
+pub mod Seeing
+pub mod Ends
+pub mod Running
+pub mod Joins

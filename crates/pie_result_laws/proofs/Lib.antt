@@ -1,0 +1,5 @@
+pub mod Missing
+pub mod Living
+pub mod Failing
+pub mod Storing
+pub mod Filing
