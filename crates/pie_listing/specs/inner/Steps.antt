@@ -1,0 +1,49 @@
+-- The steps of a listing.
+use Rattle.std.specs.Prelude.{◌≡◌, ℕ, true, false, List, Option, Some, None, Ok, Err}
+use Rattle.pie_files.specs.Directory.{Directory, file_at, in_path_order}
+use Rattle.pie_scan.specs.declared.entry.Entry.{Entry}
+use Rattle.pie_scan.specs.declared.manifest.Manifest.{Manifest}
+use Rattle.pie_scan.specs.Changes.{AreChanged}
+use Rattle.pie_scan.specs.Scanned.{AreScanned}
+use Rattle.pie_scan.specs.Texts.{IsManifest, IsManifestText}
+use Rattle.pie_scan.specs.inner.Reading.{manifest_says}
+use Rattle.pie_listing.specs.declared.kept.Kept.{Kept}
+use Rattle.pie_listing.specs.declared.kept.Kept.TheVariants.{Good, Bad}
+use Rattle.pie_listing.specs.declared.listing.Listing.{Listing}
+use Rattle.pie_listing.specs.declared.listing.Listing.TheVariants.{Listed, Unlisted}
+use Rattle.pie_listing.specs.declared.listing.Reason.TheVariants.{NoManifest, BadManifest, OtherStore, OtherTops}
+use Rattle.pie_listing.specs.Held.{manifest_path, store_path, bytes_at, hash_in, is_hash, same_paths}
+use Rattle.pie_listing.specs.Listings.{HoldsManifest, IsListing}
+
+-- what is read of a manifest's bytes
+abbrev pub IsRead : List ℕ → Kept → Type 0
+IsRead bytes (Good m) = IsManifestText m.value bytes
+IsRead bytes (Bad NoManifest) = ⊥
+IsRead bytes (Bad (BadManifest fault)) = manifest_says bytes ≡ Err fault
+IsRead bytes (Bad OtherStore) = ⊥
+IsRead bytes (Bad OtherTops) = ⊥
+
+-- what is kept in a directory
+abbrev pub IsKept : Directory → Kept → Type 0
+IsKept d (Good m) = HoldsManifest d m.value
+IsKept d (Bad reason) = (tops : List (List ℕ)) → IsListing d tops (Unlisted reason)
+
+-- a manifest that was read is one
+abbrev pub HasGood : Kept → Type 0
+HasGood (Good m) = IsManifest m.value
+HasGood (Bad reason) = Unit {0}
+
+-- what is kept is this manifest
+abbrev pub IsGood : Manifest → Kept → Type 0
+IsGood m (Good n) = n.value ≡ m
+IsGood m (Bad reason) = ⊥
+
+-- what follows from a manifest
+abbrev pub FollowsFrom : Directory → List (List ℕ) → Manifest → Listing → Type 0
+FollowsFrom d tops m (Listed paths) =
+    (is_hash (hash_in d store_path) m.store ≡ true) × (same_paths (in_path_order tops) m.tops ≡ true)
+    × ((now : List Entry) × AreScanned d tops now × AreChanged m.entries now paths.items)
+FollowsFrom d tops m (Unlisted NoManifest) = ⊥
+FollowsFrom d tops m (Unlisted (BadManifest fault)) = ⊥
+FollowsFrom d tops m (Unlisted OtherStore) = is_hash (hash_in d store_path) m.store ≡ false
+FollowsFrom d tops m (Unlisted OtherTops) = (is_hash (hash_in d store_path) m.store ≡ true) × (same_paths (in_path_order tops) m.tops ≡ false)

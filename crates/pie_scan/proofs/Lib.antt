@@ -1,0 +1,14 @@
+pub mod Turns
+pub mod Naming
+pub mod Growing
+pub mod Merging
+pub mod Separating
+pub mod Looking
+pub mod Pairs
+pub mod Parts
+pub mod Lists
+pub mod Wholes
+pub mod Noted
+pub mod Stopping
+pub mod Coming
+pub mod Faulting
