@@ -70,12 +70,21 @@ def in_order(paths):
     return sorted(paths, key=str.encode)
 
 
+def listing(directory, path):
+    """The entries of a folder in path order, and their canonical bytes."""
+    below = {p[len(path) + 1:].split("/")[0] for p in directory if p.startswith(path + "/") and not is_out(p) and not is_reserved(p)}
+    found = in_order(f"{path}/{n}" for n in below)
+    return found, b"\x05" + be32(len(found)) + b"".join(b"\x04" + sized(p.encode()) for p in found)
+
+
 class Run:
     """One task while it runs: what it observed, wrote and required so far. The forms of outside/pipelines.py ask it."""
 
     def __init__(self, build, task):
         self.build, self.task = build, task
         self.observed, self.writes, self.kids, self.looked = [], {}, [], set()
+        # what each observation asked for, each task that was required, answered or not, and the output once it is done
+        self.asked, self.required, self.output = [], [], None
 
     def fail(self, kind):
         raise Fault(self.task, kind)
@@ -115,6 +124,7 @@ class Run:
         elif found:
             stamp = b"\2" + sha(found[0])
         self.observed.append((kind, sized(path.encode()), stamp))
+        self.asked.append(path)
         return found and found[0]
 
     def text_at(self, kind, path):
@@ -127,10 +137,9 @@ class Run:
     def names(self, path):
         if is_out(path) or is_reserved(path):
             self.fail("BadList")
-        below = {p[len(path) + 1:].split("/")[0] for p in self.build.directory if p.startswith(path + "/") and not is_out(p) and not is_reserved(p)}
-        found = in_order(f"{path}/{n}" for n in below)
-        answer = b"\x05" + be32(len(found)) + b"".join(b"\x04" + sized(p.encode()) for p in found)
+        found, answer = listing(self.build.directory, path)
         self.observed.append((5, sized(path.encode()), b"\2" + sha(answer)))
+        self.asked.append(path)
         return found
 
     def write(self, path, text):
@@ -143,11 +152,13 @@ class Run:
         self.writes[path] = text.encode()
 
     def require(self, kind, task):
-        self.build.enter(task, self.task)
+        self.required.append(task)
+        self.build.enter(task)
         output = text_bytes(self.build.done[task].output)
         self.kids.append(task)
         stamp = {6: b"\4" + output, 7: b"\2" + sha(output), 8: b"\5"}[kind]
         self.observed.append((kind, task_bytes(task), stamp))
+        self.asked.append(task)
         return self.build.done[task].output
 
 
@@ -156,7 +167,7 @@ class Build:
 
     def __init__(self, functions, directory):
         self.functions, self.directory = {f.name: f for f in functions}, directory
-        self.above, self.ran, self.done, self.failed = [], [], {}, {}
+        self.above, self.ran, self.runs, self.done, self.failed = [], [], {}, {}, {}
 
     def reached(self, tasks):
         """The tasks, and all that they require, directly or through others."""
@@ -168,7 +179,7 @@ class Build:
                 left += self.done[task].kids
         return found
 
-    def enter(self, task, caller=None):
+    def enter(self, task):
         if task in self.above:
             raise Cycle(self.above[self.above.index(task):])
         if task in self.failed:
@@ -177,7 +188,7 @@ class Build:
             return
         self.ran.append(task)
         self.above.append(task)
-        run = Run(self, task)
+        run = self.runs[task] = Run(self, task)
         try:
             run.output = self.functions[task[0]].run(run, task[1])
         except Fault as fault:

@@ -9,8 +9,8 @@ use Rattle.pie_files.specs.Directory.{Directory}
 use Rattle.pie_files.specs.Faults.{Rose}
 use Rattle.pie_input.specs.Names.{AreNames, IsBad}
 use Rattle.pie_input.specs.inner.Answers.{IsTold, NamesRead}
-use Rattle.pie_input.specs.declared.names.NamesError.{NamesError}
-use Rattle.pie_input.specs.declared.names.NamesError.TheVariants.{Bad}
+use Rattle.pie_input.specs.declared.lines.LinesError.{LinesError}
+use Rattle.pie_input.specs.declared.lines.LinesError.TheVariants.{Bad}
 use Rattle.pie_report.specs.Refused.{bad_input_text}
 use Rattle.pie_script.specs.declared.fault.InputFault.{InputFault}
 use Rattle.pie_words.specs.declared.command.Command.{Command}
@@ -21,11 +21,11 @@ use Rattle.pie_cli.specs.inner.Unread.{Makes}
 use Rattle.pie_cli.proofs.Statuses.{answer_is_told, memory_is_no_answer}
 
 -- the input is refused with this
-pub bad_read : (left after : Option (List ℕ)) (e : NamesError) (fault : InputFault) → e ≡ Bad fault
+pub bad_read : (left after : Option (List ℕ)) (e : LinesError) (fault : InputFault) → e ≡ Bad fault
     → IfSome left (λ bytes. NamesRead bytes after (Err e)) → IfSome left (λ bytes. IsBad bytes fault)
 bad_read left after e fault is h = subst (λ x. IfSome left (λ bytes. NamesRead bytes after (Err x))) is h
 
-pub bad_told : (e : NamesError) (fault : InputFault) → e ≡ Bad fault → IsTold {A = Vec (List ℕ) Global} (Err e)
+pub bad_told : (e : LinesError) (fault : InputFault) → e ≡ Bad fault → IsTold {A = Vec (List ℕ) Global} (Err e)
 bad_told e fault is = subst (λ x. IsTold {A = Vec (List ℕ) Global} (Err x)) (sym is) (tt {0})
 
 -- no change list has names and is refused

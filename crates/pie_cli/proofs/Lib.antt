@@ -4,6 +4,8 @@ pub mod Ending
 pub mod Fresh
 pub mod Gaining
 pub mod Making
+pub mod Playing
 pub mod Printing
+pub mod Replaying
 pub mod Rest
 pub mod Statuses

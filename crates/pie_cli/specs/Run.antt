@@ -1,5 +1,5 @@
 -- What a run of the program says.
-use Rattle.std.specs.Prelude.{◌≡◌, ◌≢◌, ◌⊎◌, ℕ, Bool, true, false, List, ◌++◌, take, Option, Some, IfSome, codes}
+use Rattle.std.specs.Prelude.{◌≡◌, ◌≢◌, ◌⊎◌, ℕ, Bool, true, false, List, [], ◌++◌, take, Option, Some, IfSome, codes}
 use Rattle.pie_base.specs.declared.status.Status.{Status}
 use Rattle.pie_base.specs.declared.status.Status.TheVariants as status
 use Rattle.pie_files.specs.Faults.{Rose}
@@ -13,7 +13,11 @@ IsUsage words = (command : Command) → words ≢ words_of command
 
 -- no command that reads its input has these words
 abbrev pub NeedsNoInput : List (List ℕ) → Type 0
-NeedsNoInput words = (json : Bool) → words ≢ words_of (commands.Build json)
+NeedsNoInput words = (json : Bool) → (words ≢ words_of (commands.Build json)) × (words ≢ words_of (commands.Replay json))
+
+-- no command that does the steps of a script has these words
+abbrev pub IsNoScript : List (List ℕ) → Type 0
+IsNoScript words = (json : Bool) → words ≢ words_of (commands.Replay json)
 
 -- what is printed where a call on the files failed
 abbrev pub files_fault_text : List ℕ
@@ -59,10 +63,15 @@ is_told status.Memory = false
 abbrev pub Shows : Option (List ℕ) → Option (List ℕ) → List ℕ → Status → Status → Type 0
 Shows before after text wanted ended = is_told ended ≡ true → (ended ≡ wanted) × Gains before after text
 
--- why a run ended: a status that is no answer has its cause, out of memory alone has none; and the counts of faults rose only where it says so
-pub record Ends (asked_before asked_after read_before read_after printed_before printed_after : ℕ) (held gained : Option (List ℕ)) (ended : Status)
-    : Type 0 where
-  pub files : ended ≡ status.Files → Rose asked_before asked_after × Gains held gained files_fault_text
+-- the output gained a text with this line at its end, and the line alone where nothing stands before it
+abbrev pub GainsLine : Type 0 → Option (List ℕ) → Option (List ℕ) → List ℕ → Type 0
+GainsLine Alone before after line = (front : List ℕ) × (Alone → front ≡ []) × Gains before after (front ++ line)
+
+-- why a run ended: a status that is no answer has its cause, out of memory alone has none; and the counts of faults rose only where it says so. Only a
+-- script has reports before the line of a fault
+pub record Ends (Alone : Type 0) (asked_before asked_after read_before read_after printed_before printed_after : ℕ) (held gained : Option (List ℕ))
+    (ended : Status) : Type 0 where
+  pub files : ended ≡ status.Files → Rose asked_before asked_after × GainsLine Alone held gained files_fault_text
   pub input : ended ≡ status.Input → Rose read_before read_after × Gains held gained input_fault_text
   pub output : ended ≡ status.Output → Rose printed_before printed_after
   pub steady : is_answer ended ≡ true → (asked_after ≡ asked_before) × (read_after ≡ read_before) × (printed_after ≡ printed_before)

@@ -1,2 +1,3 @@
 -- Definitions that no clause of `run` rests on: what its parts say of how they end.
+pub mod Played
 pub mod Unread

@@ -5,6 +5,7 @@ mod check;
 mod clean;
 mod incremental;
 mod print;
+mod script;
 mod told;
 mod top;
 

@@ -32,7 +32,8 @@ pub(crate) fn of_report(
     Ok(CommandResult { text, status })
 }
 
-fn printed(alloc: Global, report: &Report, json: bool) -> Result<String, OutOfMemory>
+/// The text of a report, or its line of JSON.
+pub(crate) fn printed(alloc: Global, report: &Report, json: bool) -> Result<String, OutOfMemory>
     requires { All IsEncodableTask report.now.ran.items }
     ensures { IfOk result (λ text. IsPrinted json report.now (string_bytes text)) }
 {
@@ -43,8 +44,8 @@ fn printed(alloc: Global, report: &Report, json: bool) -> Result<String, OutOfMe
     }
 }
 
-// The status that a build with this verdict ends with.
-fn status_of(verdict: &Verdict) -> Status
+/// The status that a build with this verdict ends with.
+pub(crate) fn status_of(verdict: &Verdict) -> Status
     ensures status { result ≡ verdict_status verdict.now }
     ensures answer { is_answer result ≡ true }
 {

@@ -1,5 +1,5 @@
 //! The top call.
-ghost use Rattle.std.specs.Prelude.{◌≡◌, ◌≢◌, Bool, ℕ, true, string_bytes};
+ghost use Rattle.std.specs.Prelude.{◌≡◌, ◌≢◌, Bool, ℕ, true, map, string_bytes};
 ghost use Rattle.pie_build.specs.Left.{KeepsRest};
 ghost use Rattle.pie_files.specs.Faults.{Rose};
 ghost use Rattle.pie_files.specs.Streams.{StaysInfallible};
@@ -8,19 +8,24 @@ ghost use Rattle.pie_words.specs.declared.command.Command.TheVariants as command
 ghost use Rattle.pie_cli.specs.Build.{RunsBuild};
 ghost use Rattle.pie_cli.specs.Check.{RunsCheck};
 ghost use Rattle.pie_cli.specs.Fresh.{RunsFresh};
-ghost use Rattle.pie_cli.specs.Run.{is_answer, is_told, Ends, GainsPrefix, IsUsage, NeedsNoInput, PrintsUsage, Shows};
+ghost use Rattle.pie_cli.specs.Replay.{RunsReplay};
+ghost use Rattle.pie_cli.specs.Run.{is_answer, is_told, Ends, GainsPrefix, IsNoScript, IsUsage, NeedsNoInput, PrintsUsage, Shows};
+ghost use Rattle.pie_cli.specs.inner.Played.{HasNoInput, HasNoScript, Plays};
 ghost use Rattle.pie_cli.specs.inner.Unread.{EndsUnread, Makes};
+ghost use Rattle.pie_replay.specs.Replays.{KeepsOthers};
+ghost use Rattle.pie_script.specs.Steps.{plain};
 ghost use Rattle.pie_report.specs.Refused.{bad_input_text};
 
 use crate::check::check;
 use crate::clean::fresh;
 use crate::incremental::{bad_input, build};
 use crate::print::print_text;
+use crate::script::replay_script;
 use crate::told::CommandResult;
 use pie_base::{OutOfMemory, Path, Status};
 use pie_files::{Files, FilesError, Sink, SinkError, Source};
-use pie_input::{NamesError, read_names};
-use pie_script::InputFault;
+use pie_input::{LinesError, read_names, read_steps};
+use pie_script::{InputFault, Step};
 use pie_words::{Command, USAGE, WordsFault, read_words};
 use std::alloc::Global;
 
@@ -41,9 +46,11 @@ pub fn run<F: Files, I: Source, K: Sink>(
         → RunsCheck F.holds F.moment F.left_since F.images F.asked F.faults files.old files.new (K.held out.old) (K.held out.new) result }
     ensures build { (json : Bool) → texts_of words.now ≡ words_of (commands.Build json)
         → RunsBuild F.holds F.faults I.left I.faults json files.old files.new input.old input.new (K.held out.old) (K.held out.new) result }
+    ensures replay { (json : Bool) → texts_of words.now ≡ words_of (commands.Replay json)
+        → RunsReplay F.holds F.faults I.left I.faults json files.old files.new input.old input.new (K.held out.old) (K.held out.new) result }
     ensures usage { IsUsage (texts_of words.now) → PrintsUsage files.old files.new (K.held out.old) (K.held out.new) result }
-    ensures rest { KeepsRest (F.holds files.old) (F.holds files.new) }
-    ensures ends { Ends (F.faults files.old) (F.faults files.new) (I.faults input.old) (I.faults input.new) (K.faults out.old) (K.faults out.new) (K.held out.old) (K.held out.new) result }
+    ensures rest { IsNoScript (texts_of words.now) → KeepsRest (F.holds files.old) (F.holds files.new) }
+    ensures ends { Ends (IsNoScript (texts_of words.now)) (F.faults files.old) (F.faults files.new) (I.faults input.old) (I.faults input.new) (K.faults out.old) (K.faults out.new) (K.held out.old) (K.held out.new) result }
     ensures infallible { StaysInfallible K.infallible K.faults out.old out.new }
     ensures input_infallible { StaysInfallible I.infallible I.faults input.old input.new }
     ensures input { NeedsNoInput (texts_of words.now) → (input.new ≡ input.old) × (result ≢ Status.Input) }
@@ -70,16 +77,19 @@ fn run_command<F: Files, I: Source, K: Sink>(
         → RunsCheck F.holds F.moment F.left_since F.images F.asked F.faults files.old files.new (K.held out.old) (K.held out.new) result }
     ensures build { (json : Bool) → command ≡ commands.Build json
         → RunsBuild F.holds F.faults I.left I.faults json files.old files.new input.old input.new (K.held out.old) (K.held out.new) result }
-    ensures rest { KeepsRest (F.holds files.old) (F.holds files.new) }
-    ensures ends { Ends (F.faults files.old) (F.faults files.new) (I.faults input.old) (I.faults input.new) (K.faults out.old) (K.faults out.new) (K.held out.old) (K.held out.new) result }
+    ensures replay { (json : Bool) → command ≡ commands.Replay json
+        → RunsReplay F.holds F.faults I.left I.faults json files.old files.new input.old input.new (K.held out.old) (K.held out.new) result }
+    ensures rest { HasNoScript command → KeepsRest (F.holds files.old) (F.holds files.new) }
+    ensures ends { Ends (HasNoScript command) (F.faults files.old) (F.faults files.new) (I.faults input.old) (I.faults input.new) (K.faults out.old) (K.faults out.new) (K.held out.old) (K.held out.new) result }
     ensures infallible { StaysInfallible K.infallible K.faults out.old out.new }
     ensures input_infallible { StaysInfallible I.infallible I.faults input.old input.new }
-    ensures input { ((json : Bool) → command ≢ commands.Build json) → (input.new ≡ input.old) × (result ≢ Status.Input) }
+    ensures input { HasNoInput command → (input.new ≡ input.old) × (result ≢ Status.Input) }
 {
     match command {
         Command::Check => run_check(alloc, files, out),
         Command::Fresh(json) => run_fresh(alloc, files, out, json),
         Command::Build(json) => run_build(alloc, files, input, out, json),
+        Command::Replay(json) => run_replay(alloc, files, input, out, json),
     }
 }
 
@@ -123,15 +133,15 @@ fn run_build<F: Files, I: Source, K: Sink>(
 ) -> Status
     ensures build { RunsBuild F.holds F.faults I.left I.faults json files.old files.new input.old input.new (K.held out.old) (K.held out.new) result }
     ensures rest { KeepsRest (F.holds files.old) (F.holds files.new) }
-    ensures ends { Ends (F.faults files.old) (F.faults files.new) (I.faults input.old) (I.faults input.new) (K.faults out.old) (K.faults out.new) (K.held out.old) (K.held out.new) result }
+    ensures ends { Ends (Unit {0}) (F.faults files.old) (F.faults files.new) (I.faults input.old) (I.faults input.new) (K.faults out.old) (K.faults out.new) (K.held out.old) (K.held out.new) result }
     ensures infallible { StaysInfallible K.infallible K.faults out.old out.new }
     ensures input_infallible { StaysInfallible I.infallible I.faults input.old input.new }
 {
     match read_names(alloc, input) {
         Ok(changes) => make(alloc, files, out, changes.as_slice(), json),
-        Err(NamesError::Bad(fault)) => show_bad(alloc, out, fault),
-        Err(NamesError::Failed) => show(out, "input fault\n", Status::Input),
-        Err(NamesError::OutOfMemory) => Status::Memory,
+        Err(LinesError::Bad(fault)) => show_bad(alloc, out, fault),
+        Err(LinesError::Failed) => show(out, "input fault\n", Status::Input),
+        Err(LinesError::OutOfMemory) => Status::Memory,
     }
 }
 
@@ -152,6 +162,47 @@ fn make<F: Files, K: Sink>(
         Ok(told) => show_told(out, told),
         Err(FilesError::Failed) => show(out, "files fault\n", Status::Files),
         Err(FilesError::OutOfMemory) => Status::Memory,
+    }
+}
+
+// The steps of a script, with the reports of its builds. The input is read first.
+fn run_replay<F: Files, I: Source, K: Sink>(
+    alloc: Global,
+    files: &mut F,
+    input: &mut I,
+    out: &mut K,
+    json: bool,
+) -> Status
+    ensures replay { RunsReplay F.holds F.faults I.left I.faults json files.old files.new input.old input.new (K.held out.old) (K.held out.new) result }
+    ensures ends { Ends ⊥ (F.faults files.old) (F.faults files.new) (I.faults input.old) (I.faults input.new) (K.faults out.old) (K.faults out.new) (K.held out.old) (K.held out.new) result }
+    ensures infallible { StaysInfallible K.infallible K.faults out.old out.new }
+    ensures input_infallible { StaysInfallible I.infallible I.faults input.old input.new }
+{
+    match read_steps(alloc, input) {
+        Ok(steps) => play(alloc, files, out, steps.as_slice(), json),
+        Err(LinesError::Bad(why)) => show_bad(alloc, out, why),
+        Err(LinesError::Failed) => show(out, "input fault\n", Status::Input),
+        Err(LinesError::OutOfMemory) => Status::Memory,
+    }
+}
+
+// These steps, with the reports of their builds.
+fn play<F: Files, K: Sink>(
+    alloc: Global,
+    files: &mut F,
+    out: &mut K,
+    steps: &[Step],
+    json: bool,
+) -> Status
+    ensures plays { Plays F.holds F.faults json (map plain steps.now) files.old files.new (K.held out.old) (K.held out.new) result }
+    ensures rest { KeepsOthers (map plain steps.now) (F.holds files.old) (F.holds files.new) }
+    ensures output { result ≡ Status.Output → Rose (K.faults out.old) (K.faults out.new) }
+    ensures steady { is_told result ≡ true → K.faults out.new ≡ K.faults out.old }
+    ensures infallible { StaysInfallible K.infallible K.faults out.old out.new }
+{
+    match replay_script(alloc, files, steps, json) {
+        Ok(told) => show(out, told.text.as_str(), told.status),
+        Err(OutOfMemory) => Status::Memory,
     }
 }
 

@@ -15,13 +15,14 @@ use Rattle.clap.proofs.OnLiterals.{clap_on_literals}
 use Rattle.pie_words.specs.Commands.{words_of}
 use Rattle.pie_words.specs.inner.Grammar.{commands}
 use Rattle.pie_words.specs.declared.command.Command.{Command}
-use Rattle.pie_words.specs.declared.command.Command.TheVariants.{Check, Fresh, Build}
+use Rattle.pie_words.specs.declared.command.Command.TheVariants.{Check, Fresh, Build, Replay}
 
 -- the name of a command
 abbrev pub name_of : Command → Text
 name_of Check = codes "check"
 name_of (Fresh json) = codes "fresh"
 name_of (Build json) = codes "build"
+name_of (Replay json) = codes "replay"
 
 -- a flag as text
 abbrev pub flag_text : Bool → Text
@@ -44,6 +45,8 @@ named (Fresh false) = refl
 named (Fresh true) = refl
 named (Build false) = refl
 named (Build true) = refl
+named (Replay false) = refl
+named (Replay true) = refl
 
 pub met : (c : Command) → subcommand_of commands (words_of c) ≡ Some (name_in (subcommand_of commands (words_of c)), rows_in (subcommand_of commands (words_of c)))
 unfolding clap_on_literals
@@ -52,18 +55,22 @@ met (Fresh false) = refl
 met (Fresh true) = refl
 met (Build false) = refl
 met (Build true) = refl
+met (Replay false) = refl
+met (Replay true) = refl
 
 -- the flag that a command may have
 abbrev pub flag_of : Command → Bool
 flag_of Check = false
 flag_of (Fresh json) = json
 flag_of (Build json) = json
+flag_of (Replay json) = json
 
 -- a command with the flag
 abbrev pub is_flagged : Command → Bool
 is_flagged Check = false
 is_flagged (Fresh json) = true
 is_flagged (Build json) = true
+is_flagged (Replay json) = true
 
 pub flagged : (c : Command) → is_flagged c ≡ true → one_of (codes "json") (rows_in (subcommand_of commands (words_of c))) ≡ Some (flag_text (flag_of c))
 unfolding clap_on_literals
@@ -72,6 +79,8 @@ flagged (Fresh false) has = refl
 flagged (Fresh true) has = refl
 flagged (Build false) has = refl
 flagged (Build true) has = refl
+flagged (Replay false) has = refl
+flagged (Replay true) has = refl
 
 pub flag_read : (f : Found) (c : Command) → is_flagged c ≡ true → rows_of f ≡ rows_in (subcommand_of commands (words_of c))
     → one_text f (codes "json") ≡ Some (flag_text (flag_of c))
@@ -87,6 +96,8 @@ flag_is (Fresh false) read f has rows set unset = unset (flag_read f (Fresh fals
 flag_is (Fresh true) read f has rows set unset = set (flag_read f (Fresh true) has rows)
 flag_is (Build false) read f has rows set unset = unset (flag_read f (Build false) has rows)
 flag_is (Build true) read f has rows set unset = set (flag_read f (Build true) has rows)
+flag_is (Replay false) read f has rows set unset = unset (flag_read f (Replay false) has rows)
+flag_is (Replay true) read f has rows set unset = set (flag_read f (Replay true) has rows)
 
 pub taken : (c : Command) → takes commands (words_of c) ≡ true
 unfolding clap_on_literals
@@ -95,6 +106,8 @@ taken (Fresh false) = refl
 taken (Fresh true) = refl
 taken (Build false) = refl
 taken (Build true) = refl
+taken (Replay false) = refl
+taken (Replay true) = refl
 
 abbrev first_byte : Text → ℕ
 first_byte [] = 0
@@ -104,6 +117,7 @@ pub check_named : (c : Command) → name_of c ≡ codes "check" → c ≡ Check
 check_named Check is = refl
 check_named (Fresh json) is = let h : ◌≡◌ {A = ℕ} 102 99 = ap first_byte is in absurd (omega arith)
 check_named (Build json) is = let h : ◌≡◌ {A = ℕ} 98 99 = ap first_byte is in absurd (omega arith)
+check_named (Replay json) is = let h : ◌≡◌ {A = ℕ} 114 99 = ap first_byte is in absurd (omega arith)
 
 pub fresh_named : (c : Command) (read : Bool) (f : Found) → name_of c ≡ codes "fresh"
     → rows_of f ≡ rows_in (subcommand_of commands (words_of c))
@@ -113,6 +127,7 @@ pub fresh_named : (c : Command) (read : Bool) (f : Found) → name_of c ≡ code
 fresh_named Check read f name rows set unset = let h : ◌≡◌ {A = ℕ} 99 102 = ap first_byte name in absurd (omega arith)
 fresh_named (Fresh json) read f name rows set unset = ap Fresh (flag_is (Fresh json) read f refl rows set unset)
 fresh_named (Build json) read f name rows set unset = let h : ◌≡◌ {A = ℕ} 98 102 = ap first_byte name in absurd (omega arith)
+fresh_named (Replay json) read f name rows set unset = let h : ◌≡◌ {A = ℕ} 114 102 = ap first_byte name in absurd (omega arith)
 
 pub build_named : (c : Command) (read : Bool) (f : Found) → name_of c ≡ codes "build"
     → rows_of f ≡ rows_in (subcommand_of commands (words_of c))
@@ -122,11 +137,24 @@ pub build_named : (c : Command) (read : Bool) (f : Found) → name_of c ≡ code
 build_named Check read f name rows set unset = let h : ◌≡◌ {A = ℕ} 99 98 = ap first_byte name in absurd (omega arith)
 build_named (Fresh json) read f name rows set unset = let h : ◌≡◌ {A = ℕ} 102 98 = ap first_byte name in absurd (omega arith)
 build_named (Build json) read f name rows set unset = ap Build (flag_is (Build json) read f refl rows set unset)
+build_named (Replay json) read f name rows set unset = let h : ◌≡◌ {A = ℕ} 114 98 = ap first_byte name in absurd (omega arith)
 
-pub is_named : (c : Command) → (name_of c ≡ codes "check" → ⊥) → (name_of c ≡ codes "fresh" → ⊥) → (name_of c ≡ codes "build" → ⊥) → ⊥
-is_named Check check fresh build = check refl
-is_named (Fresh json) check fresh build = fresh refl
-is_named (Build json) check fresh build = build refl
+pub replay_named : (c : Command) (read : Bool) (f : Found) → name_of c ≡ codes "replay"
+    → rows_of f ≡ rows_in (subcommand_of commands (words_of c))
+    → (one_text f (codes "json") ≡ Some (codes "true") → read ≡ true)
+    → (one_text f (codes "json") ≡ Some (codes "false") → read ≡ false)
+    → Replay read ≡ c
+replay_named Check read f name rows set unset = let h : ◌≡◌ {A = ℕ} 99 114 = ap first_byte name in absurd (omega arith)
+replay_named (Fresh json) read f name rows set unset = let h : ◌≡◌ {A = ℕ} 102 114 = ap first_byte name in absurd (omega arith)
+replay_named (Build json) read f name rows set unset = let h : ◌≡◌ {A = ℕ} 98 114 = ap first_byte name in absurd (omega arith)
+replay_named (Replay json) read f name rows set unset = ap Replay (flag_is (Replay json) read f refl rows set unset)
+
+pub is_named : (c : Command) → (name_of c ≡ codes "check" → ⊥) → (name_of c ≡ codes "fresh" → ⊥) → (name_of c ≡ codes "build" → ⊥)
+    → (name_of c ≡ codes "replay" → ⊥) → ⊥
+is_named Check check fresh build replay = check refl
+is_named (Fresh json) check fresh build replay = fresh refl
+is_named (Build json) check fresh build replay = build refl
+is_named (Replay json) check fresh build replay = replay refl
 
 -- what was found, from its name and its matches apart
 pub paired : {A B X Y : Type 0} (f : X → A) (g : X → B) (h : Y → A) (k : Y → B) (r : Option X) (o : Option Y)

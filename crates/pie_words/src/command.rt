@@ -9,4 +9,6 @@ pub enum Command {
     Fresh(bool),
     /// `build`, true with `--json`: build what the change list of the input and the last build leave to do.
     Build(bool),
+    /// `replay`, true with `--json`: do the steps of the script of the input.
+    Replay(bool),
 }

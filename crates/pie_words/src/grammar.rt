@@ -50,6 +50,7 @@ fn named(name: &str, flags: &ArgMatches<'_>) -> Result<Command, WordsFault>
         "check" => Ok(Command::Check),
         "fresh" => Ok(Command::Fresh(flags.get_flag("json"))),
         "build" => Ok(Command::Build(flags.get_flag("json"))),
+        "replay" => Ok(Command::Replay(flags.get_flag("json"))),
         _ => Err(WordsFault::Usage),
     }
 }
@@ -61,7 +62,8 @@ fn commands<'a>(alloc: Global) -> Result<clap::Command<'a>, AllocError>
     let commands = clap::Command::new(alloc, "pie").no_binary_name(true);
     let checks = commands.subcommand(clap::Command::new(alloc, "check"))?;
     let builds = checks.subcommand(with_json(alloc, "fresh")?)?;
-    builds.subcommand(with_json(alloc, "build")?)
+    let replays = builds.subcommand(with_json(alloc, "build")?)?;
+    replays.subcommand(with_json(alloc, "replay")?)
 }
 
 // A command with the flag `--json`.

@@ -26,13 +26,18 @@ fn each_command_is_read(rt: HostRuntime) -> Result<(), Fail> {
         read(alloc, &["build", "--json"])?,
         Ok(Command::Build(true))
     );
+    assert_eq!(rt; read(alloc, &["replay"])?, Ok(Command::Replay(false)));
+    assert_eq!(rt;
+        read(alloc, &["replay", "--json"])?,
+        Ok(Command::Replay(true))
+    );
     Ok(())
 }
 
 #[test]
 fn other_words_are_refused(rt: HostRuntime) -> Result<(), Fail> {
     let alloc = rt.alloc();
-    let cases: [&[&str]; 10] = [
+    let cases: [&[&str]; 11] = [
         &[],
         &[""],
         &["frob"],
@@ -42,6 +47,7 @@ fn other_words_are_refused(rt: HostRuntime) -> Result<(), Fail> {
         &["fresh", "--json", "--json"],
         &["fresh", ""],
         &["build", "--jso"],
+        &["replay", "1"],
         &["--help"],
     ];
     for words in cases {

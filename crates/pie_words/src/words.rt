@@ -73,6 +73,7 @@ fn one_word(word: &str) -> bool
         "check" => true,
         "fresh" => true,
         "build" => true,
+        "replay" => true,
         _ => false,
     }
 }
@@ -84,6 +85,7 @@ fn two_words(first: &str, second: &str) -> bool
     match (first, second) {
         ("fresh", "--json") => true,
         ("build", "--json") => true,
+        ("replay", "--json") => true,
         _ => false,
     }
 }

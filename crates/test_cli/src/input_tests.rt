@@ -6,8 +6,8 @@ use std::alloc::Global;
 use std::process::Abort;
 use std::test::Fail;
 
-// A build with this input asks for no file, ends with this status and prints this text.
-fn refuses(
+// A command with this input asks for no file, ends with this status and prints this text.
+pub(crate) fn refuses(
     rt: &impl Abort,
     alloc: Global,
     words: &[&str],

@@ -6,4 +6,6 @@ mod build_tests;
 #[cfg(test)]
 mod input_tests;
 #[cfg(test)]
+mod script_tests;
+#[cfg(test)]
 mod tests;

@@ -20,6 +20,8 @@ unnamed = on_top (λ s. record s { no_binary_name = true })
 abbrev pub commands : App
 commands = with_subcommand
     (with_subcommand
+    (with_subcommand
     (with_subcommand (unnamed (new_app (codes "pie"))) (new_app (codes "check")).top)
     (with_json (codes "fresh")).top)
-    (with_json (codes "build")).top
+    (with_json (codes "build")).top)
+    (with_json (codes "replay")).top

@@ -7,12 +7,15 @@ use Rattle.pie_files.specs.Faults.{Rose}
 use Rattle.pie_project.specs.Looking.{prefix_calls}
 use Rattle.pie_words.proofs.Apart.{same_command}
 use Rattle.pie_words.specs.declared.command.Command.TheVariants as commands
-use Rattle.pie_words.specs.Commands.{usage_text, words_of}
+use Rattle.pie_words.specs.Commands.{texts_of, usage_text, words_of}
 use Rattle.pie_base.specs.declared.status.Status.TheVariants as status
 use Rattle.pie_cli.specs.Check.{IsCheckText}
 use Rattle.pie_cli.specs.Fresh.{IsFreshText}
 use Rattle.pie_cli.proofs.Building.{runs_memory}
-use Rattle.pie_cli.proofs.Ending.{ends_memory, ends_shown, not_shown}
+use Rattle.pie_cli.specs.Run.{IsNoScript}
+use Rattle.pie_cli.specs.inner.Played.{HasNoScript}
+use Rattle.pie_cli.proofs.Ending.{ends_by, ends_memory, ends_shown, not_shown}
+use Rattle.pie_cli.proofs.Replaying.{runs_none}
 use Rattle.pie_cli.proofs.Gaining.{none_gained}
 use Rattle.pie_cli.proofs.Rest.{asks_none, gains_none}
 use Rattle.pie_cli.proofs.Statuses.{memory_is_no_answer}
@@ -66,7 +69,30 @@ pub returns-in-Ok-clause-build : goal.returns-in-Ok-clause-build
 returns-in-Ok-clause-build g c = λ json is. c.run_command.ensures.build json (same_command _ _ (sym c.in-Ok.ensures.accepted ∙ is))
 
 pub returns-in-Ok-clause-input : goal.returns-in-Ok-clause-input
-returns-in-Ok-clause-input g c = λ none. c.run_command.ensures.input (λ json is. none json (c.in-Ok.ensures.accepted ∙ ap words_of is))
+returns-in-Ok-clause-input g c = λ none. c.run_command.ensures.input (λ json. (
+  λ is. (none json).0 (c.in-Ok.ensures.accepted ∙ ap words_of is),
+  λ is. (none json).1 (c.in-Ok.ensures.accepted ∙ ap words_of is),
+))
+
+pub returns-in-Ok-clause-replay : goal.returns-in-Ok-clause-replay
+returns-in-Ok-clause-replay g c = λ json is. c.run_command.ensures.replay json (same_command _ _ (sym c.in-Ok.ensures.accepted ∙ is))
+
+pub returns-in-Ok-clause-rest : goal.returns-in-Ok-clause-rest
+returns-in-Ok-clause-rest g c = λ none. c.run_command.ensures.rest (λ json is. none json (c.in-Ok.ensures.accepted ∙ ap words_of is))
+
+pub returns-in-Ok-clause-ends : goal.returns-in-Ok-clause-ends
+returns-in-Ok-clause-ends g c =
+    ends_by (HasNoScript c.in-Ok.command) (IsNoScript (texts_of c.args.words.now)) _ _ (g.I.Source.faults c.args.input.now)
+    (g.I.Source.faults c.run_command.new.input) _ _ (g.K.Sink.held c.args.out.now) (g.K.Sink.held c.run_command.new.out) c.run_command.result
+    (λ none json is. none json (c.in-Ok.ensures.accepted ∙ ap words_of is)) c.run_command.ensures.ends
+
+pub returns-in-Err-Usage-clause-replay : goal.returns-in-Err-Usage-clause-replay
+returns-in-Err-Usage-clause-replay g c = λ json is. absurd (c.in-Err-Usage.ensures.refused (ap Err c.in-Err-Usage.field-0-is) (commands.Replay json) is)
+
+pub returns-in-Err-OutOfMemory-clause-replay : goal.returns-in-Err-OutOfMemory-clause-replay
+returns-in-Err-OutOfMemory-clause-replay g c = λ json is.
+    runs_none g.F.Files.holds g.F.Files.faults g.I.Source.left g.I.Source.faults json c.args.files.now c.args.input.now c.args.input.now
+    (g.K.Sink.held c.args.out.now)
 
 pub returns-in-Err-Usage-clause-build : goal.returns-in-Err-Usage-clause-build
 returns-in-Err-Usage-clause-build g c = λ json is. absurd (c.in-Err-Usage.ensures.refused (ap Err c.in-Err-Usage.field-0-is) (commands.Build json) is)
@@ -88,11 +114,11 @@ returns-in-Err-OutOfMemory-clause-input g c = λ none. (refl, λ is. absurd (cc)
 
 pub returns-in-Err-Usage-clause-ends : goal.returns-in-Err-Usage-clause-ends
 returns-in-Err-Usage-clause-ends g c =
-    ends_shown _ (g.I.Source.faults c.args.input.now) (g.I.Source.faults c.args.input.now) (g.K.Sink.faults c.args.out.now)
+    ends_shown (IsNoScript (texts_of c.args.words.now)) _ (g.I.Source.faults c.args.input.now) (g.I.Source.faults c.args.input.now) (g.K.Sink.faults c.args.out.now)
     (g.K.Sink.faults c.show.new.out) (g.K.Sink.held c.args.out.now) (g.K.Sink.held c.show.new.out) usage_text status.Usage c.show.result
     (λ is. absurd (cc)) (λ is. absurd (cc)) c.show.ensures.shown c.show.ensures.output c.show.ensures.steady refl
 
 pub returns-in-Err-OutOfMemory-clause-ends : goal.returns-in-Err-OutOfMemory-clause-ends
 returns-in-Err-OutOfMemory-clause-ends g c =
-    ends_memory _ (g.I.Source.faults c.args.input.now) (g.I.Source.faults c.args.input.now) (g.K.Sink.faults c.args.out.now)
+    ends_memory (IsNoScript (texts_of c.args.words.now)) _ (g.I.Source.faults c.args.input.now) (g.I.Source.faults c.args.input.now) (g.K.Sink.faults c.args.out.now)
     (g.K.Sink.held c.args.out.now) (g.K.Sink.held c.args.out.now)

@@ -13,7 +13,7 @@ returns-in-Ok-clause-build g c =
 
 pub returns-in-Ok-clause-ends : goal.returns-in-Ok-clause-ends
 returns-in-Ok-clause-ends g c =
-    ends_unread _ _ (g.I.Source.faults c.args.input.now) (g.I.Source.faults c.read_names.new.input) _ _ (g.K.Sink.held c.args.out.now)
+    ends_unread (Unit {0}) _ _ (g.I.Source.faults c.args.input.now) (g.I.Source.faults c.read_names.new.input) _ _ (g.K.Sink.held c.args.out.now)
     (g.K.Sink.held c.make.new.out) c.make.result c.make.ensures.ends (c.in-Ok.ensures.told.steady (tt {0}))
 
 pub returns-in-Err-Bad-clause-build : goal.returns-in-Err-Bad-clause-build
@@ -25,7 +25,7 @@ returns-in-Err-Bad-clause-build g c =
 
 pub returns-in-Err-Bad-clause-ends : goal.returns-in-Err-Bad-clause-ends
 returns-in-Err-Bad-clause-ends g c =
-    ends_shown _ (g.I.Source.faults c.args.input.now) (g.I.Source.faults c.read_names.new.input) (g.K.Sink.faults c.args.out.now)
+    ends_shown (Unit {0}) _ (g.I.Source.faults c.args.input.now) (g.I.Source.faults c.read_names.new.input) (g.K.Sink.faults c.args.out.now)
     (g.K.Sink.faults c.show_bad.new.out) (g.K.Sink.held c.args.out.now) (g.K.Sink.held c.show_bad.new.out) (bad_input_text c.in-Err-Bad.fault)
     status.BadInput c.show_bad.result (λ is. absurd (cc)) (λ is. absurd (cc)) c.show_bad.ensures.shown c.show_bad.ensures.output c.show_bad.ensures.steady
     (c.in-Err-Bad.ensures.told.steady (bad_told c.in-Err-Bad.field-0 c.in-Err-Bad.fault c.in-Err-Bad.field-0-is))
@@ -38,7 +38,7 @@ returns-in-Err-Failed-clause-build g c =
 
 pub returns-in-Err-Failed-clause-ends : goal.returns-in-Err-Failed-clause-ends
 returns-in-Err-Failed-clause-ends g c =
-    ends_failed _ (g.I.Source.faults c.args.input.now) (g.I.Source.faults c.read_names.new.input) (g.K.Sink.faults c.args.out.now)
+    ends_failed (Unit {0}) _ (g.I.Source.faults c.args.input.now) (g.I.Source.faults c.read_names.new.input) (g.K.Sink.faults c.args.out.now)
     (g.K.Sink.faults c.show.new.out) (g.K.Sink.held c.args.out.now) (g.K.Sink.held c.show.new.out) c.show.result c.show.ensures.shown
     c.show.ensures.output c.show.ensures.steady (c.in-Err-Failed.ensures.told.cause (ap Err c.in-Err-Failed.field-0-is))
 
@@ -49,5 +49,5 @@ returns-in-Err-OutOfMemory-clause-build g c =
 
 pub returns-in-Err-OutOfMemory-clause-ends : goal.returns-in-Err-OutOfMemory-clause-ends
 returns-in-Err-OutOfMemory-clause-ends g c =
-    ends_memory _ (g.I.Source.faults c.args.input.now) (g.I.Source.faults c.read_names.new.input) (g.K.Sink.faults c.args.out.now)
+    ends_memory (Unit {0}) _ (g.I.Source.faults c.args.input.now) (g.I.Source.faults c.read_names.new.input) (g.K.Sink.faults c.args.out.now)
     (g.K.Sink.held c.args.out.now) (g.K.Sink.held c.args.out.now)

@@ -2,7 +2,10 @@ use Rattle.std.proofs.Common.{refl}
 use Rattle.pie_cli.specs.Build.{RunsBuild}
 use Rattle.pie_cli.specs.Fresh.{RunsFresh}
 use Rattle.pie_cli.proofs.Building.{at_build_flag}
-use Rattle.pie_cli.proofs.Ending.{ends_unread}
+use Rattle.pie_cli.proofs.Ending.{ends_by, ends_unread}
+use Rattle.pie_cli.specs.inner.Played.{HasNoScript}
+use Rattle.pie_cli.specs.Replay.{RunsReplay}
+use Rattle.pie_cli.proofs.Replaying.{at_replay_flag}
 use Rattle.pie_cli.proofs.Fresh.{at_flag}
 use Rattle.pie_cli.proofs.top.run_command.Goals as goal
 
@@ -21,11 +24,34 @@ returns-in-Build-clause-build g c = λ json is.
     c.args.command c.in-Build.json json c.in-Build.is is c.run_build.ensures.build
 
 pub returns-in-Build-clause-input : goal.returns-in-Build-clause-input
-returns-in-Build-clause-input g c = λ none. absurd (none c.in-Build.json c.in-Build.is)
+returns-in-Build-clause-input g c = λ none. absurd ((none c.in-Build.json).0 c.in-Build.is)
+
+pub returns-in-Build-clause-ends : goal.returns-in-Build-clause-ends
+returns-in-Build-clause-ends g c =
+    ends_by (Unit {0}) (HasNoScript c.args.command) _ _ (g.I.Source.faults c.args.input.now) (g.I.Source.faults c.run_build.new.input) _ _
+    (g.K.Sink.held c.args.out.now) (g.K.Sink.held c.run_build.new.out) c.run_build.result (λ h. tt {0}) c.run_build.ensures.ends
+
+pub returns-in-Replay-clause-replay : goal.returns-in-Replay-clause-replay
+returns-in-Replay-clause-replay g c = λ json is.
+    at_replay_flag
+    (λ b. RunsReplay g.F.Files.holds g.F.Files.faults g.I.Source.left g.I.Source.faults b c.args.files.now c.run_replay.new.files c.args.input.now
+    c.run_replay.new.input (g.K.Sink.held c.args.out.now) (g.K.Sink.held c.run_replay.new.out) c.run_replay.result)
+    c.args.command c.in-Replay.json json c.in-Replay.is is c.run_replay.ensures.replay
+
+pub returns-in-Replay-clause-rest : goal.returns-in-Replay-clause-rest
+returns-in-Replay-clause-rest g c = λ none. absurd (none c.in-Replay.json c.in-Replay.is)
+
+pub returns-in-Replay-clause-input : goal.returns-in-Replay-clause-input
+returns-in-Replay-clause-input g c = λ none. absurd ((none c.in-Replay.json).1 c.in-Replay.is)
+
+pub returns-in-Replay-clause-ends : goal.returns-in-Replay-clause-ends
+returns-in-Replay-clause-ends g c =
+    ends_by ⊥ (HasNoScript c.args.command) _ _ (g.I.Source.faults c.args.input.now) (g.I.Source.faults c.run_replay.new.input) _ _
+    (g.K.Sink.held c.args.out.now) (g.K.Sink.held c.run_replay.new.out) c.run_replay.result (λ h. h c.in-Replay.json c.in-Replay.is) c.run_replay.ensures.ends
 
 pub returns-in-Check-clause-ends : goal.returns-in-Check-clause-ends
 returns-in-Check-clause-ends g c =
-    ends_unread _ _ (g.I.Source.faults c.args.input.now) (g.I.Source.faults c.args.input.now) _ _ (g.K.Sink.held c.args.out.now)
+    ends_unread (HasNoScript c.args.command) _ _ (g.I.Source.faults c.args.input.now) (g.I.Source.faults c.args.input.now) _ _ (g.K.Sink.held c.args.out.now)
     (g.K.Sink.held c.run_check.new.out) c.run_check.result c.run_check.ensures.ends refl
 
 pub returns-in-Check-clause-input : goal.returns-in-Check-clause-input
@@ -33,7 +59,7 @@ returns-in-Check-clause-input g c = λ none. (refl, c.run_check.ensures.ends.no_
 
 pub returns-in-Fresh-clause-ends : goal.returns-in-Fresh-clause-ends
 returns-in-Fresh-clause-ends g c =
-    ends_unread _ _ (g.I.Source.faults c.args.input.now) (g.I.Source.faults c.args.input.now) _ _ (g.K.Sink.held c.args.out.now)
+    ends_unread (HasNoScript c.args.command) _ _ (g.I.Source.faults c.args.input.now) (g.I.Source.faults c.args.input.now) _ _ (g.K.Sink.held c.args.out.now)
     (g.K.Sink.held c.run_fresh.new.out) c.run_fresh.result c.run_fresh.ensures.ends refl
 
 pub returns-in-Fresh-clause-input : goal.returns-in-Fresh-clause-input

@@ -12,5 +12,7 @@ returns c =
     ∙ ap₂ with_subcommand (unnamed_is ∙ ap spec.unnamed c.new.ensures.app) (ap (λ (a : App). a.top) c.new-2.ensures.app) in
     let second_is = c.in_ok-builds.ensures.shape (search rules)
     ∙ ap₂ with_subcommand first_is (ap (λ (a : App). a.top) c.in_ok-with_json.ensures.app) in
-    IfOk-weaker c.subcommand-3.result _ _ (λ made h. h.shape (search rules)
-    ∙ ap₂ with_subcommand second_is (ap (λ (a : App). a.top) c.in_ok-with_json-2.ensures.app)) c.subcommand-3.ensures
+    let third_is = c.in_ok-replays.ensures.shape (search rules)
+    ∙ ap₂ with_subcommand second_is (ap (λ (a : App). a.top) c.in_ok-with_json-2.ensures.app) in
+    IfOk-weaker c.subcommand-4.result _ _ (λ made h. h.shape (search rules)
+    ∙ ap₂ with_subcommand third_is (ap (λ (a : App). a.top) c.in_ok-with_json-3.ensures.app)) c.subcommand-4.ensures

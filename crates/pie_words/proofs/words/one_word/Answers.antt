@@ -1,5 +1,5 @@
 use Rattle.std.proofs.Common.{false, rules}
-use Rattle.pie_words.specs.declared.command.Command.TheVariants.{Check, Fresh, Build}
+use Rattle.pie_words.specs.declared.command.Command.TheVariants.{Check, Fresh, Build, Replay}
 use Rattle.pie_words.proofs.words.one_word.Goals as goal
 
 pub returns-in-check-clause-accepted : goal.returns-in-check-clause-accepted
@@ -10,3 +10,6 @@ returns-in-fresh-clause-accepted c = λ is. (Fresh false, search rules)
 
 pub returns-in-build-clause-accepted : goal.returns-in-build-clause-accepted
 returns-in-build-clause-accepted c = λ is. (Build false, search rules)
+
+pub returns-in-replay-clause-accepted : goal.returns-in-replay-clause-accepted
+returns-in-replay-clause-accepted c = λ is. (Replay false, search rules)

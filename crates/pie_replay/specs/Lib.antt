@@ -1,0 +1,3 @@
+pub mod Trace
+pub mod Replays
+pub mod inner
