@@ -38,3 +38,8 @@ ends_called old mid n from r output has so =
 pub named_called : (old mid : Core) (n k : ℕ) (t : Task) (output : Bool) → HasCalled old mid n output → slice_get old.tables.names k ≡ Some t
     → slice_get mid.tables.names k ≡ Some t
 named_called old mid n k t output has named = subst (λ (x : Tables). slice_get x.names k ≡ Some t) (sym has.tables) named
+
+-- where it ended with the output that it had
+pub same_output : (o : Option TaskRecord) (was r : TaskRecord) (output : Bool) → o ≡ Some was
+    → IfSome o (λ (x : TaskRecord). output ≡ false → x.outcome ≡ r.outcome) → output ≡ false → was.outcome ≡ r.outcome
+same_output o was r output kept same off = subst (λ p. IfSome p (λ (x : TaskRecord). output ≡ false → x.outcome ≡ r.outcome)) kept same off

@@ -7,9 +7,12 @@ pub mod Finishing
 pub mod FirstStep
 pub mod Going
 pub mod Growing
+pub mod Holding
 pub mod Moving
 pub mod Owning
 pub mod Parts
 pub mod Settling
 pub mod Sites
+pub mod Telling
 pub mod Twice
+pub mod Twofold

@@ -4,6 +4,8 @@ ghost use Rattle.pie_tables.specs.Tabled.{IsTables, IsGiven};
 ghost use Rattle.pie_frames.specs.inner.Standing.{Holds, IsParked, number_of};
 ghost use Rattle.pie_frames.specs.inner.Weights.{left_of};
 ghost use Rattle.pie_walk.specs.Marks.{IsSettled};
+ghost use Rattle.pie_base.specs.declared.fault.FaultKind.TheVariants.{Unknown};
+ghost use Rattle.pie_record.specs.declared.task_record.Outcome.TheVariants.{Failed};
 ghost use Rattle.pie_results.specs.inner.Failures.{is_done};
 ghost use Rattle.pie_bottomup.specs.inner.Recorded.{HasOutput};
 ghost use Rattle.pie_bottomup.specs.inner.Running.{IsCaller};
@@ -15,7 +17,7 @@ use pie_frames::Parked;
 use pie_graph::TaskNo;
 use pie_record::Outcome;
 use pie_running::{Caller, Done};
-use pie_value::Fault;
+use pie_value::{Fault, Task};
 
 impl<'a> Core<'a> {
     /// What a task required is settled: it goes on with the output, or fails as that one did.
@@ -62,12 +64,20 @@ impl<'a> Core<'a> {
         ensures given { IfOk result IsGiven }
         ensures output { IfOk result (λ o. is_done o ≡ true → HasOutput self.now.tables.records callee.0) }
     {
-        match self.tables.outcome(callee)? {
-            Some(outcome) => Ok(outcome),
-            None => Ok(Outcome::Failed(Fault {
-                task: caller.required.copy()?,
-                kind: FaultKind::Unknown,
-            })),
+        if let Some(outcome) = self.tables.outcome(callee)? {
+            return Ok(outcome);
         }
+        unknown(&caller.required)
     }
+}
+
+/// How a task ends that is of no function.
+pub(crate) fn unknown(task: &Task) -> Result<Outcome, OutOfMemory>
+    ensures { IfOk result (λ o. o ≡ Failed (record { task = task.now; kind = Unknown })) }
+{
+    let task = task.copy()?;
+    Ok(Outcome::Failed(Fault {
+        task,
+        kind: FaultKind::Unknown,
+    }))
 }

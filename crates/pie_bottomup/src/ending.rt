@@ -1,9 +1,13 @@
 //! Tasks that end, and what that does to those that require them.
-ghost use Rattle.std.specs.Prelude.{◌≡◌, ◌<◌, ◌+◌, length, None, Some, slice_get, IfOk, OnOk};
+ghost use Rattle.std.specs.Prelude.{◌≡◌, ◌<◌, ◌+◌, false, length, None, Some, slice_get, IfOk, OnOk};
+ghost use Rattle.pie_graph.specs.Rows.{row_at};
+ghost use Rattle.pie_record.specs.declared.task_record.TaskRecord.{TaskRecord};
+ghost use Rattle.pie_record.specs.inner.Records.{record_of};
 ghost use Rattle.pie_walk.specs.Marks.{IsSettled};
 ghost use Rattle.pie_tables.specs.Tabled.{IsKept};
 ghost use Rattle.pie_running.specs.inner.Noted.{IsSound};
 ghost use Rattle.pie_frames.specs.inner.Standing.{Holds};
+ghost use Rattle.pie_bottomup.specs.inner.Finished.{HasFinished, HasSameEdges, HasSettledWith, HasSwept};
 ghost use Rattle.pie_bottomup.specs.inner.Running.{EndsSo};
 ghost use Rattle.pie_bottomup.specs.inner.States.{AreCalled, HasCalled, IsAtRest, IsOwn, IsSite, HasScheduled, MayEnd, GoesTo, Keeps, Nearer, rest};
 
@@ -105,15 +109,27 @@ impl<'a> Core<'a> {
         ensures turns { IfOk result (GoesTo self.new) }
         ensures nearer { IfOk result (Nearer (rest self.old + 1) self.new) }
         ensures kept { OnOk result (Keeps self.old self.new) }
+        ensures finished { OnOk result (HasFinished self.old self.new no.0 from rec) }
     {
         let old = self.tables.records.get(no);
         let output = has_other_output(old, &rec);
-        let edges = has_other_writes(old, &rec)
-            || !is_twice(self.frames.walk().rows().callees(no), from);
+        let edges = self.has_other_edges(no, from, &rec);
         self.call_callers(no, output)?;
         self.settle_with(no, from, rec)?;
         self.sweep_above(no, edges)?;
         Ok(Turn::Went)
+    }
+
+    // Whether the task that was taken wrote something else than before, or required other tasks.
+    fn has_other_edges(&self, no: TaskNo, from: usize, rec: &TaskRecord) -> bool
+        requires { no.0 < length self.now.frames.walk.rows }
+        ensures { (was : TaskRecord) → record_of self.now.tables.records no.0 ≡ Some was → result ≡ false
+            → HasSameEdges (row_at self.now.frames.walk.rows no.0) from was rec.now }
+    {
+        if has_other_writes(self.tables.records.get(no), rec) {
+            return true;
+        }
+        !is_twice(self.frames.walk().rows().callees(no), from)
     }
 
     // The tasks that require one that ends with another output are scheduled.
@@ -140,6 +156,7 @@ impl<'a> Core<'a> {
         ensures ended { OnOk result (HasScheduled self.old self.new) }
         ensures settled { OnOk result (IsSettled self.new.frames.walk.marks no.0) }
         ensures inside { OnOk result (no.0 < length self.new.frames.walk.rows) }
+        ensures settles { OnOk result (HasSettledWith self.old self.new no.0 from rec) }
     {
         let writes = paths_of(self.alloc, rec.writes.as_slice())?;
         self.tables.put(no, rec)?;
@@ -153,6 +170,7 @@ impl<'a> Core<'a> {
         requires settled { IsSettled self.old.frames.walk.marks no.0 }
         requires number { no.0 < length self.old.frames.walk.rows }
         ensures swept { OnOk result (HasScheduled self.old self.new) }
+        ensures told { OnOk result (HasSwept self.old self.new no.0 edges) }
     {
         if edges {
             self.frames.sweep(no)?;

@@ -60,10 +60,7 @@ impl<'a> Core<'a> {
             Event::Exists(path) => self.exists(no, from, waiting, path, files),
             Event::Read(path, by) => self.read(no, from, waiting, path, by, files),
             Event::Digest(path) => self.digest(no, from, waiting, path, files),
-            Event::List(dir) => {
-                let told = waiting.list(self.alloc, dir, files)?;
-                Ok(self.told(no, from, told)?)
-            }
+            Event::List(dir) => self.list(no, from, waiting, dir, files),
             Event::Write(path, bytes) => {
                 let told = waiting.write(self.alloc, &mut self.stage, path, &bytes)?;
                 Ok(self.told(no, from, told)?)
@@ -212,6 +209,29 @@ impl<'a> Core<'a> {
         ensures reads { ReadsOnly F.holds F.moment F.left_since F.images F.faults files.old files.new result }
     {
         let told = waiting.digest(&self.sight(no, from), path, files)?;
+        Ok(self.told(no, from, told)?)
+    }
+
+    #[tactic(auto, using(pie_files::proofs::Reading::reads))]
+    fn list<F: Files>(
+        &mut self,
+        no: TaskNo,
+        from: usize,
+        waiting: Waiting<'a>,
+        dir: Path,
+        files: &mut F,
+    ) -> Result<Turn, FilesError>
+        requires site { IsSite self.old }
+        requires free { self.old.hand ≡ None }
+        requires holds { Holds no self.old.frames }
+        requires waits { IsWaiting waiting }
+        requires own { IsOwn self.old no from waiting.notes }
+        ensures turns { IfOk result (GoesTo self.new) }
+        ensures nearer { IfOk result (Nearer (rest self.old + 2 * waiting.entry.notes.left + 1) self.new) }
+        ensures kept { OnOk result (Keeps self.old self.new) }
+        ensures reads { ReadsOnly F.holds F.moment F.left_since F.images F.faults files.old files.new result }
+    {
+        let told = waiting.list(self.alloc, dir, files)?;
         Ok(self.told(no, from, told)?)
     }
 

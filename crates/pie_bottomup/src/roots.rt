@@ -7,7 +7,7 @@ ghost use Rattle.pie_walk.specs.Standing.{Stands};
 ghost use Rattle.pie_frames.specs.inner.Standing.{Holds, Rests};
 ghost use Rattle.pie_value.specs.declared.task.Task.{Task};
 ghost use Rattle.pie_record.specs.inner.Records.{record_of};
-ghost use Rattle.pie_results.specs.inner.Failures.{refusal_by};
+ghost use Rattle.pie_results.specs.inner.Failures.{refusal_by, refusal_in};
 ghost use Rattle.pie_running.specs.inner.Noted.{Noted};
 ghost use Rattle.pie_bottomup.specs.inner.States.{IsAtRest, IsNextRoot, IsOwn, IsSite, GoesTo, Keeps, Nearer, RootFailed, rest, room};
 
@@ -66,18 +66,16 @@ impl<'a> Core<'a> {
         let Some(no) = self.tables.names.number(&self.plan.roots[self.at - 1])? else {
             return Ok(false);
         };
-        self.fails(no)
+        Ok(self.fails(no))
     }
 
     // Whether a task has failed.
-    fn fails(&self, no: TaskNo) -> Result<bool, OutOfMemory>
-        requires site { IsSite self.now }
-        ensures { IfOk result (λ fails. fails ≡ true → IsSome (refusal_by (record_of self.now.tables.records no.0))) }
+    fn fails(&self, no: TaskNo) -> bool
+        ensures { result ≡ true → IsSome (refusal_by (record_of self.now.tables.records no.0)) }
     {
-        match self.tables.outcome(no)? {
-            Some(Outcome::Failed(_)) => Ok(true),
-            Some(Outcome::Cycled(_)) => Ok(true),
-            _ => Ok(false),
+        match self.tables.records.get(no) {
+            Some(rec) => is_failure(&rec.outcome),
+            None => false,
         }
     }
 
@@ -136,5 +134,15 @@ impl<'a> Core<'a> {
         let no = self.frames.add()?;
         let _same = self.tables.add(task)?;
         Ok(no)
+    }
+}
+
+// Whether a task that ended so has failed.
+fn is_failure(outcome: &Outcome) -> bool
+    ensures { result ≡ true → IsSome (refusal_in outcome.now) }
+{
+    match outcome {
+        Outcome::Done(_) => false,
+        Outcome::Failed(_) | Outcome::Cycled(_) => true,
     }
 }

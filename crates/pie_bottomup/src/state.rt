@@ -1,9 +1,11 @@
 //! The state of a build by what changed, and its steps.
-ghost use Rattle.std.specs.Prelude.{◌≤◌, ◌+◌, length, IfOk, OnOk};
+ghost use Rattle.std.specs.Prelude.{◌≡◌, ◌≤◌, ◌+◌, length, IfOk, OnOk};
 ghost use Rattle.pie_files.specs.Reading.{ReadsOnly};
 ghost use Rattle.pie_results.specs.inner.Made.{IsEmptyWhereRefused, IsKept};
 ghost use Rattle.pie_bottomup.specs.inner.States.{StartsOne, IsCore, HasSettled, TurnsTo, Nearer, Spends, mass, room};
 ghost use Rattle.pie_bottomup.specs.inner.Ended.{StoredIf};
+ghost use Rattle.pie_bottomup.specs.inner.Tested.{HasTested};
+ghost use Rattle.pie_bottomup.specs.declared.state.First.TheVariants.{Tests};
 
 use crate::plan::Plan;
 use pie_base::OutOfMemory;
@@ -74,7 +76,7 @@ pub enum Turn {
 impl<'a> Core<'a> {
     /// Treats one event of the task that runs, or takes, starts or ends one task, or begins a root. The first step holds the old records
     /// against what changed. The tasks that are started are added to the runs.
-    #[tactic(auto, using(pie_files::proofs::Reading::reads))]
+    #[tactic(auto, using(pie_files::proofs::Reading::reads, crate::proofs::Holding::tests_free))]
     pub fn step<F: Files>(&mut self, files: &mut F, runs: &mut Runs) -> Result<Turn, FilesError>
         requires { IsCore self.old }
         ensures turns { IfOk result (TurnsTo self.new) }
@@ -82,6 +84,7 @@ impl<'a> Core<'a> {
         ensures starts { StartsOne runs.old runs.new }
         ensures spends { OnOk result (Spends self.old self.new runs.old runs.new) }
         ensures few { length runs.new ≤ length runs.old + room self.old }
+        ensures tested { self.old.first ≡ Tests → OnOk result (HasTested (F.holds files.old) self.old self.new) }
         ensures reads { ReadsOnly F.holds F.moment F.left_since F.images F.faults files.old files.new result }
     {
         match self.hand.take() {
@@ -91,12 +94,21 @@ impl<'a> Core<'a> {
     }
 
     /// What the build makes of its records, once it is settled.
-    #[tactic(auto, using(crate::proofs::Parts::rests_acyclic, crate::proofs::Finishing::made_stored))]
     pub fn end(self) -> Result<Built, OutOfMemory>
         requires { HasSettled self }
         ensures refused_empty { IfOk result IsEmptyWhereRefused }
         ensures kept { IfOk result IsKept }
         ensures stored { IfOk result (λ b. StoredIf b.verdict self.entry.plan b) }
+    {
+        self.built()
+    }
+
+    #[tactic(auto, using(crate::proofs::Parts::rests_acyclic, crate::proofs::Finishing::made_stored))]
+    fn built(&self) -> Result<Built, OutOfMemory>
+        requires { HasSettled self.now }
+        ensures refused_empty { IfOk result IsEmptyWhereRefused }
+        ensures kept { IfOk result IsKept }
+        ensures stored { IfOk result (λ b. StoredIf b.verdict self.now.plan b) }
     {
         let _names = self.tables.names.as_slice();
         let built = results(

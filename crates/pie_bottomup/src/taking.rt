@@ -1,21 +1,24 @@
 //! Tasks that are taken: they are kept, run, or are no tasks any more.
 ghost use Rattle.std.specs.Prelude.{◌≡◌, ◌<◌, ◌≤◌, ◌+◌, true, length, None, slice_get, IfOk, IfSome, OnOk};
+ghost use Rattle.pie_tables.specs.Tabled.{HasFailed};
 ghost use Rattle.pie_frames.specs.inner.Standing.{Holds};
 ghost use Rattle.pie_compare.specs.inner.Standing.{RecordStands};
 ghost use Rattle.pie_bottomup.specs.inner.Running.{IsKnown};
 ghost use Rattle.pie_bottomup.specs.inner.States.{StartsOne, IsAsRecorded, IsAtRest, IsSite, GoesTo, Keeps, Nearer, Spends, SpendsOne, rest, room};
 
+use crate::answering::unknown;
 use crate::flags::flag_of;
 use crate::state::{Core, InHand, Turn};
-use pie_base::{FaultKind, OutOfMemory};
+use pie_base::OutOfMemory;
 use pie_code::Checked;
 use pie_compare::stands;
 use pie_frames::Next;
 use pie_graph::{TaskNo, TaskRows};
-use pie_record::{Deps, Outcome, TaskRecord, Writes};
+use pie_record::{Deps, TaskRecord, Writes};
 use pie_running::{RunningTask, code_of};
-use pie_value::Fault;
+use pie_value::Task;
 use pie_vm::Runs;
+use std::alloc::Global;
 
 impl<'a> Core<'a> {
     /// The walk goes on, up to the next task that is taken or answered, or to the next root.
@@ -137,17 +140,22 @@ impl<'a> Core<'a> {
         ensures nearer { IfOk result (Nearer (rest self.old + 1) self.new) }
         ensures kept { OnOk result (Keeps self.old self.new) }
     {
-        let task = self.tables.names.task(no).copy()?;
-        let fault = Fault {
-            task: task.copy()?,
-            kind: FaultKind::Unknown,
-        };
-        let rec = TaskRecord {
-            task,
-            deps: Deps::new(Vec::new(self.alloc)),
-            writes: Writes::new(Vec::new(self.alloc)),
-            outcome: Outcome::Failed(fault),
-        };
+        let rec = lost(self.alloc, self.tables.names.task(no))?;
         self.end_with(no, usize::MAX, rec)
     }
+}
+
+// The record of a task that isn't one of the pipeline.
+fn lost(alloc: Global, task: &Task) -> Result<TaskRecord, OutOfMemory>
+    ensures task { IfOk result (λ rec. rec.task ≡ task.now) }
+    ensures outcome { IfOk result (λ rec. HasFailed rec.outcome) }
+{
+    let outcome = unknown(task)?;
+    let task = task.copy()?;
+    Ok(TaskRecord {
+        task,
+        deps: Deps::new(Vec::new(alloc)),
+        writes: Writes::new(Vec::new(alloc)),
+        outcome,
+    })
 }

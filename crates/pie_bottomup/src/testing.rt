@@ -3,6 +3,7 @@ ghost use Rattle.std.specs.Prelude.{◌≡◌, ◌⊎◌, ℕ, ◌<◌, ◌≤�
 ghost use Rattle.pie_bottomup.specs.declared.state.First.TheVariants.{Tests};
 ghost use Rattle.pie_files.specs.Reading.{ReadsOnly};
 ghost use Rattle.pie_bottomup.specs.inner.States.{StartsOne, IsAtRest, IsDue, IsTested, IsUntested, Keeps, TurnsTo, Nearer, Spends, rest, room};
+ghost use Rattle.pie_bottomup.specs.inner.Tested.{AreHeld, HasTested, HoldsBy, IsHeld, Learns, TaskWasHeld};
 
 use crate::flags::flag_of;
 use crate::state::{Core, First, Turn};
@@ -30,6 +31,7 @@ impl<'a> Core<'a> {
         ensures starts { StartsOne runs.old runs.new }
         ensures spends { OnOk result (Spends self.old self.new runs.old runs.new) }
         ensures few { length runs.new ≤ length runs.old + room self.old }
+        ensures tested { self.old.first ≡ Tests → OnOk result (HasTested (F.holds files.old) self.old self.new) }
         ensures reads { ReadsOnly F.holds F.moment F.left_since F.images F.faults files.old files.new result }
     {
         match &self.first {
@@ -51,6 +53,8 @@ impl<'a> Core<'a> {
         ensures turns { IfOk result (TurnsTo self.new) }
         ensures nearer { IfOk result (Nearer (rest self.old) self.new) }
         ensures kept { OnOk result (Keeps self.old self.new) }
+        ensures learns { OnOk result (Learns self.old self.new) }
+        ensures tested { OnOk result (HasTested (F.holds files.old) self.old self.new) }
         ensures reads { ReadsOnly F.holds F.moment F.left_since F.images F.faults files.old files.new result }
     {
         self.test_all(files)?;
@@ -64,6 +68,8 @@ impl<'a> Core<'a> {
         requires untested { IsUntested self.old }
         ensures tested { OnOk result (IsTested self.old self.new) }
         ensures due { OnOk result ((n : ℕ) → n < length self.old.frames.walk.rows → IsDue self.new n) }
+        ensures learns { OnOk result (Learns self.old self.new) }
+        ensures held { OnOk result (HoldsBy (F.holds files.old) self.old self.new (λ d. AreHeld d self.new (length self.old.frames.walk.rows))) }
         ensures reads { ReadsOnly F.holds F.moment F.left_since F.images F.faults files.old files.new result }
     {
         let count = self.frames.walk().count();
@@ -80,6 +86,8 @@ impl<'a> Core<'a> {
         requires number { no.0 < length self.old.frames.walk.rows }
         ensures tested { OnOk result (IsTested self.old self.new) }
         ensures due { OnOk result (IsDue self.new no.0) }
+        ensures learns { OnOk result (Learns self.old self.new) }
+        ensures held { OnOk result (HoldsBy (F.holds files.old) self.old self.new (λ d. IsHeld d self.new no.0)) }
         ensures reads { ReadsOnly F.holds F.moment F.left_since F.images F.faults files.old files.new result }
     {
         let due = self.is_due(no, files)?;
@@ -94,13 +102,18 @@ impl<'a> Core<'a> {
     fn is_due<F: Files>(&mut self, no: TaskNo, files: &mut F) -> Result<bool, FilesError>
         ensures same { self.new ≡ record self.old { named = self.new.named } }
         ensures due { IfOk result (λ due. slice_index_or self.old.plan.same.items no.0 false ≡ false → due ≡ true) }
+        ensures learns { OnOk result (Learns self.old self.new) }
+        ensures held { IfOk result (λ due. HoldsBy (F.holds files.old) self.old self.new (λ d. TaskWasHeld d self.new no.0 due)) }
         ensures reads { ReadsOnly F.holds F.moment F.left_since F.images F.faults files.old files.new result }
     {
         if !flag_of(self.plan.same.as_slice(), no) {
             return Ok(true);
         }
         match self.tables.records.get(no) {
-            Some(rec) => is_touched(&mut self.named, rec, files),
+            Some(rec) => {
+                let touched = is_touched(&mut self.named, rec, files)?;
+                Ok(touched)
+            }
             None => Ok(true),
         }
     }

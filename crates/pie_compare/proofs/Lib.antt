@@ -1,3 +1,4 @@
+pub mod Shown
 pub mod Sights
 pub mod Touches
 pub mod Turns

@@ -1,9 +1,10 @@
 //! Whether something that a record observed of a named source, or wrote at a named path, isn't there now as it was recorded.
-ghost use Rattle.std.specs.Prelude.{◌≡◌, IfOk};
+ghost use Rattle.std.specs.Prelude.{◌≡◌, true, IfOk};
 ghost use Rattle.pie_files.specs.Reading.{ReadsOnly};
 ghost use Rattle.pie_compare.specs.inner.Touching.{may_differ as specs_may_differ, is_asked as specs_is_asked};
 ghost use Rattle.pie_compare.specs.inner.Touching.{sight_differs, dep_differs, write_differs, AnswersBy};
 ghost use Rattle.pie_compare.specs.inner.Touching.{SomeSightDiffers, SomeWriteDiffers, IsTouched, FindsBy};
+ghost use Rattle.pie_compare.specs.inner.Touching.{sight_known, dep_known, write_known, SomeSightKnown, SomeWriteKnown, IsKnownTouched, Shows};
 ghost use Rattle.pie_named.specs.Names.{SameNames};
 
 use pie_base::Path;
@@ -23,6 +24,7 @@ pub fn is_touched<F: Files>(
     ensures reads { ReadsOnly F.holds F.moment F.left_since F.images F.faults files.old files.new result }
     ensures names { SameNames named.old named.new }
     ensures found { IfOk result (FindsBy (F.holds files.old) named.old named.new (λ d n. IsTouched d n rec.now)) }
+    ensures shows { IfOk result (Shows named.old named.new (IsKnownTouched named.new rec.now)) }
 {
     if is_any_sight_touched(named, rec.deps.as_slice(), files)? {
         return Ok(true);
@@ -41,6 +43,7 @@ fn is_any_sight_touched<F: Files>(
     ensures reads { ReadsOnly F.holds F.moment F.left_since F.images F.faults files.old files.new result }
     ensures names { SameNames named.old named.new }
     ensures found { IfOk result (FindsBy (F.holds files.old) named.old named.new (λ d n. SomeSightDiffers d n deps.now)) }
+    ensures shows { IfOk result (Shows named.old named.new (SomeSightKnown named.new deps.now)) }
 {
     for dep in deps {
         if is_dep_touched(named, dep, files)? {
@@ -60,6 +63,7 @@ fn is_any_write_touched<F: Files>(
     ensures reads { ReadsOnly F.holds F.moment F.left_since F.images F.faults files.old files.new result }
     ensures names { SameNames named.old named.new }
     ensures found { IfOk result (FindsBy (F.holds files.old) named.old named.new (λ d n. SomeWriteDiffers d n writes.now)) }
+    ensures shows { IfOk result (Shows named.old named.new (SomeWriteKnown named.new writes.now)) }
 {
     for (path, hash) in writes {
         if is_write_touched(named, path, *hash, files)? {
@@ -75,6 +79,7 @@ fn is_dep_touched<F: Files>(named: &mut Named, dep: &Dep, files: &mut F) -> Resu
     ensures reads { ReadsOnly F.holds F.moment F.left_since F.images F.faults files.old files.new result }
     ensures names { SameNames named.old named.new }
     ensures answer { IfOk result (AnswersBy (F.holds files.old) named.old named.new (λ d n. dep_differs d n dep.now)) }
+    ensures shows { IfOk result (Shows named.old named.new (dep_known named.new dep.now ≡ true)) }
 {
     match &dep.what {
         DepOn::File(path) => {
@@ -96,6 +101,7 @@ fn is_sight_touched<F: Files>(
     ensures reads { ReadsOnly F.holds F.moment F.left_since F.images F.faults files.old files.new result }
     ensures names { SameNames named.old named.new }
     ensures answer { IfOk result (AnswersBy (F.holds files.old) named.old named.new (λ d n. sight_differs d n kind path.now stamp.now)) }
+    ensures shows { IfOk result (Shows named.old named.new (sight_known named.new kind path.now stamp.now ≡ true)) }
 {
     if !is_asked(named, kind, path) {
         return Ok(false);
@@ -114,6 +120,7 @@ fn is_write_touched<F: Files>(
     ensures reads { ReadsOnly F.holds F.moment F.left_since F.images F.faults files.old files.new result }
     ensures names { SameNames named.old named.new }
     ensures answer { IfOk result (AnswersBy (F.holds files.old) named.old named.new (λ d n. write_differs d n path.now hash)) }
+    ensures shows { IfOk result (Shows named.old named.new (write_known named.new path.now hash ≡ true)) }
 {
     if !named.is_named(path) {
         return Ok(false);

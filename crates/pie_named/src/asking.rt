@@ -3,7 +3,7 @@ ghost use Rattle.std.specs.Prelude.{IfOk};
 ghost use Rattle.pie_files.specs.Reading.{ReadsOnly};
 ghost use Rattle.pie_named.specs.Names.{SameNames};
 ghost use Rattle.pie_record.specs.declared.dep.DepKind.TheVariants as kinds;
-ghost use Rattle.pie_named.specs.inner.Known.{Learns};
+ghost use Rattle.pie_named.specs.inner.Known.{Asked, Learns};
 
 use crate::named::Named;
 use crate::now::{hash_now, listing_now, mark_now, presence_now};
@@ -22,6 +22,7 @@ impl Named {
         ensures reads { ReadsOnly F.holds F.moment F.left_since F.images F.faults files.old files.new result }
         ensures names { SameNames self.old self.new }
         ensures learns { IfOk result (Learns (F.holds files.old) self.old self.new kinds.Exists path.now) }
+        ensures asked { IfOk result (Asked self.old self.new kinds.Exists path.now) }
     {
         if let Some(stamp) = self.there.get(path) {
             return Ok(stamp);
@@ -41,6 +42,7 @@ impl Named {
         ensures reads { ReadsOnly F.holds F.moment F.left_since F.images F.faults files.old files.new result }
         ensures names { SameNames self.old self.new }
         ensures learns { IfOk result (Learns (F.holds files.old) self.old self.new kinds.ReadHash path.now) }
+        ensures asked { IfOk result (Asked self.old self.new kinds.ReadHash path.now) }
     {
         if let Some(stamp) = self.hashes.get(path) {
             return Ok(stamp);
@@ -60,6 +62,7 @@ impl Named {
         ensures reads { ReadsOnly F.holds F.moment F.left_since F.images F.faults files.old files.new result }
         ensures names { SameNames self.old self.new }
         ensures learns { IfOk result (Learns (F.holds files.old) self.old self.new kinds.ReadMark path.now) }
+        ensures asked { IfOk result (Asked self.old self.new kinds.ReadMark path.now) }
     {
         if let Some(stamp) = self.marks.get(path) {
             return Ok(stamp);
@@ -79,6 +82,7 @@ impl Named {
         ensures reads { ReadsOnly F.holds F.moment F.left_since F.images F.faults files.old files.new result }
         ensures names { SameNames self.old self.new }
         ensures learns { IfOk result (Learns (F.holds files.old) self.old self.new kinds.List dir.now) }
+        ensures asked { IfOk result (Asked self.old self.new kinds.List dir.now) }
     {
         if let Some(stamp) = self.lists.get(dir) {
             return Ok(stamp);

@@ -5,7 +5,7 @@ ghost use Rattle.pie_named.specs.Names.{SameNames};
 ghost use Rattle.pie_record.specs.declared.dep.DepKind.TheVariants as kinds;
 ghost use Rattle.pie_value.specs.declared.stamp.Stamp.TheVariants as stamps;
 ghost use Rattle.pie_named.specs.Stamped.{differs_from};
-ghost use Rattle.pie_named.specs.inner.Known.{Compares, Learns, known_differs, known_stamp};
+ghost use Rattle.pie_named.specs.inner.Known.{Asked, Compares, Learns, Tells, known_differs, known_stamp};
 
 use crate::named::Named;
 use crate::stamps::FileStamp;
@@ -27,6 +27,7 @@ impl Named {
         ensures reads { ReadsOnly F.holds F.moment F.left_since F.images F.faults files.old files.new result }
         ensures names { SameNames self.old self.new }
         ensures compares { IfOk result (Compares (F.holds files.old) self.old self.new kind path.now recorded.now) }
+        ensures tells { IfOk result (Tells self.old self.new kind path.now recorded.now) }
     {
         let now = self.stamp(kind, path, files)?;
         Ok(is_another(now, recorded))
@@ -43,6 +44,7 @@ impl Named {
         ensures reads { ReadsOnly F.holds F.moment F.left_since F.images F.faults files.old files.new result }
         ensures names { SameNames self.old self.new }
         ensures compares { IfOk result (Compares (F.holds files.old) self.old self.new kinds.ReadHash path.now (stamps.Hash recorded)) }
+        ensures tells { IfOk result (Tells self.old self.new kinds.ReadHash path.now (stamps.Hash recorded)) }
     {
         let now = self.hash(path, files)?;
         Ok(is_another(now, &Stamp::Hash(recorded)))
@@ -69,6 +71,7 @@ impl Named {
         ensures reads { ReadsOnly F.holds F.moment F.left_since F.images F.faults files.old files.new result }
         ensures names { SameNames self.old self.new }
         ensures learns { IfOk result (Learns (F.holds files.old) self.old self.new kind path.now) }
+        ensures asked { IfOk result (Asked self.old self.new kind path.now) }
     {
         match kind {
             DepKind::Exists => self.presence(path, files),

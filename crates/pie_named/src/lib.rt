@@ -7,7 +7,5 @@ mod named;
 mod now;
 mod paths;
 mod stamps;
-#[cfg(test)]
-mod tests;
 
 pub use named::Named;

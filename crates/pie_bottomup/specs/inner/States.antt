@@ -228,6 +228,9 @@ pub record HasCalled (old new : Core) (n : ℕ) (has_to : Bool) : Type 0 where
   pub nearer : rest new ≤ rest old
   pub keeps : Keeps old new
   pub called : has_to ≡ true → (k : ℕ) → Calls old.frames.walk.rows k n → IsIdle old.frames.walk.marks k → IsMarked new.frames.walk.scheduled k
+  pub kept : (k : ℕ) → IsMarked old.frames.walk.scheduled k → IsMarked new.frames.walk.scheduled k
+  pub only : (k : ℕ) → IsMarked new.frames.walk.scheduled k
+      → IsMarked old.frames.walk.scheduled k ⊎ (Calls old.frames.walk.rows k n × IsIdle old.frames.walk.marks k)
 
 -- the walk alone may have scheduled more
 pub record HasScheduled (old new : Core) : Type 0 where

@@ -13,7 +13,7 @@ use Rattle.pie_record.specs.declared.task_record.TaskRecord.{TaskRecord}
 use Rattle.pie_named.specs.declared.named.Named.{Named}
 use Rattle.pie_named.specs.Names.{is_named, is_above}
 use Rattle.pie_named.specs.Stamped.{stamp_in, differs_from}
-use Rattle.pie_named.specs.inner.Known.{IsTrueOf}
+use Rattle.pie_named.specs.inner.Known.{IsTrueOf, StaysKnown, known_stamp, known_differs}
 
 -- the names say that what was observed in this way may have changed: a file that is named, or a directory with a name below it
 abbrev pub may_differ : Named → DepKind → List ℕ → Bool
@@ -82,3 +82,36 @@ pub record Passed {A : Type 0} (d : Directory) (new : Named) (is : A → Bool) (
 
 abbrev pub Passes : {A : Type 0} → Option Directory → Named → Named → (Directory → Named → A → Bool) → List A → Type 0
 Passes held first now is xs = (d : Directory) → held ≡ Some d → IsTrueOf d first → Passed d now (is d first) xs
+
+-- ---- what is known of it
+
+-- an observation of a source is known to have another stamp now
+abbrev pub sight_known : Named → DepKind → List ℕ → Stamp → Bool
+sight_known n kind path stamp = is_source path && known_differs (known_stamp n kind path) stamp
+
+abbrev pub on_known : Named → DepKind → DepOn → Stamp → Bool
+on_known n kind (File path) stamp = sight_known n kind path stamp
+on_known n kind (Called task) stamp = false
+
+abbrev pub dep_known : Named → Dep → Bool
+dep_known n dep = on_known n dep.kind dep.what dep.stamp
+
+-- it is known of a written path that something else is there
+abbrev pub write_known : Named → List ℕ → List ℕ → Bool
+write_known n path hash = known_differs (known_stamp n kinds.ReadHash path) (stamps.Hash hash)
+
+-- of one of these observations, or of these writes, it is known that it isn't as it was recorded
+abbrev pub SomeSightKnown : Named → List Dep → Type 0
+SomeSightKnown n deps = SomeOf (λ dep. dep_known n dep ≡ true) deps
+
+abbrev pub SomeWriteKnown : Named → List (List ℕ × List ℕ) → Type 0
+SomeWriteKnown n writes = SomeOf (λ w. write_known n w.0 w.1 ≡ true) writes
+
+-- of one of the observations or writes of a record it is known that it isn't as it was
+abbrev pub IsKnownTouched : Named → TaskRecord → Type 0
+IsKnownTouched n rec = SomeSightKnown n rec.deps ⊎ SomeWriteKnown n rec.writes
+
+-- what is known stays known, and where the answer is yes, this is known
+pub record Shows (old new : Named) (P : Type 0) (answer : Bool) : Type 0 where
+  pub stays : StaysKnown old new
+  pub known : answer ≡ true → P

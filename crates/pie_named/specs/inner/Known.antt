@@ -52,3 +52,18 @@ known_stamp n kind p = stamp_at n.hashes p
 abbrev pub known_differs : Option (Option FileStamp) → Stamp → Bool
 known_differs None recorded = false
 known_differs (Some now) recorded = differs_from now recorded
+
+-- what is known of files stays known
+abbrev pub StaysKnown : Named → Named → Type 0
+StaysKnown old new =
+    (kind : DepKind) (p : List ℕ) (stamp : Option FileStamp) → known_stamp old kind p ≡ Some stamp → known_stamp new kind p ≡ Some stamp
+
+-- what is known stays known, and at a path this is
+pub record Asked (old new : Named) (kind : DepKind) (path : List ℕ) (stamp : Option FileStamp) : Type 0 where
+  pub stays : StaysKnown old new
+  pub known : known_stamp new kind path ≡ Some stamp
+
+-- what is known stays known, and says whether a recorded stamp isn't the one of now
+pub record Tells (old new : Named) (kind : DepKind) (path : List ℕ) (recorded : Stamp) (differs : Bool) : Type 0 where
+  pub stays : StaysKnown old new
+  pub is : differs ≡ known_differs (known_stamp new kind path) recorded

@@ -1,7 +1,8 @@
 use Rattle.std.proofs.Common.{◌∙◌}
 use Rattle.pie_files.proofs.Reading.{both_before}
-use Rattle.pie_compare.specs.inner.Touching.{dep_differs}
+use Rattle.pie_compare.specs.inner.Touching.{dep_differs, dep_known, SomeSightKnown}
 use Rattle.pie_compare.proofs.Touches.{dep_same, names_stay, passes_on, finds, finds_none}
+use Rattle.pie_compare.proofs.Shown.{shows_one, shows_none, stays_on}
 use Rattle.pie_compare.proofs.touched.is_any_sight_touched.Goals as goal
 
 pub returns-then-branch-clause-found : goal.returns-then-branch-clause-found
@@ -22,9 +23,18 @@ loop-dep-preserved g c =
       passes_on dep_differs dep_same (g.F.Files.holds c.args.files.now) c.args.named.now c.args.deps.now (g.F.Files.holds c.loop-dep.files)
           c.loop-dep.named c.is_dep_touched.new.named c.loop-dep.dep-index c.dep-item.result c.in_ok-is_dep_touched.field-0 before.0 before.3
           c.loop-dep-test.true c.dep-item.is c.if-branch.false before.4 c.in_ok-is_dep_touched.ensures.answer,
+      stays_on c.args.named.now c.loop-dep.named c.is_dep_touched.new.named before.5 c.in_ok-is_dep_touched.ensures.shows.stays,
     )
 
 pub returns-clause-found : goal.returns-clause-found
 returns-clause-found g c =
     finds_none dep_differs dep_same (g.F.Files.holds c.args.files.now) c.args.named.now c.args.deps.now c.loop-dep.named c.loop-dep.dep-index
     c.loop-dep-test.false c.loop-dep.invariant.4
+
+pub returns-then-branch-clause-shows : goal.returns-then-branch-clause-shows
+returns-then-branch-clause-shows g c =
+    shows_one dep_known c.args.named.now c.loop-dep.named c.is_dep_touched.new.named c.args.deps.now c.loop-dep.dep-index c.dep-item.result c.in_ok-is_dep_touched.field-0
+    c.loop-dep-test.true c.dep-item.is c.if-branch.true c.loop-dep.invariant.5 c.in_ok-is_dep_touched.ensures.shows
+
+pub returns-clause-shows : goal.returns-clause-shows
+returns-clause-shows g c = shows_none c.args.named.now c.loop-dep.named (SomeSightKnown c.loop-dep.named c.args.deps.now) c.loop-dep.invariant.5

@@ -2,12 +2,16 @@ use Rattle.std.proofs.Common.{◌∙◌, ℕ, Bool, List}
 use Rattle.pie_files.proofs.Reading.{both_before}
 use Rattle.pie_files.specs.Directory.{Directory}
 use Rattle.pie_named.specs.declared.named.Named.{Named}
-use Rattle.pie_compare.specs.inner.Touching.{write_differs}
+use Rattle.pie_compare.specs.inner.Touching.{write_differs, write_known, SomeWriteKnown}
 use Rattle.pie_compare.proofs.Touches.{write_same, names_stay, passes_on, finds, finds_none}
+use Rattle.pie_compare.proofs.Shown.{shows_one, shows_none, stays_on}
 use Rattle.pie_compare.proofs.touched.is_any_write_touched.Goals as goal
 
 abbrev differs : Directory → Named → List ℕ × List ℕ → Bool
 differs d n w = write_differs d n w.0 w.1
+
+abbrev known : Named → List ℕ × List ℕ → Bool
+known n w = write_known n w.0 w.1
 
 pub returns-then-branch-clause-found : goal.returns-then-branch-clause-found
 returns-then-branch-clause-found g c =
@@ -27,9 +31,18 @@ loop-path-preserved g c =
       passes_on differs write_same (g.F.Files.holds c.args.files.now) c.args.named.now c.args.writes.now (g.F.Files.holds c.loop-path.files)
           c.loop-path.named c.is_write_touched.new.named c.loop-path.path-index c.loop-path-item.result c.in_ok-is_write_touched.field-0 before.0 before.3
           c.loop-path-test.true c.loop-path-item.is c.if-branch.false before.4 c.in_ok-is_write_touched.ensures.answer,
+      stays_on c.args.named.now c.loop-path.named c.is_write_touched.new.named before.5 c.in_ok-is_write_touched.ensures.shows.stays,
     )
 
 pub returns-clause-found : goal.returns-clause-found
 returns-clause-found g c =
     finds_none differs write_same (g.F.Files.holds c.args.files.now) c.args.named.now c.args.writes.now c.loop-path.named c.loop-path.path-index
     c.loop-path-test.false c.loop-path.invariant.4
+
+pub returns-then-branch-clause-shows : goal.returns-then-branch-clause-shows
+returns-then-branch-clause-shows g c =
+    shows_one known c.args.named.now c.loop-path.named c.is_write_touched.new.named c.args.writes.now c.loop-path.path-index c.loop-path-item.result c.in_ok-is_write_touched.field-0
+    c.loop-path-test.true c.loop-path-item.is c.if-branch.true c.loop-path.invariant.5 c.in_ok-is_write_touched.ensures.shows
+
+pub returns-clause-shows : goal.returns-clause-shows
+returns-clause-shows g c = shows_none c.args.named.now c.loop-path.named (SomeWriteKnown c.loop-path.named c.args.writes.now) c.loop-path.invariant.5

@@ -1,7 +1,8 @@
-use Rattle.std.proofs.Common.{sym, subst, inr, arith}
+use Rattle.std.proofs.Common.{length, sym, subst, inr, arith}
 use Rattle.pie_bottomup.specs.declared.state.First.TheVariants.{Done}
 use Rattle.pie_bottomup.specs.inner.States.{RunsOrRests}
 use Rattle.pie_bottomup.proofs.FirstStep.{begun_rests}
+use Rattle.pie_bottomup.proofs.Holding.{as_before}
 use Rattle.pie_bottomup.proofs.state.Core.begin_tested.Goals as goal
 
 pub returns-clause-turns : goal.returns-clause-turns
@@ -13,3 +14,9 @@ returns-clause-turns g c =
       site = rests.site;
       state = subst (RunsOrRests (record now { first = Done })) (sym tested.untested.start.hand) rests.rests;
     })
+
+pub returns-clause-tested : goal.returns-clause-tested
+returns-clause-tested g c = λ d held known.
+    let count = length c.args.self.now.frames.walk.rows in
+    let now = c.in_ok-test_all.ensures.held d held known in
+    (now.0, (now.1, as_before d (record c.test_all.new.self { first = Done }) count c.in_ok-test_all.ensures.due now.1))

@@ -13,6 +13,8 @@ returns-in_ok-schedule_callers-clause-called c =
       nearer = omega (arith, now.weight);
       keeps = record { plan = refl; room = now.room };
       called = λ _. now.scheduled.each;
+      kept = now.scheduled.kept;
+      only = now.scheduled.only;
     }
 
 pub returns-in_ok-schedule_callers-clause-holds : goal.returns-in_ok-schedule_callers-clause-holds

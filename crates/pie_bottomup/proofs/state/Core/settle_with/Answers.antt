@@ -1,5 +1,8 @@
 use Rattle.std.proofs.Common.{◌∙◌, ap, refl, arith}
+use Rattle.pie_graph.specs.Rows.{row_at}
+use Rattle.pie_walk.specs.States.{with_row, settled}
 use Rattle.pie_old.specs.inner.Rows.{paths_in}
+use Rattle.pie_frames.specs.inner.Ended.{row_from}
 use Rattle.pie_bottomup.proofs.Settling.{site_ended}
 use Rattle.pie_bottomup.proofs.state.Core.settle_with.Goals as goal
 
@@ -17,4 +20,15 @@ returns-clause-ended c =
       hand = refl;
       nearer = omega (arith, now.weight);
       keeps = record { plan = refl; room = now.room };
+    }
+
+pub returns-clause-settles : goal.returns-clause-settles
+returns-clause-settles c =
+    let writes = c.in_ok-writes.ensures ∙ ap paths_in c.as_slice.ensures in
+    record {
+      names = c.put.ensures.names;
+      puts = c.in_ok-put.ensures.puts;
+      walk = c.in_ok-finish.ensures.finished
+          ∙ ap (λ ps. settled (with_row c.args.self.now.frames.walk c.args.no.0 (row_from (row_at c.args.self.now.frames.walk.rows c.args.no.0) c.args.from ps))
+          c.args.no.0) writes;
     }

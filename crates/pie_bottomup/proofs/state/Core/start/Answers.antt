@@ -1,9 +1,10 @@
-use Rattle.std.proofs.Common.{◌≡◌, ◌∙◌, List, Some, length, sym, ap, subst}
+use Rattle.std.proofs.Common.{◌≡◌, ◌∙◌, List, Some, length, refl, sym, ap, subst, arith}
 use Rattle.std.specs.Prelude.{IfSome}
-use Rattle.std.proofs.lemmas.List.{length-map}
+use Rattle.std.proofs.lemmas.List.{length-map, length_push}
 use Rattle.pie_graph.specs.declared.edges.TaskNo.{TaskNo}
 use Rattle.pie_graph.specs.Numbers.{numbers}
 use Rattle.pie_graph.specs.Rows.{Row, row_at}
+use Rattle.pie_running.specs.inner.Noted.{Noted}
 use Rattle.pie_bottomup.specs.declared.state.InHand.{InHand}
 use Rattle.pie_bottomup.specs.inner.Running.{IsKnown}
 use Rattle.pie_bottomup.proofs.Owning.{started_own, own_tables}
@@ -28,3 +29,13 @@ returns-clause-turns c =
             c.in_ok-task.ensures.started.notes);
       };
     }
+
+pub returns-clause-nearer : goal.returns-clause-nearer
+returns-clause-nearer c = omega (arith, ap (λ (n : Noted). n.left) c.in_ok-task.ensures.started.notes)
+
+pub returns-clause-spends : goal.returns-clause-spends
+returns-clause-spends c = record {
+  plan = refl;
+  room = omega arith;
+  one = omega (arith, ap length c.in_ok-task.ensures.runs, length_push c.args.runs.now c.task.result.now);
+}

@@ -1,4 +1,4 @@
-use Rattle.std.proofs.Common.{refl, arith}
+use Rattle.std.proofs.Common.{refl, arith, inl, inr}
 use Rattle.pie_bottomup.proofs.Sites.{site_sweeping}
 use Rattle.pie_bottomup.proofs.state.Core.sweep_above.Goals as goal
 
@@ -14,5 +14,12 @@ returns-in_ok-sweep c =
         hand = refl;
         nearer = omega (arith, now.weight);
         keeps = record { plan = refl; room = now.room };
+      };
+      told = record {
+        tables = refl;
+        same = now.sweeps.same;
+        swept = λ _. now.sweeps.swept;
+        kept = now.sweeps.kept;
+        only = λ k flag. elim (now.sweeps.only k flag) [ inl was ↦ inl was | inr reaches ↦ inr reaches.0 ];
       };
     }

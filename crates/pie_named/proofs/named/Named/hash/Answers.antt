@@ -1,7 +1,13 @@
+use Rattle.std.proofs.Common.{sym, ◌∙◌}
 use Rattle.pie_named.proofs.Knowing.{knows_hash}
+use Rattle.pie_named.proofs.Staying.{asks_hash}
 use Rattle.pie_named.proofs.named.Named.hash.Goals as goal
 
 pub returns-clause-learns : goal.returns-clause-learns
 returns-clause-learns g c d held known =
     knows_hash d c.args.self.now c.put.new.self c.in_ok-copy.field-0 c.args.path.now c.in_ok-stamp.stamp c.in_ok-copy.ensures c.in_ok-put.ensures
     (c.in_ok-stamp.ensures.now d held) known
+
+pub returns-clause-asked : goal.returns-clause-asked
+returns-clause-asked g c =
+    asks_hash c.args.self.now c.put.new.self c.in_ok-copy.field-0 c.args.path.now c.in_ok-stamp.stamp c.in_ok-copy.ensures (sym c.get.ensures ∙ c.in_default.is) c.in_ok-put.ensures
