@@ -49,12 +49,25 @@ impl Emitter {
     {
         match kind {
             CallKind::Plain => self.put(spot, plain_call(name.as_str(), count)),
-            CallKind::Require => self.put_text(spot, required(spot, count, How::Whole)?, name),
-            CallKind::RequireByHash => {
-                self.put_text(spot, required(spot, count, How::Hashed)?, name)
-            }
-            CallKind::Run => self.put_text(spot, required(spot, count, How::Ran)?, name),
+            CallKind::Require => self.put_required(spot, name, count, How::Whole),
+            CallKind::RequireByHash => self.put_required(spot, name, count, How::Hashed),
+            CallKind::Run => self.put_required(spot, name, count, How::Ran),
         }
+    }
+
+    // What requires a function by its name.
+    fn put_required(
+        &mut self,
+        spot: Spot,
+        name: &Text,
+        count: usize,
+        how: How,
+    ) -> Result<Spot, OutOfMemory>
+        ensures spot { IfOk result (λ n. n ≡ spots.next_text spot) }
+        ensures added { OnOk result (Adds self.old self.new (required_code spot count how ∷ []) (name.now ∷ [])) }
+    {
+        let instr = required(spot, count, how)?;
+        self.put_text(spot, instr, name)
     }
 
     // Arguments, one after another.

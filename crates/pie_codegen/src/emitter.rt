@@ -1,5 +1,5 @@
 //! The code and the texts that were emitted so far.
-ghost use Rattle.std.specs.Prelude.{◌≡◌, [], ◌∷◌, IfOk, OnOk};
+ghost use Rattle.std.specs.Prelude.{◌≡◌, [], ◌∷◌, ◌++◌, IfOk, OnOk};
 ghost use Rattle.pie_code.specs.declared.instr.Instr.TheVariants as instrs;
 ghost use Rattle.pie_codegen.specs.Growing.{Adds};
 ghost use Rattle.pie_codegen.specs.Spots as spots;
@@ -57,7 +57,15 @@ impl Emitter {
     {
         let behind = next_text(spot)?;
         self.code.push(instr)?;
-        self.texts.push(text.copy()?)?;
+        push_copy(&mut self.texts, text)?;
         Ok(behind)
     }
+}
+
+fn push_copy(texts: &mut Vec<Text>, text: &Text) -> Result<(), OutOfMemory>
+    ensures { OnOk result (texts.new.items ≡ texts.old.items ++ text.now ∷ []) }
+{
+    let copy = text.copy()?;
+    texts.push(copy)?;
+    Ok(())
 }

@@ -7,7 +7,7 @@ ghost use Rattle.pie_model_program.specs.Roots.{IsAlone, IsForest, written_by_al
 
 use crate::evaluation::evaluate;
 use crate::names::copied;
-use crate::run::Summary;
+use crate::run::{Run, Summary};
 use crate::setting::Setting;
 use pie_model::bytes::{Bytes, Names};
 use pie_model::words::Outcome;
@@ -130,8 +130,23 @@ fn gather_one<S: Setting>(
 {
     let entered = Names::new(alloc);
     let one = alone(setting, alloc, task, &entered)?;
-    pair_writes(alloc, written, one.run.own.as_slice(), task)?;
-    pair_names(alloc, missed, one.run.absent.as_slice(), task)?;
+    pair_both(alloc, task, &one.run, written, missed)?;
+    Ok(())
+}
+
+/// Puts at the end the paths that a run wrote, and those that it found absent, each with the task.
+fn pair_both(
+    alloc: Global,
+    task: &Bytes,
+    run: &Run,
+    written: &mut Vec<(Bytes, Bytes)>,
+    missed: &mut Vec<(Bytes, Bytes)>,
+) -> Result<(), AllocError>
+    ensures written { OnOk result (written.new.items ≡ written.old.items ++ map (λ x. (x.0, task.now)) run.now.own.items) }
+    ensures missed { OnOk result (missed.new.items ≡ missed.old.items ++ map (λ p. (p, task.now)) run.now.absent) }
+{
+    pair_writes(alloc, written, run.own.as_slice(), task)?;
+    pair_names(alloc, missed, run.absent.as_slice(), task)?;
     Ok(())
 }
 

@@ -8,8 +8,6 @@ mod list;
 mod reader;
 mod root;
 mod roots_fault;
-#[cfg(test)]
-mod tests;
 
 pub use list::read_roots;
 pub use root::{Root, read_root};

@@ -2,9 +2,10 @@
 ghost use Rattle.std.specs.Prelude.{◌≡◌, ◌<◌, ◌-◌, ◌^◌, IfOk};
 ghost use Rattle.pie_value.specs.Canonical.{IsEncodable, IsEncodableTask};
 ghost use Rattle.pie_value.specs.Values.{tree_of};
-ghost use Rattle.pie_record.specs.Canonical.{IsStorableDep};
+ghost use Rattle.pie_value.specs.declared.event.How.TheVariants as hows;
+ghost use Rattle.pie_record.specs.Canonical.{IsStorableDep, IsStorableStamp};
 ghost use Rattle.pie_record.specs.declared.dep.DepOn.TheVariants.{Called};
-ghost use Rattle.pie_builder_laws.specs.Requiring.{of_task, requiring_answer};
+ghost use Rattle.pie_builder_laws.specs.Requiring.{of_task, requiring_answer, requiring_stamp};
 ghost use Rattle.pie_running.specs.inner.Noted.{required as with_task};
 ghost use Rattle.pie_running.specs.inner.Told.{IsTold};
 ghost use Rattle.pie_running.specs.inner.Frames.{IsReady, IsWaiting};
@@ -78,22 +79,35 @@ fn dep_of(alloc: Global, how: How, required: Task, output: &Value) -> Result<Dep
     ensures is { IfOk result (λ d. d ≡ of_task how required output.now) }
 {
     match how {
-        How::Whole => Ok(Dep {
-            kind: DepKind::Require,
-            what: DepOn::Called(required),
-            stamp: Stamp::Whole(output.copy()?),
-        }),
-        How::Hashed => Ok(Dep {
-            kind: DepKind::RequireHash,
-            what: DepOn::Called(required),
-            stamp: ByHash.stamp(alloc, &Observed::Output(output.copy()?))?,
-        }),
+        How::Whole => {
+            let stamp = Stamp::Whole(output.copy()?);
+            let what = DepOn::Called(required);
+            let kind = DepKind::Require;
+            Ok(Dep { kind, what, stamp })
+        }
+        How::Hashed => {
+            let stamp = hashed(alloc, output)?;
+            let what = DepOn::Called(required);
+            let kind = DepKind::RequireHash;
+            Ok(Dep { kind, what, stamp })
+        }
         How::Ran => Ok(Dep {
             kind: DepKind::Run,
             what: DepOn::Called(required),
             stamp: Stamp::Done,
         }),
     }
+}
+
+// The stamp of an output by its canonical bytes.
+fn hashed(alloc: Global, output: &Value) -> Result<Stamp, OutOfMemory>
+    requires { IsEncodable (tree_of output.now) }
+    ensures storable { IfOk result IsStorableStamp }
+    ensures is { IfOk result (λ s. s ≡ requiring_stamp hows.Hashed output.now) }
+{
+    let seen = Observed::Output(output.copy()?);
+    let stamp = ByHash.stamp(alloc, &seen)?;
+    Ok(stamp)
 }
 
 fn output_answer(how: How, output: Value) -> Answer

@@ -56,20 +56,32 @@ any_insert {Z} name ks k = by (list_any (same_key k) ks) (named name k) refl ref
     by true false e h = refl
     by false c e h = any_push (named name) ks k ∙ ap (λ (a : Bool). a || list_any (named name) ks) h
 
-pub known_step : {Z : Type 0} (name : List ℕ) (old new : List (Vec ℕ Z)) (k : Vec ℕ Z) (funcs : List (List ℕ × List ℕ)) (i : ℕ)
-    (f : List ℕ × List ℕ) (all : Bool) → i < length funcs → f ≡ get_or funcs i f → k.items ≡ f.0 → new ≡ insert_key same_key old k
-    → (list_any (named name) old || list_any (is_func name) (drop i funcs)) ≡ all
-    → (list_any (named name) new || list_any (is_func name) (drop (i + 1) funcs)) ≡ all
-known_step {Z} name old new k funcs i f all lt is e ins inv =
+-- a set after an insertion
+pub inserted : {Z : Type 0} (old new : List (Vec ℕ Z)) (k : Vec ℕ Z) (name other : List ℕ) → k.items ≡ name → new ≡ insert_key same_key old k
+    → list_any (named other) new ≡ (bytes_eq other name || list_any (named other) old)
+inserted old new k name other e ins =
+    ap (λ l. list_any (named other) l) ins
+    ∙ any_insert other old k
+    ∙ ap (λ (x : List ℕ). bytes_eq other x || list_any (named other) old) e
+
+pub known_more : (name : List ℕ) (old new : Bool) (funcs : List (List ℕ × List ℕ)) (i : ℕ)
+    (f : List ℕ × List ℕ) (all : Bool) → i < length funcs → f ≡ get_or funcs i f → new ≡ (bytes_eq name f.0 || old)
+    → (old || list_any (is_func name) (drop i funcs)) ≡ all
+    → (new || list_any (is_func name) (drop (i + 1) funcs)) ≡ all
+known_more name old new funcs i f all lt is e inv =
     let rest = list_any (is_func name) (drop (i + 1) funcs) in
-    ap (λ (l : List (Vec ℕ Z)). list_any (named name) l || rest) ins
-    ∙ ap (λ (b : Bool). b || rest) (any_insert name old k)
-    ∙ ap (λ (x : List ℕ). (bytes_eq name x || list_any (named name) old) || rest) e
-    ∙ moved (bytes_eq name f.0) (list_any (named name) old) rest
-    ∙ ap (λ (x : List ℕ × List ℕ). list_any (named name) old || (is_func name x || rest)) is
-    ∙ sym (ap (λ (l : List (List ℕ × List ℕ)). list_any (named name) old || list_any (is_func name) l) (drop_more funcs i f lt)) ∙ inv
+    ap (λ (b : Bool). b || rest) e
+    ∙ moved (bytes_eq name f.0) old rest
+    ∙ ap (λ (x : List ℕ × List ℕ). old || (is_func name x || rest)) is
+    ∙ sym (ap (λ (l : List (List ℕ × List ℕ)). old || list_any (is_func name) l) (drop_more funcs i f lt)) ∙ inv
   where
     moved : (a b c : Bool) → ((a || b) || c) ≡ (b || (a || c))
     moved true true c = refl
     moved true false c = refl
     moved false b c = refl
+
+pub known_step : {Z : Type 0} (name : List ℕ) (old new : List (Vec ℕ Z)) (k : Vec ℕ Z) (funcs : List (List ℕ × List ℕ)) (i : ℕ)
+    (f : List ℕ × List ℕ) (all : Bool) → i < length funcs → f ≡ get_or funcs i f → k.items ≡ f.0 → new ≡ insert_key same_key old k
+    → (list_any (named name) old || list_any (is_func name) (drop i funcs)) ≡ all
+    → (list_any (named name) new || list_any (is_func name) (drop (i + 1) funcs)) ≡ all
+known_step {Z} name old new k funcs i f all lt is e ins inv = known_more name _ _ funcs i f all lt is (inserted old new k f.0 name e ins) inv

@@ -1,21 +1,24 @@
 //! Reading a store. Rule: docs/FORMATS.md, "The store".
-ghost use Rattle.std.specs.Prelude.{◌≡◌, ◌≤◌, length, List, ℕ, None, Some, IfOk};
+ghost use Rattle.std.specs.Prelude.{◌≡◌, ◌≤◌, length, List, ℕ, None, Some, Ok, Err, All, IfOk, IfErr};
 ghost use Rattle.pie_store.specs.declared.image.StoreImage.{StoreImage};
 ghost use Rattle.pie_store.specs.Canonical.{IsStorableStore};
 ghost use Rattle.pie_store.specs.Texts.{IsStoreText};
 ghost use Rattle.pie_store.specs.declared.store_fault.StoreFault.{StoreFault};
 ghost use Rattle.pie_store.specs.inner.Faults.{HasFault, RefusesWith, TellsFault};
 ghost use Rattle.pie_store.specs.inner.Agreement.{StoreAgrees, AgreesWhole, Refuses};
-ghost use Rattle.pie_store.specs.inner.Reading.{store_says, body_says, contents_1, contents_2, tail_of};
+ghost use Rattle.pie_store.specs.inner.Reading.{store_says, body_says, contents_1, contents_2, tail_of, closed, first_missing};
+ghost use Rattle.pie_store.specs.inner.Reading.{tasks_of as specs_tasks_of};
+ghost use Rattle.pie_store.specs.Ranks.{IsStored};
 ghost use Rattle.pie_store.specs.inner.Known.{known_in};
 
 use crate::frame::body_of;
 use crate::known::Known;
+use crate::ranked::RankedRows;
 use crate::reading::{funcs, missing, place, roots, rows, tasks_of, unread};
 use crate::{Funcs, Rows, StoreFault, StoreImage};
 use pie_base::Text;
 use pie_record::Reader;
-use pie_value::Tasks;
+use pie_value::{Task, Tasks};
 use std::alloc::Global;
 
 /// What a store says. Both versions are read.
@@ -102,13 +105,7 @@ fn tail(
     let head = Box::new(alloc, head)?;
     let roots = roots(end, reader, alloc)?;
     let rows = rows(end, reader, alloc, &known)?;
-    if let Some(at) = missing(&rows, roots.as_slice())? {
-        return Err(StoreFault::Order(at));
-    }
-    if reader.left() > 0 {
-        return Err(StoreFault::Rest);
-    }
-    let tasks = tasks_of(alloc, roots.as_slice())?;
+    let tasks = tasks_at_end(alloc, &rows, roots.as_slice(), reader)?;
     let head = Box::into_inner(head);
     Ok(StoreImage {
         version: head.version,
@@ -117,4 +114,26 @@ fn tail(
         roots: Tasks::new(tasks),
         rows: Rows::new(rows.into_rows()),
     })
+}
+
+// The tasks of the roots, where each has a record and nothing is left.
+fn tasks_at_end(
+    alloc: Global,
+    rows: &RankedRows,
+    roots: &[(Task, usize)],
+    reader: &Reader<'_>,
+) -> Result<Vec<Task>, StoreFault>
+    requires { All (λ (r : Task × ℕ). IsStored r.0) roots.now }
+    ensures tasks { IfOk result (λ tasks. tasks.items ≡ specs_tasks_of roots.now) }
+    ensures whole { IfOk result (λ _. (image : StoreImage) → closed (first_missing rows.now roots.now) reader.now image ≡ Ok image) }
+    ensures fault { IfErr result (λ e. (image : StoreImage) → AgreesWhole (Err e) (closed (first_missing rows.now roots.now) reader.now image)) }
+{
+    if let Some(at) = missing(rows, roots)? {
+        return Err(StoreFault::Order(at));
+    }
+    if reader.left() > 0 {
+        return Err(StoreFault::Rest);
+    }
+    let tasks = tasks_of(alloc, roots)?;
+    Ok(tasks)
 }

@@ -1,5 +1,5 @@
 //! The names of the functions that a store knows.
-ghost use Rattle.std.specs.Prelude.{◌≡◌, ℕ, List, IfOk};
+ghost use Rattle.std.specs.Prelude.{◌≡◌, ◌||◌, ℕ, List, IfOk, OnOk};
 ghost use Rattle.std.specs.List.{list_any};
 ghost use Rattle.std.specs.Str.{bytes_eq};
 ghost use Rattle.pie_store.specs.Ranks.{knows};
@@ -44,8 +44,15 @@ fn names_of(alloc: Global, funcs: &[(Text, [u8; 32])]) -> Result<IndexSet<Vec<u8
 {
     let mut names = IndexSet::new(alloc);
     for (name, _) in funcs {
-        let bytes = Vec::from_slice(alloc, name.as_str().as_bytes())?;
-        names.insert(bytes)?;
+        insert_name(alloc, &mut names, name)?;
     }
     Ok(names)
+}
+
+fn insert_name(alloc: Global, names: &mut IndexSet<Vec<u8>>, name: &Text) -> Result<(), OutOfMemory>
+    ensures { OnOk result ((other : List ℕ) → set_has names.new other ≡ (bytes_eq other name.now || set_has names.old other)) }
+{
+    let bytes = Vec::from_slice(alloc, name.as_str().as_bytes())?;
+    names.insert(bytes)?;
+    Ok(())
 }

@@ -1,5 +1,5 @@
 //! The records of a store that were read so far, with their heights.
-ghost use Rattle.std.specs.Prelude.{◌≡◌, ◌≤◌, ◌<◌, ◌^◌, ◌∷◌, [], ◌++◌, ◌+◌, length, map, max, All, None, IfOk, OnOk, IfSome, slice_index_or};
+ghost use Rattle.std.specs.Prelude.{◌≡◌, ◌≤◌, ◌<◌, ◌^◌, ◌∷◌, [], ◌++◌, ◌+◌, length, map, max, All, Contains, None, IfOk, OnOk, IfSome, slice_index_or};
 ghost use Rattle.pie_value.specs.Canonical.{IsEncodableTask};
 ghost use Rattle.pie_store.specs.Ranks.{rank_in, above_one, above as specs_above, comes_last, is_before as specs_is_before, height_after, IsStored, IsStoredOn};
 ghost use Rattle.pie_store.specs.inner.Reading.{rows_of};
@@ -133,22 +133,19 @@ impl RankedRows {
     }
 
     // One record more.
-    pub(crate) fn push(self, rec: TaskRecord, height: u64) -> Result<RankedRows, OutOfMemory>
-        requires stored { IsStored rec.task }
-        requires absent { rank_in self rec.task ≡ None }
+    pub(crate) fn push(self, rec: Box<TaskRecord>, height: u64) -> Result<RankedRows, OutOfMemory>
+        requires stored { IsStored rec.value.task }
+        requires absent { rank_in self rec.value.task ≡ None }
         requires low { height ≤ length self }
         requires few { length self < 2 ^ 32 }
-        ensures { IfOk result (λ r. r ≡ self ++ (rec, height) ∷ []) }
+        ensures { IfOk result (λ r. r ≡ self ++ (rec.value, height) ∷ []) }
     {
         let RankedRows {
             mut names,
             mut heights,
             mut rows,
         } = self;
-        let task = rec.task.copy()?;
-        rows.push(rec)?;
-        heights.push(height)?;
-        names.add(task)?;
+        push_all(&mut names, &mut heights, &mut rows, rec, height)?;
         Ok(RankedRows {
             names,
             heights,
@@ -166,6 +163,27 @@ impl RankedRows {
         } = self;
         rows
     }
+}
+
+// A task, its height and its record, each behind those before it.
+fn push_all(
+    names: &mut TaskNames,
+    heights: &mut Vec<u64>,
+    rows: &mut Vec<TaskRecord>,
+    rec: Box<TaskRecord>,
+    height: u64,
+) -> Result<(), OutOfMemory>
+    requires encodable { IsEncodableTask rec.value.task }
+    requires absent { ¬ (Contains names.old rec.value.task) }
+    requires few { length names.old < 2 ^ 32 }
+    ensures names { OnOk result (names.new ≡ names.old ++ rec.value.task ∷ []) }
+    ensures heights { OnOk result (heights.new.items ≡ heights.old.items ++ height ∷ []) }
+    ensures rows { OnOk result (rows.new.items ≡ rows.old.items ++ rec.value ∷ []) }
+{
+    heights.push(height)?;
+    names.add(rec.task.copy()?)?;
+    rows.push(Box::into_inner(rec))?;
+    Ok(())
 }
 
 fn height_at(heights: &[u64], at: usize) -> u64

@@ -175,18 +175,21 @@ fn one_row(
     alloc: Global,
     known: &Known,
     rows: &RankedRows,
-) -> Result<(TaskRecord, u64), StoreFault>
-    ensures row { StoreAgrees (λ r. r) result reader.new (next_row (known_in known.now) end rows.now reader.old) }
-    ensures stored { IfOk result (λ r. IsStored r.0.task) }
-    ensures absent { IfOk result (λ r. rank_in rows.now r.0.task ≡ None) }
+) -> Result<(Box<TaskRecord>, u64), StoreFault>
+    ensures row { StoreAgrees (λ r. (r.0.value, r.1)) result reader.new (next_row (known_in known.now) end rows.now reader.old) }
+    ensures stored { IfOk result (λ r. IsStored r.0.value.task) }
+    ensures absent { IfOk result (λ r. rank_in rows.now r.0.value.task ≡ None) }
     ensures low { IfOk result (λ r. r.1 ≤ length rows.now) }
 {
     let at = place(end, reader);
     match reader.record(alloc) {
-        Ok(rec) => match rows.height_after(known, &rec)? {
-            Some(height) => Ok((rec, height)),
-            None => Err(StoreFault::Order(at)),
-        },
+        Ok(rec) => {
+            let rec = Box::new(alloc, rec)?;
+            match rows.height_after(known, &rec)? {
+                Some(height) => Ok((rec, height)),
+                None => Err(StoreFault::Order(at)),
+            }
+        }
         Err(fault) => Err(unread(fault, at)),
     }
 }

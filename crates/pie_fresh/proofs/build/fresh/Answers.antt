@@ -6,6 +6,8 @@ use Rattle.pie_digest.specs.Digests.{function_names}
 use Rattle.pie_fresh.specs.Cleans.{EvaluatesAs}
 use Rattle.pie_fresh.proofs.Cleaning.{cleans_refused, cleans_checked}
 use Rattle.pie_fresh.proofs.Roots.{idle_known}
+use Rattle.std.proofs.Common.{arith}
+use Rattle.pie_fresh.proofs.Growing.{gains}
 use Rattle.pie_fresh.proofs.build.fresh.Goals as goal
 
 pub returns-in-Some-clause-stored : goal.returns-in-Some-clause-stored
@@ -32,3 +34,15 @@ returns-clause-clean g c =
     c.in_ok-checked-in-None.field-0
     (subst (EvaluatesAs (g.F.Files.holds c.args.files.now) c.new-builder.result c.evaluate_all.new.builder c.args.roots.now) c.in-None.is
     c.in_ok-refusal.ensures.means) c.in_ok-checked-in-None.ensures.clean
+
+pub returns-clause-runs : goal.returns-clause-runs
+returns-clause-runs g c = grind (arith, gains)
+
+pub returns-in-Some-clause-runs : goal.returns-in-Some-clause-runs
+returns-in-Some-clause-runs g c = grind (arith, gains)
+
+pub returns-in_err-checked-in-None-clause-runs : goal.returns-in_err-checked-in-None-clause-runs
+returns-in_err-checked-in-None-clause-runs g c = grind (arith, gains)
+
+pub returns-in_err-refusal-clause-runs : goal.returns-in_err-refusal-clause-runs
+returns-in_err-refusal-clause-runs g c = grind (arith, gains)

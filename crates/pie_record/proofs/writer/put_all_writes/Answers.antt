@@ -1,5 +1,7 @@
 use Rattle.pie_record.specs.Canonical.{enc_write, IsTrueWrite}
 use Rattle.pie_record.proofs.Writing.{grown, all_more, all_done}
+use Rattle.std.proofs.Common.{arith}
+use Rattle.std.proofs.lemmas.Grind.{common_steps}
 use Rattle.pie_record.proofs.writer.put_all_writes.Goals as goal
 
 pub loop-path-preserved : goal.loop-path-preserved
@@ -10,3 +12,9 @@ loop-path-preserved c = (
 
 pub returns-clause-parts : goal.returns-clause-parts
 returns-clause-parts c = all_done IsTrueWrite _ _ c.loop-path-test.false c.loop-path.invariant.1
+
+pub loop-path-init : goal.loop-path-init
+loop-path-init c = grind (arith, common_steps)
+
+pub returns-clause-written : goal.returns-clause-written
+returns-clause-written c = grind (arith, common_steps)

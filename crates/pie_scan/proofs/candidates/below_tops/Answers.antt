@@ -6,6 +6,8 @@ use Rattle.pie_files.specs.Reading.{ReadsOnly}
 use Rattle.pie_files.proofs.Reading.{both_before}
 use Rattle.pie_scan.specs.Scanned.{found_below}
 use Rattle.pie_scan.proofs.Growing.{if_goes_on, flat_step, asks_on, map_step, reads_fail}
+use Rattle.std.proofs.Common.{arith}
+use Rattle.pie_files.proofs.Reading.{reads}
 use Rattle.pie_scan.proofs.candidates.below_tops.Goals as goal
 
 pub loop-top-preserved : goal.loop-top-preserved
@@ -32,3 +34,6 @@ returns-in_err-below_top-clause-reads g c =
     subst (ReadsOnly g.F.Files.holds g.F.Files.moment g.F.Files.left_since g.F.Files.images g.F.Files.faults c.args.files.now c.below_top.new.files) failed
     (reads_fail g.F.Files.holds g.F.Files.moment g.F.Files.left_since g.F.Files.images g.F.Files.faults c.args.files.now c.loop-top.files c.below_top.new.files e
     before.0 before.1 before.2 c.in_err-below_top.ensures.reads)
+
+pub returns-clause-reads : goal.returns-clause-reads
+returns-clause-reads g c = grind (arith, reads)

@@ -8,6 +8,8 @@ use Rattle.pie_files.proofs.Reading.{both_before}
 use Rattle.pie_scan.specs.Scanned.{entry_in}
 use Rattle.pie_scan.proofs.Noted.{below_on, below_ordered, marks_on, rising_paths}
 use Rattle.pie_scan.proofs.Growing.{if_goes_on, filter_map_step, asks_on, map_step, reads_fail}
+use Rattle.std.proofs.Common.{arith}
+use Rattle.pie_files.proofs.Reading.{reads}
 use Rattle.pie_scan.proofs.scanning.read_all.Goals as goal
 
 pub loop-path-preserved : goal.loop-path-preserved
@@ -40,3 +42,6 @@ returns-in_err-note-clause-reads g c =
 pub returns-clause-ordered : goal.returns-clause-ordered
 returns-clause-ordered g c =
     λ sorted. below_ordered c.args.paths.now c.loop-path.path-index c.loop-path.entries.items (c.loop-path.invariant.5 (rising_paths c.args.paths.now sorted))
+
+pub returns-clause-reads : goal.returns-clause-reads
+returns-clause-reads g c = grind (arith, reads)

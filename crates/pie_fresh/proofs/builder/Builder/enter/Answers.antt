@@ -3,6 +3,7 @@ use Rattle.pie_base.specs.declared.fault.FaultKind.TheVariants as faults
 use Rattle.pie_value.specs.declared.verdict.Refusal.TheVariants.{Fault}
 use Rattle.pie_fresh.proofs.Entering.{begun_is}
 use Rattle.pie_fresh.proofs.Starting.{added, begun_frame, function_there, no_room, unknown_new}
+use Rattle.pie_fresh.proofs.Walks.{enters}
 use Rattle.pie_fresh.proofs.builder.Builder.enter.Goals as goal
 
 pub returns-in_ok-frame-in-Some-clause-begins : goal.returns-in_ok-frame-in-Some-clause-begins
@@ -36,3 +37,51 @@ returns-in_ok-copy-in-None-clause-means c = λ s there T.
     unknown_new s c.args.self.now c.args.self.now c.args.task.now c.fault.result there.compiled
     (function_there s c.args.self.now c.args.task.now None there c.in-None.ensures.found)
     (c.fault.ensures ∙ ap (λ t. Fault (record { task = t; kind = faults.Unknown })) c.in_ok-copy-in-None.ensures)
+
+pub returns-in_err-_bytes-clause-enters : goal.returns-in_err-_bytes-clause-enters
+returns-in_err-_bytes-clause-enters c = grind (arith, enters)
+
+pub returns-in_err-_bytes-clause-starts : goal.returns-in_err-_bytes-clause-starts
+returns-in_err-_bytes-clause-starts c = grind (arith, enters)
+
+pub returns-in_err-copy-in-None-clause-enters : goal.returns-in_err-copy-in-None-clause-enters
+returns-in_err-copy-in-None-clause-enters c = grind (arith, enters)
+
+pub returns-in_err-copy-in-None-clause-starts : goal.returns-in_err-copy-in-None-clause-starts
+returns-in_err-copy-in-None-clause-starts c = grind (arith, enters)
+
+pub returns-in_err-copy-in-Some-clause-enters : goal.returns-in_err-copy-in-Some-clause-enters
+returns-in_err-copy-in-Some-clause-enters c = grind (arith, enters)
+
+pub returns-in_err-copy-in-Some-clause-starts : goal.returns-in_err-copy-in-Some-clause-starts
+returns-in_err-copy-in-Some-clause-starts c = grind (arith, enters)
+
+pub returns-in_err-frame-in-Some-clause-enters : goal.returns-in_err-frame-in-Some-clause-enters
+returns-in_err-frame-in-Some-clause-enters c = grind (arith, enters)
+
+pub returns-in_err-frame-in-Some-clause-starts : goal.returns-in_err-frame-in-Some-clause-starts
+returns-in_err-frame-in-Some-clause-starts c = grind (arith, enters)
+
+pub returns-in_err-no-in-Some-clause-enters : goal.returns-in_err-no-in-Some-clause-enters
+returns-in_err-no-in-Some-clause-enters c = grind (arith, enters)
+
+pub returns-in_err-no-in-Some-clause-starts : goal.returns-in_err-no-in-Some-clause-starts
+returns-in_err-no-in-Some-clause-starts c = grind (arith, enters)
+
+pub returns-in_ok-copy-in-None-clause-enters : goal.returns-in_ok-copy-in-None-clause-enters
+returns-in_ok-copy-in-None-clause-enters c = grind (arith, enters)
+
+pub returns-in_ok-copy-in-None-clause-starts : goal.returns-in_ok-copy-in-None-clause-starts
+returns-in_ok-copy-in-None-clause-starts c = grind (arith, enters)
+
+pub returns-in_ok-frame-in-Some-clause-enters : goal.returns-in_ok-frame-in-Some-clause-enters
+returns-in_ok-frame-in-Some-clause-enters c = grind (arith, enters)
+
+pub returns-in_ok-frame-in-Some-clause-starts : goal.returns-in_ok-frame-in-Some-clause-starts
+returns-in_ok-frame-in-Some-clause-starts c = grind (arith, enters)
+
+pub returns-then-len-clause-enters : goal.returns-then-len-clause-enters
+returns-then-len-clause-enters c = grind (arith, enters)
+
+pub returns-then-len-clause-starts : goal.returns-then-len-clause-starts
+returns-then-len-clause-starts c = grind (arith, enters)

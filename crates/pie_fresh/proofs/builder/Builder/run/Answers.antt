@@ -3,6 +3,9 @@ use Rattle.pie_files.proofs.Reading.{both_before}
 use Rattle.pie_fresh.specs.inner.Turns.{GoesOn}
 use Rattle.pie_fresh.proofs.Growing.{enters_then, starts_then}
 use Rattle.pie_fresh.proofs.Rooting.{runs_on, runs_out, runs_stop}
+use Rattle.std.proofs.Common.{arith}
+use Rattle.pie_fresh.proofs.Walks.{runs}
+use Rattle.pie_files.proofs.Reading.{reads}
 use Rattle.pie_fresh.proofs.builder.Builder.run.Goals as goal
 
 pub turns-preserved : goal.turns-preserved
@@ -31,3 +34,30 @@ pub returns-in-Stops-clause-means : goal.returns-in-Stops-clause-means
 returns-in-Stops-clause-means g c =
     runs_stop (g.F.Files.holds c.args.files.now) (g.F.Files.holds c.turns.files) c.args.self.now c.turns.self c.turn.new.self c.args.frame c.turns.frame
     c.turns.invariant.3 c.turns.invariant.6 c.in_ok-next.field-0 c.in_ok-next.ensures.means c.in-Stops.refusal c.in-Stops.is
+
+pub returns-in-Rests-clause-enters : goal.returns-in-Rests-clause-enters
+returns-in-Rests-clause-enters g c = grind (arith, runs)
+
+pub returns-in-Rests-clause-reads : goal.returns-in-Rests-clause-reads
+returns-in-Rests-clause-reads g c = grind (arith, reads)
+
+pub returns-in-Rests-clause-starts : goal.returns-in-Rests-clause-starts
+returns-in-Rests-clause-starts g c = grind (arith, runs)
+
+pub returns-in-Stops-clause-enters : goal.returns-in-Stops-clause-enters
+returns-in-Stops-clause-enters g c = grind (arith, runs)
+
+pub returns-in-Stops-clause-reads : goal.returns-in-Stops-clause-reads
+returns-in-Stops-clause-reads g c = grind (arith, reads)
+
+pub returns-in-Stops-clause-starts : goal.returns-in-Stops-clause-starts
+returns-in-Stops-clause-starts g c = grind (arith, runs)
+
+pub returns-in_err-next-clause-enters : goal.returns-in_err-next-clause-enters
+returns-in_err-next-clause-enters g c = grind (arith, runs)
+
+pub returns-in_err-next-clause-reads : goal.returns-in_err-next-clause-reads
+returns-in_err-next-clause-reads g c = grind (arith, reads)
+
+pub returns-in_err-next-clause-starts : goal.returns-in_err-next-clause-starts
+returns-in_err-next-clause-starts g c = grind (arith, runs)

@@ -2,6 +2,9 @@ use Rattle.std.proofs.Common.{subst}
 use Rattle.pie_running.specs.inner.Steps.{Comes}
 use Rattle.pie_fresh.proofs.Leaving.{if_ok}
 use Rattle.pie_fresh.proofs.Turning.{ComesWith, turns_asking, turns_ending, turns_failing}
+use Rattle.std.proofs.Common.{arith}
+use Rattle.pie_fresh.proofs.Growing.{enters_same}
+use Rattle.pie_files.proofs.Reading.{reads}
 use Rattle.pie_fresh.proofs.builder.Builder.turn.Goals as goal
 
 pub returns-in-Asks-clause-means : goal.returns-in-Asks-clause-means
@@ -20,3 +23,21 @@ pub returns-in-Fails-clause-means : goal.returns-in-Fails-clause-means
 returns-in-Fails-clause-means g c =
     turns_failing (g.F.Files.holds c.args.files.now) c.args.self.now c.args.frame c.in-Fails.notes c.into_task.result c.in-Fails.kind
     (subst (ComesWith c.args.frame) c.in-Fails.is c.in_ok-waiting.ensures.means) c.failed.result c.into_task.ensures c.failed.ensures
+
+pub returns-in-Fails-clause-enters : goal.returns-in-Fails-clause-enters
+returns-in-Fails-clause-enters g c = grind (arith, enters_same)
+
+pub returns-in-Fails-clause-reads : goal.returns-in-Fails-clause-reads
+returns-in-Fails-clause-reads g c = grind (arith, reads)
+
+pub returns-in_err-finish-in-Ends-clause-reads : goal.returns-in_err-finish-in-Ends-clause-reads
+returns-in_err-finish-in-Ends-clause-reads g c = grind (arith, reads)
+
+pub returns-in_err-waiting-clause-enters : goal.returns-in_err-waiting-clause-enters
+returns-in_err-waiting-clause-enters g c = grind (arith, enters_same)
+
+pub returns-in_err-waiting-clause-reads : goal.returns-in_err-waiting-clause-reads
+returns-in_err-waiting-clause-reads g c = grind (arith, reads)
+
+pub returns-in_ok-finish-in-Ends-clause-reads : goal.returns-in_ok-finish-in-Ends-clause-reads
+returns-in_ok-finish-in-Ends-clause-reads g c = grind (arith, reads)

@@ -1,14 +1,16 @@
-use Rattle.std.proofs.Common.{Vec, Global, [], ◌∷◌, ◌-◌, false, sym, subst}
+use Rattle.std.proofs.Common.{Vec, Global, [], ◌∷◌, ◌-◌, false, sym, subst, ap, ◌∙◌, arith}
 use Rattle.std.proofs.lemmas.Result.{err_from_is_err_and}
 use Rattle.pie_parser.specs.declared.tree.Expr.{Expr}
 use Rattle.pie_parser.specs.declared.tree.Step.{Step}
-use Rattle.pie_parser.specs.Places.{ParseAgrees}
+use Rattle.pie_parser.specs.At.{At}
+use Rattle.pie_parser.specs.Places.{Got, ParseAgrees}
 use Rattle.pie_parser.specs.inner.Turns.{all_behind}
 use Rattle.pie_parser.specs.ExprReading.{around, another, another_step, operand, all_pieces}
 use Rattle.pie_parser.proofs.Nesting.{inner_is, test_is}
-use Rattle.pie_parser.proofs.Turning.{fails_so, goes_on}
+use Rattle.pie_parser.proofs.Turning.{fails_so, goes_on, stops}
 use Rattle.pie_parser.proofs.PieceLoop.{piece_fails_so, line_goes_on, last_ends}
-use Rattle.pie_parser.proofs.Patterns.{some_turn, line_turn, last_turn}
+use Rattle.pie_parser.proofs.Patterns.{some_turn, none_turn, line_turn, last_turn}
+use Rattle.pie_parser.proofs.Walks.{lines_walk}
 use Rattle.pie_parser.proofs.reader.Reader.+expr.Goals as goal
 
 pub inner-returns : goal.inner-returns
@@ -67,3 +69,19 @@ pieces-loop-preserved t c =
     (all_pieces (around c.args.room) c.args.self.now) c.loop-test.true
     (line_turn _ c.in-Some-Line.field-0 c.in-Some-Line.line c.loop.self c.piece.new.self _ c.in-Some-Line.is c.in-Some-Line.field-0-is c.in_ok-line.ensures)
     c.loop.invariant)
+
+pub listed-returns-in_default : goal.listed-returns-in_default
+listed-returns-in_default t c = grind (arith, stops)
+
+pub listed-loop-preserved : goal.listed-loop-preserved
+listed-loop-preserved t c = grind (arith, goes_on)
+
+pub pieces-returns-in-None : goal.pieces-returns-in-None
+pieces-returns-in-None t c = grind (arith, lines_walk)
+
+pub steps-returns-in_default : goal.steps-returns-in_default
+steps-returns-in_default t c =
+    let turn = another_step (operand (around c.args.room) c.args.level) c.args.level in
+    let stop = none_turn _ c.loop.self c.another_step.new.self (turn c.loop.self) c.in_default.is c.in_ok-step.ensures in
+    stops turn c.left-end.result c.loop.counter c.loop.self c.loop.steps.items (all_behind [] turn c.args.self.now) c.loop-test.true stop.0 c.loop.invariant
+    ∙ ap (λ (s : At). Got c.loop.steps.items s) (sym stop.1)

@@ -6,6 +6,8 @@ use Rattle.pie_parser.specs.inner.Turns.{all_behind}
 use Rattle.pie_parser.specs.TypeReading.{another_type, inner_type}
 use Rattle.pie_parser.proofs.Nesting.{inner_type_is}
 use Rattle.pie_parser.proofs.Turning.{fails_so}
+use Rattle.std.proofs.Common.{arith}
+use Rattle.pie_parser.proofs.Turning.{goes_on, stops}
 use Rattle.pie_parser.proofs.reader.Reader.+typing.Goals as goal
 
 pub inner_type-returns : goal.inner_type-returns
@@ -22,3 +24,9 @@ more_types-returns-in_err-item t c =
     (λ (v : Vec «Type» Global).
     v.items) turn c.left-end.result c.loop.counter c.loop.self c.another_type.new.self c.loop.items.items c.in_err-item.field-0.0
     (all_behind (c.args.first ∷ c.args.second ∷ []) turn c.args.self.now) c.loop-test.true c.in_err-item.ensures c.loop.invariant)
+
+pub more_types-returns-in_default : goal.more_types-returns-in_default
+more_types-returns-in_default t c = grind (arith, stops)
+
+pub more_types-loop-preserved : goal.more_types-loop-preserved
+more_types-loop-preserved t c = grind (arith, goes_on)

@@ -1,6 +1,8 @@
 use Rattle.std.proofs.Common.{◌<◌, ◌^◌, length}
 use Rattle.std.specs.Prelude.{Contains}
 use Rattle.pie_record.proofs.Naming.{free_is, named_more}
+use Rattle.std.proofs.Common.{arith}
+use Rattle.std.proofs.lemmas.Grind.{common_steps}
 use Rattle.pie_record.proofs.names.TaskNames.add.Goals as goal
 
 pub add_bytes-requires : goal.add_bytes-requires
@@ -14,3 +16,15 @@ invariant_of-self-in-Ok c =
     let few : length c.self.inside.tasks.items < 2 ^ 32 = rw c.self.view_is c.requires.few in
     rw (c.in-Ok.ensures.added, c.in_ok-push.ensures.items)
     (named_more _ _ c.in_ok-bytes.bytes c.args.task c.self.invariant c.in_ok-bytes.ensures.canonical absent few)
+
+pub invariant_of-self-in-Err : goal.invariant_of-self-in-Err
+invariant_of-self-in-Err c = grind (arith, common_steps)
+
+pub overflow_cast-no : goal.overflow_cast-no
+overflow_cast-no c = grind (arith, common_steps)
+
+pub returns-in-Err-clause-unchanged : goal.returns-in-Err-clause-unchanged
+returns-in-Err-clause-unchanged c = grind (arith, common_steps)
+
+pub returns-in-Ok-clause-number : goal.returns-in-Ok-clause-number
+returns-in-Ok-clause-number c = grind (arith, common_steps)

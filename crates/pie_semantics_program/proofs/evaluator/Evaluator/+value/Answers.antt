@@ -1,8 +1,9 @@
-use Rattle.std.proofs.Common.{rules, ◌≡◌, Err, subst}
+use Rattle.std.proofs.Common.{rules, ◌≡◌, Err, subst, arith}
 use Rattle.pie_value.specs.Tree.{Tree, TList, items_of}
 use Rattle.pie_value.specs.Values.{tree_of, trees_of}
 use Rattle.pie_operators.specs.Domain.{Outcome, State, done}
 use Rattle.pie_semantics.specs.Meaning.{value_of}
+use Rattle.pie_types.proofs.Left.{line_mass_at, step_mass_at, tree_mass_at}
 use Rattle.pie_semantics_program.specs.Coming.{Comes}
 use Rattle.pie_semantics_program.proofs.Turning.{either_stops, both_stops, each_list}
 use Rattle.pie_semantics_program.proofs.evaluator.Evaluator.+value.Goals as goal
@@ -33,3 +34,21 @@ either-returns-in_err-truth t c =
     let k = subst (λ (o : Outcome Tree × State). Comes tree_of (Err c.in_err-truth.field-0.0) c.loop-step.self o) c.loop-step.invariant h in
     let is : c.from_residual.result ≡ Err c.in_err-truth.field-0.0 = search rules in
     rw is k
+
+pub either-value-requires : goal.either-value-requires
+either-value-requires t c = grind (arith, step_mass_at)
+
+pub both-value-requires : goal.both-value-requires
+both-value-requires t c = grind (arith, step_mass_at)
+
+pub steps-value-requires : goal.steps-value-requires
+steps-value-requires t c = grind (arith, step_mass_at)
+
+pub arguments-value-requires : goal.arguments-value-requires
+arguments-value-requires t c = grind (arith, tree_mass_at)
+
+pub items_onto-value-requires : goal.items_onto-value-requires
+items_onto-value-requires t c = grind (arith, tree_mass_at)
+
+pub lines-line-requires : goal.lines-line-requires
+lines-line-requires t c = grind (arith, line_mass_at)

@@ -1,0 +1,9 @@
+use Rattle.std.proofs.Common.{arith}
+use Rattle.std.proofs.lemmas.Grind.{common_steps}
+use Rattle.pie_builtins.proofs.sorts.all_ints.Goals as goal
+
+pub loop-item-preserved : goal.loop-item-preserved
+loop-item-preserved c = grind (arith, common_steps)
+
+pub returns-in-None : goal.returns-in-None
+returns-in-None c = grind (arith, common_steps)
