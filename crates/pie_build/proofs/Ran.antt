@@ -22,6 +22,10 @@ pub still_there : (n : ℕ) (old new : List Task) → n ≡ length old → Gains
 still_there n old new is g =
     let l : length new ≡ length old + length g.gained = ap length g.is ∙ length-append old g.gained in omega (arith, is, l)
 
+-- so many more at the most
+pub few : (old new : List Task) → Gains 50000 old new → length new ≤ length old + 50000
+few old new g = let l : length new ≡ length old + length g.gained = ap length g.is ∙ length-append old g.gained in omega (arith, g.few, l)
+
 gained_behind : (n : ℕ) (old new : List Task) → n ≡ length old → (g : Gains 50000 old new) → drop n new ≡ g.gained
 gained_behind n old new is g = ap (λ k. drop k new) is ∙ ap (drop (length old)) g.is ∙ drop-append_seam old g.gained
 

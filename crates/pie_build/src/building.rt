@@ -1,5 +1,5 @@
 //! A clean build of a directory.
-ghost use Rattle.std.specs.Prelude.{◌≡◌, ◌≤◌, ◌++◌, All, IfSome, IfOk, OnOk, drop, length};
+ghost use Rattle.std.specs.Prelude.{◌≡◌, ◌≤◌, ◌+◌, ◌++◌, All, IfSome, IfOk, OnOk, drop, length};
 ghost use Rattle.pie_files.specs.Streams.{Counted};
 ghost use Rattle.pie_value.specs.Canonical.{IsEncodableTask};
 ghost use Rattle.pie_digest.specs.Digests.{HasNames};
@@ -48,6 +48,7 @@ pub fn rebuild<F: Files>(
     ensures crash { Withstands F.holds F.moment F.left_since F.images Leaves files.old files.new }
     ensures durable { IsVerdict result → StaysAtRest F.holds F.images files.old files.new }
     ensures ran { IfOk result (λ r. runs.new ≡ runs.old ++ r.ran.items) }
+    ensures few { length runs.new ≤ length runs.old + 50000 }
     ensures encodable { IfOk result (λ r. All IsEncodableTask r.ran.items) }
     ensures told { Tells F.faults files.old files.new result }
 {
@@ -74,6 +75,7 @@ fn with_project<F: Files>(
     ensures crash { Withstands F.holds F.moment F.left_since F.images (LeavesFor project) files.old files.new }
     ensures durable { IsVerdict result → StaysAtRest F.holds F.images files.old files.new }
     ensures ran { IfOk result (λ r. runs.new ≡ runs.old ++ r.ran.items) }
+    ensures few { length runs.new ≤ length runs.old + 50000 }
     ensures encodable { IfOk result (λ r. All IsEncodableTask r.ran.items) }
     ensures told { Tells F.faults files.old files.new result }
 {
@@ -84,7 +86,7 @@ fn with_project<F: Files>(
     }
 }
 
-#[tactic(auto, using(crate::proofs::Crashing::withstands_still, crate::proofs::Crashing::withstands_then, crate::proofs::Crashing::rests_ok))]
+#[tactic(auto, using(crate::proofs::Crashing::withstands_still, crate::proofs::Crashing::withstands_then, crate::proofs::Crashing::rests_ok, crate::proofs::Ran::few))]
 fn build<F: Files>(
     alloc: Global,
     files: &mut F,
@@ -100,6 +102,7 @@ fn build<F: Files>(
     ensures crash { Withstands F.holds F.moment F.left_since F.images (LeavesFor project) files.old files.new }
     ensures durable { OnOk result (StaysAtRest F.holds F.images files.old files.new) }
     ensures ran { IfOk result (λ r. runs.new ≡ runs.old ++ r.ran.items) }
+    ensures few { length runs.new ≤ length runs.old + 50000 }
     ensures encodable { IfOk result (λ r. All IsEncodableTask r.ran.items) }
     ensures counted { Counted F.faults FilesError.Failed files.old files.new result }
 {

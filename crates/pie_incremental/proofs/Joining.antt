@@ -1,30 +1,31 @@
 -- The parts of a build by what changed, one after another.
 use Rattle.std.proofs.Common.{◌≡◌, ◌⊎◌, ℕ, ◌+◌, ◌≤◌, Bool, true, false, ◌||◌, List, [], ◌∷◌, ◌++◌, length, drop, Vec, Global, refl, sym, ap, subst, ◌∙◌, inl, inr, arith}
-use Rattle.std.specs.Prelude.{All, Option, None, Some, IfSome, IfOk, Result, Ok, Err, codes}
+use Rattle.std.specs.Prelude.{All, Option, None, Some, IfSome, IsSome, IfOk, Result, Ok, Err, codes}
 use Rattle.pie_report.specs.declared.report.Report.{Report}
 use Rattle.pie_project.specs.declared.fault.BuildError.{BuildError}
+use Rattle.std.proofs.lemmas.Bool.{false≢true}
 use Rattle.std.proofs.lemmas.List.{length-append, append_assoc, append-nil, drop-append-le, get_or_default}
 use Rattle.std.proofs.Common.{get_or, ◌<◌}
 use Rattle.std.specs.declared.cmp.Ordering.TheVariants.{Less, Equal, Greater}
 use Rattle.std.specs.Ordering.{nat_cmp, MatchOrdering}
 use Rattle.std.specs.Cmp.{ranks}
-use Rattle.std.specs.List.{Contains}
 use Rattle.std.proofs.lemmas.List.Elements.{All-push, All-append}
 use Rattle.std.proofs.Math.Seq.{drop-append_seam}
 use Rattle.pie_base.specs.Path.{is_out, same_text}
 use Rattle.pie_files.specs.Directory.{Directory, file_at}
 use Rattle.pie_value.specs.declared.task.Task.{Task}
 use Rattle.pie_value.specs.Canonical.{IsEncodableTask}
-use Rattle.pie_bottomup.specs.inner.States.{StartsOne}
+use Rattle.pie_value.specs.Limits.{is_small_task}
+use Rattle.pie_bottomup.specs.declared.state.Core.{Core}
+use Rattle.pie_bottomup.specs.inner.States.{Spends, StartsOne, room}
 use Rattle.pie_build.specs.Left.{KeepsRest, may_change}
 use Rattle.pie_build.proofs.OwnPaths.{or_left, or_right, plan_keeps}
 use Rattle.pie_commit.specs.declared.plan.Plan.{Plan}
 use Rattle.pie_commit.specs.Outcomes.{KeepsOthers}
-use Rattle.pie_record.specs.declared.task_record.TaskRecord.{TaskRecord}
-use Rattle.pie_store.specs.declared.image.StoreImage.{StoreImage}
-use Rattle.pie_store.specs.Canonical.{AreInOrder, IsStorableStore, names_of, tasks_in}
+use Rattle.pie_store.specs.declared.cause.Cause.{Cause}
+use Rattle.pie_incremental.specs.Runs.{TellsFew}
 use Rattle.pie_incremental.specs.Kept.{KeepsAllFiles, KeepsFiles, is_builders}
-use Rattle.pie_incremental.specs.inner.Joined.{Started, ChangesOut, IsDrafted}
+use Rattle.pie_incremental.specs.inner.Joined.{Started, ChangesOut}
 
 -- ---- the tasks that were started
 
@@ -68,6 +69,65 @@ started_behind old mid new more s is all = record {
   is = is ∙ ap (λ (ts : List Task). ts ++ more) s.is ∙ append_assoc old s.gained more;
   encodable = All-append IsEncodableTask s.gained more s.encodable all;
 }
+
+-- ---- how many may be
+
+pub spends_none : (c : Core) (runs : List Task) → Spends c c runs runs
+spends_none c runs = record { plan = refl; room = omega arith }
+
+pub spends_more : (a b c : Core) (r s t : List Task) → Spends a b r s → Spends b c s t → Spends a c r t
+spends_more a b c r s t f g = record { plan = g.plan ∙ f.plan; room = omega (arith, f.room, g.room) }
+
+pub spends_plan : (a b c : Core) (r s t : List Task) → Spends a b r s → Spends b c s t → c.plan ≡ a.plan
+spends_plan a b c r s t f g = g.plan ∙ f.plan
+
+pub few_then : (a b c : Core) (r s t : List Task) → Spends a b r s → Spends b c s t → length t ≤ length r + room a
+few_then a b c r s t f g = omega (arith, f.room, g.room)
+
+pub few_more : (a b : Core) (r s t : List Task) → Spends a b r s → length t ≤ length s + room b → length t ≤ length r + room a
+few_more a b r s t f l = omega (arith, f.room, l)
+
+pub few_none : (old : List Task) → length old ≤ length old + 50000
+few_none old = omega arith
+
+pub few_room : (old new : List Task) (n : ℕ) → length new ≤ length old + n → n ≤ 50000 → length new ≤ length old + 50000
+few_room old new n few room = omega (arith, few, room)
+
+pub few_twice : (old new : List Task) → length new ≤ length old + 50000 → length new ≤ length old + 100000
+few_twice old new few = omega (arith, few)
+
+pub few_both : (old mid new : List Task) → length mid ≤ length old + 50000 → length new ≤ length mid + 50000 → length new ≤ length old + 100000
+few_both old mid new first second = omega (arith, first, second)
+
+-- what the search takes for a whole evaluation
+pub ruleset few = (few_none, few_room, few_twice, few_both)
+
+-- what a report tells of them
+pub few_told : (old new : List Task) (result : Result Report BuildError) → IfOk result (λ r. new ≡ old ++ r.ran.items) → length new ≤ length old + 100000
+    → IfOk result (λ r. r.fresh ≡ None → length new ≤ length old + 50000) → IfOk result TellsFew
+few_told old new (Err e) is few once = tt
+few_told old new (Ok r) is few once =
+    let l : length new ≡ length old + length r.ran.items = ap length is ∙ length-append old r.ran.items in
+    record { most = omega (arith, few, l); once = λ none. omega (arith, once none, l) }
+
+-- a build that tells why it started afresh
+pub few_again : (old mid new : List Task) (result : Result Report BuildError) → length mid ≤ length old + 50000 → length new ≤ length mid + 50000
+    → IfOk result (λ r. IsSome r.fresh) → IfOk result (λ r. r.fresh ≡ None → length new ≤ length old + 50000)
+few_again old mid new (Err e) first second why = tt
+few_again old mid new (Ok r) first second why = λ none. absurd (no_cause r.fresh why none)
+  where
+    no_cause : (o : Option Cause) → IsSome o → o ≡ None → ⊥
+    no_cause None some is = cc
+    no_cause (Some c) some is = cc
+
+-- and of a build that started afresh at once
+pub few_once : (old new : List Task) (result : Result Report BuildError) → length new ≤ length old + 50000
+    → IfOk result (λ r. r.fresh ≡ None → length new ≤ length old + 50000)
+few_once old new (Err e) few = tt
+few_once old new (Ok r) few = λ none. few
+
+-- what the search takes for steps one after another
+pub ruleset spends = (spends_none, spends_more, spends_plan, few_then, few_more)
 
 -- ---- what is kept
 
@@ -116,24 +176,6 @@ pub behind_encodable : (n : ℕ) (old new more ran : List Task) → n ≤ length
 behind_encodable n old new more ran l is first rest behind =
     subst (All IsEncodableTask) (sym (behind ∙ ap (drop n) is ∙ drop-append-le n old more l)) (All-append IsEncodableTask (drop n old) more first rest)
 
--- ---- the store
-
--- what was drafted can be stored, where it may stand together
-pub drafted_storable : (s : StoreImage) → IsDrafted s → length s.rows ≤ 50000 → length s.roots ≤ 4294967295 → AreInOrder s.rows
-    → All (λ (r : TaskRecord). Contains (names_of s.funcs) r.task.func) s.rows → All (λ (t : Task). Contains (tasks_in s.rows) t) s.roots → IsStorableStore s
-drafted_storable s d rows roots order known closed = record {
-  version = d.version;
-  table = d.table;
-  funcs = d.funcs;
-  few_roots = omega (arith, roots);
-  roots = d.roots;
-  few_rows = omega (arith, rows);
-  rows = d.rows;
-  order = order;
-  known = known;
-  closed = closed;
-}
-
 -- ---- roots
 
 -- the first of some tasks, so many, have canonical bytes
@@ -153,6 +195,11 @@ small_more roots i e inside before one k d l =
 
 pub all_small : (roots : List Task) (n : ℕ) → length roots ≤ n → AreSmall roots n → All IsEncodableTask roots
 all_small roots n l small k d inside = small k d (omega (arith, l, inside))
+
+-- one of them isn't
+pub one_large : (roots : List Task) (i : ℕ) (d : Task) → i < length roots → is_small_task (get_or roots i d) ≡ false
+    → ¬ (All (λ t. is_small_task t ≡ true) roots)
+one_large roots i d inside large all = false≢true (sym large ∙ all i d inside)
 
 -- what is told of all that were started, once more were
 pub retold_encodable : (n : ℕ) (old new more : List Task) (result : Result Report BuildError) → n ≤ length old → new ≡ old ++ more

@@ -6,3 +6,5 @@ pub mod Putting
 pub mod Starting
 pub mod Stopping
 pub mod Joining
+pub mod Storing
+pub mod Treating

@@ -20,7 +20,7 @@ use Rattle.pie_diff.specs.Removals.{written_by}
 use Rattle.pie_reach.specs.Plan.{path_cmp}
 use Rattle.pie_record.specs.declared.task_record.TaskRecord.{TaskRecord}
 use Rattle.pie_incremental.specs.declared.base.OwnFiles.{OwnFiles}
-use Rattle.pie_incremental.specs.Built.{AreFilesOf, IsKnown, IsPut}
+use Rattle.pie_incremental.specs.inner.Built.{AreFilesOf, IsKnown, IsPut}
 use Rattle.pie_incremental.specs.Kept.{is_builders}
 use Rattle.pie_incremental.specs.Own.{bytes_at, open_path, store_path, pending_path, IsClosed}
 use Rattle.pie_incremental.specs.inner.Changes.{bytes_of}

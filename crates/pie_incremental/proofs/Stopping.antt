@@ -15,7 +15,7 @@ use Rattle.pie_commit.proofs.Bringing.{get_without}
 use Rattle.pie_commit.proofs.Standing.{removal_apart, same_path}
 use Rattle.pie_record.specs.declared.task_record.TaskRecord.{TaskRecord}
 use Rattle.pie_incremental.specs.declared.base.OwnFiles.{OwnFiles}
-use Rattle.pie_incremental.specs.Built.{AreFilesOf, IsBegun, IsKnown, IsOfBuild, IsPut}
+use Rattle.pie_incremental.specs.inner.Built.{AreFilesOf, IsBegun, IsKnown, IsOfBuild, IsPut}
 use Rattle.pie_incremental.specs.Kept.{is_builders}
 use Rattle.pie_incremental.specs.Own.{open_path, store_path, pending_path}
 use Rattle.pie_incremental.specs.inner.Plans.{IsChangesPlan, Marks, MayPut}

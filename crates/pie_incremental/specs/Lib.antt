@@ -2,6 +2,6 @@ pub mod Own
 pub mod Starts
 pub mod Names
 pub mod Kept
-pub mod Built
-pub mod Digested
+pub mod Treated
+pub mod Runs
 pub mod inner

@@ -1,26 +1,24 @@
 //! An accepted build by what changed, put into place.
-ghost use Rattle.std.specs.Prelude.{◌≡◌, ◌<◌, ◌^◌, All, IfOk, length, true};
-ghost use Rattle.std.specs.List.{list_all};
-ghost use Rattle.pie_base.specs.Path.{is_out};
-ghost use Rattle.pie_commit.specs.inner.Plans.{has_own_places, is_sound};
+ghost use Rattle.std.specs.Prelude.{◌≡◌, true, IfSome, IfOk, OnOk};
+ghost use Rattle.pie_commit.specs.inner.Plans.{is_sound};
 ghost use Rattle.pie_files.specs.Streams.{Counted};
 ghost use Rattle.pie_build.specs.Left.{KeepsRest};
-ghost use Rattle.pie_record.specs.Canonical.{IsStorable};
-ghost use Rattle.pie_store.specs.Canonical.{AreFuncs, IsStorableStore};
-ghost use Rattle.pie_value.specs.Canonical.{IsEncodableTask};
+ghost use Rattle.pie_build.specs.Stored.{MayStand};
 ghost use Rattle.pie_results.specs.inner.Files.{InPathOrder};
-ghost use Rattle.pie_incremental.specs.inner.Joined.{ChangesOut, IsDrafted};
+ghost use Rattle.pie_value.specs.declared.verdict.Verdict.TheVariants as verdicts;
+ghost use Rattle.pie_incremental.specs.Own.{IsClosed};
+ghost use Rattle.pie_incremental.specs.inner.Joined.{ChangesOut, Clears, IsDrafted, Treats};
+ghost use Rattle.pie_incremental.specs.inner.Plans.{HasChanged};
 
 use crate::ending::Ending;
 use crate::{changes_plan, commit_plan, digests};
-use pie_base::{MAX_TASKS, OutOfMemory, Path};
+use pie_base::{OutOfMemory, Path};
 use pie_build::{accepted, copies, copies_of_tasks, paths_of};
 use pie_commit::Plan;
 use pie_files::{Files, FilesError};
 use pie_project::Project;
 use pie_record::TaskRecord;
 use pie_report::Report;
-use pie_storable::may_be_stored;
 use pie_store::{Funcs, Rows, StoreImage, encode_store};
 use pie_value::{Task, Tasks, Value};
 use std::alloc::Global;
@@ -45,13 +43,12 @@ pub(crate) fn accept<F: Files>(
     ending: &Ending,
     made: Made,
     ran: Vec<Task>,
-) -> Result<Report, FilesError>
-    requires rows { All IsStorable made.rows.items }
+) -> Result<Box<Report>, FilesError>
+    requires rows { MayStand project.now.digests.items project.now.roots.items made.rows.items }
     requires contents { InPathOrder made.contents.items }
-    requires funcs { AreFuncs project.now.digests.items }
-    requires roots { All IsEncodableTask project.now.roots.items }
     ensures rest { KeepsRest (F.holds files.old) (F.holds files.new) }
-    ensures ran { IfOk result (λ r. r.ran ≡ ran) }
+    ensures ran { IfOk result (λ r. r.value.ran ≡ ran) }
+    ensures names { IfOk result (λ r. Treats ending.now.own ending.now.names.items r.value.verdict (F.holds files.old) (F.holds files.new)) }
     ensures counted { Counted F.faults FilesError.Failed files.old files.new result }
 {
     let Made {
@@ -68,10 +65,15 @@ pub(crate) fn accept<F: Files>(
 
 // Commits a plan, and then hands the report on.
 #[tactic(auto, using(crate::proofs::Joining::out_keeps))]
-fn commit_then<F: Files>(files: &mut F, plan: &Plan, report: Report) -> Result<Report, FilesError>
+fn commit_then<F: Files>(
+    files: &mut F,
+    plan: &Plan,
+    report: Box<Report>,
+) -> Result<Box<Report>, FilesError>
     requires sound { is_sound plan.now ≡ true }
     requires changes { ChangesOut plan.now }
     ensures rest { KeepsRest (F.holds files.old) (F.holds files.new) }
+    ensures done { IfSome (F.holds files.old) (λ d. IsClosed d → OnOk result (HasChanged plan.now d (F.holds files.new))) }
     ensures report { IfOk result (λ r. r ≡ report) }
     ensures counted { Counted F.faults FilesError.Failed files.old files.new result }
 {
@@ -87,9 +89,7 @@ fn image_of(
     project: &Project,
     rows: Vec<TaskRecord>,
 ) -> Result<Box<StoreImage>, OutOfMemory>
-    requires rows { All IsStorable rows.items }
-    requires funcs { AreFuncs project.now.digests.items }
-    requires roots { All IsEncodableTask project.now.roots.items }
+    requires { MayStand project.now.digests.items project.now.roots.items rows.items }
     ensures { IfOk result (λ image. IsDrafted image.value) }
 {
     let funcs = digests::copies(alloc, project.digests.as_slice())?;
@@ -111,11 +111,12 @@ fn plan_of(
     ending: &Ending,
     image: &StoreImage,
     contents: Vec<(Path, Vec<u8>)>,
-) -> Result<Plan, OutOfMemory>
+) -> Result<Box<Plan>, OutOfMemory>
     requires image { IsDrafted image.now }
     requires contents { InPathOrder contents.items }
-    ensures sound { IfOk result (λ p. is_sound p ≡ true) }
-    ensures changes { IfOk result ChangesOut }
+    ensures sound { IfOk result (λ p. is_sound p.value ≡ true) }
+    ensures changes { IfOk result (λ p. ChangesOut p.value) }
+    ensures clears { IfOk result (λ p. Clears ending.now.own p.value) }
 {
     let text = text_of(alloc, image)?;
     let plan = changes_plan(
@@ -126,38 +127,19 @@ fn plan_of(
         contents,
         text,
     )?;
+    let plan = Box::new(alloc, plan)?;
     Ok(plan)
 }
 
-// The text of the store. The records that a build makes may stand in a store, but no clause says so yet: where they might not, it is out of memory.
+// The text of the store. Where the number of roots has more than 32 bits, it is out of memory.
 fn text_of(alloc: Global, image: &StoreImage) -> Result<Vec<u8>, OutOfMemory>
     requires { IsDrafted image.now }
 {
-    let may = may_stand(alloc, image)?;
-    if may {
-        encode_store(alloc, image)
-    } else {
-        Err(OutOfMemory)
-    }
-}
-
-// Whether what was drafted may stand in a store.
-#[tactic(auto, using(crate::proofs::Joining::drafted_storable))]
-fn may_stand(alloc: Global, image: &StoreImage) -> Result<bool, OutOfMemory>
-    requires { IsDrafted image.now }
-    ensures { IfOk result (λ may. may ≡ true → IsStorableStore image.now) }
-{
-    let funcs = image.funcs.as_slice();
     let roots = image.roots.as_slice();
-    let rows = image.rows.as_slice();
-    if rows.len() > MAX_TASKS as usize {
-        return Ok(false);
-    }
     if roots.len() > u32::MAX as usize {
-        return Ok(false);
+        return Err(OutOfMemory);
     }
-    let may = may_be_stored(alloc, funcs, roots, rows)?;
-    Ok(may)
+    encode_store(alloc, image)
 }
 
 // What is reported of an accepted build.
@@ -167,10 +149,13 @@ fn report_of(
     live: usize,
     ran: Vec<Task>,
     outputs: Vec<(Task, Value)>,
-) -> Result<Report, OutOfMemory>
-    ensures { IfOk result (λ r. r.ran ≡ ran) }
+) -> Result<Box<Report>, OutOfMemory>
+    ensures verdict { IfOk result (λ r. r.value.verdict ≡ verdicts.Accepted) }
+    ensures ran { IfOk result (λ r. r.value.ran ≡ ran) }
 {
     let wrote = paths_of(alloc, plan.writes.as_slice())?;
     let removed = copies(alloc, plan.removals.as_slice())?;
-    accepted(live, ran, wrote, removed, outputs)
+    let report = accepted(live, ran, wrote, removed, outputs)?;
+    let report = Box::new(alloc, report)?;
+    Ok(report)
 }

@@ -1,21 +1,20 @@
 //! A build that starts afresh after tasks ran.
-ghost use Rattle.std.specs.Prelude.{◌≡◌, ◌≤◌, ◌++◌, drop, length, All, List, IfOk};
+ghost use Rattle.std.specs.Prelude.{◌≡◌, ◌≤◌, ◌+◌, ◌++◌, drop, length, All, List, IfOk, OnOk, IsSome};
 ghost use Rattle.pie_build.specs.Left.{KeepsRest};
 ghost use Rattle.pie_build.specs.inner.Rebuilt.{IsRefusal, Tells};
 ghost use Rattle.pie_value.specs.Canonical.{IsEncodableTask};
 ghost use Rattle.pie_value.specs.declared.task.Task.{Task as TaskOf};
+ghost use Rattle.pie_incremental.specs.inner.Joined.{KeepsAfter, Treats};
 
-use crate::cause::with_cause;
+use crate::cause::put_cause;
 use crate::ending::Ending;
-use crate::keep_names;
 use crate::run::{Stop, since};
 use pie_base::OutOfMemory;
 use pie_build::rebuild;
 use pie_files::{Files, FilesError};
 use pie_project::BuildError;
 use pie_report::Report;
-use pie_store::Cause;
-use pie_value::{Task, Verdict};
+use pie_value::Verdict;
 use pie_vm::Runs;
 use std::alloc::Global;
 
@@ -32,8 +31,11 @@ pub(crate) fn again<F: Files>(
     requires encodable { All IsEncodableTask (drop before runs.old) }
     ensures rest { KeepsRest (F.holds files.old) (F.holds files.new) }
     ensures refused { IsRefusal result → F.holds files.new ≡ F.holds files.old }
+    ensures names { IfOk result (λ r. Treats stop.value.ending.value.own stop.value.ending.value.names.items r.verdict (F.holds files.old) (F.holds files.new)) }
+    ensures fresh { IfOk result (λ r. IsSome r.fresh) }
     ensures ran { IfOk result (λ r. r.ran.items ≡ drop before runs.new) }
     ensures grows { IfOk result (λ r. (more : List TaskOf) × (runs.new ≡ runs.old ++ more)) }
+    ensures few { length runs.new ≤ length runs.old + 50000 }
     ensures encodable { IfOk result (λ r. All IsEncodableTask r.ran.items) }
     ensures told { Tells F.faults files.old files.new result }
 {
@@ -43,84 +45,94 @@ pub(crate) fn again<F: Files>(
     }
 }
 
-// The report with all tasks that were started, and the cause. A refused build keeps the names.
-#[tactic(auto, using(pie_build::proofs::OwnPaths::same_keeps))]
+// The report of all tasks that were started, with the cause. A refused build keeps the names.
 fn retell<F: Files>(
     alloc: Global,
     files: &mut F,
     stop: Box<Stop>,
-    report: Report,
+    mut report: Report,
     before: usize,
     runs: &Runs,
 ) -> Result<Report, BuildError>
     requires before { before ≤ length runs.now }
     ensures rest { KeepsRest (F.holds files.old) (F.holds files.new) }
     ensures never { ¬ (IsRefusal result) }
+    ensures names { IfOk result (λ r. KeepsAfter report.verdict stop.value.ending.value.own stop.value.ending.value.names.items (F.holds files.old) (F.holds files.new)) }
+    ensures verdict { IfOk result (λ r. r.verdict ≡ report.verdict) }
+    ensures fresh { IfOk result (λ r. IsSome r.fresh) }
     ensures ran { IfOk result (λ r. r.ran.items ≡ drop before runs.now) }
     ensures told { Tells F.faults files.old files.new result }
 {
-    let Stop { cause, ending } = Box::into_inner(stop);
-    match since(alloc, runs, before) {
-        Ok(ran) => keep(
-            alloc,
-            files,
-            &ending,
-            with_cause(with_ran(report, ran), cause),
-        ),
+    match complete(alloc, files, stop, &mut report, before, runs) {
+        Ok(()) => Ok(report),
+        Err(error) => Err(error),
+    }
+}
+
+// The report gets all tasks that were started, and the cause. A refused build keeps the names.
+#[tactic(auto, using(pie_build::proofs::OwnPaths::same_keeps))]
+fn complete<F: Files>(
+    alloc: Global,
+    files: &mut F,
+    stop: Box<Stop>,
+    report: &mut Report,
+    before: usize,
+    runs: &Runs,
+) -> Result<(), BuildError>
+    requires before { before ≤ length runs.now }
+    ensures rest { KeepsRest (F.holds files.old) (F.holds files.new) }
+    ensures never { ¬ (IsRefusal result) }
+    ensures names { OnOk result (KeepsAfter report.old.verdict stop.value.ending.value.own stop.value.ending.value.names.items (F.holds files.old) (F.holds files.new)) }
+    ensures verdict { report.new.verdict ≡ report.old.verdict }
+    ensures fresh { OnOk result (IsSome report.new.fresh) }
+    ensures ran { OnOk result (report.new.ran.items ≡ drop before runs.now) }
+    ensures told { Tells F.faults files.old files.new result }
+{
+    match put_ran(alloc, report, before, runs) {
+        Ok(()) => {
+            let Stop { cause, ending } = Box::into_inner(stop);
+            put_cause(report, cause);
+            keep(alloc, files, &ending, &report.verdict)
+        }
         Err(OutOfMemory) => Err(BuildError::OutOfMemory),
     }
 }
 
+// The report tells the tasks that were started after so many others.
+fn put_ran(
+    alloc: Global,
+    report: &mut Report,
+    before: usize,
+    runs: &Runs,
+) -> Result<(), OutOfMemory>
+    requires { before ≤ length runs.now }
+    ensures verdict { report.new.verdict ≡ report.old.verdict }
+    ensures ran { OnOk result (report.new.ran.items ≡ drop before runs.now) }
+{
+    let ran = since(alloc, runs, before)?;
+    report.ran = ran;
+    Ok(())
+}
+
 // A refused build keeps the names for the next one.
-#[tactic(auto, using(crate::proofs::Joining::names_keep, pie_build::proofs::OwnPaths::same_keeps))]
+#[tactic(auto, using(pie_build::proofs::OwnPaths::same_keeps))]
 fn keep<F: Files>(
     alloc: Global,
     files: &mut F,
     ending: &Ending,
-    report: Report,
-) -> Result<Report, BuildError>
+    verdict: &Verdict,
+) -> Result<(), BuildError>
     ensures rest { KeepsRest (F.holds files.old) (F.holds files.new) }
     ensures never { ¬ (IsRefusal result) }
-    ensures report { IfOk result (λ r. r ≡ report) }
+    ensures names { OnOk result (KeepsAfter verdict.now ending.now.own ending.now.names.items (F.holds files.old) (F.holds files.new)) }
     ensures told { Tells F.faults files.old files.new result }
 {
-    if is_accepted(&report.verdict) {
-        return Ok(report);
-    }
-    match keep_names(alloc, files, ending.names.as_slice(), ending.pending()) {
-        Ok(()) => Ok(report),
-        Err(FilesError::Failed) => Err(BuildError::Files),
-        Err(FilesError::OutOfMemory) => Err(BuildError::OutOfMemory),
-    }
-}
-
-fn is_accepted(verdict: &Verdict) -> bool {
     match verdict {
-        Verdict::Accepted => true,
-        Verdict::Refused(_) => false,
-    }
-}
-
-// A report of these runs.
-fn with_ran(report: Report, ran: Vec<Task>) -> Report
-    ensures { result ≡ record report { ran = ran } }
-{
-    let Report {
-        verdict,
-        fresh,
-        ran: _,
-        wrote,
-        removed,
-        live,
-        outputs,
-    } = report;
-    Report {
-        verdict,
-        fresh,
-        ran,
-        wrote,
-        removed,
-        live,
-        outputs,
+        Verdict::Accepted => Ok(()),
+        Verdict::Refused(_) => match ending.keep(alloc, files) {
+            Ok(()) => Ok(()),
+            Err(FilesError::Failed) => Err(BuildError::Files),
+            Err(FilesError::OutOfMemory) => Err(BuildError::OutOfMemory),
+        },
     }
 }

@@ -1,7 +1,7 @@
 //! What a build by what changed begins with.
 ghost use Rattle.std.specs.Prelude.{IfOk};
 ghost use Rattle.pie_files.specs.Reading.{ReadsOnly};
-ghost use Rattle.pie_incremental.specs.inner.Joined.{IsBase, IsImage};
+ghost use Rattle.pie_incremental.specs.inner.Joined.{IsBase, IsEndingOf, IsImage};
 
 use crate::ending::Ending;
 use crate::{Base, joined_names, put_digests};
@@ -31,6 +31,7 @@ pub(crate) fn begin<F: Files>(
 ) -> Result<Begun, FilesError>
     requires { IsBase base.value }
     ensures image { IfOk result (λ b. IsImage b.image.value) }
+    ensures ending { IfOk result (λ b. IsEndingOf base.value changes.now b.ending.value) }
     ensures reads { ReadsOnly F.holds F.moment F.left_since F.images F.faults files.old files.new result }
 {
     let Base { image, names, own } = Box::into_inner(base);

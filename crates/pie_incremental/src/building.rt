@@ -1,13 +1,19 @@
 //! A build by what changed.
-ghost use Rattle.std.specs.Prelude.{◌≡◌, ◌++◌, All, IfOk, IsTrue};
+ghost use Rattle.std.specs.Prelude.{◌≡◌, ◌≤◌, ◌+◌, ◌++◌, true, false, None, Some, length, All, IfOk, IfSome, IsTrue};
 ghost use Rattle.pie_build.specs.Left.{KeepsRest};
+ghost use Rattle.pie_build.specs.inner.Projects.{IsReady};
 ghost use Rattle.pie_build.specs.inner.Rebuilt.{IsRefusal, Tells};
+ghost use Rattle.pie_digest.specs.Digests.{HasNames};
 ghost use Rattle.pie_value.specs.Canonical.{IsEncodableTask};
+ghost use Rattle.pie_value.specs.Limits.{is_small_task};
 ghost use Rattle.pie_store.specs.Canonical.{AreFuncs};
-ghost use Rattle.pie_incremental.specs.inner.Joined.{IsBase};
+ghost use Rattle.pie_store.specs.inner.Pending.{in_order};
+ghost use Rattle.pie_incremental.specs.Runs.{TellsFew};
+ghost use Rattle.pie_incremental.specs.Treated.{AfreshBy, TreatsNames};
+ghost use Rattle.pie_incremental.specs.inner.Joined.{IsBase, Treats};
 
 use crate::again::again;
-use crate::cause::with_cause;
+use crate::cause::put_cause;
 use crate::run::{Done, run};
 use crate::{Base, Start, find_start};
 use pie_base::Path;
@@ -25,7 +31,7 @@ use std::alloc::Global;
 /// An accepted build leaves what a clean build would; a refused one keeps the names for the next one. The whole plan and the report are made before
 /// the first write. The tasks that are started are added to the runs, and reported.
 /// Rule: docs/BUILDING.md, "A build by what changed".
-#[tactic(auto, using(pie_build::proofs::OwnPaths::same_keeps, crate::proofs::Joining::rest_then))]
+#[tactic(auto, using(pie_build::proofs::OwnPaths::same_keeps, crate::proofs::Joining::rest_then, crate::proofs::Joining::few))]
 pub fn build<F: Files>(
     alloc: Global,
     files: &mut F,
@@ -34,7 +40,10 @@ pub fn build<F: Files>(
 ) -> Result<Report, BuildError>
     ensures rest { KeepsRest (F.holds files.old) (F.holds files.new) }
     ensures refused { IsRefusal result → F.holds files.new ≡ F.holds files.old }
+    ensures names { IfSome (F.holds files.old) (λ d. IfOk result (λ r. TreatsNames changes.now d r (F.holds files.new))) }
     ensures ran { IfOk result (λ r. runs.new ≡ runs.old ++ r.ran.items) }
+    ensures few { length runs.new ≤ length runs.old + 100000 }
+    ensures most { IfOk result TellsFew }
     ensures encodable { IfOk result (λ r. All IsEncodableTask r.ran.items) }
     ensures told { Tells F.faults files.old files.new result }
 {
@@ -55,12 +64,18 @@ fn afresh<F: Files>(
 ) -> Result<Report, BuildError>
     ensures rest { KeepsRest (F.holds files.old) (F.holds files.new) }
     ensures refused { IsRefusal result → F.holds files.new ≡ F.holds files.old }
+    ensures names { IfSome (F.holds files.old) (λ d. IfOk result (λ r. AfreshBy r.verdict d (F.holds files.new))) }
+    ensures fresh { IfOk result (λ r. r.fresh ≡ Some cause) }
     ensures ran { IfOk result (λ r. runs.new ≡ runs.old ++ r.ran.items) }
+    ensures few { length runs.new ≤ length runs.old + 50000 }
     ensures encodable { IfOk result (λ r. All IsEncodableTask r.ran.items) }
     ensures told { Tells F.faults files.old files.new result }
 {
     match rebuild(alloc, files, runs) {
-        Ok(report) => Ok(with_cause(report, cause)),
+        Ok(mut report) => {
+            put_cause(&mut report, cause);
+            Ok(report)
+        }
         Err(error) => Err(error),
     }
 }
@@ -77,7 +92,10 @@ fn from<F: Files>(
     requires { IsBase base.value }
     ensures rest { KeepsRest (F.holds files.old) (F.holds files.new) }
     ensures refused { IsRefusal result → F.holds files.new ≡ F.holds files.old }
+    ensures names { IfOk result (λ r. Treats base.value.own (in_order (changes.now ++ base.value.names.items)) r.verdict (F.holds files.old) (F.holds files.new)) }
     ensures ran { IfOk result (λ r. runs.new ≡ runs.old ++ r.ran.items) }
+    ensures few { length runs.new ≤ length runs.old + 100000 }
+    ensures once { IfOk result (λ r. r.fresh ≡ None → length runs.new ≤ length runs.old + 50000) }
     ensures encodable { IfOk result (λ r. All IsEncodableTask r.ran.items) }
     ensures told { Tells F.faults files.old files.new result }
 {
@@ -88,7 +106,7 @@ fn from<F: Files>(
 }
 
 // Builds a project from what the build before left. Roots beyond the limits of values are left to the clean build, which refuses them.
-#[tactic(auto, using(pie_build::proofs::OwnPaths::same_keeps, crate::proofs::Joining::rest_then, crate::proofs::Joining::rest_both))]
+#[tactic(auto, using(pie_build::proofs::OwnPaths::same_keeps, crate::proofs::Joining::rest_then, crate::proofs::Joining::rest_both, crate::proofs::Joining::few))]
 fn with_project<F: Files>(
     alloc: Global,
     files: &mut F,
@@ -97,11 +115,16 @@ fn with_project<F: Files>(
     changes: &[Path],
     runs: &mut Runs,
 ) -> Result<Report, BuildError>
+    requires ready { IfSome (F.holds files.old) (λ d. IsReady project.now.typed project.now.roots.items) }
     requires base { IsBase base.value }
+    requires names { HasNames project.now.typed project.now.digests.items }
     requires funcs { AreFuncs project.now.digests.items }
     ensures rest { KeepsRest (F.holds files.old) (F.holds files.new) }
     ensures refused { IsRefusal result → F.holds files.new ≡ F.holds files.old }
+    ensures names { IfOk result (λ r. Treats base.value.own (in_order (changes.now ++ base.value.names.items)) r.verdict (F.holds files.old) (F.holds files.new)) }
     ensures ran { IfOk result (λ r. runs.new ≡ runs.old ++ r.ran.items) }
+    ensures few { length runs.new ≤ length runs.old + 100000 }
+    ensures once { IfOk result (λ r. r.fresh ≡ None → length runs.new ≤ length runs.old + 50000) }
     ensures encodable { IfOk result (λ r. All IsEncodableTask r.ran.items) }
     ensures told { Tells F.faults files.old files.new result }
 {
@@ -110,7 +133,7 @@ fn with_project<F: Files>(
     }
     let before = runs.count();
     match run(alloc, files, base, project, changes, runs) {
-        Ok(Done::Reported(report)) => Ok(report),
+        Ok(Done::Reported(report)) => Ok(Box::into_inner(report)),
         Ok(Done::Stopped(stop)) => again(alloc, files, stop, before, runs),
         Err(FilesError::Failed) => Err(BuildError::Files),
         Err(FilesError::OutOfMemory) => Err(BuildError::OutOfMemory),
@@ -118,9 +141,10 @@ fn with_project<F: Files>(
 }
 
 // Whether each root is within the limits of values.
-#[tactic(auto, using(crate::proofs::Joining::none_small, crate::proofs::Joining::small_more, crate::proofs::Joining::all_small))]
+#[tactic(auto, using(crate::proofs::Joining::none_small, crate::proofs::Joining::small_more, crate::proofs::Joining::all_small, crate::proofs::Joining::one_large))]
 fn are_small(roots: &[Task]) -> bool
-    ensures { IsTrue result → All IsEncodableTask roots.now }
+    ensures encodable { IsTrue result → All IsEncodableTask roots.now }
+    ensures large { result ≡ false → ¬ (All (λ t. is_small_task t ≡ true) roots.now) }
 {
     for root in roots {
         if !root.is_small() {

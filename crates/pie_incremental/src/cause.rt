@@ -4,26 +4,9 @@ ghost use Rattle.std.specs.Prelude.{◌≡◌, Some};
 use pie_report::Report;
 use pie_store::Cause;
 
-/// The report of a build that started afresh for this cause.
-pub(crate) fn with_cause(report: Report, cause: Cause) -> Report
-    ensures { result ≡ record report { fresh = Some cause } }
+/// The build of this report started afresh, for this cause.
+pub(crate) fn put_cause(report: &mut Report, cause: Cause)
+    ensures { report.new ≡ record report.old { fresh = Some cause } }
 {
-    let Report {
-        verdict,
-        fresh: _,
-        ran,
-        wrote,
-        removed,
-        live,
-        outputs,
-    } = report;
-    Report {
-        verdict,
-        fresh: Some(cause),
-        ran,
-        wrote,
-        removed,
-        live,
-        outputs,
-    }
+    report.fresh = Some(cause);
 }

@@ -2,7 +2,7 @@
 ghost use Rattle.std.specs.Prelude.{◌≡◌, codes, IfSome, IfOk, OnOk};
 ghost use Rattle.pie_files.specs.Reading.{ReadsOnly};
 ghost use Rattle.pie_diff.specs.Hashes.{hash_in, is_hash};
-ghost use Rattle.pie_incremental.specs.Digested.{digested};
+ghost use Rattle.pie_incremental.specs.inner.Digested.{digested};
 
 use pie_base::{OutOfMemory, Path, Text};
 use pie_files::{Files, FilesError};

@@ -1,21 +1,23 @@
 //! How a build by what changed ends.
-ghost use Rattle.std.specs.Prelude.{◌≡◌, All, IfOk};
+ghost use Rattle.std.specs.Prelude.{◌≡◌, IfSome, IfOk, OnOk};
+ghost use Rattle.std.specs.Option.{option_copied};
 ghost use Rattle.pie_files.specs.Streams.{Counted};
 ghost use Rattle.pie_build.specs.Left.{KeepsRest};
-ghost use Rattle.pie_store.specs.Canonical.{AreFuncs};
-ghost use Rattle.pie_value.specs.Canonical.{IsEncodableTask};
-ghost use Rattle.pie_results.specs.inner.Made.{IsKept};
+ghost use Rattle.pie_value.specs.declared.verdict.Verdict.TheVariants as verdicts;
+ghost use Rattle.pie_incremental.specs.Kept.{KeepsNames};
+ghost use Rattle.pie_incremental.specs.inner.Changes.{bytes_of};
+ghost use Rattle.pie_incremental.specs.inner.Joined.{HasOwn, IsMade, Treats};
 
 use crate::accepting::{Made, accept};
 use crate::{OwnFiles, keep_names};
-use pie_base::Path;
+use pie_base::{OutOfMemory, Path};
 use pie_build::refused;
 use pie_checks::Built;
 use pie_diff::Held;
 use pie_files::{Files, FilesError};
 use pie_project::Project;
 use pie_report::Report;
-use pie_value::{Task, Verdict};
+use pie_value::{Refusal, Task, Verdict};
 use std::alloc::Global;
 
 /// What the end of a build by what changed needs.
@@ -29,11 +31,23 @@ pub(crate) struct Ending {
 
 impl Ending {
     /// The bytes of the pending names, if they were there.
-    pub(crate) fn pending(&self) -> Option<&[u8]> {
+    pub(crate) fn pending(&self) -> Option<&[u8]>
+        ensures { option_copied result ≡ bytes_of self.now.own.pending }
+    {
         match &self.own.pending {
             Some(bytes) => Some(bytes.as_slice()),
             None => None,
         }
+    }
+
+    /// Keeps the names of a refused build for the next one.
+    #[tactic(auto, using(crate::proofs::Joining::names_keep))]
+    pub(crate) fn keep<F: Files>(&self, alloc: Global, files: &mut F) -> Result<(), FilesError>
+        ensures rest { KeepsRest (F.holds files.old) (F.holds files.new) }
+        ensures names { IfSome (F.holds files.old) (λ d. HasOwn d self.now.own → OnOk result (KeepsNames self.now.names.items d (F.holds files.new))) }
+        ensures counted { Counted F.faults FilesError.Failed files.old files.new result }
+    {
+        keep_names(alloc, files, self.names.as_slice(), self.pending())
     }
 }
 
@@ -45,12 +59,11 @@ pub(crate) fn finish<F: Files>(
     ending: &Ending,
     built: Box<Built>,
     ran: Vec<Task>,
-) -> Result<Report, FilesError>
-    requires kept { IsKept built.value }
-    requires funcs { AreFuncs project.now.digests.items }
-    requires roots { All IsEncodableTask project.now.roots.items }
+) -> Result<Box<Report>, FilesError>
+    requires { IsMade project.now.digests.items project.now.roots.items built.value }
     ensures rest { KeepsRest (F.holds files.old) (F.holds files.new) }
-    ensures ran { IfOk result (λ r. r.ran ≡ ran) }
+    ensures ran { IfOk result (λ r. r.value.ran ≡ ran) }
+    ensures names { IfOk result (λ r. Treats ending.now.own ending.now.names.items r.value.verdict (F.holds files.old) (F.holds files.new)) }
     ensures counted { Counted F.faults FilesError.Failed files.old files.new result }
 {
     let Built {
@@ -72,24 +85,35 @@ pub(crate) fn finish<F: Files>(
             },
             ran,
         ),
-        Verdict::Refused(refusal) => refuse(alloc, files, ending, refused(alloc, refusal, ran)),
+        Verdict::Refused(refusal) => refuse(alloc, files, ending, refusal, ran),
     }
 }
 
-// A refused build keeps the names for the next one.
-#[tactic(auto, using(crate::proofs::Joining::names_keep))]
+// Reports a refused build, which keeps the names for the next one. The report is made before the first write.
+#[tactic(auto, using(pie_build::proofs::OwnPaths::same_keeps))]
 fn refuse<F: Files>(
     alloc: Global,
     files: &mut F,
     ending: &Ending,
-    report: Report,
-) -> Result<Report, FilesError>
+    refusal: Refusal,
+    ran: Vec<Task>,
+) -> Result<Box<Report>, FilesError>
     ensures rest { KeepsRest (F.holds files.old) (F.holds files.new) }
-    ensures report { IfOk result (λ r. r ≡ report) }
+    ensures ran { IfOk result (λ r. r.value.ran ≡ ran) }
+    ensures names { IfOk result (λ r. Treats ending.now.own ending.now.names.items r.value.verdict (F.holds files.old) (F.holds files.new)) }
     ensures counted { Counted F.faults FilesError.Failed files.old files.new result }
 {
-    match keep_names(alloc, files, ending.names.as_slice(), ending.pending()) {
+    let report = report_of(alloc, refusal, ran)?;
+    match ending.keep(alloc, files) {
         Ok(()) => Ok(report),
         Err(error) => Err(error),
     }
+}
+
+fn report_of(alloc: Global, refusal: Refusal, ran: Vec<Task>) -> Result<Box<Report>, OutOfMemory>
+    ensures verdict { IfOk result (λ r. r.value.verdict ≡ verdicts.Refused refusal) }
+    ensures ran { IfOk result (λ r. r.value.ran ≡ ran) }
+{
+    let report = Box::new(alloc, refused(alloc, refusal, ran))?;
+    Ok(report)
 }

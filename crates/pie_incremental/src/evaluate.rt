@@ -1,13 +1,16 @@
 //! The evaluation of the roots by what changed.
-ghost use Rattle.std.specs.Prelude.{◌≡◌, ◌++◌, All, IfOk};
+ghost use Rattle.std.specs.Prelude.{◌≡◌, ◌≤◌, ◌+◌, length, All, IfOk, OnOk};
+ghost use Rattle.pie_digest.specs.Digests.{HasNames};
 ghost use Rattle.pie_files.specs.Reading.{ReadsOnly};
+ghost use Rattle.pie_store.specs.Canonical.{AreFuncs};
 ghost use Rattle.pie_value.specs.Canonical.{IsEncodableTask};
-ghost use Rattle.pie_bottomup.specs.inner.States.{IsCore};
-ghost use Rattle.pie_incremental.specs.inner.Joined.{IsImage, IsEnded, Settles, Started};
+ghost use Rattle.pie_bottomup.specs.inner.States.{HasSettled, IsCore, IsPlanOf, Spends, room};
+ghost use Rattle.pie_incremental.specs.inner.Joined.{IsImage, IsEnded, IsMade, Settles, Started};
 
-use pie_base::Path;
+use pie_base::{MAX_TASKS, OutOfMemory, Path};
 use pie_bottomup::{Core, Turn};
 use pie_checks::Built;
+use pie_code::Checked;
 use pie_codegen::compile;
 use pie_files::{Files, FilesError};
 use pie_project::Project;
@@ -24,7 +27,7 @@ pub(crate) enum Ended {
 }
 
 /// Evaluates the roots of a project by what changed.
-#[tactic(auto, using(pie_files::proofs::Reading::reads))]
+#[tactic(auto, using(pie_files::proofs::Reading::reads, crate::proofs::Joining::started_none, crate::proofs::Joining::few, crate::proofs::Storing::plan_kept))]
 pub(crate) fn evaluate<F: Files>(
     alloc: Global,
     files: &mut F,
@@ -34,34 +37,54 @@ pub(crate) fn evaluate<F: Files>(
     runs: &mut Runs,
 ) -> Result<Ended, FilesError>
     requires image { IsImage image.value }
+    requires names { HasNames project.now.typed project.now.digests.items }
+    requires funcs { AreFuncs project.now.digests.items }
     requires roots { All IsEncodableTask project.now.roots.items }
-    ensures ended { IfOk result IsEnded }
+    ensures ended { IfOk result (IsEnded project.now.digests.items project.now.roots.items) }
     ensures started { Started runs.old runs.new }
+    ensures few { length runs.new ≤ length runs.old + 50000 }
     ensures reads { ReadsOnly F.holds F.moment F.left_since F.images F.faults files.old files.new result }
 {
     let code = compile(alloc, &project.typed)?;
-    let mut core = Core::new(
+    let mut core = core_of(alloc, project, code.as_slice(), image, names)?;
+    match settle(&mut core, files, runs)? {
+        Some(cause) => Ok(Ended::Afresh(cause)),
+        None => {
+            let built = built_of(alloc, project, core)?;
+            Ok(Ended::Built(built))
+        }
+    }
+}
+
+// A build of this project that hasn't begun.
+fn core_of<'a>(
+    alloc: Global,
+    project: &'a Project,
+    code: &'a [Checked],
+    image: Box<StoreImage>,
+    names: &[Path],
+) -> Result<Box<Core<'a>>, OutOfMemory>
+    requires image { IsImage image.value }
+    requires roots { All IsEncodableTask project.now.roots.items }
+    ensures core { IfOk result (λ c. IsCore c.value) }
+    ensures plan { IfOk result (λ c. IsPlanOf project.now.typed project.now.digests.items project.now.roots.items c.value.plan) }
+    ensures room { IfOk result (λ c. room c.value ≤ MAX_TASKS) }
+{
+    let core = Core::new(
         alloc,
         &project.typed,
-        code.as_slice(),
+        code,
         project.digests.as_slice(),
         Box::into_inner(image),
         project.roots.as_slice(),
         names,
     )?;
-    match settle(&mut core, files, runs) {
-        Ok(Some(cause)) => Ok(Ended::Afresh(cause)),
-        Ok(None) => {
-            let built = core.end()?;
-            let built = Box::new(alloc, built)?;
-            Ok(Ended::Built(built))
-        }
-        Err(error) => Err(error),
-    }
+    let core = Box::new(alloc, core)?;
+    Ok(core)
 }
 
 // Goes on until the roots are settled, or the build has to start afresh: for this cause.
-#[tactic(auto, using(pie_files::proofs::Reading::reads, crate::proofs::Joining::started_none, crate::proofs::Joining::started_more))]
+#[tactic(auto, using(pie_files::proofs::Reading::reads, crate::proofs::Joining::started_none, crate::proofs::Joining::started_more, crate::proofs::Joining::spends))]
 fn settle<'a, F: Files>(
     core: &mut Core<'a>,
     files: &mut F,
@@ -69,7 +92,9 @@ fn settle<'a, F: Files>(
 ) -> Result<Option<Cause>, FilesError>
     requires { IsCore core.old }
     ensures settled { IfOk result (Settles core.new) }
+    ensures plan { OnOk result (core.new.plan ≡ core.old.plan) }
     ensures started { Started runs.old runs.new }
+    ensures few { length runs.new ≤ length runs.old + room core.old }
     ensures reads { ReadsOnly F.holds F.moment F.left_since F.images F.faults files.old files.new result }
 {
     'steps: loop {
@@ -79,4 +104,23 @@ fn settle<'a, F: Files>(
             Turn::StartAfresh(cause) => return Ok(Some(cause)),
         }
     }
+}
+
+// What a settled build has made.
+#[tactic(auto, using(crate::proofs::Storing::made))]
+fn built_of<'a>(
+    alloc: Global,
+    project: &Project,
+    core: Box<Core<'a>>,
+) -> Result<Box<Built>, OutOfMemory>
+    requires settled { HasSettled core.value }
+    requires plan { IsPlanOf project.now.typed project.now.digests.items project.now.roots.items core.value.plan }
+    requires names { HasNames project.now.typed project.now.digests.items }
+    requires funcs { AreFuncs project.now.digests.items }
+    requires roots { All IsEncodableTask project.now.roots.items }
+    ensures { IfOk result (λ b. IsMade project.now.digests.items project.now.roots.items b.value) }
+{
+    let built = Box::into_inner(core).end()?;
+    let built = Box::new(alloc, built)?;
+    Ok(built)
 }

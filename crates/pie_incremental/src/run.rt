@@ -1,11 +1,12 @@
 //! A build by what changed, from what the build before left to its report.
-ghost use Rattle.std.specs.Prelude.{◌≡◌, ◌≤◌, ◌++◌, drop, length, All, IfOk};
-ghost use Rattle.pie_files.specs.Reading.{ReadsOnly};
+ghost use Rattle.std.specs.Prelude.{◌≡◌, ◌≤◌, ◌+◌, ◌++◌, drop, length, All, IfOk};
+ghost use Rattle.pie_digest.specs.Digests.{HasNames};
 ghost use Rattle.pie_files.specs.Streams.{Counted};
 ghost use Rattle.pie_build.specs.Left.{KeepsRest};
 ghost use Rattle.pie_store.specs.Canonical.{AreFuncs};
 ghost use Rattle.pie_value.specs.Canonical.{IsEncodableTask};
-ghost use Rattle.pie_incremental.specs.inner.Joined.{IsAsBefore, IsBase, IsImage, Started, Reports};
+ghost use Rattle.pie_store.specs.inner.Pending.{in_order};
+ghost use Rattle.pie_incremental.specs.inner.Joined.{IsAsBefore, IsBase, IsImage, Reports, TreatsIn};
 
 use crate::Base;
 use crate::begun::{Begun, begin};
@@ -24,7 +25,7 @@ use std::alloc::Global;
 /// What became of a build by what changed.
 #[derive(Drop)]
 pub(crate) enum Done {
-    Reported(Report),
+    Reported(Box<Report>),
     /// It has to start afresh.
     Stopped(Box<Stop>),
 }
@@ -37,7 +38,7 @@ pub(crate) struct Stop {
 }
 
 /// Builds a project from what the build before left, unless it has to start afresh.
-#[tactic(auto, using(pie_build::proofs::OwnPaths::same_keeps, crate::proofs::Joining::rest_then))]
+#[tactic(auto, using(pie_build::proofs::OwnPaths::same_keeps, crate::proofs::Joining::rest_then, crate::proofs::Treating::treats_begun, crate::proofs::Joining::few))]
 pub(crate) fn run<F: Files>(
     alloc: Global,
     files: &mut F,
@@ -47,11 +48,14 @@ pub(crate) fn run<F: Files>(
     runs: &mut Runs,
 ) -> Result<Done, FilesError>
     requires base { IsBase base.value }
+    requires names { HasNames project.now.typed project.now.digests.items }
     requires funcs { AreFuncs project.now.digests.items }
     requires roots { All IsEncodableTask project.now.roots.items }
     ensures rest { KeepsRest (F.holds files.old) (F.holds files.new) }
     ensures stopped { IfOk result (IsAsBefore (F.holds files.old) (F.holds files.new)) }
+    ensures names { IfOk result (TreatsIn base.value.own (in_order (changes.now ++ base.value.names.items)) (F.holds files.old) (F.holds files.new)) }
     ensures ran { IfOk result (Reports runs.old runs.new) }
+    ensures few { length runs.new ≤ length runs.old + 50000 }
     ensures counted { Counted F.faults FilesError.Failed files.old files.new result }
 {
     let begun = begin(alloc, files, base, project, changes)?;
@@ -59,7 +63,7 @@ pub(crate) fn run<F: Files>(
 }
 
 // Evaluates the roots, and puts into place what was made.
-#[tactic(auto, using(pie_build::proofs::OwnPaths::same_keeps, crate::proofs::Joining::rest_then, crate::proofs::Joining::told_report))]
+#[tactic(auto, using(pie_build::proofs::OwnPaths::same_keeps, crate::proofs::Joining::rest_then, crate::proofs::Joining::told_report, crate::proofs::Treating::treats_then, crate::proofs::Joining::few))]
 fn go_on<F: Files>(
     alloc: Global,
     files: &mut F,
@@ -68,11 +72,14 @@ fn go_on<F: Files>(
     runs: &mut Runs,
 ) -> Result<Done, FilesError>
     requires image { IsImage begun.image.value }
+    requires names { HasNames project.now.typed project.now.digests.items }
     requires funcs { AreFuncs project.now.digests.items }
     requires roots { All IsEncodableTask project.now.roots.items }
     ensures rest { KeepsRest (F.holds files.old) (F.holds files.new) }
     ensures stopped { IfOk result (IsAsBefore (F.holds files.old) (F.holds files.new)) }
+    ensures names { IfOk result (TreatsIn begun.ending.value.own begun.ending.value.names.items (F.holds files.old) (F.holds files.new)) }
     ensures ran { IfOk result (Reports runs.old runs.new) }
+    ensures few { length runs.new ≤ length runs.old + 50000 }
     ensures counted { Counted F.faults FilesError.Failed files.old files.new result }
 {
     let Begun { image, ending } = begun;

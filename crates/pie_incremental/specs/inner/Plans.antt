@@ -12,7 +12,7 @@ use Rattle.pie_diff.specs.Removals.{AreRemovals}
 use Rattle.pie_files.specs.Directory.{Directory, file_at}
 use Rattle.pie_record.specs.declared.task_record.TaskRecord.{TaskRecord}
 use Rattle.pie_incremental.specs.declared.base.OwnFiles.{OwnFiles}
-use Rattle.pie_incremental.specs.Built.{AreFilesOf, IsKnown, IsMarked, IsOfBuild, IsPut}
+use Rattle.pie_incremental.specs.inner.Built.{AreFilesOf, IsKnown, IsMarked, IsOfBuild, IsPut}
 use Rattle.pie_incremental.specs.Names.{kept_names}
 use Rattle.pie_incremental.specs.Own.{open_path, IsClosed}
 use Rattle.pie_incremental.specs.inner.Changes.{bytes_of, Changes}

@@ -4,6 +4,8 @@ use Rattle.pie_build.specs.inner.Projects.{LeavesFor}
 use Rattle.pie_build.proofs.Crashing.{withstands_still, withstands_then}
 use Rattle.pie_build.proofs.OwnPaths.{same_keeps}
 use Rattle.pie_build.proofs.Ran.{still_there, ran_is, ran_encodable, left_before, rest_before}
+use Rattle.std.proofs.Common.{arith}
+use Rattle.pie_build.proofs.Crashing.{rests_ok}
 use Rattle.pie_build.proofs.building.build.Goals as goal
 
 pub since-requires : goal.since-requires
@@ -57,3 +59,9 @@ returns-in_err-ran-clause-changed g c =
 pub returns-clause-changed : goal.returns-clause-changed
 returns-clause-changed g c = changed_then c.args.project (g.F.Files.holds c.args.files.now) (g.F.Files.holds c.evaluate.new.files)
     (g.F.Files.holds c.finish.new.files) c.in_ok-built.ensures.same c.finish.ensures.changed
+
+pub returns-clause-durable : goal.returns-clause-durable
+returns-clause-durable g c = grind (arith, rests_ok)
+
+pub returns-in_err-built-clause-crash : goal.returns-in_err-built-clause-crash
+returns-in_err-built-clause-crash g c = grind (arith, withstands_still)

@@ -5,6 +5,9 @@ use Rattle.pie_build.proofs.Cleaning.{IsMadeOf, made_left, put_left, ran_of, ref
 use Rattle.pie_build.proofs.Changing.{accepted, unchanged}
 use Rattle.pie_build.proofs.Crashing.{rests_none, withstands_as}
 use Rattle.pie_build.proofs.Storing.{may_stand}
+use Rattle.std.proofs.Common.{arith}
+use Rattle.pie_build.proofs.Crashing.{withstands_none}
+use Rattle.pie_build.proofs.OwnPaths.{same_keeps}
 use Rattle.pie_build.proofs.building.finish.Goals as goal
 
 pub made_of-requires : goal.made_of-requires
@@ -66,3 +69,15 @@ returns-in_err-made-in-Accepted-clause-changed g c =
 
 pub returns-in-Refused-clause-changed : goal.returns-in-Refused-clause-changed
 returns-in-Refused-clause-changed g c = unchanged c.args.project (g.F.Files.holds c.args.files.now) (g.F.Files.holds c.args.files.now) refl
+
+pub returns-in-Refused-clause-crash : goal.returns-in-Refused-clause-crash
+returns-in-Refused-clause-crash g c = grind (arith, withstands_none)
+
+pub returns-in-Refused-clause-rest : goal.returns-in-Refused-clause-rest
+returns-in-Refused-clause-rest g c = grind (arith, same_keeps)
+
+pub returns-in_err-made-in-Accepted-clause-crash : goal.returns-in_err-made-in-Accepted-clause-crash
+returns-in_err-made-in-Accepted-clause-crash g c = grind (arith, withstands_none)
+
+pub returns-in_err-made-in-Accepted-clause-rest : goal.returns-in_err-made-in-Accepted-clause-rest
+returns-in_err-made-in-Accepted-clause-rest g c = grind (arith, same_keeps)

@@ -5,6 +5,8 @@ use Rattle.pie_build.specs.inner.Projects.{LeavesFor}
 use Rattle.pie_build.proofs.Changing.{project_changes, untouched}
 use Rattle.pie_build.proofs.Cleaning.{is_ready}
 use Rattle.pie_build.proofs.Crashing.{withstands_as, withstands_then}
+use Rattle.std.proofs.Common.{arith}
+use Rattle.pie_build.proofs.Crashing.{withstands_still, rests_still, rests_then}
 use Rattle.pie_build.proofs.building.rebuild.Goals as goal
 
 pub returns-in-Err-clause-rest : goal.returns-in-Err-clause-rest
@@ -36,3 +38,12 @@ pub returns-in-Ok-clause-changed : goal.returns-in-Ok-clause-changed
 returns-in-Ok-clause-changed g c =
     project_changes (g.F.Files.holds c.args.files.now) (g.F.Files.holds c.read_project.new.files) (g.F.Files.holds c.with_project.new.files) c.in-Ok.project
     c.in-Ok.ensures.found c.in-Ok.ensures.digests c.in-Ok.ensures.names c.in-Ok.ensures.looks.same c.with_project.ensures.changed
+
+pub returns-in-Err-clause-crash : goal.returns-in-Err-clause-crash
+returns-in-Err-clause-crash g c = grind (arith, withstands_still)
+
+pub returns-in-Err-clause-durable : goal.returns-in-Err-clause-durable
+returns-in-Err-clause-durable g c = grind (arith, rests_still)
+
+pub returns-in-Ok-clause-durable : goal.returns-in-Ok-clause-durable
+returns-in-Ok-clause-durable g c = grind (arith, rests_then)

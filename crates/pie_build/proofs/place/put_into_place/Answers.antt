@@ -11,6 +11,9 @@ use Rattle.pie_build.proofs.Crashing.{rests_commit, rests_ok, withstands_commit,
 use Rattle.pie_files.proofs.Reading.{both_before}
 use Rattle.pie_build.proofs.OwnPaths.{same_keeps, commit_keeps}
 use Rattle.pie_build.proofs.InPlace.{Fits, fits_before, puts_after}
+use Rattle.std.proofs.Common.{arith}
+use Rattle.pie_build.proofs.Crashing.{withstands_none}
+use Rattle.pie_files.proofs.Reading.{reads}
 use Rattle.pie_build.proofs.place.put_into_place.Goals as goal
 
 pub returns-in_err-wrote-clause-rest : goal.returns-in_err-wrote-clause-rest
@@ -121,3 +124,15 @@ returns-clause-report g c = report_of c.args.made c.args.ran c.in_ok-report.repo
   ran = c.in_ok-report.ensures.ran;
   outputs = c.in_ok-report.ensures.outputs;
 })
+
+pub returns-in_err-pending-clause-crash : goal.returns-in_err-pending-clause-crash
+returns-in_err-pending-clause-crash g c = grind (arith, withstands_still, withstands_none, reads)
+
+pub returns-in_err-plan-clause-crash : goal.returns-in_err-plan-clause-crash
+returns-in_err-plan-clause-crash g c = grind (arith, withstands_still, withstands_none, reads)
+
+pub returns-in_err-removed-clause-crash : goal.returns-in_err-removed-clause-crash
+returns-in_err-removed-clause-crash g c = grind (arith, withstands_still, withstands_none, reads)
+
+pub returns-in_err-wrote-clause-crash : goal.returns-in_err-wrote-clause-crash
+returns-in_err-wrote-clause-crash g c = grind (arith, withstands_none)

@@ -1,4 +1,5 @@
 use Rattle.pie_incremental.proofs.Joining.{rest_both, retold_encodable}
+use Rattle.pie_incremental.proofs.Treating.{again_done}
 use Rattle.pie_incremental.proofs.again.again.Goals as goal
 
 pub returns-in-Ok-clause-rest : goal.returns-in-Ok-clause-rest
@@ -8,3 +9,8 @@ returns-in-Ok-clause-rest g c = rest_both (g.F.Files.holds c.args.files.now) (g.
 pub returns-in-Ok-clause-encodable : goal.returns-in-Ok-clause-encodable
 returns-in-Ok-clause-encodable g c = retold_encodable c.args.before c.args.runs.now c.rebuild.new.runs c.in-Ok.report.ran.items c.retell.result c.requires.before
     c.in-Ok.ensures.ran c.requires.encodable c.in-Ok.ensures.encodable c.retell.ensures.ran
+
+pub returns-in-Ok-clause-names : goal.returns-in-Ok-clause-names
+returns-in-Ok-clause-names g c = again_done c.args.stop.value.ending.value.own c.args.stop.value.ending.value.names.items c.in-Ok.report
+    (g.F.Files.holds c.args.files.now) (g.F.Files.holds c.rebuild.new.files) (g.F.Files.holds c.retell.new.files) c.retell.result c.in-Ok.ensures.left
+    c.retell.ensures.names c.retell.ensures.verdict

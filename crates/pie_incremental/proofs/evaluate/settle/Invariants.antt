@@ -1,12 +1,12 @@
 use Rattle.std.proofs.Common.{◌≡◌}
 use Rattle.pie_files.specs.Reading.{LeavesAsBefore}
-use Rattle.pie_bottomup.specs.inner.States.{IsCore, mass}
+use Rattle.pie_bottomup.specs.inner.States.{IsCore, Spends, mass}
 use Rattle.pie_incremental.specs.inner.Joined.{Started}
 use Rattle.pie_incremental.proofs.evaluate.settle.Given as goal
 
 abbrev pub invariant-steps : goal.invariant-steps
 invariant-steps g l =
-    IsCore l.core × Started l.fn.runs l.runs
+    IsCore l.core × Started l.fn.runs l.runs × Spends l.fn.core l.core l.fn.runs l.runs
     × (g.F.Files.holds l.files ≡ g.F.Files.holds l.fn.files) × (g.F.Files.faults l.files ≡ g.F.Files.faults l.fn.files)
     × LeavesAsBefore g.F.Files.holds g.F.Files.moment g.F.Files.left_since g.F.Files.images l.fn.files l.files
 

@@ -1,0 +1,39 @@
+use Rattle.std.proofs.Common.{◌≡◌, true, List, ◌++◌, subst}
+use Rattle.std.specs.List.{All}
+use Rattle.pie_store.specs.inner.Pending.{in_order}
+use Rattle.pie_value.specs.Limits.{is_small_task}
+use Rattle.pie_value.specs.declared.task.Task.{Task}
+use Rattle.pie_incremental.proofs.Joining.{few_again, few_once}
+use Rattle.pie_incremental.proofs.Treating.{large_treats, treats_again, treats_reported}
+use Rattle.pie_incremental.proofs.building.with_project.Goals as goal
+
+pub returns-then-not-are_small-clause-names : goal.returns-then-not-are_small-clause-names
+returns-then-not-are_small-clause-names g c =
+    let p = c.args.project.now in
+    large_treats c.args.base.value.own (in_order (c.args.changes.now ++ c.args.base.value.names.items)) p.typed p.roots.items
+    (g.F.Files.holds c.args.files.now) (g.F.Files.holds c.rebuild.new.files) c.rebuild.result c.requires.ready
+    (subst (λ (roots : List Task). ¬ (All (λ (t : Task). is_small_task t ≡ true) roots)) c.as_slice.ensures.value
+    (c.are_small.ensures.large c.if-not-are_small.true))
+
+pub returns-then-not-are_small-clause-once : goal.returns-then-not-are_small-clause-once
+returns-then-not-are_small-clause-once g c = few_once c.args.runs.now c.rebuild.new.runs c.rebuild.result c.rebuild.ensures.few
+
+pub returns-in-Ok-Reported-clause-names : goal.returns-in-Ok-Reported-clause-names
+returns-in-Ok-Reported-clause-names g c =
+    let e = c.in-Ok-Reported in
+    treats_reported c.args.base.value.own (in_order (c.args.changes.now ++ c.args.base.value.names.items)) (g.F.Files.holds c.args.files.now)
+    (g.F.Files.holds c.run.new.files) e.field-0 e.report c.into_inner.result e.field-0-is c.into_inner.ensures e.ensures.names
+
+pub returns-in-Ok-Reported-clause-once : goal.returns-in-Ok-Reported-clause-once
+returns-in-Ok-Reported-clause-once g c = λ none. c.run.ensures.few
+
+pub returns-in-Ok-Stopped-clause-names : goal.returns-in-Ok-Stopped-clause-names
+returns-in-Ok-Stopped-clause-names g c =
+    let e = c.in-Ok-Stopped in
+    treats_again c.args.base.value.own (in_order (c.args.changes.now ++ c.args.base.value.names.items)) (g.F.Files.holds c.args.files.now)
+    (g.F.Files.holds c.run.new.files) (g.F.Files.holds c.again.new.files) e.field-0 e.stop c.again.result e.field-0-is e.ensures.names e.ensures.stopped
+    c.again.ensures.names
+
+pub returns-in-Ok-Stopped-clause-once : goal.returns-in-Ok-Stopped-clause-once
+returns-in-Ok-Stopped-clause-once g c =
+    few_again c.args.runs.now c.run.new.runs c.again.new.runs c.again.result c.run.ensures.few c.again.ensures.few c.again.ensures.fresh
