@@ -33,15 +33,7 @@ no_names : (bytes : List ℕ) (names : List (List ℕ)) (fault : InputFault) →
 no_names bytes names fault has (inl long) = absurd (omega (arith, long.0, has.0))
 no_names bytes names fault has (inr wrong) = let both = sym has.1 ∙ wrong.1 in absurd (search rules)
 
--- the names of an input were read
-abbrev pub HasNamed : Option (List ℕ) → Option (List ℕ) → List (List ℕ) → Type 0
-HasNamed left after names = IfSome left (λ bytes. AreNames bytes names × (after ≡ Some []))
-
-read_whole : (left after : Option (List ℕ)) (names : List (List ℕ)) → HasNamed left after names → IsRead left after
-read_whole None after names h = tt {0}
-read_whole (Some bytes) after names h = ((names, h.0), h.1)
-
-never_bad : (left after : Option (List ℕ)) (names : List (List ℕ)) (P : Type 0) → HasNamed left after names
+never_bad : (left after : Option (List ℕ)) (names : List (List ℕ)) (P : Type 0) → IsRead names left after
     → IfSome left (λ bytes. (fault : InputFault) → IsBad bytes fault → P)
 never_bad None after names P h = tt {0}
 never_bad (Some bytes) after names P h = λ fault bad. absurd (no_names bytes names fault h.0 bad)
@@ -69,18 +61,16 @@ gains_more Fewer More Failed held gained ended more h =
 module _ {S I : Type 0} (holds : S → Option Directory) (faults : S → ℕ) (left : I → Option (List ℕ)) (input_faults : I → ℕ) (json : Bool) where
   -- a build with the names of the input
   pub runs_made : (old new : S) (input after : I) (names : List (List ℕ)) (held gained : Option (List ℕ)) (ended : Status)
-      → HasNamed (left input) (left after) names → Makes holds faults json old new held gained ended → (ended ≡ status.Input → ⊥)
+      → IsRead names (left input) (left after) → Makes holds faults json names old new held gained ended → (ended ≡ status.Input → ⊥)
       → RunsBuild holds faults left input_faults json old new input after held gained ended
-  runs_made old new input after names held gained ended named makes no_input =
-      let read : IsRead (left input) (left after) = read_whole (left input) (left after) names named in
-      record {
-        built = λ a. let made = makes.made a in (made.0, inr (read, made.1), made.2);
-        printed = gains_more (λ text. (said : Status) × MakeSays json (holds old) (holds new) text said)
-            (IsBuildText holds json old new (left input) (left after) (Rose (input_faults input) (input_faults after))) (Rose (faults old) (faults new)) held gained ended
-            (λ text says. inl (says.0, inr (read, says.1))) makes.printed;
-        bad = never_bad (left input) (left after) names (new ≡ old) named;
-        unread = λ is. absurd (no_input is);
-      }
+  runs_made old new input after names held gained ended read makes no_input = record {
+    built = λ a. let made = makes.made a in (made.0, inr (names, read, made.1), made.2);
+    printed = gains_more (λ text. (said : Status) × MakeSays json names (holds old) (holds new) text said)
+        (IsBuildText holds json old new (left input) (left after) (Rose (input_faults input) (input_faults after))) (Rose (faults old) (faults new)) held gained ended
+        (λ text says. inl (says.0, inr (names, read, says.1))) makes.printed;
+    bad = never_bad (left input) (left after) names (new ≡ old) read;
+    unread = λ is. absurd (no_input is);
+  }
 
   -- a change list that is refused
   pub runs_bad : (old : S) (input after : I) (fault : InputFault) (held gained : Option (List ℕ)) (ended : Status)

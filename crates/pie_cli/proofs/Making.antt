@@ -21,24 +21,24 @@ pipeline_refused e fault is = subst (λ x. IsRefusal {A = Report} (Err x)) (sym 
 pub roots_refused : (e : BuildError) (reason : RootsReason) → e ≡ errors.Roots reason → IsRefusal {A = Report} (Err e)
 roots_refused e reason is = subst (λ x. IsRefusal {A = Report} (Err x)) (sym is) (tt {0})
 
-module _ {S : Type 0} (holds : S → Option Directory) (faults : S → ℕ) (json : Bool) (old new : S) where
+module _ {S : Type 0} (holds : S → Option Directory) (faults : S → ℕ) (json : Bool) (names : List (List ℕ)) (old new : S) where
   -- an answer
-  pub made : (text : List ℕ) (told ended : Status) (held gained : Option (List ℕ)) → MakeSays json (holds old) (holds new) text told
-      → Shows held gained text told ended → GainsPrefix held gained text → Makes holds faults json old new held gained ended
+  pub made : (text : List ℕ) (told ended : Status) (held gained : Option (List ℕ)) → MakeSays json names (holds old) (holds new) text told
+      → Shows held gained text told ended → GainsPrefix held gained text → Makes holds faults json names old new held gained ended
   made text told ended held gained says shows prefix =
-      let some : GainsSome (λ text. (said : Status) × MakeSays json (holds old) (holds new) text said) (Rose (faults old) (faults new)) held gained =
+      let some : GainsSome (λ text. (said : Status) × MakeSays json names (holds old) (holds new) text said) (Rose (faults old) (faults new)) held gained =
       inl (text, (told, says), prefix) in
       record {
-        made = λ a. let s = shows (answer_is_told ended a) in (text, subst (λ x. MakeSays json (holds old) (holds new) text x) (sym s.0) says, s.1);
+        made = λ a. let s = shows (answer_is_told ended a) in (text, subst (λ x. MakeSays json names (holds old) (holds new) text x) (sym s.0) says, s.1);
         printed = record { prefix = inl some; cut = λ is. some };
       }
 
   -- a fault of the files
   pub made_failed : (ended : Status) (held gained : Option (List ℕ)) → Rose (faults old) (faults new)
       → Shows held gained files_fault_text status.Files ended → GainsPrefix held gained files_fault_text
-      → Makes holds faults json old new held gained ended
+      → Makes holds faults json names old new held gained ended
   made_failed ended held gained rose shows prefix =
-      let some : GainsSome (λ text. (said : Status) × MakeSays json (holds old) (holds new) text said) (Rose (faults old) (faults new)) held gained =
+      let some : GainsSome (λ text. (said : Status) × MakeSays json names (holds old) (holds new) text said) (Rose (faults old) (faults new)) held gained =
       inr (rose, prefix) in
       record {
         made = λ a. absurd (fault_is_no_answer ended a (shows (answer_is_told ended a)).0);
@@ -46,7 +46,7 @@ module _ {S : Type 0} (holds : S → Option Directory) (faults : S → ℕ) (jso
       }
 
   -- nothing was printed: it was out of memory
-  pub made_none : (held : Option (List ℕ)) → Makes holds faults json old new held held status.Memory
+  pub made_none : (held : Option (List ℕ)) → Makes holds faults json names old new held held status.Memory
   made_none held = record {
     made = λ a. absurd (memory_is_no_answer a);
     printed = record { prefix = inr refl; cut = λ is. absurd (cc) };

@@ -4,6 +4,8 @@ use Rattle.pie_base.specs.declared.status.Status.{Status}
 use Rattle.pie_base.specs.declared.status.Status.TheVariants as status
 use Rattle.pie_files.specs.Directory.{Directory}
 use Rattle.pie_files.specs.Faults.{Rose}
+use Rattle.pie_incremental.specs.Runs.{TellsFew}
+use Rattle.pie_incremental.specs.Treated.{TreatsNames}
 use Rattle.pie_input.specs.Names.{AreNames, IsBad}
 use Rattle.pie_project.specs.Refusals.{Refusal}
 use Rattle.pie_report.specs.declared.report.Report.{Report}
@@ -17,26 +19,32 @@ abbrev pub IsBadInput : Option (List ℕ) → List ℕ → Status → Type 0
 IsBadInput left text ended =
     (fault : InputFault) × IfSome left (λ bytes. IsBad bytes fault) × (text ≡ bad_input_text fault) × (ended ≡ status.BadInput)
 
--- the change list of an input is none to refuse, and the input was read to its end
-abbrev pub IsRead : Option (List ℕ) → Option (List ℕ) → Type 0
-IsRead left after = IfSome left (λ bytes. ((names : List (List ℕ)) × AreNames bytes names) × (after ≡ Some []))
+-- the change list of an input has these names, and the input was read to its end
+abbrev pub IsRead : List (List ℕ) → Option (List ℕ) → Option (List ℕ) → Type 0
+IsRead names left after = IfSome left (λ bytes. AreNames bytes names × (after ≡ Some []))
 
 -- the project is refused: the line tells why, and the directory is as it was
 abbrev pub RefusesProject : Option Directory → Option Directory → List ℕ → Status → Type 0
 RefusesProject before after text ended = (e : Refusal) × (after ≡ before) × (text ≡ refusal_line e) × (ended ≡ status.Pipeline)
 
+-- a build with these names came to this report: what it did with names, and how many tasks it started
+pub record IsBuilt (names : List (List ℕ)) (before after : Option Directory) (report : Report) : Type 0 where
+  pub treated : IfSome before (λ d. TreatsNames names d report after)
+  pub few : TellsFew report
+
 -- there is a report, and the text is that of the report
-abbrev pub TellsReport : Bool → List ℕ → Status → Type 0
-TellsReport json text ended = (report : Report) × IsPrinted json report text × (ended ≡ verdict_status report.verdict)
+abbrev pub TellsReport : Bool → List (List ℕ) → Option Directory → Option Directory → List ℕ → Status → Type 0
+TellsReport json names before after text ended =
+    (report : Report) × IsBuilt names before after report × IsPrinted json report text × (ended ≡ verdict_status report.verdict)
 
--- what a build with the names of the input says
-abbrev pub MakeSays : Bool → Option Directory → Option Directory → List ℕ → Status → Type 0
-MakeSays json before after text ended = RefusesProject before after text ended ⊎ TellsReport json text ended
+-- what a build with these names says
+abbrev pub MakeSays : Bool → List (List ℕ) → Option Directory → Option Directory → List ℕ → Status → Type 0
+MakeSays json names before after text ended = RefusesProject before after text ended ⊎ TellsReport json names before after text ended
 
--- what `build` says: the change list is refused, and nothing is asked of the files; or it was read, and the rest is that of a build
+-- what `build` says: the change list is refused, and nothing is asked of the files; or it was read, and the rest is that of a build with its names
 abbrev pub BuildSays : {S : Type 0} → (S → Option Directory) → Bool → S → S → Option (List ℕ) → Option (List ℕ) → List ℕ → Status → Type 0
 BuildSays holds json old new left after text ended =
-    (IsBadInput left text ended × (new ≡ old)) ⊎ (IsRead left after × MakeSays json (holds old) (holds new) text ended)
+    (IsBadInput left text ended × (new ≡ old)) ⊎ ((names : List (List ℕ)) × IsRead names left after × MakeSays json names (holds old) (holds new) text ended)
 
 -- `build` ran: what it says, and what the output gained
 abbrev pub HasSaid : {S : Type 0} → (S → Option Directory) → Bool → S → S → Option (List ℕ) → Option (List ℕ) → Option (List ℕ) → Option (List ℕ)

@@ -3,13 +3,13 @@ use Rattle.std.specs.Prelude.{◌≡◌, ◌≢◌, ◌⊎◌, ℕ, Bool, true, 
 use Rattle.pie_base.specs.declared.status.Status.{Status}
 use Rattle.pie_base.specs.declared.status.Status.TheVariants as status
 use Rattle.pie_files.specs.Faults.{Rose}
-use Rattle.pie_words.specs.Commands.{words_of, usage_text}
+use Rattle.pie_words.specs.Commands.{words_of, is_allowed, usage_text}
 use Rattle.pie_words.specs.declared.command.Command.{Command}
 use Rattle.pie_words.specs.declared.command.Command.TheVariants as commands
 
 -- no command has these words
 abbrev pub IsUsage : List (List ℕ) → Type 0
-IsUsage words = (command : Command) → words ≢ words_of command
+IsUsage words = (command : Command) → is_allowed command ≡ true → words ≢ words_of command
 
 -- no command that reads its input has these words
 abbrev pub NeedsNoInput : List (List ℕ) → Type 0

@@ -3,6 +3,7 @@
 
 mod check;
 mod clean;
+mod demo;
 mod incremental;
 mod print;
 mod script;

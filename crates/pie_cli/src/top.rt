@@ -1,12 +1,13 @@
 //! The top call.
-ghost use Rattle.std.specs.Prelude.{◌≡◌, ◌≢◌, Bool, ℕ, true, map, string_bytes};
+ghost use Rattle.std.specs.Prelude.{◌≡◌, ◌≢◌, ◌<◌, ◌≤◌, Bool, ℕ, true, map, string_bytes};
 ghost use Rattle.pie_build.specs.Left.{KeepsRest};
 ghost use Rattle.pie_files.specs.Faults.{Rose};
 ghost use Rattle.pie_files.specs.Streams.{StaysInfallible};
-ghost use Rattle.pie_words.specs.Commands.{words_of, texts_of};
+ghost use Rattle.pie_words.specs.Commands.{words_of, texts_of, is_allowed};
 ghost use Rattle.pie_words.specs.declared.command.Command.TheVariants as commands;
 ghost use Rattle.pie_cli.specs.Build.{RunsBuild};
 ghost use Rattle.pie_cli.specs.Check.{RunsCheck};
+ghost use Rattle.pie_cli.specs.Demo.{RunsDemo, SaysDemo};
 ghost use Rattle.pie_cli.specs.Fresh.{RunsFresh};
 ghost use Rattle.pie_cli.specs.Replay.{RunsReplay};
 ghost use Rattle.pie_cli.specs.Run.{is_answer, is_told, Ends, GainsPrefix, IsNoScript, IsUsage, NeedsNoInput, PrintsUsage, Shows};
@@ -18,6 +19,7 @@ ghost use Rattle.pie_report.specs.Refused.{bad_input_text};
 
 use crate::check::check;
 use crate::clean::fresh;
+use crate::demo::tell_demo;
 use crate::incremental::{bad_input, build};
 use crate::print::print_text;
 use crate::script::replay_script;
@@ -48,6 +50,8 @@ pub fn run<F: Files, I: Source, K: Sink>(
         → RunsBuild F.holds F.faults I.left I.faults json files.old files.new input.old input.new (K.held out.old) (K.held out.new) result }
     ensures replay { (json : Bool) → texts_of words.now ≡ words_of (commands.Replay json)
         → RunsReplay F.holds F.faults I.left I.faults json files.old files.new input.old input.new (K.held out.old) (K.held out.new) result }
+    ensures demo { (seed size : ℕ) → is_allowed (commands.Demo seed size) ≡ true → texts_of words.now ≡ words_of (commands.Demo seed size)
+        → RunsDemo files.old files.new (K.held out.old) (K.held out.new) result }
     ensures usage { IsUsage (texts_of words.now) → PrintsUsage files.old files.new (K.held out.old) (K.held out.new) result }
     ensures rest { IsNoScript (texts_of words.now) → KeepsRest (F.holds files.old) (F.holds files.new) }
     ensures ends { Ends (IsNoScript (texts_of words.now)) (F.faults files.old) (F.faults files.new) (I.faults input.old) (I.faults input.new) (K.faults out.old) (K.faults out.new) (K.held out.old) (K.held out.new) result }
@@ -71,6 +75,7 @@ fn run_command<F: Files, I: Source, K: Sink>(
     input: &mut I,
     out: &mut K,
 ) -> Status
+    requires { is_allowed command ≡ true }
     ensures fresh { (json : Bool) → command ≡ commands.Fresh json
         → RunsFresh F.holds F.moment F.left_since F.images F.faults json files.old files.new (K.held out.old) (K.held out.new) result }
     ensures check { command ≡ commands.Check
@@ -79,6 +84,7 @@ fn run_command<F: Files, I: Source, K: Sink>(
         → RunsBuild F.holds F.faults I.left I.faults json files.old files.new input.old input.new (K.held out.old) (K.held out.new) result }
     ensures replay { (json : Bool) → command ≡ commands.Replay json
         → RunsReplay F.holds F.faults I.left I.faults json files.old files.new input.old input.new (K.held out.old) (K.held out.new) result }
+    ensures demo { (seed size : ℕ) → command ≡ commands.Demo seed size → RunsDemo files.old files.new (K.held out.old) (K.held out.new) result }
     ensures rest { HasNoScript command → KeepsRest (F.holds files.old) (F.holds files.new) }
     ensures ends { Ends (HasNoScript command) (F.faults files.old) (F.faults files.new) (I.faults input.old) (I.faults input.new) (K.faults out.old) (K.faults out.new) (K.held out.old) (K.held out.new) result }
     ensures infallible { StaysInfallible K.infallible K.faults out.old out.new }
@@ -90,6 +96,7 @@ fn run_command<F: Files, I: Source, K: Sink>(
         Command::Fresh(json) => run_fresh(alloc, files, out, json),
         Command::Build(json) => run_build(alloc, files, input, out, json),
         Command::Replay(json) => run_replay(alloc, files, input, out, json),
+        Command::Demo(seed, size) => run_demo(alloc, out, seed, size),
     }
 }
 
@@ -153,7 +160,7 @@ fn make<F: Files, K: Sink>(
     changes: &[Path],
     json: bool,
 ) -> Status
-    ensures makes { Makes F.holds F.faults json files.old files.new (K.held out.old) (K.held out.new) result }
+    ensures makes { Makes F.holds F.faults json changes.now files.old files.new (K.held out.old) (K.held out.new) result }
     ensures rest { KeepsRest (F.holds files.old) (F.holds files.new) }
     ensures ends { EndsUnread (F.faults files.old) (F.faults files.new) (K.faults out.old) (K.faults out.new) (K.held out.old) (K.held out.new) result }
     ensures infallible { StaysInfallible K.infallible K.faults out.old out.new }
@@ -202,6 +209,21 @@ fn play<F: Files, K: Sink>(
 {
     match replay_script(alloc, files, steps, json) {
         Ok(told) => show(out, told.text.as_str(), told.status),
+        Err(OutOfMemory) => Status::Memory,
+    }
+}
+
+// A demo in memory, with its summary.
+fn run_demo<K: Sink>(alloc: Global, out: &mut K, seed: u64, size: u32) -> Status
+    requires some { 0 < size }
+    requires few { size ≤ 1000 }
+    ensures says { SaysDemo (K.held out.old) (K.held out.new) result }
+    ensures output { result ≡ Status.Output → Rose (K.faults out.old) (K.faults out.new) }
+    ensures steady { is_told result ≡ true → K.faults out.new ≡ K.faults out.old }
+    ensures infallible { StaysInfallible K.infallible K.faults out.old out.new }
+{
+    match tell_demo(alloc, seed, size) {
+        Ok(told) => show_told(out, told),
         Err(OutOfMemory) => Status::Memory,
     }
 }

@@ -2,6 +2,8 @@
 use Rattle.std.specs.Prelude.{◌≡◌, ℕ, List, [], ◌∷◌, ◌++◌, All, Option, Some, IfSome}
 use Rattle.pie_build.specs.Left.{KeepsRest}
 use Rattle.pie_files.specs.Directory.{Directory, with_file, without_file}
+use Rattle.pie_incremental.specs.Runs.{TellsFew}
+use Rattle.pie_incremental.specs.Treated.{TreatsNames}
 use Rattle.pie_report.specs.declared.report.Report.{Report}
 use Rattle.pie_script.specs.Steps.{Plain, PutFile, DelFile, Name, BuildNow}
 use Rattle.pie_value.specs.Canonical.{IsEncodableTask}
@@ -17,6 +19,8 @@ HasDeleted holds path old new = IfSome (holds old) (λ d. holds new ≡ Some (wi
 -- a build with these names came to this report: what `pie_incremental::build` says of it
 pub record HasBuilt {S : Type 0} (holds : S → Option Directory) (names : List (List ℕ)) (report : Report) (old new : S) : Type 0 where
   pub rest : KeepsRest (holds old) (holds new)
+  pub treated : IfSome (holds old) (λ d. TreatsNames names d report (holds new))
+  pub few : TellsFew report
   pub encodable : All IsEncodableTask report.ran.items
 
 -- what a script did since it began: the steps that were done, the names since the last build, the reports of its builds, and the files as they are then;

@@ -13,9 +13,10 @@ use Rattle.clap.specs.declared.parser.matches.Found.{Found}
 use Rattle.clap.proofs.WalkLemmas.{one_text-rows}
 use Rattle.clap.proofs.OnLiterals.{clap_on_literals}
 use Rattle.pie_words.specs.Commands.{words_of}
+use Rattle.pie_words.specs.inner.Commands.{is_plain}
 use Rattle.pie_words.specs.inner.Grammar.{commands}
 use Rattle.pie_words.specs.declared.command.Command.{Command}
-use Rattle.pie_words.specs.declared.command.Command.TheVariants.{Check, Fresh, Build, Replay}
+use Rattle.pie_words.specs.declared.command.Command.TheVariants.{Check, Fresh, Build, Replay, Demo}
 
 -- the name of a command
 abbrev pub name_of : Command → Text
@@ -23,6 +24,7 @@ name_of Check = codes "check"
 name_of (Fresh json) = codes "fresh"
 name_of (Build json) = codes "build"
 name_of (Replay json) = codes "replay"
+name_of (Demo seed size) = codes "demo"
 
 -- a flag as text
 abbrev pub flag_text : Bool → Text
@@ -38,25 +40,27 @@ abbrev pub name_in : Option (Text × List Row) → Text
 name_in None = []
 name_in (Some p) = p.0
 
-pub named : (c : Command) → name_in (subcommand_of commands (words_of c)) ≡ name_of c
+pub named : (c : Command) → is_plain c ≡ true → name_in (subcommand_of commands (words_of c)) ≡ name_of c
 unfolding clap_on_literals
-named Check = refl
-named (Fresh false) = refl
-named (Fresh true) = refl
-named (Build false) = refl
-named (Build true) = refl
-named (Replay false) = refl
-named (Replay true) = refl
+named Check plain = refl
+named (Fresh false) plain = refl
+named (Fresh true) plain = refl
+named (Build false) plain = refl
+named (Build true) plain = refl
+named (Replay false) plain = refl
+named (Replay true) plain = refl
+named (Demo seed size) plain = absurd (false≢true plain)
 
-pub met : (c : Command) → subcommand_of commands (words_of c) ≡ Some (name_in (subcommand_of commands (words_of c)), rows_in (subcommand_of commands (words_of c)))
+pub met : (c : Command) → is_plain c ≡ true → subcommand_of commands (words_of c) ≡ Some (name_in (subcommand_of commands (words_of c)), rows_in (subcommand_of commands (words_of c)))
 unfolding clap_on_literals
-met Check = refl
-met (Fresh false) = refl
-met (Fresh true) = refl
-met (Build false) = refl
-met (Build true) = refl
-met (Replay false) = refl
-met (Replay true) = refl
+met Check plain = refl
+met (Fresh false) plain = refl
+met (Fresh true) plain = refl
+met (Build false) plain = refl
+met (Build true) plain = refl
+met (Replay false) plain = refl
+met (Replay true) plain = refl
+met (Demo seed size) plain = absurd (false≢true plain)
 
 -- the flag that a command may have
 abbrev pub flag_of : Command → Bool
@@ -64,6 +68,7 @@ flag_of Check = false
 flag_of (Fresh json) = json
 flag_of (Build json) = json
 flag_of (Replay json) = json
+flag_of (Demo seed size) = false
 
 -- a command with the flag
 abbrev pub is_flagged : Command → Bool
@@ -71,6 +76,7 @@ is_flagged Check = false
 is_flagged (Fresh json) = true
 is_flagged (Build json) = true
 is_flagged (Replay json) = true
+is_flagged (Demo seed size) = false
 
 pub flagged : (c : Command) → is_flagged c ≡ true → one_of (codes "json") (rows_in (subcommand_of commands (words_of c))) ≡ Some (flag_text (flag_of c))
 unfolding clap_on_literals
@@ -81,6 +87,7 @@ flagged (Build false) has = refl
 flagged (Build true) has = refl
 flagged (Replay false) has = refl
 flagged (Replay true) has = refl
+flagged (Demo seed size) has = absurd (false≢true has)
 
 pub flag_read : (f : Found) (c : Command) → is_flagged c ≡ true → rows_of f ≡ rows_in (subcommand_of commands (words_of c))
     → one_text f (codes "json") ≡ Some (flag_text (flag_of c))
@@ -98,16 +105,18 @@ flag_is (Build false) read f has rows set unset = unset (flag_read f (Build fals
 flag_is (Build true) read f has rows set unset = set (flag_read f (Build true) has rows)
 flag_is (Replay false) read f has rows set unset = unset (flag_read f (Replay false) has rows)
 flag_is (Replay true) read f has rows set unset = set (flag_read f (Replay true) has rows)
+flag_is (Demo seed size) read f has rows set unset = absurd (false≢true has)
 
-pub taken : (c : Command) → takes commands (words_of c) ≡ true
+pub taken : (c : Command) → is_plain c ≡ true → takes commands (words_of c) ≡ true
 unfolding clap_on_literals
-taken Check = refl
-taken (Fresh false) = refl
-taken (Fresh true) = refl
-taken (Build false) = refl
-taken (Build true) = refl
-taken (Replay false) = refl
-taken (Replay true) = refl
+taken Check plain = refl
+taken (Fresh false) plain = refl
+taken (Fresh true) plain = refl
+taken (Build false) plain = refl
+taken (Build true) plain = refl
+taken (Replay false) plain = refl
+taken (Replay true) plain = refl
+taken (Demo seed size) plain = absurd (false≢true plain)
 
 abbrev first_byte : Text → ℕ
 first_byte [] = 0
@@ -118,6 +127,7 @@ check_named Check is = refl
 check_named (Fresh json) is = let h : ◌≡◌ {A = ℕ} 102 99 = ap first_byte is in absurd (omega arith)
 check_named (Build json) is = let h : ◌≡◌ {A = ℕ} 98 99 = ap first_byte is in absurd (omega arith)
 check_named (Replay json) is = let h : ◌≡◌ {A = ℕ} 114 99 = ap first_byte is in absurd (omega arith)
+check_named (Demo seed size) is = let h : ◌≡◌ {A = ℕ} 100 99 = ap first_byte is in absurd (omega arith)
 
 pub fresh_named : (c : Command) (read : Bool) (f : Found) → name_of c ≡ codes "fresh"
     → rows_of f ≡ rows_in (subcommand_of commands (words_of c))
@@ -128,6 +138,7 @@ fresh_named Check read f name rows set unset = let h : ◌≡◌ {A = ℕ} 99 10
 fresh_named (Fresh json) read f name rows set unset = ap Fresh (flag_is (Fresh json) read f refl rows set unset)
 fresh_named (Build json) read f name rows set unset = let h : ◌≡◌ {A = ℕ} 98 102 = ap first_byte name in absurd (omega arith)
 fresh_named (Replay json) read f name rows set unset = let h : ◌≡◌ {A = ℕ} 114 102 = ap first_byte name in absurd (omega arith)
+fresh_named (Demo seed size) read f name rows set unset = let h : ◌≡◌ {A = ℕ} 100 102 = ap first_byte name in absurd (omega arith)
 
 pub build_named : (c : Command) (read : Bool) (f : Found) → name_of c ≡ codes "build"
     → rows_of f ≡ rows_in (subcommand_of commands (words_of c))
@@ -138,6 +149,7 @@ build_named Check read f name rows set unset = let h : ◌≡◌ {A = ℕ} 99 98
 build_named (Fresh json) read f name rows set unset = let h : ◌≡◌ {A = ℕ} 102 98 = ap first_byte name in absurd (omega arith)
 build_named (Build json) read f name rows set unset = ap Build (flag_is (Build json) read f refl rows set unset)
 build_named (Replay json) read f name rows set unset = let h : ◌≡◌ {A = ℕ} 114 98 = ap first_byte name in absurd (omega arith)
+build_named (Demo seed size) read f name rows set unset = let h : ◌≡◌ {A = ℕ} 100 98 = ap first_byte name in absurd (omega arith)
 
 pub replay_named : (c : Command) (read : Bool) (f : Found) → name_of c ≡ codes "replay"
     → rows_of f ≡ rows_in (subcommand_of commands (words_of c))
@@ -148,13 +160,15 @@ replay_named Check read f name rows set unset = let h : ◌≡◌ {A = ℕ} 99 1
 replay_named (Fresh json) read f name rows set unset = let h : ◌≡◌ {A = ℕ} 102 114 = ap first_byte name in absurd (omega arith)
 replay_named (Build json) read f name rows set unset = let h : ◌≡◌ {A = ℕ} 98 114 = ap first_byte name in absurd (omega arith)
 replay_named (Replay json) read f name rows set unset = ap Replay (flag_is (Replay json) read f refl rows set unset)
+replay_named (Demo seed size) read f name rows set unset = let h : ◌≡◌ {A = ℕ} 100 114 = ap first_byte name in absurd (omega arith)
 
-pub is_named : (c : Command) → (name_of c ≡ codes "check" → ⊥) → (name_of c ≡ codes "fresh" → ⊥) → (name_of c ≡ codes "build" → ⊥)
+pub is_named : (c : Command) → is_plain c ≡ true → (name_of c ≡ codes "check" → ⊥) → (name_of c ≡ codes "fresh" → ⊥) → (name_of c ≡ codes "build" → ⊥)
     → (name_of c ≡ codes "replay" → ⊥) → ⊥
-is_named Check check fresh build replay = check refl
-is_named (Fresh json) check fresh build replay = fresh refl
-is_named (Build json) check fresh build replay = build refl
-is_named (Replay json) check fresh build replay = replay refl
+is_named Check plain check fresh build replay = check refl
+is_named (Fresh json) plain check fresh build replay = fresh refl
+is_named (Build json) plain check fresh build replay = build refl
+is_named (Replay json) plain check fresh build replay = replay refl
+is_named (Demo seed size) plain check fresh build replay = absurd (false≢true plain)
 
 -- what was found, from its name and its matches apart
 pub paired : {A B X Y : Type 0} (f : X → A) (g : X → B) (h : Y → A) (k : Y → B) (r : Option X) (o : Option Y)

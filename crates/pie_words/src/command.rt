@@ -11,4 +11,6 @@ pub enum Command {
     Build(bool),
     /// `replay`, true with `--json`: do the steps of the script of the input.
     Replay(bool),
+    /// `demo SEED SIZE`: make a project of SIZE files, 1 to 1,000, from SEED in memory, and build it after each of ten changes.
+    Demo(u64, u32),
 }

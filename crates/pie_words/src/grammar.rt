@@ -1,8 +1,8 @@
 //! The commands as `clap` knows them, and what it takes from words that are a command.
-ghost use Rattle.std.specs.Prelude.{◌≡◌, false, Some, Ok, IfOk, IfErr};
+ghost use Rattle.std.specs.Prelude.{◌≡◌, true, false, Some, Ok, IfOk, IfErr};
 ghost use Rattle.clap.specs.Words.{app_of, kind_of, found_of, rows_of, subcommand_of, subcommand_rows_of};
-ghost use Rattle.pie_words.specs.Commands.{words_of, texts_of};
-ghost use Rattle.pie_words.specs.inner.Commands.{IsCommand};
+ghost use Rattle.pie_words.specs.Commands.{words_of, texts_of, is_allowed};
+ghost use Rattle.pie_words.specs.inner.Commands.{IsPlain, is_plain};
 ghost use Rattle.clap.specs.declared.builder.command.Command.TheViews.{out-Command as fields_of};
 ghost use Rattle.pie_words.specs.inner.Grammar as spec;
 ghost use Rattle.pie_words.specs.declared.command.Command.{Command};
@@ -12,10 +12,11 @@ use clap::error::ErrorKind;
 use clap::{Arg, ArgAction, ArgMatches};
 use std::alloc::{AllocError, Global};
 
-/// The command that these words are.
+/// The command without numbers that these words are.
 pub(crate) fn take_apart(alloc: Global, words: &[String]) -> Result<Command, WordsFault>
-    requires { IsCommand (texts_of words.now) }
+    requires { IsPlain (texts_of words.now) }
     ensures accepted { IfOk result (λ command. texts_of words.now ≡ words_of command) }
+    ensures allowed { IfOk result (λ command. is_allowed command ≡ true) }
     ensures memory { IfErr result (λ fault. fault ≡ WordsFault.OutOfMemory) }
 {
     let found = matches(alloc, words)?;
@@ -24,7 +25,7 @@ pub(crate) fn take_apart(alloc: Global, words: &[String]) -> Result<Command, Wor
 
 // What `clap` finds in the words of a command.
 fn matches<'a>(alloc: Global, words: &'a [String]) -> Result<ArgMatches<'a>, clap::Error>
-    requires { IsCommand (texts_of words.now) }
+    requires { IsPlain (texts_of words.now) }
     ensures found { IfOk result (λ found. subcommand_rows_of found ≡ subcommand_of spec.commands (texts_of words.now)) }
     ensures memory { IfErr result (λ error. kind_of error ≡ ErrorKind.OutOfMemory) }
 {
@@ -33,7 +34,7 @@ fn matches<'a>(alloc: Global, words: &'a [String]) -> Result<ArgMatches<'a>, cla
 
 // The command of what was found.
 fn command(found: &ArgMatches<'_>) -> Result<Command, WordsFault>
-    ensures { (command : Command) → subcommand_rows_of found.now ≡ subcommand_of spec.commands (words_of command) → result ≡ Ok command }
+    ensures { (command : Command) → is_plain command ≡ true → subcommand_rows_of found.now ≡ subcommand_of spec.commands (words_of command) → result ≡ Ok command }
 {
     match found.subcommand() {
         Some((name, flags)) => named(name, flags),
@@ -43,7 +44,7 @@ fn command(found: &ArgMatches<'_>) -> Result<Command, WordsFault>
 
 // The command of this name with these flags.
 fn named(name: &str, flags: &ArgMatches<'_>) -> Result<Command, WordsFault>
-    ensures { (command : Command) → Some (name.now, rows_of (found_of flags.now)) ≡ subcommand_of spec.commands (words_of command)
+    ensures { (command : Command) → is_plain command ≡ true → Some (name.now, rows_of (found_of flags.now)) ≡ subcommand_of spec.commands (words_of command)
         → result ≡ Ok command }
 {
     match name {

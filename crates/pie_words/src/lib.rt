@@ -2,11 +2,9 @@
 #![tactic(auto)]
 
 mod command;
+mod demo;
 mod grammar;
 mod words;
 
 pub use command::Command;
 pub use words::{USAGE, WordsFault, read_words};
-
-#[cfg(test)]
-mod tests;

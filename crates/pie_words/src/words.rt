@@ -1,11 +1,12 @@
 //! Reading the arguments of a command line.
-ghost use Rattle.std.specs.Prelude.{◌≡◌, ◌≢◌, List, ℕ, [], ◌∷◌, codes, true, false, Err, IfOk};
+ghost use Rattle.std.specs.Prelude.{◌≡◌, ◌≢◌, List, ℕ, [], ◌∷◌, codes, true, false, length, Err, IfOk};
 ghost use Rattle.clap.specs.Words.{kind_of};
-ghost use Rattle.pie_words.specs.Commands.{words_of, texts_of, usage_text};
-ghost use Rattle.pie_words.specs.inner.Commands.{IsCommand};
+ghost use Rattle.pie_words.specs.Commands.{words_of, texts_of, usage_text, is_allowed};
+ghost use Rattle.pie_words.specs.inner.Commands.{IsCommand, IsPlain, is_plain};
 ghost use Rattle.pie_words.specs.declared.command.Command.{Command};
 
 use crate::Command;
+use crate::demo::demo;
 use crate::grammar::take_apart;
 use clap::error::ErrorKind;
 use std::alloc::Global;
@@ -43,7 +44,22 @@ pub const USAGE: &str =
 /// What the arguments of a command line, without the program's name, ask for.
 pub fn read_words(alloc: Global, words: &[String]) -> Result<Command, WordsFault>
     ensures accepted { IfOk result (λ command. texts_of words.now ≡ words_of command) }
-    ensures refused { result ≡ Err WordsFault.Usage → (command : Command) → texts_of words.now ≢ words_of command }
+    ensures allowed { IfOk result (λ command. is_allowed command ≡ true) }
+    ensures refused { result ≡ Err WordsFault.Usage → (command : Command) → is_allowed command ≡ true → texts_of words.now ≢ words_of command }
+    ensures memory { result ≡ Err WordsFault.OutOfMemory → IsCommand (texts_of words.now) }
+{
+    match words {
+        [first, seed, size] => demo(first.as_str(), seed.as_str(), size.as_str()),
+        _ => at_most_two(alloc, words),
+    }
+}
+
+// What words ask for that aren't three.
+fn at_most_two(alloc: Global, words: &[String]) -> Result<Command, WordsFault>
+    requires { length words.now ≢ 3 }
+    ensures accepted { IfOk result (λ command. texts_of words.now ≡ words_of command) }
+    ensures allowed { IfOk result (λ command. is_allowed command ≡ true) }
+    ensures refused { result ≡ Err WordsFault.Usage → (command : Command) → is_allowed command ≡ true → texts_of words.now ≢ words_of command }
     ensures memory { result ≡ Err WordsFault.OutOfMemory → IsCommand (texts_of words.now) }
 {
     if is_command(words) {
@@ -53,10 +69,10 @@ pub fn read_words(alloc: Global, words: &[String]) -> Result<Command, WordsFault
     }
 }
 
-// Whether these are the words of a command.
+// Whether these are the words of a command without numbers.
 fn is_command(words: &[String]) -> bool
-    ensures accepted { result ≡ true → IsCommand (texts_of words.now) }
-    ensures refused { result ≡ false → (command : Command) → texts_of words.now ≢ words_of command }
+    ensures accepted { result ≡ true → IsPlain (texts_of words.now) }
+    ensures refused { result ≡ false → (command : Command) → is_plain command ≡ true → texts_of words.now ≢ words_of command }
 {
     match words {
         [word] => one_word(word.as_str()),
@@ -66,8 +82,8 @@ fn is_command(words: &[String]) -> bool
 }
 
 fn one_word(word: &str) -> bool
-    ensures accepted { result ≡ true → IsCommand (word.now ∷ []) }
-    ensures refused { result ≡ false → (command : Command) → (word.now ∷ []) ≢ words_of command }
+    ensures accepted { result ≡ true → IsPlain (word.now ∷ []) }
+    ensures refused { result ≡ false → (command : Command) → is_plain command ≡ true → (word.now ∷ []) ≢ words_of command }
 {
     match word {
         "check" => true,
@@ -79,8 +95,8 @@ fn one_word(word: &str) -> bool
 }
 
 fn two_words(first: &str, second: &str) -> bool
-    ensures accepted { result ≡ true → IsCommand (first.now ∷ second.now ∷ []) }
-    ensures refused { result ≡ false → (command : Command) → (first.now ∷ second.now ∷ []) ≢ words_of command }
+    ensures accepted { result ≡ true → IsPlain (first.now ∷ second.now ∷ []) }
+    ensures refused { result ≡ false → (command : Command) → is_plain command ≡ true → (first.now ∷ second.now ∷ []) ≢ words_of command }
 {
     match (first, second) {
         ("fresh", "--json") => true,

@@ -15,8 +15,8 @@ pub record EndsUnread (asked_before asked_after printed_before printed_after : �
   pub steady : is_answer ended ≡ true → (asked_after ≡ asked_before) × (printed_after ≡ printed_before)
   pub output_steady : ended ≡ status.Files → printed_after ≡ printed_before
 
--- what a build with the names of an input says, whatever it ended with
-pub record Makes {S : Type 0} (holds : S → Option Directory) (faults : S → ℕ) (json : Bool) (old new : S) (held gained : Option (List ℕ)) (ended : Status)
-    : Type 0 where
-  pub made : is_answer ended ≡ true → (text : List ℕ) × MakeSays json (holds old) (holds new) text ended × Gains held gained text
-  pub printed : GainsAtMost (λ text. (said : Status) × MakeSays json (holds old) (holds new) text said) (Rose (faults old) (faults new)) held gained ended
+-- what a build with these names says, whatever it ended with
+pub record Makes {S : Type 0} (holds : S → Option Directory) (faults : S → ℕ) (json : Bool) (names : List (List ℕ)) (old new : S)
+    (held gained : Option (List ℕ)) (ended : Status) : Type 0 where
+  pub made : is_answer ended ≡ true → (text : List ℕ) × MakeSays json names (holds old) (holds new) text ended × Gains held gained text
+  pub printed : GainsAtMost (λ text. (said : Status) × MakeSays json names (holds old) (holds new) text said) (Rose (faults old) (faults new)) held gained ended

@@ -15,6 +15,7 @@ use Rattle.pie_cli.proofs.Building.{runs_memory}
 use Rattle.pie_cli.specs.Run.{IsNoScript}
 use Rattle.pie_cli.specs.inner.Played.{HasNoScript}
 use Rattle.pie_cli.proofs.Ending.{ends_by, ends_memory, ends_shown, not_shown}
+use Rattle.pie_cli.proofs.Demos.{says_memory}
 use Rattle.pie_cli.proofs.Replaying.{runs_none}
 use Rattle.pie_cli.proofs.Gaining.{none_gained}
 use Rattle.pie_cli.proofs.Rest.{asks_none, gains_none}
@@ -22,19 +23,19 @@ use Rattle.pie_cli.proofs.Statuses.{memory_is_no_answer}
 use Rattle.pie_cli.proofs.top.run.Goals as goal
 
 pub returns-in-Ok-clause-fresh : goal.returns-in-Ok-clause-fresh
-returns-in-Ok-clause-fresh g c = λ json is. c.run_command.ensures.fresh json (same_command _ _ (sym c.in-Ok.ensures.accepted ∙ is))
+returns-in-Ok-clause-fresh g c = λ json is. c.run_command.ensures.fresh json (same_command _ _ c.in-Ok.ensures.allowed refl (sym c.in-Ok.ensures.accepted ∙ is))
 
 pub returns-in-Ok-clause-check : goal.returns-in-Ok-clause-check
-returns-in-Ok-clause-check g c = λ is. c.run_command.ensures.check (same_command _ _ (sym c.in-Ok.ensures.accepted ∙ is))
+returns-in-Ok-clause-check g c = λ is. c.run_command.ensures.check (same_command _ _ c.in-Ok.ensures.allowed refl (sym c.in-Ok.ensures.accepted ∙ is))
 
 pub returns-in-Ok-clause-usage : goal.returns-in-Ok-clause-usage
-returns-in-Ok-clause-usage g c = λ none. absurd (none _ c.in-Ok.ensures.accepted)
+returns-in-Ok-clause-usage g c = λ none. absurd (none _ c.in-Ok.ensures.allowed c.in-Ok.ensures.accepted)
 
 pub returns-in-Err-Usage-clause-fresh : goal.returns-in-Err-Usage-clause-fresh
-returns-in-Err-Usage-clause-fresh g c = λ json is. absurd (c.in-Err-Usage.ensures.refused (ap Err c.in-Err-Usage.field-0-is) (commands.Fresh json) is)
+returns-in-Err-Usage-clause-fresh g c = λ json is. absurd (c.in-Err-Usage.ensures.refused (ap Err c.in-Err-Usage.field-0-is) (commands.Fresh json) refl is)
 
 pub returns-in-Err-Usage-clause-check : goal.returns-in-Err-Usage-clause-check
-returns-in-Err-Usage-clause-check g c = λ is. absurd (c.in-Err-Usage.ensures.refused (ap Err c.in-Err-Usage.field-0-is) commands.Check is)
+returns-in-Err-Usage-clause-check g c = λ is. absurd (c.in-Err-Usage.ensures.refused (ap Err c.in-Err-Usage.field-0-is) commands.Check refl is)
 
 -- nothing was done
 pub returns-in-Err-OutOfMemory-clause-fresh : goal.returns-in-Err-OutOfMemory-clause-fresh
@@ -66,7 +67,7 @@ returns-in-Err-OutOfMemory-clause-usage g c = λ none. record {
 }
 
 pub returns-in-Ok-clause-build : goal.returns-in-Ok-clause-build
-returns-in-Ok-clause-build g c = λ json is. c.run_command.ensures.build json (same_command _ _ (sym c.in-Ok.ensures.accepted ∙ is))
+returns-in-Ok-clause-build g c = λ json is. c.run_command.ensures.build json (same_command _ _ c.in-Ok.ensures.allowed refl (sym c.in-Ok.ensures.accepted ∙ is))
 
 pub returns-in-Ok-clause-input : goal.returns-in-Ok-clause-input
 returns-in-Ok-clause-input g c = λ none. c.run_command.ensures.input (λ json. (
@@ -75,7 +76,7 @@ returns-in-Ok-clause-input g c = λ none. c.run_command.ensures.input (λ json. 
 ))
 
 pub returns-in-Ok-clause-replay : goal.returns-in-Ok-clause-replay
-returns-in-Ok-clause-replay g c = λ json is. c.run_command.ensures.replay json (same_command _ _ (sym c.in-Ok.ensures.accepted ∙ is))
+returns-in-Ok-clause-replay g c = λ json is. c.run_command.ensures.replay json (same_command _ _ c.in-Ok.ensures.allowed refl (sym c.in-Ok.ensures.accepted ∙ is))
 
 pub returns-in-Ok-clause-rest : goal.returns-in-Ok-clause-rest
 returns-in-Ok-clause-rest g c = λ none. c.run_command.ensures.rest (λ json is. none json (c.in-Ok.ensures.accepted ∙ ap words_of is))
@@ -87,7 +88,7 @@ returns-in-Ok-clause-ends g c =
     (λ none json is. none json (c.in-Ok.ensures.accepted ∙ ap words_of is)) c.run_command.ensures.ends
 
 pub returns-in-Err-Usage-clause-replay : goal.returns-in-Err-Usage-clause-replay
-returns-in-Err-Usage-clause-replay g c = λ json is. absurd (c.in-Err-Usage.ensures.refused (ap Err c.in-Err-Usage.field-0-is) (commands.Replay json) is)
+returns-in-Err-Usage-clause-replay g c = λ json is. absurd (c.in-Err-Usage.ensures.refused (ap Err c.in-Err-Usage.field-0-is) (commands.Replay json) refl is)
 
 pub returns-in-Err-OutOfMemory-clause-replay : goal.returns-in-Err-OutOfMemory-clause-replay
 returns-in-Err-OutOfMemory-clause-replay g c = λ json is.
@@ -95,7 +96,7 @@ returns-in-Err-OutOfMemory-clause-replay g c = λ json is.
     (g.K.Sink.held c.args.out.now)
 
 pub returns-in-Err-Usage-clause-build : goal.returns-in-Err-Usage-clause-build
-returns-in-Err-Usage-clause-build g c = λ json is. absurd (c.in-Err-Usage.ensures.refused (ap Err c.in-Err-Usage.field-0-is) (commands.Build json) is)
+returns-in-Err-Usage-clause-build g c = λ json is. absurd (c.in-Err-Usage.ensures.refused (ap Err c.in-Err-Usage.field-0-is) (commands.Build json) refl is)
 
 pub returns-in-Err-Usage-clause-input : goal.returns-in-Err-Usage-clause-input
 returns-in-Err-Usage-clause-input g c = λ none. (
@@ -122,3 +123,12 @@ pub returns-in-Err-OutOfMemory-clause-ends : goal.returns-in-Err-OutOfMemory-cla
 returns-in-Err-OutOfMemory-clause-ends g c =
     ends_memory (IsNoScript (texts_of c.args.words.now)) _ (g.I.Source.faults c.args.input.now) (g.I.Source.faults c.args.input.now) (g.K.Sink.faults c.args.out.now)
     (g.K.Sink.held c.args.out.now) (g.K.Sink.held c.args.out.now)
+
+pub returns-in-Ok-clause-demo : goal.returns-in-Ok-clause-demo
+returns-in-Ok-clause-demo g c = λ seed size may is. c.run_command.ensures.demo seed size (same_command _ _ c.in-Ok.ensures.allowed may (sym c.in-Ok.ensures.accepted ∙ is))
+
+pub returns-in-Err-Usage-clause-demo : goal.returns-in-Err-Usage-clause-demo
+returns-in-Err-Usage-clause-demo g c = λ seed size may is. absurd (c.in-Err-Usage.ensures.refused (ap Err c.in-Err-Usage.field-0-is) (commands.Demo seed size) may is)
+
+pub returns-in-Err-OutOfMemory-clause-demo : goal.returns-in-Err-OutOfMemory-clause-demo
+returns-in-Err-OutOfMemory-clause-demo g c = λ seed size may is. record { says = says_memory (g.K.Sink.held c.args.out.now); nothing_asked = refl }

@@ -1,6 +1,7 @@
-use Rattle.std.proofs.Common.{Err, ap}
+use Rattle.std.proofs.Common.{ℕ, List, Err, sym, ap, subst}
 use Rattle.pie_base.specs.declared.status.Status.TheVariants as status
 use Rattle.pie_report.specs.Refused.{bad_input_text}
+use Rattle.pie_cli.specs.Build.{IsRead}
 use Rattle.pie_cli.proofs.Building.{bad_read, bad_told, runs_bad, runs_failed, runs_made, runs_memory}
 use Rattle.pie_cli.proofs.Ending.{ends_failed, ends_memory, ends_shown, ends_unread}
 use Rattle.pie_cli.proofs.top.run_build.Goals as goal
@@ -8,8 +9,9 @@ use Rattle.pie_cli.proofs.top.run_build.Goals as goal
 pub returns-in-Ok-clause-build : goal.returns-in-Ok-clause-build
 returns-in-Ok-clause-build g c =
     runs_made g.F.Files.holds g.F.Files.faults g.I.Source.left g.I.Source.faults c.args.json c.args.files.now c.make.new.files c.args.input.now
-    c.read_names.new.input c.in-Ok.changes.items (g.K.Sink.held c.args.out.now) (g.K.Sink.held c.make.new.out) c.make.result c.in-Ok.ensures.read
-    c.make.ensures.makes c.make.ensures.ends.no_input
+    c.read_names.new.input c.as_slice.result.now (g.K.Sink.held c.args.out.now) (g.K.Sink.held c.make.new.out) c.make.result
+    (subst (λ (names : List (List ℕ)). IsRead names (g.I.Source.left c.args.input.now) (g.I.Source.left c.read_names.new.input)) (sym c.as_slice.ensures.value)
+    c.in-Ok.ensures.read) c.make.ensures.makes c.make.ensures.ends.no_input
 
 pub returns-in-Ok-clause-ends : goal.returns-in-Ok-clause-ends
 returns-in-Ok-clause-ends g c =

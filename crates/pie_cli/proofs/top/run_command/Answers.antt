@@ -2,6 +2,7 @@ use Rattle.std.proofs.Common.{refl}
 use Rattle.pie_cli.specs.Build.{RunsBuild}
 use Rattle.pie_cli.specs.Fresh.{RunsFresh}
 use Rattle.pie_cli.proofs.Building.{at_build_flag}
+use Rattle.pie_cli.proofs.Demos.{ends_demo, not_input}
 use Rattle.pie_cli.proofs.Ending.{ends_by, ends_unread}
 use Rattle.pie_cli.specs.inner.Played.{HasNoScript}
 use Rattle.pie_cli.specs.Replay.{RunsReplay}
@@ -64,3 +65,15 @@ returns-in-Fresh-clause-ends g c =
 
 pub returns-in-Fresh-clause-input : goal.returns-in-Fresh-clause-input
 returns-in-Fresh-clause-input g c = λ none. (refl, c.run_fresh.ensures.ends.no_input)
+
+pub returns-in-Demo-clause-demo : goal.returns-in-Demo-clause-demo
+returns-in-Demo-clause-demo g c = λ seed size is. record { says = c.run_demo.ensures.says; nothing_asked = refl }
+
+pub returns-in-Demo-clause-ends : goal.returns-in-Demo-clause-ends
+returns-in-Demo-clause-ends g c =
+    ends_demo (HasNoScript c.args.command) _ (g.I.Source.faults c.args.input.now) (g.K.Sink.faults c.args.out.now) (g.K.Sink.faults c.run_demo.new.out)
+    (g.K.Sink.held c.args.out.now) (g.K.Sink.held c.run_demo.new.out) c.run_demo.result c.run_demo.ensures.says c.run_demo.ensures.output
+    c.run_demo.ensures.steady
+
+pub returns-in-Demo-clause-input : goal.returns-in-Demo-clause-input
+returns-in-Demo-clause-input g c = λ none. (refl, not_input c.run_demo.result c.run_demo.ensures.says.ends)

@@ -1,5 +1,23 @@
+use Rattle.std.proofs.Common.{ℕ, List, subst, rules}
+use Rattle.std.specs.Prelude.{IfSome}
+use Rattle.pie_incremental.specs.Treated.{TreatsNames}
 use Rattle.pie_replay.proofs.Refusing.{is_refusal}
 use Rattle.pie_replay.proofs.step.build_into.Goals as goal
 
 pub returns-in-Err-clause-fails : goal.returns-in-Err-clause-fails
 returns-in-Err-clause-fails g c = (c.in-Err.ensures.rest, λ refuses. c.in-Err.ensures.refused (is_refusal c.in-Err.error refuses))
+
+pub returns-in-Ok-clause-goes : goal.returns-in-Ok-clause-goes
+returns-in-Ok-clause-goes g c = (
+  c.in-Ok.report,
+  record {
+    rest = c.in-Ok.ensures.rest;
+    treated = subst (λ (ns : List (List ℕ)). IfSome (g.F.Files.holds c.args.files.now) (λ d. TreatsNames ns d c.in-Ok.report (g.F.Files.holds c.build.new.files)))
+        c.as_slice.ensures.value c.in-Ok.ensures.names;
+    few = c.in-Ok.ensures.most;
+    encodable = c.in-Ok.ensures.encodable;
+  },
+  search rules,
+  search rules,
+  search rules,
+)

@@ -1,15 +1,15 @@
-use Rattle.std.proofs.Common.{false, rules}
+use Rattle.std.proofs.Common.{false, refl, rules}
 use Rattle.pie_words.specs.declared.command.Command.TheVariants.{Check, Fresh, Build, Replay}
 use Rattle.pie_words.proofs.words.one_word.Goals as goal
 
 pub returns-in-check-clause-accepted : goal.returns-in-check-clause-accepted
-returns-in-check-clause-accepted c = λ is. (Check, search rules)
+returns-in-check-clause-accepted c = λ is. (Check, refl, search rules)
 
 pub returns-in-fresh-clause-accepted : goal.returns-in-fresh-clause-accepted
-returns-in-fresh-clause-accepted c = λ is. (Fresh false, search rules)
+returns-in-fresh-clause-accepted c = λ is. (Fresh false, refl, search rules)
 
 pub returns-in-build-clause-accepted : goal.returns-in-build-clause-accepted
-returns-in-build-clause-accepted c = λ is. (Build false, search rules)
+returns-in-build-clause-accepted c = λ is. (Build false, refl, search rules)
 
 pub returns-in-replay-clause-accepted : goal.returns-in-replay-clause-accepted
-returns-in-replay-clause-accepted c = λ is. (Replay false, search rules)
+returns-in-replay-clause-accepted c = λ is. (Replay false, refl, search rules)

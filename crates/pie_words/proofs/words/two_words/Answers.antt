@@ -1,12 +1,12 @@
-use Rattle.std.proofs.Common.{true, rules}
+use Rattle.std.proofs.Common.{true, refl, rules}
 use Rattle.pie_words.specs.declared.command.Command.TheVariants.{Fresh, Build, Replay}
 use Rattle.pie_words.proofs.words.two_words.Goals as goal
 
 pub returns-in-fresh-text-clause-accepted : goal.returns-in-fresh-text-clause-accepted
-returns-in-fresh-text-clause-accepted c = λ is. (Fresh true, search rules)
+returns-in-fresh-text-clause-accepted c = λ is. (Fresh true, refl, search rules)
 
 pub returns-in-build-text-clause-accepted : goal.returns-in-build-text-clause-accepted
-returns-in-build-text-clause-accepted c = λ is. (Build true, search rules)
+returns-in-build-text-clause-accepted c = λ is. (Build true, refl, search rules)
 
 pub returns-in-replay-text-clause-accepted : goal.returns-in-replay-text-clause-accepted
-returns-in-replay-text-clause-accepted c = λ is. (Replay true, search rules)
+returns-in-replay-text-clause-accepted c = λ is. (Replay true, refl, search rules)

@@ -1,0 +1,62 @@
+-- What a demo says.
+use Rattle.std.proofs.Common.{◌≡◌, ◌⊎◌, ℕ, true, List, inl, inr, refl, sym, ◌∙◌}
+use Rattle.std.specs.Prelude.{Option}
+use Rattle.pie_base.specs.declared.status.Status.{Status}
+use Rattle.pie_base.specs.declared.status.Status.TheVariants as status
+use Rattle.pie_files.specs.Faults.{Rose}
+use Rattle.pie_cli.specs.Demo.{IsDemoText, SaysDemo}
+use Rattle.pie_cli.specs.Run.{is_told, Ends, GainsPrefix, Shows}
+use Rattle.pie_cli.proofs.Statuses.{answer_is_told, memory_is_no_answer}
+
+-- there was no memory for it
+pub says_memory : (held : Option (List ℕ)) → SaysDemo held held status.Memory
+says_memory held = record {
+  shown = λ a. absurd (memory_is_no_answer a);
+  prefix = inr refl;
+  ends = inr (inr refl);
+}
+
+-- what the output took of a summary
+pub says_shown : (held gained : Option (List ℕ)) (text : List ℕ) (ended : Status) → IsDemoText text → Shows held gained text status.Ok ended
+    → GainsPrefix held gained text → SaysDemo held gained ended
+says_shown held gained text ended is shows prefix = record {
+  shown = λ a. let s = shows (answer_is_told ended a) in (s.0, text, is, s.1);
+  prefix = inl (text, is, prefix);
+  ends = by ended shows;
+}
+  where
+    by : (e : Status) → Shows held gained text status.Ok e → (e ≡ status.Ok) ⊎ ((e ≡ status.Output) ⊎ (e ≡ status.Memory))
+    by status.Ok s = inl refl
+    by status.Refused s = inl (s refl).0
+    by status.Usage s = inl (s refl).0
+    by status.BadInput s = inl (s refl).0
+    by status.Pipeline s = inl (s refl).0
+    by status.Files s = inl (s refl).0
+    by status.Input s = inl (s refl).0
+    by status.Output s = inr (inl refl)
+    by status.Memory s = inr (inr refl)
+
+-- no call on the files or the input failed
+not_files : (ended : Status) → (ended ≡ status.Ok) ⊎ ((ended ≡ status.Output) ⊎ (ended ≡ status.Memory)) → ended ≡ status.Files → ⊥
+not_files ended (inl a) is = let both : status.Ok ≡ status.Files = sym a ∙ is in absurd (cc)
+not_files ended (inr (inl a)) is = let both : status.Output ≡ status.Files = sym a ∙ is in absurd (cc)
+not_files ended (inr (inr a)) is = let both : status.Memory ≡ status.Files = sym a ∙ is in absurd (cc)
+
+pub not_input : (ended : Status) → (ended ≡ status.Ok) ⊎ ((ended ≡ status.Output) ⊎ (ended ≡ status.Memory)) → ended ≡ status.Input → ⊥
+not_input ended (inl a) is = let both : status.Ok ≡ status.Input = sym a ∙ is in absurd (cc)
+not_input ended (inr (inl a)) is = let both : status.Output ≡ status.Input = sym a ∙ is in absurd (cc)
+not_input ended (inr (inr a)) is = let both : status.Memory ≡ status.Input = sym a ∙ is in absurd (cc)
+
+-- why a demo ended
+pub ends_demo : (Alone : Type 0) (asked read printed_before printed_after : ℕ) (held gained : Option (List ℕ)) (ended : Status) → SaysDemo held gained ended
+    → (ended ≡ status.Output → Rose printed_before printed_after) → (is_told ended ≡ true → printed_after ≡ printed_before)
+    → Ends Alone asked asked read read printed_before printed_after held gained ended
+ends_demo Alone asked read printed_before printed_after held gained ended says output steady = record {
+  files = λ is. absurd (not_files ended says.ends is);
+  input = λ is. absurd (not_input ended says.ends is);
+  output = output;
+  steady = λ a. (refl, refl, steady (answer_is_told ended a));
+  output_steady = λ is. absurd (not_files ended says.ends is);
+  input_steady = λ is. absurd (not_files ended says.ends is);
+  input_alone = λ is. absurd (not_input ended says.ends is);
+}
