@@ -17,6 +17,3 @@ pub use memory::OutOfMemory;
 pub use path::{Path, PathError};
 pub use status::Status;
 pub use text::Text;
-
-#[cfg(test)]
-mod tests;

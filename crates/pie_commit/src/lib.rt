@@ -7,6 +7,3 @@ mod sequence;
 
 pub use plan::{Pending, Plan};
 pub use sequence::commit;
-
-#[cfg(test)]
-mod tests;

@@ -4,8 +4,6 @@
 mod held;
 mod known;
 mod removed;
-#[cfg(test)]
-mod tests;
 mod written;
 
 pub use held::Held;

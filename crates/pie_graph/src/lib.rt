@@ -7,8 +7,6 @@ mod indexed;
 mod marks;
 mod plain;
 mod rows;
-#[cfg(test)]
-mod tests;
 mod uses;
 
 pub use edges::{Edges, TaskNo};

@@ -10,6 +10,3 @@ pub use input::{Input, InputError, read_input};
 pub use lines::LinesError;
 pub use names::read_names;
 pub use steps::read_steps;
-
-#[cfg(test)]
-mod tests;

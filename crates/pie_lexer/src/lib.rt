@@ -6,8 +6,6 @@ mod lexing;
 mod mark;
 mod scan;
 mod taking;
-#[cfg(test)]
-mod tests;
 mod token;
 mod unquote;
 mod word;

@@ -9,8 +9,6 @@ mod looking;
 mod numbering;
 mod old;
 mod row;
-#[cfg(test)]
-mod tests;
 
 pub use code::same_code;
 pub use loading::load;

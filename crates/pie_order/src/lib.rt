@@ -8,12 +8,8 @@ mod marks;
 mod order;
 mod placed;
 mod placing;
-#[cfg(test)]
-mod queue_tests;
 mod search;
 mod side;
-#[cfg(test)]
-mod tests;
 mod within;
 
 pub use candidates::Candidates;

@@ -7,8 +7,6 @@ mod load;
 mod pipeline;
 mod project;
 mod roots;
-#[cfg(test)]
-mod tests;
 
 pub use check::check_project;
 pub use fault::{BuildError, PipelineFault, RootsReason};

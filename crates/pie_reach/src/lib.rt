@@ -3,13 +3,9 @@
 
 mod best;
 mod collect;
-#[cfg(test)]
-mod collect_tests;
 mod descent;
 mod reach;
 mod removals;
-#[cfg(test)]
-mod tests;
 mod walk;
 mod ways;
 

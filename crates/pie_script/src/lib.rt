@@ -7,8 +7,6 @@ mod line;
 mod lines;
 mod script;
 mod step;
-#[cfg(test)]
-mod tests;
 
 pub use changes::read_changes;
 pub use fault::InputFault;

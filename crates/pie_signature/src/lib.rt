@@ -12,6 +12,3 @@ pub use answer::{Answered, answer_type};
 pub use naming::builtin_named;
 pub use signature::{arity, misfit, wanted_at};
 pub use wanted::Wanted;
-
-#[cfg(test)]
-mod tests;

@@ -12,6 +12,3 @@ pub use law::equal_stamps_mean_equal_answers;
 pub use observed::Observed;
 pub use stamper::Stamper;
 pub use stampers::{ByDone, ByHash, ByMark, ByPresence, ByWhole};
-
-#[cfg(test)]
-mod tests;

@@ -3,8 +3,6 @@
 
 mod heights;
 mod known;
-#[cfg(test)]
-mod tests;
 mod together;
 mod walk;
 

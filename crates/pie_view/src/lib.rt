@@ -5,10 +5,6 @@ mod reached;
 mod seen;
 mod sight;
 mod stage;
-#[cfg(test)]
-mod stage_tests;
-#[cfg(test)]
-mod tests;
 
 pub use seen::Seen;
 pub use sight::view;

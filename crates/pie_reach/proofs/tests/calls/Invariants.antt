@@ -1,5 +1,0 @@
-use Rattle.pie_graph.specs.Numbers.{numbers, AllBelow}
-use Rattle.pie_reach.proofs.tests.calls.Given as goal
-
-abbrev pub invariant-loop-no : goal.invariant-loop-no
-invariant-loop-no g l = AllBelow l.count (numbers l.needs.items)

@@ -1,6 +1,0 @@
-use Rattle.std.specs.Prelude.{All}
-use Rattle.pie_record.specs.Canonical.{IsStorable}
-use Rattle.pie_storable.proofs.tests.records.Given as goal
-
-abbrev pub invariant-loop-name : goal.invariant-loop-name
-invariant-loop-name l = All IsStorable l.rows.items

@@ -1,5 +1,0 @@
-use Rattle.pie_graph.specs.Numbers.{numbers, AllBelow}
-use Rattle.pie_view.proofs.tests.below.Given as goal
-
-abbrev pub invariant-loop-no : goal.invariant-loop-no
-invariant-loop-no l = AllBelow l.bound (numbers l.found.items)

@@ -1,5 +1,0 @@
-use Rattle.pie_graph.specs.Numbers.{numbers, AllBelow}
-use Rattle.test_union.proofs.tests.needs.Given as goal
-
-abbrev pub invariant-loop : goal.invariant-loop
-invariant-loop l = AllBelow l.count (numbers l.needs.items)
