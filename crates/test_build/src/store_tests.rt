@@ -1,5 +1,5 @@
 //! The stores that whole builds leave.
-use crate::tests::{lacks, path, project};
+use crate::tests::{fill, lacks, path};
 use pie_build::rebuild;
 use pie_files::{Files, SureFiles};
 use pie_store::decode_store;
@@ -37,7 +37,8 @@ fn is_accepted(alloc: Global, files: &mut SureFiles) -> Result<bool, Fail> {
 
 // The bytes of the store.
 fn store(alloc: Global, files: &mut SureFiles) -> Result<Vec<u8>, Fail> {
-    match files.read(&path(alloc, ".pie/store")?)? {
+    let at = path(alloc, ".pie/store")?;
+    match files.read(&at)? {
         Some(found) => Ok(found.bytes),
         None => Err(Fail::from("no store")),
     }
@@ -69,11 +70,11 @@ fn leaves_the_store_of_a_page(
     Ok(())
 }
 
-#[test]
-fn a_build_leaves_its_store(rt: HostRuntime) -> Result<(), Fail> {
-    let alloc = rt.alloc();
-    let mut files = project(
+// Two builds of one page, each of which leaves exactly this store.
+fn leaves_it_twice(rt: &impl Abort, alloc: Global, files: &mut SureFiles) -> Result<(), Fail> {
+    fill(
         alloc,
+        files,
         &[
             ("pie.pipeline", PAGE),
             ("pie.roots", "main()"),
@@ -81,44 +82,74 @@ fn a_build_leaves_its_store(rt: HostRuntime) -> Result<(), Fail> {
             (".pie/store", "no store"),
         ],
     )?;
-    leaves_the_store_of_a_page(&rt, alloc, &mut files)?;
-    leaves_the_store_of_a_page(&rt, alloc, &mut files)
+    leaves_the_store_of_a_page(rt, alloc, files)?;
+    leaves_the_store_of_a_page(rt, alloc, files)
 }
 
 #[test]
-fn a_store_has_roots_and_records_in_order(rt: HostRuntime) -> Result<(), Fail> {
-    let alloc = rt.alloc();
-    let mut files = project(
+fn a_build_leaves_its_store(rt: HostRuntime) -> Result<(), Fail> {
+    leaves_it_twice(&rt, rt.alloc(), &mut SureFiles::new(rt.alloc()))
+}
+
+// The store of a build of two tasks.
+fn store_of_two(alloc: Global, files: &mut SureFiles) -> Result<Vec<u8>, Fail> {
+    fill(
         alloc,
+        files,
         &[
             ("pie.pipeline", TWO),
             ("pie.roots", "one()\ntwo()"),
             ("s", "1"),
         ],
     )?;
-    let accepted = is_accepted(alloc, &mut files)?;
-    assert!(rt; accepted);
-    let bytes = store(alloc, &mut files)?;
+    if !is_accepted(alloc, files)? {
+        return Err(Fail::from("refused"));
+    }
+    store(alloc, files)
+}
+
+// How many functions, roots and records a store has, where its version is 2.
+fn counts(alloc: Global, bytes: &[u8]) -> Result<(usize, usize, usize), Fail> {
+    let image = decode_store(alloc, bytes)?;
+    if image.version != 2 {
+        return Err(Fail::from("version"));
+    }
+    let roots = image.roots.as_slice().len();
+    Ok((
+        image.funcs.as_slice().len(),
+        roots,
+        image.rows.as_slice().len(),
+    ))
+}
+
+#[test]
+fn a_store_has_roots_and_records_in_order(rt: HostRuntime) -> Result<(), Fail> {
+    let alloc = rt.alloc();
+    let bytes = store_of_two(alloc, &mut SureFiles::new(alloc))?;
     assert_eq!(rt; bytes.len(), 394);
-    assert!(rt;
-        stands(
-            bytes.as_slice(),
-            158,
-            b"\x00\x00\x00\x03one\x00\x00\x00\x00"
-        )
-    );
-    assert!(rt;
-        stands(
-            bytes.as_slice(),
-            260,
-            b"\x00\x00\x00\x03two\x00\x00\x00\x00"
-        )
-    );
-    let image = decode_store(alloc, bytes.as_slice())?;
-    assert!(rt; image.version == 2);
-    assert_eq!(rt; image.funcs.as_slice().len(), 3);
-    assert_eq!(rt; image.roots.as_slice().len(), 2);
-    assert_eq!(rt; image.rows.as_slice().len(), 2);
+    let one = b"\x00\x00\x00\x03one\x00\x00\x00\x00";
+    assert!(rt; stands(bytes.as_slice(), 158, one));
+    let two = b"\x00\x00\x00\x03two\x00\x00\x00\x00";
+    assert!(rt; stands(bytes.as_slice(), 260, two));
+    let counts = counts(alloc, bytes.as_slice())?;
+    assert_eq!(rt; counts, (3, 2, 2));
+    Ok(())
+}
+
+// A build is refused, and keeps the pending names; there is no store.
+fn is_refused(rt: &impl Abort, alloc: Global, files: &mut SureFiles) -> Result<(), Fail> {
+    assert!(rt; !is_accepted(alloc, files)?);
+    assert!(rt; !lacks(alloc, files, ".pie/pending")?);
+    assert!(rt; lacks(alloc, files, ".pie/store")?);
+    Ok(())
+}
+
+// A refused build, and an accepted one, once there is the source.
+fn names_go(rt: &impl Abort, alloc: Global, files: &mut SureFiles) -> Result<(), Fail> {
+    is_refused(rt, alloc, files)?;
+    fill(alloc, files, &[("src/page", "hi")])?;
+    assert!(rt; is_accepted(alloc, files)?);
+    assert!(rt; lacks(alloc, files, ".pie/pending")?);
     Ok(())
 }
 
@@ -130,17 +161,7 @@ fn pending_names_go_with_an_accepted_build(rt: HostRuntime) -> Result<(), Fail> 
         ("pie.roots", "main()"),
         (".pie/pending", "src/page\n"),
     ];
-    let mut files = project(alloc, &held)?;
-    let accepted = is_accepted(alloc, &mut files)?;
-    assert!(rt; !accepted);
-    let gone = lacks(alloc, &mut files, ".pie/pending")?;
-    assert!(rt; !gone);
-    let gone = lacks(alloc, &mut files, ".pie/store")?;
-    assert!(rt; gone);
-    files.put(&path(alloc, "src/page")?, b"hi", 2)?;
-    let accepted = is_accepted(alloc, &mut files)?;
-    assert!(rt; accepted);
-    let gone = lacks(alloc, &mut files, ".pie/pending")?;
-    assert!(rt; gone);
-    Ok(())
+    let mut files = SureFiles::new(alloc);
+    fill(alloc, &mut files, &held)?;
+    names_go(&rt, alloc, &mut files)
 }

@@ -7,10 +7,11 @@ use pie_fresh::fresh;
 use pie_lexer::lex;
 use pie_parser::parse;
 use pie_roots::read_roots;
-use pie_types::check;
+use pie_types::{Typed, check};
 use pie_value::{Refusal, Task, Verdict, show, show_task};
 use pie_vm::Runs;
 use std::alloc::Global;
+use std::process::Abort;
 use std::test::Fail;
 
 // A project, and the result of its build.
@@ -21,18 +22,35 @@ struct Case {
     wanted: &'static str,
 }
 
-fn files_of(alloc: Global, given: &[(&str, &str)]) -> Result<SureFiles, Fail> {
-    let mut files = SureFiles::new(alloc);
+fn put_all(alloc: Global, files: &mut SureFiles, given: &[(&str, &str)]) -> Result<(), Fail> {
     for (path, text) in given {
-        put(alloc, &mut files, path, text.as_bytes())?;
+        put(alloc, files, path, text.as_bytes())?;
     }
-    Ok(files)
+    Ok(())
 }
 
 fn put(alloc: Global, files: &mut SureFiles, path: &str, bytes: &[u8]) -> Result<(), Fail> {
     let path = Path::read(alloc, path).map_err(|_| "path")?;
     files.put(&path, bytes, 7)?;
     Ok(())
+}
+
+// A pipeline with its types.
+fn typed(alloc: Global, pipeline: &str) -> Result<Typed, Fail> {
+    let tokens = lex(alloc, pipeline).map_err(|_| "lex")?;
+    let tree = parse(alloc, tokens.as_slice()).map_err(|_| "parse")?;
+    Ok(check(alloc, tree).map_err(|_| "check")?)
+}
+
+fn build_typed<F: Files>(
+    alloc: Global,
+    typed: &Typed,
+    roots: &[Task],
+    files: &mut F,
+    runs: &mut Runs,
+) -> Result<Result<Built, FilesError>, Fail> {
+    let code = compile(alloc, typed).map_err(|_| "compile")?;
+    Ok(fresh(alloc, typed, code.as_slice(), roots, files, runs))
 }
 
 // The build of a project over some files.
@@ -43,19 +61,22 @@ fn build<F: Files>(
     files: &mut F,
     runs: &mut Runs,
 ) -> Result<Result<Built, FilesError>, Fail> {
-    let tokens = lex(alloc, pipeline).map_err(|_| "lex")?;
-    let tree = parse(alloc, tokens.as_slice()).map_err(|_| "parse")?;
-    let typed = check(alloc, tree).map_err(|_| "check")?;
-    let code = compile(alloc, &typed).map_err(|_| "compile")?;
+    let typed = typed(alloc, pipeline)?;
     let roots = read_roots(alloc, &typed, roots.as_bytes()).map_err(|_| "roots")?;
-    Ok(fresh(
-        alloc,
-        &typed,
-        code.as_slice(),
-        roots.as_slice(),
-        files,
-        runs,
-    ))
+    build_typed(alloc, &typed, roots.as_slice(), files, runs)
+}
+
+// What a build answers, as text, and which tasks ran.
+fn told(alloc: Global, built: &Result<Built, FilesError>, ran: &[Task]) -> Result<String, Fail> {
+    let mut text = String::new(alloc);
+    match built {
+        Ok(built) => put_built(alloc, &mut text, built)?,
+        Err(FilesError::Failed) => text.push_str("failed")?,
+        Err(FilesError::OutOfMemory) => text.push_str("memory")?,
+    }
+    text.push_str(" / ran")?;
+    put_tasks(alloc, &mut text, ran)?;
+    Ok(text)
 }
 
 // The result of a build of a project over some files, as text.
@@ -66,15 +87,28 @@ fn said<F: Files>(
     files: &mut F,
 ) -> Result<String, Fail> {
     let mut runs = Runs::new(alloc);
-    let mut text = String::new(alloc);
-    match build(alloc, pipeline, roots, files, &mut runs)? {
-        Ok(built) => put_built(alloc, &mut text, &built)?,
-        Err(FilesError::Failed) => text.push_str("failed")?,
-        Err(FilesError::OutOfMemory) => text.push_str("memory")?,
-    }
-    text.push_str(" / ran")?;
-    put_tasks(alloc, &mut text, runs.tasks())?;
-    Ok(text)
+    let built = build(alloc, pipeline, roots, files, &mut runs)?;
+    told(alloc, &built, runs.tasks())
+}
+
+// The same has to be this text.
+fn says<F: Files>(
+    rt: &impl Abort,
+    alloc: Global,
+    pipeline: &str,
+    roots: &str,
+    files: &mut F,
+    wanted: &str,
+) -> Result<(), Fail> {
+    let text = said(alloc, pipeline, roots, files)?;
+    assert!(rt; text.as_str() == wanted, "{pipeline}: {text}");
+    Ok(())
+}
+
+// A build of a project over files that get those of the case.
+fn holds(rt: &impl Abort, alloc: Global, case: &Case, files: &mut SureFiles) -> Result<(), Fail> {
+    put_all(alloc, files, case.files)?;
+    says(rt, alloc, case.pipeline, case.roots, files, case.wanted)
 }
 
 fn put_built(alloc: Global, text: &mut String, built: &Built) -> Result<(), Fail> {
@@ -254,9 +288,7 @@ const ACCEPTED: [Case; 7] = [
 fn roots_are_evaluated_in_order(rt: HostRuntime) -> Result<(), Fail> {
     let alloc = rt.alloc();
     for case in &ACCEPTED {
-        let mut files = files_of(alloc, case.files)?;
-        let text = said(alloc, case.pipeline, case.roots, &mut files)?;
-        assert!(&rt; text.as_str() == case.wanted);
+        holds(&rt, alloc, case, &mut SureFiles::new(alloc))?;
     }
     Ok(())
 }
@@ -355,77 +387,112 @@ const REFUSED: [Case; 14] = [
 fn a_refused_build_makes_nothing(rt: HostRuntime) -> Result<(), Fail> {
     let alloc = rt.alloc();
     for case in &REFUSED {
-        let mut files = files_of(alloc, case.files)?;
-        let text = said(alloc, case.pipeline, case.roots, &mut files)?;
-        assert!(&rt; text.as_str() == case.wanted);
+        holds(&rt, alloc, case, &mut SureFiles::new(alloc))?;
     }
     Ok(())
 }
+
+// Pipelines over a file `f` that is no text, each with the result of its build.
+const OVER_BYTES: [(&str, &str); 3] = [
+    (
+        "func main() -> int { write(path(\"out/f\"), get(read_bytes(path(\"f\")))); len(get(read_bytes(path(\"f\")))) }",
+        "accepted main() / out/f bytes / main() = 2 / ran main()",
+    ),
+    (
+        "func main() -> text? { from_bytes(get(read_bytes(path(\"f\")))) }",
+        "accepted main() / main() = null / ran main()",
+    ),
+    (
+        "func main() -> text? { read(path(\"f\")) }",
+        "fault main(): NotText / ran main()",
+    ),
+];
 
 #[test]
 fn bytes_that_are_no_text_are_written_and_read(rt: HostRuntime) -> Result<(), Fail> {
     let alloc = rt.alloc();
     let mut files = SureFiles::new(alloc);
     put(alloc, &mut files, "f", &[255, 0])?;
-    let copy =
-        "func main() -> int { write(path(\"out/f\"), get(read_bytes(path(\"f\")))); len(get(read_bytes(path(\"f\")))) }";
-    let text = said(alloc, copy, "main()", &mut files)?;
-    assert!(&rt; text.as_str() == "accepted main() / out/f bytes / main() = 2 / ran main()");
-    let text = said(
-        alloc,
-        "func main() -> text? { from_bytes(get(read_bytes(path(\"f\")))) }",
-        "main()",
-        &mut files,
-    )?;
-    assert!(&rt; text.as_str() == "accepted main() / main() = null / ran main()");
-    let text = said(
-        alloc,
-        "func main() -> text? { read(path(\"f\")) }",
-        "main()",
-        &mut files,
-    )?;
-    assert!(&rt; text.as_str() == "fault main(): NotText / ran main()");
+    for (pipeline, wanted) in OVER_BYTES {
+        says(&rt, alloc, pipeline, "main()", &mut files, wanted)?;
+    }
     Ok(())
 }
 
 const CHAIN: &str =
     "func f(n: int) -> int { if n == 0 { 0 } else { require f(n - 1) + 1 } } func top() -> int { len([require f(300) for i in range(0, 3)]) }";
 
+fn has_rows(built: &Result<Built, FilesError>, many: usize) -> bool {
+    match built {
+        Ok(built) => built.rows.len() == many,
+        Err(_) => false,
+    }
+}
+
 #[test]
 fn a_long_chain_and_a_task_that_many_require(rt: HostRuntime) -> Result<(), Fail> {
     let alloc = rt.alloc();
     let mut files = SureFiles::new(alloc);
     let mut runs = Runs::new(alloc);
-    let Ok(built) = build(alloc, CHAIN, "top()\nf(300)", &mut files, &mut runs)? else {
-        return Err(Fail::new("no build"));
-    };
-    assert!(&rt; runs.count() == 302);
-    assert!(&rt; built.rows.len() == 302);
+    let built = build(alloc, CHAIN, "top()\nf(300)", &mut files, &mut runs)?;
+    assert!(&rt; runs.count() == 302 && has_rows(&built, 302));
     Ok(())
 }
 
-#[test]
-fn a_call_that_fails_ends_the_build(rt: HostRuntime) -> Result<(), Fail> {
-    let alloc = rt.alloc();
-    let mut files = MemFiles::new(alloc);
+// A build whose first call on the files fails.
+fn failing(alloc: Global, files: &mut MemFiles) -> Result<String, Fail> {
     let path = Path::read(alloc, "s").map_err(|_| "path")?;
     files.put(&path, b"1", 7)?;
     files.fail_at(&[1])?;
     let pipeline = "func main() -> text { get(read(path(\"s\"))) }";
-    let text = said(alloc, pipeline, "main()", &mut files)?;
+    said(alloc, pipeline, "main()", files)
+}
+
+#[test]
+fn a_call_that_fails_ends_the_build(rt: HostRuntime) -> Result<(), Fail> {
+    let text = failing(rt.alloc(), &mut MemFiles::new(rt.alloc()))?;
     assert!(&rt; text.as_str() == "failed / ran main()");
     Ok(())
 }
 
-// Files with a source of so many bytes.
-fn source_of(alloc: Global, len: usize) -> Result<SureFiles, Fail> {
-    let mut content = Vec::new(alloc);
-    for _ in 0..len {
-        content.push(b'x')?;
-    }
+// Pipelines over a source `s` of 1,048,572 bytes, each with the result of its build.
+const OVER_LONG: [(&str, &str); 4] = [
+    (
+        "func main() -> unit { read(path(\"s\")); }",
+        "fault main(): Big / ran main()",
+    ),
+    (
+        "func main() -> unit { read_bytes(path(\"s\")); }",
+        "fault main(): Big / ran main()",
+    ),
+    (
+        "func main() -> unit { read(path(\"s\") by mark); }",
+        "fault main(): Big / ran main()",
+    ),
+    (
+        "func main() -> [bool] { [exists(path(\"s\")), is_null(digest(path(\"s\")))] }",
+        "accepted main() / main() = [true, false] / ran main()",
+    ),
+];
+
+// Over a source of so many bytes these pipelines have these results.
+fn over_source(
+    rt: &impl Abort,
+    alloc: Global,
+    len: usize,
+    cases: &[(&str, &str)],
+) -> Result<(), Fail> {
     let mut files = SureFiles::new(alloc);
-    put(alloc, &mut files, "s", content.as_slice())?;
-    Ok(files)
+    put_long(alloc, &mut files, len)?;
+    for (pipeline, wanted) in cases {
+        says(rt, alloc, *pipeline, "main()", &mut files, *wanted)?;
+    }
+    Ok(())
+}
+
+fn put_long(alloc: Global, files: &mut SureFiles, len: usize) -> Result<(), Fail> {
+    let content = vec![in alloc; b'x'; len]?;
+    put(alloc, files, "s", content.as_slice())
 }
 
 #[test]
@@ -433,20 +500,7 @@ fn a_source_that_is_too_long_to_be_a_value_is_big(rt: HostRuntime) -> Result<(),
     let alloc = rt.alloc();
     let reads =
         "func main() -> int { len(get(read(path(\"s\")))) + len(get(read_bytes(path(\"s\")))) }";
-    let mut files = source_of(alloc, 1_048_571)?;
-    let text = said(alloc, reads, "main()", &mut files)?;
-    assert!(&rt; text.as_str() == "accepted main() / main() = 2097142 / ran main()");
-    let mut files = source_of(alloc, 1_048_572)?;
-    for reads in [
-        "func main() -> unit { read(path(\"s\")); }",
-        "func main() -> unit { read_bytes(path(\"s\")); }",
-        "func main() -> unit { read(path(\"s\") by mark); }",
-    ] {
-        let text = said(alloc, reads, "main()", &mut files)?;
-        assert!(&rt; text.as_str() == "fault main(): Big / ran main()");
-    }
-    let looks = "func main() -> [bool] { [exists(path(\"s\")), is_null(digest(path(\"s\")))] }";
-    let text = said(alloc, looks, "main()", &mut files)?;
-    assert!(&rt; text.as_str() == "accepted main() / main() = [true, false] / ran main()");
-    Ok(())
+    let wanted = "accepted main() / main() = 2097142 / ran main()";
+    over_source(&rt, alloc, 1_048_571, &[(reads, wanted)])?;
+    over_source(&rt, alloc, 1_048_572, OVER_LONG.as_slice())
 }
