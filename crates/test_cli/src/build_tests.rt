@@ -1,6 +1,7 @@
 //! Whole clean builds over memory: what each prints, and the status that it ends with.
-use crate::tests::{holds, project, run_words};
+use crate::tests::{holds, prints, project};
 use pie_base::Status;
+use pie_files::SureFiles;
 use std::alloc::Global;
 use std::process::Abort;
 use std::test::Fail;
@@ -40,10 +41,7 @@ fn evaluates_to(
     printed: &str,
 ) -> Result<(), Fail> {
     let mut files = project(alloc, held)?;
-    let (status, text) = run_words(alloc, &["fresh"], &mut files)?;
-    assert!(rt; status == wanted, "{text}");
-    assert!(rt; text.as_str() == printed, "{text}");
-    Ok(())
+    prints(rt, alloc, &["fresh"], &mut files, wanted, printed)
 }
 
 // A build of this pipeline with this root.
@@ -78,27 +76,26 @@ fn builds_with(
     builds(rt, alloc, whole.as_str(), roots, Status::Refused, printed)
 }
 
+fn builds_site(rt: &impl Abort, alloc: Global, files: &mut SureFiles) -> Result<(), Fail> {
+    prints(rt, alloc, &["fresh"], files, Status::Ok, SITE_BUILT)?;
+    assert!(rt; holds(alloc, files, "out/a", "A\nend")?);
+    assert!(rt; holds(alloc, files, "out/b", "B\nend")?);
+    assert!(rt; holds(alloc, files, "out/c", "C\nend")?);
+    Ok(())
+}
+
 #[test]
 fn a_site_is_built(rt: HostRuntime) -> Result<(), Fail> {
     let alloc = rt.alloc();
-    let mut files = project(
-        alloc,
-        &[
-            ("pie.pipeline", SITE),
-            ("pie.roots", "site()\n"),
-            ("src/a", "A\n"),
-            ("src/b", "B\n"),
-            ("src/c", "C\n"),
-            ("inc/foot", "end\n"),
-        ],
-    )?;
-    let (status, text) = run_words(alloc, &["fresh"], &mut files)?;
-    assert_eq!(rt; status, Status::Ok);
-    assert!(rt; text.as_str() == SITE_BUILT, "{text}");
-    assert!(rt; holds(alloc, &mut files, "out/a", "A\nend")?);
-    assert!(rt; holds(alloc, &mut files, "out/b", "B\nend")?);
-    assert!(rt; holds(alloc, &mut files, "out/c", "C\nend")?);
-    Ok(())
+    let held = [
+        ("pie.pipeline", SITE),
+        ("pie.roots", "site()\n"),
+        ("src/a", "A\n"),
+        ("src/b", "B\n"),
+        ("src/c", "C\n"),
+        ("inc/foot", "end\n"),
+    ];
+    builds_site(&rt, alloc, &mut project(alloc, &held)?)
 }
 
 #[test]
@@ -269,24 +266,25 @@ fn bad_projects_are_told(rt: HostRuntime) -> Result<(), Fail> {
     )
 }
 
+const JSON: &str = "{\"fresh\":null,\"live\":1,\"outputs\":[[\"main()\",\"\\\"a\\\\\\\"b\\\"\"]],\
+            \"ran\":[\"main()\"],\"removed\":[\"out/q\"],\"verdict\":\"accepted\",\"wrote\":[\"out/p\"]}\n";
+
 #[test]
 fn a_report_is_told_as_json(rt: HostRuntime) -> Result<(), Fail> {
     let alloc = rt.alloc();
-    let mut files = project(
+    let pipeline = "func main() -> text { write(path(\"out/p\"), \"\"); \"a\\\"b\" }";
+    let held = [
+        ("pie.pipeline", pipeline),
+        ("pie.roots", "main()"),
+        ("out/q", "junk"),
+    ];
+    let mut files = project(alloc, &held)?;
+    prints(
+        &rt,
         alloc,
-        &[
-            (
-                "pie.pipeline",
-                "func main() -> text { write(path(\"out/p\"), \"\"); \"a\\\"b\" }",
-            ),
-            ("pie.roots", "main()"),
-            ("out/q", "junk"),
-        ],
-    )?;
-    let (status, text) = run_words(alloc, &["fresh", "--json"], &mut files)?;
-    assert_eq!(rt; status, Status::Ok);
-    let wanted = "{\"fresh\":null,\"live\":1,\"outputs\":[[\"main()\",\"\\\"a\\\\\\\"b\\\"\"]],\
-            \"ran\":[\"main()\"],\"removed\":[\"out/q\"],\"verdict\":\"accepted\",\"wrote\":[\"out/p\"]}\n";
-    assert!(rt; text.as_str() == wanted, "{text}");
-    Ok(())
+        &["fresh", "--json"],
+        &mut files,
+        Status::Ok,
+        JSON,
+    )
 }

@@ -1,13 +1,13 @@
 //! Runs of `build` whose change list is refused, or whose input fails.
-use crate::tests::{project, run_with_input};
+use crate::tests::{prints_with, project, run_with_input};
 use pie_base::Status;
-use pie_files::{MemSource, SureFiles};
+use pie_files::MemSource;
 use std::alloc::Global;
 use std::process::Abort;
 use std::test::Fail;
 
 // A command with this input asks for no file, ends with this status and prints this text.
-pub(crate) fn refuses(
+fn refuses(
     rt: &impl Abort,
     alloc: Global,
     words: &[&str],
@@ -15,13 +15,23 @@ pub(crate) fn refuses(
     wanted: Status,
     printed: &str,
 ) -> Result<(), Fail> {
-    let mut files: SureFiles = project(alloc, &[("pie.pipeline", ""), ("pie.roots", "")])?;
+    let mut files = project(alloc, &[("pie.pipeline", ""), ("pie.roots", "")])?;
     let asked = files.log().len();
-    let (status, text) = run_with_input(alloc, words, &mut files, input)?;
-    assert!(rt; status == wanted, "{printed}: {text}");
-    assert!(rt; text.as_str() == printed, "{printed}: {text}");
+    prints_with(rt, alloc, words, &mut files, input, wanted, printed)?;
     assert!(rt; files.log().len() == asked, "{printed}");
     Ok(())
+}
+
+// A build with these bytes as its input.
+pub(crate) fn refuses_bytes(
+    rt: &impl Abort,
+    alloc: Global,
+    words: &[&str],
+    bytes: &[u8],
+    printed: &str,
+) -> Result<(), Fail> {
+    let mut input = MemSource::new(alloc, bytes.to_vec(alloc)?);
+    refuses(rt, alloc, words, &mut input, Status::BadInput, printed)
 }
 
 #[test]
@@ -34,48 +44,50 @@ fn a_change_list_is_refused_at_its_first_bad_line(rt: HostRuntime) -> Result<(),
         (b"build\n|a//b", "bad input: line 2: BadPath\n"),
     ];
     for (bytes, printed) in cases {
-        for words in [["build"].as_slice(), ["build", "--json"].as_slice()] {
-            let mut input = MemSource::new(alloc, bytes.to_vec(alloc)?);
-            refuses(&rt, alloc, words, &mut input, Status::BadInput, printed)?;
-        }
+        refuses_bytes(&rt, alloc, &["build"], bytes, printed)?;
+        refuses_bytes(&rt, alloc, &["build", "--json"], bytes, printed)?;
     }
     let mut input = MemSource::new(alloc, vec![in alloc; b'\n'; 16_777_217]?);
+    let printed = "bad input: too long\n";
     refuses(
         &rt,
         alloc,
         &["build"],
         &mut input,
         Status::BadInput,
-        "bad input: too long\n",
+        printed,
     )
+}
+
+// An input of `/a` whose call of this number fails.
+fn failing(alloc: Global, call: u64) -> Result<MemSource, Fail> {
+    let mut input = MemSource::new(alloc, b"/a\n".to_vec(alloc)?);
+    input.fail_at(alloc, &[call])?;
+    Ok(input)
 }
 
 #[test]
 fn an_input_that_fails_ends_with_its_status(rt: HostRuntime) -> Result<(), Fail> {
     let alloc = rt.alloc();
+    let printed = "input fault\n";
     for call in [1, 2] {
-        let mut input = MemSource::new(alloc, b"/a\n".to_vec(alloc)?);
-        input.fail_at(alloc, &[call])?;
-        refuses(
-            &rt,
-            alloc,
-            &["build"],
-            &mut input,
-            Status::Input,
-            "input fault\n",
-        )?;
+        let mut input = failing(alloc, call)?;
+        refuses(&rt, alloc, &["build"], &mut input, Status::Input, printed)?;
     }
     Ok(())
 }
 
+// How a command on an empty project ends whose input would fail.
+fn status_of(alloc: Global, words: &[&str]) -> Result<Status, Fail> {
+    let mut files = project(alloc, &[("pie.pipeline", ""), ("pie.roots", "")])?;
+    let (status, _) = run_with_input(alloc, words, &mut files, &mut failing(alloc, 1)?)?;
+    Ok(status)
+}
+
 #[test]
 fn other_commands_leave_the_input_alone(rt: HostRuntime) -> Result<(), Fail> {
-    let alloc = rt.alloc();
     for words in [["check"].as_slice(), ["fresh"].as_slice()] {
-        let mut files = project(alloc, &[("pie.pipeline", ""), ("pie.roots", "")])?;
-        let mut input = MemSource::new(alloc, b"/a\n".to_vec(alloc)?);
-        input.fail_at(alloc, &[1])?;
-        let (status, _) = run_with_input(alloc, words, &mut files, &mut input)?;
+        let status = status_of(rt.alloc(), words)?;
         assert_eq!(rt; status, Status::Ok);
     }
     Ok(())

@@ -1,8 +1,8 @@
 //! Whole runs of `replay` over memory.
-use crate::input_tests::refuses;
-use crate::tests::{holds, project, run_with_input};
+use crate::input_tests::refuses_bytes;
+use crate::tests::{holds, prints_with, project};
 use pie_base::Status;
-use pie_files::{MemFiles, MemSource};
+use pie_files::{Files, MemFiles, MemSource, SureFiles};
 use std::alloc::Global;
 use std::process::Abort;
 use std::test::Fail;
@@ -18,7 +18,42 @@ build
 
 const FIRST: &str = "build 1\naccepted\nfresh NoStore\nran main()\nlive 1\noutput main() = \"1\"\n";
 
-// The reader's script and more, on a directory with no files, end with this status and print the first report and this text.
+// Two texts, one behind the other.
+fn joined(alloc: Global, one: &str, other: &str) -> Result<String, Fail> {
+    let mut text = String::from_str(alloc, one)?;
+    text.push_str(other)?;
+    Ok(text)
+}
+
+// An input of these two texts, one behind the other.
+fn input_of(alloc: Global, one: &str, other: &str) -> Result<MemSource, Fail> {
+    let text = joined(alloc, one, other)?;
+    Ok(MemSource::new(alloc, text.as_bytes().to_vec(alloc)?))
+}
+
+// The reader's script and more, on files, end with this status and print the first report and this text.
+fn goes_on_over<F: Files>(
+    rt: &impl Abort,
+    alloc: Global,
+    more: &str,
+    files: &mut F,
+    wanted: Status,
+    printed: &str,
+) -> Result<(), Fail> {
+    let all = joined(alloc, FIRST, printed)?;
+    let mut input = input_of(alloc, READER, more)?;
+    prints_with(
+        rt,
+        alloc,
+        &["replay"],
+        files,
+        &mut input,
+        wanted,
+        all.as_str(),
+    )
+}
+
+// The same on a directory with no files.
 fn goes_on(
     rt: &impl Abort,
     alloc: Global,
@@ -26,16 +61,7 @@ fn goes_on(
     wanted: Status,
     printed: &str,
 ) -> Result<(), Fail> {
-    let mut script = String::from_str(alloc, READER)?;
-    script.push_str(more)?;
-    let mut all = String::from_str(alloc, FIRST)?;
-    all.push_str(printed)?;
-    let mut files = project(alloc, &[])?;
-    let mut input = MemSource::new(alloc, script.as_bytes().to_vec(alloc)?);
-    let (status, text) = run_with_input(alloc, &["replay"], &mut files, &mut input)?;
-    assert!(rt; status == wanted, "{more}: {text}");
-    assert!(rt; text.as_str() == all.as_str(), "{more}: {text}");
-    Ok(())
+    goes_on_over(rt, alloc, more, &mut project(alloc, &[])?, wanted, printed)
 }
 
 #[test]
@@ -75,34 +101,39 @@ fn reports_are_numbered_and_the_last_one_gives_the_status(rt: HostRuntime) -> Re
     Ok(())
 }
 
+const TWO_LINES: &str =
+    "{\"fresh\":\"NoStore\",\"live\":1,\"outputs\":[[\"main()\",\"\\\"1\\\"\"]],\"ran\":[\"main()\"],\"removed\":[],\
+            \"verdict\":\"accepted\",\"wrote\":[]}\n{\"fresh\":null,\"live\":1,\"outputs\":[[\"main()\",\"\\\"1\\\"\"]],\"ran\":[],\
+            \"removed\":[],\"verdict\":\"accepted\",\"wrote\":[]}\n";
+
 #[test]
 fn each_report_of_json_is_a_line(rt: HostRuntime) -> Result<(), Fail> {
     let alloc = rt.alloc();
-    let mut script = String::from_str(alloc, READER)?;
-    script.push_str("build\n")?;
     let mut files = project(alloc, &[])?;
-    let mut input = MemSource::new(alloc, script.as_bytes().to_vec(alloc)?);
-    let (status, text) = run_with_input(alloc, &["replay", "--json"], &mut files, &mut input)?;
-    assert_eq!(rt; status, Status::Ok);
-    let wanted =
-        "{\"fresh\":\"NoStore\",\"live\":1,\"outputs\":[[\"main()\",\"\\\"1\\\"\"]],\"ran\":[\"main()\"],\"removed\":[],\
-            \"verdict\":\"accepted\",\"wrote\":[]}\n{\"fresh\":null,\"live\":1,\"outputs\":[[\"main()\",\"\\\"1\\\"\"]],\"ran\":[],\
-            \"removed\":[],\"verdict\":\"accepted\",\"wrote\":[]}\n";
-    assert!(rt; text.as_str() == wanted, "{text}");
+    let mut input = input_of(alloc, READER, "build\n")?;
+    prints_with(
+        &rt,
+        alloc,
+        &["replay", "--json"],
+        &mut files,
+        &mut input,
+        Status::Ok,
+        TWO_LINES,
+    )
+}
+
+// A script that puts and removes files, without a build.
+fn puts_and_removes(rt: &impl Abort, alloc: Global, files: &mut SureFiles) -> Result<(), Fail> {
+    let mut input = input_of(alloc, "put a/b\n|1\n>2\n", "del old\n")?;
+    prints_with(rt, alloc, &["replay"], files, &mut input, Status::Ok, "")?;
+    assert!(rt; holds(alloc, files, "a/b", "1\n2")?);
+    assert!(rt; !holds(alloc, files, "old", "x")?);
     Ok(())
 }
 
 #[test]
 fn a_script_without_a_build_prints_nothing(rt: HostRuntime) -> Result<(), Fail> {
-    let alloc = rt.alloc();
-    let mut files = project(alloc, &[("old", "x")])?;
-    let mut input = MemSource::new(alloc, b"put a/b\n|1\n>2\ndel old\n".to_vec(alloc)?);
-    let (status, text) = run_with_input(alloc, &["replay"], &mut files, &mut input)?;
-    assert_eq!(rt; status, Status::Ok);
-    assert!(rt; text.as_str() == "", "{text}");
-    assert!(rt; holds(alloc, &mut files, "a/b", "1\n2")?);
-    assert!(rt; !holds(alloc, &mut files, "old", "x")?);
-    Ok(())
+    puts_and_removes(&rt, rt.alloc(), &mut project(rt.alloc(), &[("old", "x")])?)
 }
 
 #[test]
@@ -114,35 +145,24 @@ fn a_bad_line_of_a_script_leaves_the_files_alone(rt: HostRuntime) -> Result<(), 
         (b"put a\n|\xff\n", "bad input: line 2: NotText\n"),
     ];
     for (bytes, printed) in cases {
-        let mut input = MemSource::new(alloc, bytes.to_vec(alloc)?);
-        refuses(
-            &rt,
-            alloc,
-            &["replay"],
-            &mut input,
-            Status::BadInput,
-            printed,
-        )?;
+        refuses_bytes(&rt, alloc, &["replay"], bytes, printed)?;
     }
     Ok(())
+}
+
+// How many calls on the files a script and a put behind it make.
+fn calls(rt: &impl Abort, alloc: Global) -> Result<u64, Fail> {
+    let mut files = MemFiles::new(alloc);
+    goes_on_over(rt, alloc, "put s\n|2\n", &mut files, Status::Ok, "")?;
+    Ok(files.log().len() as u64)
 }
 
 #[test]
 fn a_fault_after_a_build_is_told_behind_its_report(rt: HostRuntime) -> Result<(), Fail> {
     let alloc = rt.alloc();
-    let mut script = String::from_str(alloc, READER)?;
-    script.push_str("put s\n|2\n")?;
+    let last = calls(&rt, alloc)?;
     let mut files = MemFiles::new(alloc);
-    let mut input = MemSource::new(alloc, script.as_bytes().to_vec(alloc)?);
-    let (status, _) = run_with_input(alloc, &["replay"], &mut files, &mut input)?;
-    assert_eq!(rt; status, Status::Ok);
-    let mut failing = MemFiles::new(alloc);
-    failing.fail_at(&[files.log().len() as u64])?;
-    let mut again = MemSource::new(alloc, script.as_bytes().to_vec(alloc)?);
-    let (status, text) = run_with_input(alloc, &["replay"], &mut failing, &mut again)?;
-    let mut wanted = String::from_str(alloc, FIRST)?;
-    wanted.push_str("files fault\n")?;
-    assert_eq!(rt; status, Status::Files);
-    assert!(rt; text.as_str() == wanted.as_str(), "{text}");
-    Ok(())
+    files.fail_at(&[last])?;
+    let more = "put s\n|2\n";
+    goes_on_over(&rt, alloc, more, &mut files, Status::Files, "files fault\n")
 }

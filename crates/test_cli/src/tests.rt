@@ -1,7 +1,7 @@
 //! Whole runs over memory.
 use pie_base::{Path, Status};
 use pie_cli::run;
-use pie_files::{Files, MemFiles, MemSink, MemSource, SureFiles};
+use pie_files::{Files, Found, MemFiles, MemSink, MemSource, SureFiles};
 use std::alloc::Global;
 use std::process::Abort;
 use std::test::Fail;
@@ -11,44 +11,101 @@ const PIPELINE: &str =
 
 const BUILT: &str = "accepted\nran main()\nwrote out/page\nlive 1\noutput main() = unit\n";
 
-// What a run with these words ends with, and what it prints.
-pub(crate) fn run_words<F: Files>(
-    alloc: Global,
-    words: &[&str],
-    files: &mut F,
-) -> Result<(Status, String), Fail> {
-    let mut input = MemSource::new(alloc, Vec::new(alloc));
-    run_with_input(alloc, words, files, &mut input)
+fn words_of(alloc: Global, words: &[&str]) -> Result<Vec<String>, Fail> {
+    let mut list = Vec::new(alloc);
+    for word in words {
+        list.push(String::from_str(alloc, word)?)?;
+    }
+    Ok(list)
 }
 
-// The same with this input.
+fn text_of(alloc: Global, out: &MemSink) -> Result<String, Fail> {
+    Ok(String::from_utf8(out.bytes().to_vec(alloc)?)?)
+}
+
+// What a run with these words and this input ends with, and what it prints.
 pub(crate) fn run_with_input<F: Files>(
     alloc: Global,
     words: &[&str],
     files: &mut F,
     input: &mut MemSource,
 ) -> Result<(Status, String), Fail> {
-    let mut list = Vec::new(alloc);
-    for word in words {
-        list.push(String::from_str(alloc, word)?)?;
-    }
+    let list = words_of(alloc, words)?;
     let mut out = MemSink::new(alloc);
     let status = run(alloc, &list, files, input, &mut out);
-    let text = String::from_utf8(out.bytes().to_vec(alloc)?)?;
-    Ok((status, text))
+    Ok((status, text_of(alloc, &out)?))
+}
+
+// The same with an empty input.
+pub(crate) fn run_words<F: Files>(
+    alloc: Global,
+    words: &[&str],
+    files: &mut F,
+) -> Result<(Status, String), Fail> {
+    run_with_input(
+        alloc,
+        words,
+        files,
+        &mut MemSource::new(alloc, Vec::new(alloc)),
+    )
+}
+
+// A run with these words and this input ends with this status and prints this text.
+pub(crate) fn prints_with<F: Files>(
+    rt: &impl Abort,
+    alloc: Global,
+    words: &[&str],
+    files: &mut F,
+    input: &mut MemSource,
+    wanted: Status,
+    printed: &str,
+) -> Result<(), Fail> {
+    let (status, text) = run_with_input(alloc, words, files, input)?;
+    assert!(rt; status == wanted, "{printed}: {text}");
+    assert!(rt; text.as_str() == printed, "{printed}: {text}");
+    Ok(())
+}
+
+// The same with an empty input.
+pub(crate) fn prints<F: Files>(
+    rt: &impl Abort,
+    alloc: Global,
+    words: &[&str],
+    files: &mut F,
+    wanted: Status,
+    printed: &str,
+) -> Result<(), Fail> {
+    let mut input = MemSource::new(alloc, Vec::new(alloc));
+    prints_with(rt, alloc, words, files, &mut input, wanted, printed)
 }
 
 fn path(alloc: Global, text: &str) -> Result<Path, Fail> {
     Ok(Path::read(alloc, text).map_err(|_| "path")?)
 }
 
+fn put(alloc: Global, files: &mut SureFiles, name: &str, bytes: &str) -> Result<(), Fail> {
+    let path = path(alloc, name)?;
+    files.put(&path, bytes.as_bytes(), 100)?;
+    Ok(())
+}
+
+fn fill(alloc: Global, files: &mut SureFiles, held: &[(&str, &str)]) -> Result<(), Fail> {
+    for (name, bytes) in held {
+        put(alloc, files, *name, *bytes)?;
+    }
+    Ok(())
+}
+
 // A project of these files.
 pub(crate) fn project(alloc: Global, held: &[(&str, &str)]) -> Result<SureFiles, Fail> {
     let mut files = SureFiles::new(alloc);
-    for (name, bytes) in held {
-        files.put(&path(alloc, name)?, bytes.as_bytes(), 100)?;
-    }
+    fill(alloc, &mut files, held)?;
     Ok(files)
+}
+
+fn found<F: Files>(alloc: Global, files: &mut F, name: &str) -> Result<Option<Found>, Fail> {
+    let path = path(alloc, name)?;
+    Ok(files.read(&path).map_err(|_| "read")?)
 }
 
 pub(crate) fn holds<F: Files>(
@@ -57,73 +114,68 @@ pub(crate) fn holds<F: Files>(
     name: &str,
     bytes: &str,
 ) -> Result<bool, Fail> {
-    let found = files.read(&path(alloc, name)?).map_err(|_| "read")?;
+    let found = found(alloc, files, name)?;
     Ok(found.is_some_and(|f| f.bytes.as_slice() == bytes.as_bytes()))
+}
+
+fn builds_page(rt: &impl Abort, alloc: Global, files: &mut SureFiles) -> Result<(), Fail> {
+    prints(rt, alloc, &["fresh"], files, Status::Ok, BUILT)?;
+    assert!(rt; holds(alloc, files, "out/page", "hi!")?);
+    Ok(())
+}
+
+fn builds_page_twice(rt: &impl Abort, alloc: Global, files: &mut SureFiles) -> Result<(), Fail> {
+    builds_page(rt, alloc, files)?;
+    builds_page(rt, alloc, files)
 }
 
 #[test]
 fn a_first_project_is_built_twice_alike(rt: HostRuntime) -> Result<(), Fail> {
     let alloc = rt.alloc();
-    let mut files = project(
-        alloc,
-        &[
-            ("pie.pipeline", PIPELINE),
-            ("pie.roots", "main()"),
-            ("src/page", "hi"),
-        ],
-    )?;
-    for _ in 0..2 {
-        let (status, text) = run_words(alloc, &["fresh"], &mut files)?;
-        assert_eq!(rt; status, Status::Ok);
-        assert!(rt; text.as_str() == BUILT, "{text}");
-        assert!(rt; holds(alloc, &mut files, "out/page", "hi!")?);
-    }
+    let held = [
+        ("pie.pipeline", PIPELINE),
+        ("pie.roots", "main()"),
+        ("src/page", "hi"),
+    ];
+    builds_page_twice(&rt, alloc, &mut project(alloc, &held)?)
+}
+
+const STRAY_REMOVED: &str =
+    "accepted\nran main()\nwrote out/page\nremoved out/z\nlive 1\noutput main() = unit\n";
+
+fn removes_stray(rt: &impl Abort, alloc: Global, files: &mut SureFiles) -> Result<(), Fail> {
+    prints(rt, alloc, &["fresh"], files, Status::Ok, STRAY_REMOVED)?;
+    assert!(rt; holds(alloc, files, "out/page", "!")?);
+    assert!(rt; holds(alloc, files, "outer", "stays")?);
+    assert!(rt; found(alloc, files, "out/z")?.is_none());
     Ok(())
 }
 
 #[test]
 fn a_stray_file_is_removed_and_told(rt: HostRuntime) -> Result<(), Fail> {
     let alloc = rt.alloc();
-    let mut files = project(
-        alloc,
-        &[
-            ("pie.pipeline", PIPELINE),
-            ("pie.roots", "main()\n"),
-            ("src/page", ""),
-            ("out/z", "junk"),
-            ("outer", "stays"),
-        ],
-    )?;
-    let (status, text) = run_words(alloc, &["fresh"], &mut files)?;
-    assert_eq!(rt; status, Status::Ok);
-    let wanted =
-        "accepted\nran main()\nwrote out/page\nremoved out/z\nlive 1\noutput main() = unit\n";
-    assert!(rt; text.as_str() == wanted, "{text}");
-    assert!(rt; holds(alloc, &mut files, "out/page", "!")?);
-    assert!(rt; holds(alloc, &mut files, "outer", "stays")?);
-    assert!(rt;
-        files
-            .read(&path(alloc, "out/z")?)
-            .is_ok_and(|f| f.is_none())
-    );
-    Ok(())
+    let held = [
+        ("pie.pipeline", PIPELINE),
+        ("pie.roots", "main()\n"),
+        ("src/page", ""),
+        ("out/z", "junk"),
+        ("outer", "stays"),
+    ];
+    removes_stray(&rt, alloc, &mut project(alloc, &held)?)
 }
 
-// A clean build of a pipeline with this root: the status, and what is printed.
+// A run on a pipeline with these roots: the status, and what is printed.
 fn built(
     rt: &impl Abort,
     alloc: Global,
     words: &[&str],
     pipeline: &str,
-    root: &str,
+    roots: &str,
     wanted: Status,
     printed: &str,
 ) -> Result<(), Fail> {
-    let mut files = project(alloc, &[("pie.pipeline", pipeline), ("pie.roots", root)])?;
-    let (status, text) = run_words(alloc, words, &mut files)?;
-    assert!(rt; status == wanted, "{pipeline}: {text}");
-    assert!(rt; text.as_str() == printed, "{pipeline}: {text}");
-    Ok(())
+    let mut files = project(alloc, &[("pie.pipeline", pipeline), ("pie.roots", roots)])?;
+    prints(rt, alloc, words, &mut files, wanted, printed)
 }
 
 #[test]
@@ -228,25 +280,18 @@ fn a_check_tells_the_counts_or_the_first_refusal(rt: HostRuntime) -> Result<(), 
         ),
     ];
     for (pipeline, roots, wanted, printed) in cases {
-        let mut files = project(alloc, &[("pie.pipeline", pipeline), ("pie.roots", roots)])?;
-        let (status, text) = run_words(alloc, &["check"], &mut files)?;
-        assert!(rt; status == wanted, "{pipeline}: {roots}");
-        assert!(rt; text.as_str() == printed, "{pipeline}: {roots}: {text}");
+        built(&rt, alloc, &["check"], pipeline, roots, wanted, printed)?;
     }
     let mut files = project(alloc, &[("pie.pipeline", "")])?;
-    let (status, text) = run_words(alloc, &["check"], &mut files)?;
-    assert_eq!(rt; status, Status::Pipeline);
-    assert!(rt; text.as_str() == "bad roots: absent\n", "{text}");
-    Ok(())
+    let absent = "bad roots: absent\n";
+    prints(&rt, alloc, &["check"], &mut files, Status::Pipeline, absent)
 }
 
 fn prints_the_usage_line(rt: &impl Abort, alloc: Global, words: &[&str]) -> Result<(), Fail> {
     let usage =
         "usage: pie check, fresh [--json], build [--json], replay [--json], demo SEED SIZE, topdown [--json], scan, auto, cached\n";
     let mut files = SureFiles::new(alloc);
-    let (status, text) = run_words(alloc, words, &mut files)?;
-    assert_eq!(rt; status, Status::Usage);
-    assert!(rt; text.as_str() == usage, "{text}");
+    prints(rt, alloc, words, &mut files, Status::Usage, usage)?;
     assert!(rt; files.log().is_empty());
     Ok(())
 }
@@ -260,17 +305,33 @@ fn other_words_print_the_usage_line(rt: HostRuntime) -> Result<(), Fail> {
     prints_the_usage_line(&rt, alloc, &[])
 }
 
-// A build whose call of this number on the files fails: whether one did, and what stands outside `out/` afterwards.
-fn fails_at(rt: &impl Abort, alloc: Global, call: u64) -> Result<bool, Fail> {
-    let mut files = MemFiles::new(alloc);
-    files.put(&path(alloc, "pie.pipeline")?, PIPELINE.as_bytes(), 100)?;
-    files.put(&path(alloc, "pie.roots")?, b"main()", 101)?;
-    files.put(&path(alloc, "src/page")?, b"hi", 102)?;
-    files.put(&path(alloc, "out/z")?, b"junk", 103)?;
-    files.fail_at(&[call])?;
-    let (status, text) = run_words(alloc, &["fresh"], &mut files)?;
-    files.fail_at(&[])?;
-    assert!(rt; holds(alloc, &mut files, "src/page", "hi")?);
+fn put_marked(
+    alloc: Global,
+    files: &mut MemFiles,
+    name: &str,
+    bytes: &str,
+    mark: u64,
+) -> Result<(), Fail> {
+    let path = path(alloc, name)?;
+    files.put(&path, bytes.as_bytes(), mark)?;
+    Ok(())
+}
+
+fn fill_page(alloc: Global, files: &mut MemFiles) -> Result<(), Fail> {
+    put_marked(alloc, files, "pie.pipeline", PIPELINE, 100)?;
+    put_marked(alloc, files, "pie.roots", "main()", 101)?;
+    put_marked(alloc, files, "src/page", "hi", 102)?;
+    put_marked(alloc, files, "out/z", "junk", 103)
+}
+
+// Whether a build ends as one on which a call on the files failed. It prints so just then.
+fn is_failed(
+    rt: &impl Abort,
+    alloc: Global,
+    files: &mut MemFiles,
+    call: u64,
+) -> Result<bool, Fail> {
+    let (status, text) = run_words(alloc, &["fresh"], files)?;
     assert!(rt;
         (text.as_str() == "files fault\n") == (status == Status::Files),
         "call {call}: {text}"
@@ -278,35 +339,58 @@ fn fails_at(rt: &impl Abort, alloc: Global, call: u64) -> Result<bool, Fail> {
     Ok(status == Status::Files)
 }
 
+// A build whose call of this number on the files fails: whether one did. What stands outside `out/` is as before.
+fn fails_at(rt: &impl Abort, alloc: Global, files: &mut MemFiles, call: u64) -> Result<bool, Fail> {
+    fill_page(alloc, files)?;
+    files.fail_at(&[call])?;
+    let failed = is_failed(rt, alloc, files, call)?;
+    files.fail_at(&[])?;
+    assert!(rt; holds(alloc, files, "src/page", "hi")?);
+    Ok(failed)
+}
+
 #[test]
 fn each_call_on_the_files_that_fails_ends_the_run(rt: HostRuntime) -> Result<(), Fail> {
     let alloc = rt.alloc();
     for call in 1..=8u64 {
-        assert!(rt; fails_at(&rt, alloc, call)?, "call {call}");
+        assert!(rt;
+            fails_at(&rt, alloc, &mut MemFiles::new(alloc), call)?,
+            "call {call}"
+        );
     }
-    assert!(rt; !fails_at(&rt, alloc, 100)?);
+    assert!(rt; !fails_at(&rt, alloc, &mut MemFiles::new(alloc), 100)?);
+    Ok(())
+}
+
+// How a build ends whose output is this.
+fn status_over(alloc: Global, files: &mut SureFiles, out: &mut MemSink) -> Result<Status, Fail> {
+    let words = words_of(alloc, &["fresh"])?;
+    let mut input = MemSource::new(alloc, Vec::new(alloc));
+    Ok(run(alloc, &words, files, &mut input, out))
+}
+
+fn prints_nothing(
+    rt: &impl Abort,
+    alloc: Global,
+    files: &mut SureFiles,
+    out: &mut MemSink,
+) -> Result<(), Fail> {
+    out.fail_at(alloc, &[1])?;
+    let status = status_over(alloc, files, out)?;
+    assert_eq!(rt; status, Status::Output);
+    assert!(rt; out.bytes().is_empty());
+    assert!(rt; holds(alloc, files, "out/page", "hi!")?);
     Ok(())
 }
 
 #[test]
 fn an_output_that_fails_ends_with_its_status(rt: HostRuntime) -> Result<(), Fail> {
     let alloc = rt.alloc();
-    let mut files = project(
-        alloc,
-        &[
-            ("pie.pipeline", PIPELINE),
-            ("pie.roots", "main()"),
-            ("src/page", "hi"),
-        ],
-    )?;
-    let mut input = MemSource::new(alloc, Vec::new(alloc));
-    let mut out = MemSink::new(alloc);
-    out.fail_at(alloc, &[1])?;
-    let mut words = Vec::new(alloc);
-    words.push(String::from_str(alloc, "fresh")?)?;
-    let status = run(alloc, &words, &mut files, &mut input, &mut out);
-    assert_eq!(rt; status, Status::Output);
-    assert!(rt; out.bytes().is_empty());
-    assert!(rt; holds(alloc, &mut files, "out/page", "hi!")?);
-    Ok(())
+    let held = [
+        ("pie.pipeline", PIPELINE),
+        ("pie.roots", "main()"),
+        ("src/page", "hi"),
+    ];
+    let mut files = project(alloc, &held)?;
+    prints_nothing(&rt, alloc, &mut files, &mut MemSink::new(alloc))
 }
