@@ -1,9 +1,9 @@
-pub mod Building
 pub mod Checking
 pub mod Demos
 pub mod Ending
 pub mod Fresh
 pub mod Gaining
+pub mod Listing
 pub mod Making
 pub mod Playing
 pub mod Printing

@@ -2,6 +2,8 @@ pub mod Build
 pub mod Check
 pub mod Demo
 pub mod Fresh
+pub mod Listed
 pub mod Replay
 pub mod Run
+pub mod Scan
 pub mod inner

@@ -13,7 +13,8 @@ IsUsage words = (command : Command) → is_allowed command ≡ true → words �
 
 -- no command that reads its input has these words
 abbrev pub NeedsNoInput : List (List ℕ) → Type 0
-NeedsNoInput words = (json : Bool) → (words ≢ words_of (commands.Build json)) × (words ≢ words_of (commands.Replay json))
+NeedsNoInput words =
+    ((json : Bool) → (words ≢ words_of (commands.Build json)) × (words ≢ words_of (commands.Replay json))) × (words ≢ words_of commands.Scan)
 
 -- no command that does the steps of a script has these words
 abbrev pub IsNoScript : List (List ℕ) → Type 0

@@ -10,9 +10,12 @@ ghost use Rattle.pie_cli.specs.Check.{RunsCheck};
 ghost use Rattle.pie_cli.specs.Demo.{RunsDemo, SaysDemo};
 ghost use Rattle.pie_cli.specs.Fresh.{RunsFresh};
 ghost use Rattle.pie_cli.specs.Replay.{RunsReplay};
+ghost use Rattle.pie_cli.specs.Listed.{RunsByList, RunsSaying};
 ghost use Rattle.pie_cli.specs.Run.{is_answer, is_told, Ends, GainsPrefix, IsNoScript, IsUsage, NeedsNoInput, PrintsUsage, Shows};
+ghost use Rattle.pie_cli.specs.Scan.{RunsScan};
+ghost use Rattle.pie_cli.specs.inner.ByList.{says_of, ChangesNone};
 ghost use Rattle.pie_cli.specs.inner.Played.{HasNoInput, HasNoScript, Plays};
-ghost use Rattle.pie_cli.specs.inner.Unread.{EndsUnread, Makes};
+ghost use Rattle.pie_cli.specs.inner.Unread.{EndsUnread};
 ghost use Rattle.pie_replay.specs.Replays.{KeepsOthers};
 ghost use Rattle.pie_script.specs.Steps.{plain};
 ghost use Rattle.pie_report.specs.Refused.{bad_input_text};
@@ -20,7 +23,8 @@ ghost use Rattle.pie_report.specs.Refused.{bad_input_text};
 use crate::check::check;
 use crate::clean::fresh;
 use crate::demo::tell_demo;
-use crate::incremental::{bad_input, build};
+use crate::incremental::bad_input;
+use crate::listed::{ByList, with_list};
 use crate::print::print_text;
 use crate::script::replay_script;
 use crate::told::CommandResult;
@@ -50,6 +54,8 @@ pub fn run<F: Files, I: Source, K: Sink>(
         → RunsBuild F.holds F.faults I.left I.faults json files.old files.new input.old input.new (K.held out.old) (K.held out.new) result }
     ensures replay { (json : Bool) → texts_of words.now ≡ words_of (commands.Replay json)
         → RunsReplay F.holds F.faults I.left I.faults json files.old files.new input.old input.new (K.held out.old) (K.held out.new) result }
+    ensures scan { texts_of words.now ≡ words_of commands.Scan
+        → RunsScan F.holds F.moment F.left_since F.images F.faults I.left I.faults files.old files.new input.old input.new (K.held out.old) (K.held out.new) result }
     ensures demo { (seed size : ℕ) → is_allowed (commands.Demo seed size) ≡ true → texts_of words.now ≡ words_of (commands.Demo seed size)
         → RunsDemo files.old files.new (K.held out.old) (K.held out.new) result }
     ensures usage { IsUsage (texts_of words.now) → PrintsUsage files.old files.new (K.held out.old) (K.held out.new) result }
@@ -84,6 +90,8 @@ fn run_command<F: Files, I: Source, K: Sink>(
         → RunsBuild F.holds F.faults I.left I.faults json files.old files.new input.old input.new (K.held out.old) (K.held out.new) result }
     ensures replay { (json : Bool) → command ≡ commands.Replay json
         → RunsReplay F.holds F.faults I.left I.faults json files.old files.new input.old input.new (K.held out.old) (K.held out.new) result }
+    ensures scan { command ≡ commands.Scan
+        → RunsScan F.holds F.moment F.left_since F.images F.faults I.left I.faults files.old files.new input.old input.new (K.held out.old) (K.held out.new) result }
     ensures demo { (seed size : ℕ) → command ≡ commands.Demo seed size → RunsDemo files.old files.new (K.held out.old) (K.held out.new) result }
     ensures rest { HasNoScript command → KeepsRest (F.holds files.old) (F.holds files.new) }
     ensures ends { Ends (HasNoScript command) (F.faults files.old) (F.faults files.new) (I.faults input.old) (I.faults input.new) (K.faults out.old) (K.faults out.new) (K.held out.old) (K.held out.new) result }
@@ -94,7 +102,8 @@ fn run_command<F: Files, I: Source, K: Sink>(
     match command {
         Command::Check => run_check(alloc, files, out),
         Command::Fresh(json) => run_fresh(alloc, files, out, json),
-        Command::Build(json) => run_build(alloc, files, input, out, json),
+        Command::Build(json) => run_by_list(alloc, files, input, out, ByList::Build(json)),
+        Command::Scan => run_by_list(alloc, files, input, out, ByList::Scan),
         Command::Replay(json) => run_replay(alloc, files, input, out, json),
         Command::Demo(seed, size) => run_demo(alloc, out, seed, size),
     }
@@ -129,43 +138,45 @@ fn run_check<F: Files, K: Sink>(alloc: Global, files: &mut F, out: &mut K) -> St
     }
 }
 
-// An incremental build, with its report. The input is read first.
+// A command that reads a list of paths, with what it tells. The input is read first.
 #[tactic(auto, using(crate::proofs::Rest::keeps_same))]
-fn run_build<F: Files, I: Source, K: Sink>(
+fn run_by_list<F: Files, I: Source, K: Sink>(
     alloc: Global,
     files: &mut F,
     input: &mut I,
     out: &mut K,
-    json: bool,
+    which: ByList,
 ) -> Status
-    ensures build { RunsBuild F.holds F.faults I.left I.faults json files.old files.new input.old input.new (K.held out.old) (K.held out.new) result }
+    ensures lists { RunsByList (says_of which) F.holds F.faults I.left I.faults files.old files.new input.old input.new (K.held out.old) (K.held out.new) result }
+    ensures none { ChangesNone F.holds F.moment F.left_since F.images which files.old files.new }
     ensures rest { KeepsRest (F.holds files.old) (F.holds files.new) }
     ensures ends { Ends (Unit {0}) (F.faults files.old) (F.faults files.new) (I.faults input.old) (I.faults input.new) (K.faults out.old) (K.faults out.new) (K.held out.old) (K.held out.new) result }
     ensures infallible { StaysInfallible K.infallible K.faults out.old out.new }
     ensures input_infallible { StaysInfallible I.infallible I.faults input.old input.new }
 {
     match read_names(alloc, input) {
-        Ok(changes) => make(alloc, files, out, changes.as_slice(), json),
+        Ok(paths) => do_by_list(alloc, files, out, paths.as_slice(), which),
         Err(LinesError::Bad(fault)) => show_bad(alloc, out, fault),
         Err(LinesError::Failed) => show(out, "input fault\n", Status::Input),
         Err(LinesError::OutOfMemory) => Status::Memory,
     }
 }
 
-// A build with these names, with its report.
-fn make<F: Files, K: Sink>(
+// The same with these paths.
+fn do_by_list<F: Files, K: Sink>(
     alloc: Global,
     files: &mut F,
     out: &mut K,
-    changes: &[Path],
-    json: bool,
+    paths: &[Path],
+    which: ByList,
 ) -> Status
-    ensures makes { Makes F.holds F.faults json changes.now files.old files.new (K.held out.old) (K.held out.new) result }
+    ensures says { RunsSaying (says_of which paths.now) F.holds F.faults files.old files.new (K.held out.old) (K.held out.new) result }
+    ensures none { ChangesNone F.holds F.moment F.left_since F.images which files.old files.new }
     ensures rest { KeepsRest (F.holds files.old) (F.holds files.new) }
     ensures ends { EndsUnread (F.faults files.old) (F.faults files.new) (K.faults out.old) (K.faults out.new) (K.held out.old) (K.held out.new) result }
     ensures infallible { StaysInfallible K.infallible K.faults out.old out.new }
 {
-    match build(alloc, files, changes, json) {
+    match with_list(alloc, files, paths, which) {
         Ok(told) => show_told(out, told),
         Err(FilesError::Failed) => show(out, "files fault\n", Status::Files),
         Err(FilesError::OutOfMemory) => Status::Memory,

@@ -1,10 +1,12 @@
 -- Words ask for one command at most.
-use Rattle.std.proofs.Common.{◌≡◌, ℕ, ◌<◌, ◌^◌, true, false, List, [], ◌∷◌, length, decimal, refl, sym, ap, ap₂, ◌∙◌, arith, rules}
+use Rattle.std.proofs.Common.{◌≡◌, ◌==◌, ℕ, ◌<◌, ◌^◌, Bool, true, false, cond, List, [], ◌∷◌, Option, None, Some, length, decimal, refl, sym, ap, ap₂, ◌∙◌, arith, rules}
 use Rattle.std.proofs.lemmas.Fmt.{decimal_is_IsNumeral}
 use Rattle.std.specs.Str.Parse.{digits_value}
 use Rattle.pie_words.specs.declared.command.Command.{Command}
-use Rattle.pie_words.specs.declared.command.Command.TheVariants.{Check, Fresh, Build, Replay, Demo}
+use Rattle.pie_words.specs.declared.command.Command.TheVariants.{Check, Fresh, Build, Replay, Demo, Topdown, Scan, Auto}
+use Rattle.std.proofs.lemmas.Bool.{false≢true}
 use Rattle.pie_words.specs.Commands.{words_of, is_allowed}
+use Rattle.pie_words.specs.inner.Commands.{is_plain}
 
 -- the first byte of the first word, or 0
 abbrev first_byte : List (List ℕ) → ℕ
@@ -33,69 +35,98 @@ seed_small seed size is = grind (arith, rules)
 pub size_small : (seed size : ℕ) → is_allowed (Demo seed size) ≡ true → size < 2 ^ 64
 size_small seed size is = grind (arith, rules)
 
+-- the command without numbers that has this first byte and so many words, if there is one
+abbrev plain_with : ℕ → ℕ → Option Command
+plain_with b many = cond (b == 99) (Some Check)
+    (cond (b == 102) (Some (Fresh (many == 2)))
+    (cond (b == 98) (Some (Build (many == 2)))
+    (cond (b == 114) (Some (Replay (many == 2)))
+    (cond (b == 116) (Some (Topdown (many == 2)))
+    (cond (b == 115) (Some Scan)
+    (cond (b == 97) (Some Auto) None))))))
+
+abbrev plain_in : List (List ℕ) → Option Command
+plain_in words = plain_with (first_byte words) (length words)
+
+-- a command without numbers is found by its words
+abbrev if_plain : Command → Option Command
+if_plain (Demo seed size) = None
+if_plain Check = Some Check
+if_plain (Fresh json) = Some (Fresh json)
+if_plain (Build json) = Some (Build json)
+if_plain (Replay json) = Some (Replay json)
+if_plain (Topdown json) = Some (Topdown json)
+if_plain Scan = Some Scan
+if_plain Auto = Some Auto
+
+found_by_words : (c : Command) → plain_in (words_of c) ≡ if_plain c
+found_by_words Check = refl
+found_by_words (Fresh false) = refl
+found_by_words (Fresh true) = refl
+found_by_words (Build false) = refl
+found_by_words (Build true) = refl
+found_by_words (Replay false) = refl
+found_by_words (Replay true) = refl
+found_by_words (Demo seed size) = refl
+found_by_words (Topdown false) = refl
+found_by_words (Topdown true) = refl
+found_by_words Scan = refl
+found_by_words Auto = refl
+
+same_found : (c e : Command) → words_of c ≡ words_of e → if_plain c ≡ if_plain e
+same_found c e is = sym (found_by_words c) ∙ (ap plain_in is ∙ found_by_words e)
+
+-- whether one was found
+abbrev has_one : Option Command → Bool
+has_one None = false
+has_one (Some c) = true
+
+found_plain : (c : Command) → has_one (if_plain c) ≡ is_plain c
+found_plain Check = refl
+found_plain (Fresh json) = refl
+found_plain (Build json) = refl
+found_plain (Replay json) = refl
+found_plain (Topdown json) = refl
+found_plain Scan = refl
+found_plain Auto = refl
+found_plain (Demo seed size) = refl
+
+plain_alike : (c e : Command) → words_of c ≡ words_of e → is_plain c ≡ is_plain e
+plain_alike c e is = sym (found_plain c) ∙ (ap has_one (same_found c e is) ∙ found_plain e)
+
+-- the one that was found, else another
+abbrev found_or : Command → Option Command → Command
+found_or other None = other
+found_or other (Some c) = c
+
+plain_is : (other c : Command) → is_plain c ≡ true → found_or other (if_plain c) ≡ c
+plain_is other Check plain = refl
+plain_is other (Fresh json) plain = refl
+plain_is other (Build json) plain = refl
+plain_is other (Replay json) plain = refl
+plain_is other (Topdown json) plain = refl
+plain_is other Scan plain = refl
+plain_is other Auto plain = refl
+plain_is other (Demo seed size) plain = absurd (false≢true plain)
+
+same_plain : (c e : Command) → is_plain c ≡ true → words_of c ≡ words_of e → c ≡ e
+same_plain c e plain is =
+    sym (plain_is c c plain) ∙ (ap (found_or c) (same_found c e is) ∙ plain_is c e (sym (plain_alike c e is) ∙ plain))
+
 pub same_command : (c e : Command) → is_allowed c ≡ true → is_allowed e ≡ true → words_of c ≡ words_of e → c ≡ e
-same_command Check Check may also is = refl
-same_command Check (Fresh false) may also is = let h : ◌≡◌ {A = ℕ} 99 102 = ap first_byte is in absurd (omega arith)
-same_command Check (Fresh true) may also is = let h : ◌≡◌ {A = ℕ} 99 102 = ap first_byte is in absurd (omega arith)
-same_command Check (Build false) may also is = let h : ◌≡◌ {A = ℕ} 99 98 = ap first_byte is in absurd (omega arith)
-same_command Check (Build true) may also is = let h : ◌≡◌ {A = ℕ} 99 98 = ap first_byte is in absurd (omega arith)
-same_command Check (Replay false) may also is = let h : ◌≡◌ {A = ℕ} 99 114 = ap first_byte is in absurd (omega arith)
-same_command Check (Replay true) may also is = let h : ◌≡◌ {A = ℕ} 99 114 = ap first_byte is in absurd (omega arith)
-same_command (Fresh false) Check may also is = let h : ◌≡◌ {A = ℕ} 102 99 = ap first_byte is in absurd (omega arith)
-same_command (Fresh false) (Fresh false) may also is = refl
-same_command (Fresh false) (Fresh true) may also is = let h : ◌≡◌ {A = ℕ} 1 2 = ap (λ (words : List (List ℕ)). length words) is in absurd (omega arith)
-same_command (Fresh false) (Build false) may also is = let h : ◌≡◌ {A = ℕ} 102 98 = ap first_byte is in absurd (omega arith)
-same_command (Fresh false) (Build true) may also is = let h : ◌≡◌ {A = ℕ} 102 98 = ap first_byte is in absurd (omega arith)
-same_command (Fresh false) (Replay false) may also is = let h : ◌≡◌ {A = ℕ} 102 114 = ap first_byte is in absurd (omega arith)
-same_command (Fresh false) (Replay true) may also is = let h : ◌≡◌ {A = ℕ} 102 114 = ap first_byte is in absurd (omega arith)
-same_command (Fresh true) Check may also is = let h : ◌≡◌ {A = ℕ} 102 99 = ap first_byte is in absurd (omega arith)
-same_command (Fresh true) (Fresh false) may also is = let h : ◌≡◌ {A = ℕ} 2 1 = ap (λ (words : List (List ℕ)). length words) is in absurd (omega arith)
-same_command (Fresh true) (Fresh true) may also is = refl
-same_command (Fresh true) (Build false) may also is = let h : ◌≡◌ {A = ℕ} 102 98 = ap first_byte is in absurd (omega arith)
-same_command (Fresh true) (Build true) may also is = let h : ◌≡◌ {A = ℕ} 102 98 = ap first_byte is in absurd (omega arith)
-same_command (Fresh true) (Replay false) may also is = let h : ◌≡◌ {A = ℕ} 102 114 = ap first_byte is in absurd (omega arith)
-same_command (Fresh true) (Replay true) may also is = let h : ◌≡◌ {A = ℕ} 102 114 = ap first_byte is in absurd (omega arith)
-same_command (Build false) Check may also is = let h : ◌≡◌ {A = ℕ} 98 99 = ap first_byte is in absurd (omega arith)
-same_command (Build false) (Fresh false) may also is = let h : ◌≡◌ {A = ℕ} 98 102 = ap first_byte is in absurd (omega arith)
-same_command (Build false) (Fresh true) may also is = let h : ◌≡◌ {A = ℕ} 98 102 = ap first_byte is in absurd (omega arith)
-same_command (Build false) (Build false) may also is = refl
-same_command (Build false) (Build true) may also is = let h : ◌≡◌ {A = ℕ} 1 2 = ap (λ (words : List (List ℕ)). length words) is in absurd (omega arith)
-same_command (Build false) (Replay false) may also is = let h : ◌≡◌ {A = ℕ} 98 114 = ap first_byte is in absurd (omega arith)
-same_command (Build false) (Replay true) may also is = let h : ◌≡◌ {A = ℕ} 98 114 = ap first_byte is in absurd (omega arith)
-same_command (Build true) Check may also is = let h : ◌≡◌ {A = ℕ} 98 99 = ap first_byte is in absurd (omega arith)
-same_command (Build true) (Fresh false) may also is = let h : ◌≡◌ {A = ℕ} 98 102 = ap first_byte is in absurd (omega arith)
-same_command (Build true) (Fresh true) may also is = let h : ◌≡◌ {A = ℕ} 98 102 = ap first_byte is in absurd (omega arith)
-same_command (Build true) (Build false) may also is = let h : ◌≡◌ {A = ℕ} 2 1 = ap (λ (words : List (List ℕ)). length words) is in absurd (omega arith)
-same_command (Build true) (Build true) may also is = refl
-same_command (Build true) (Replay false) may also is = let h : ◌≡◌ {A = ℕ} 98 114 = ap first_byte is in absurd (omega arith)
-same_command (Build true) (Replay true) may also is = let h : ◌≡◌ {A = ℕ} 98 114 = ap first_byte is in absurd (omega arith)
-same_command (Replay false) Check may also is = let h : ◌≡◌ {A = ℕ} 114 99 = ap first_byte is in absurd (omega arith)
-same_command (Replay false) (Fresh false) may also is = let h : ◌≡◌ {A = ℕ} 114 102 = ap first_byte is in absurd (omega arith)
-same_command (Replay false) (Fresh true) may also is = let h : ◌≡◌ {A = ℕ} 114 102 = ap first_byte is in absurd (omega arith)
-same_command (Replay false) (Build false) may also is = let h : ◌≡◌ {A = ℕ} 114 98 = ap first_byte is in absurd (omega arith)
-same_command (Replay false) (Build true) may also is = let h : ◌≡◌ {A = ℕ} 114 98 = ap first_byte is in absurd (omega arith)
-same_command (Replay false) (Replay false) may also is = refl
-same_command (Replay false) (Replay true) may also is = let h : ◌≡◌ {A = ℕ} 1 2 = ap (λ (words : List (List ℕ)). length words) is in absurd (omega arith)
-same_command (Replay true) Check may also is = let h : ◌≡◌ {A = ℕ} 114 99 = ap first_byte is in absurd (omega arith)
-same_command (Replay true) (Fresh false) may also is = let h : ◌≡◌ {A = ℕ} 114 102 = ap first_byte is in absurd (omega arith)
-same_command (Replay true) (Fresh true) may also is = let h : ◌≡◌ {A = ℕ} 114 102 = ap first_byte is in absurd (omega arith)
-same_command (Replay true) (Build false) may also is = let h : ◌≡◌ {A = ℕ} 114 98 = ap first_byte is in absurd (omega arith)
-same_command (Replay true) (Build true) may also is = let h : ◌≡◌ {A = ℕ} 114 98 = ap first_byte is in absurd (omega arith)
-same_command (Replay true) (Replay false) may also is = let h : ◌≡◌ {A = ℕ} 2 1 = ap (λ (words : List (List ℕ)). length words) is in absurd (omega arith)
-same_command (Replay true) (Replay true) may also is = refl
-same_command Check (Demo seed size) may also is = let h : ◌≡◌ {A = ℕ} 99 100 = ap first_byte is in absurd (omega arith)
-same_command (Fresh false) (Demo seed size) may also is = let h : ◌≡◌ {A = ℕ} 102 100 = ap first_byte is in absurd (omega arith)
-same_command (Fresh true) (Demo seed size) may also is = let h : ◌≡◌ {A = ℕ} 102 100 = ap first_byte is in absurd (omega arith)
-same_command (Build false) (Demo seed size) may also is = let h : ◌≡◌ {A = ℕ} 98 100 = ap first_byte is in absurd (omega arith)
-same_command (Build true) (Demo seed size) may also is = let h : ◌≡◌ {A = ℕ} 98 100 = ap first_byte is in absurd (omega arith)
-same_command (Replay false) (Demo seed size) may also is = let h : ◌≡◌ {A = ℕ} 114 100 = ap first_byte is in absurd (omega arith)
-same_command (Replay true) (Demo seed size) may also is = let h : ◌≡◌ {A = ℕ} 114 100 = ap first_byte is in absurd (omega arith)
-same_command (Demo seed size) Check may also is = let h : ◌≡◌ {A = ℕ} 100 99 = ap first_byte is in absurd (omega arith)
-same_command (Demo seed size) (Fresh false) may also is = let h : ◌≡◌ {A = ℕ} 100 102 = ap first_byte is in absurd (omega arith)
-same_command (Demo seed size) (Fresh true) may also is = let h : ◌≡◌ {A = ℕ} 100 102 = ap first_byte is in absurd (omega arith)
-same_command (Demo seed size) (Build false) may also is = let h : ◌≡◌ {A = ℕ} 100 98 = ap first_byte is in absurd (omega arith)
-same_command (Demo seed size) (Build true) may also is = let h : ◌≡◌ {A = ℕ} 100 98 = ap first_byte is in absurd (omega arith)
-same_command (Demo seed size) (Replay false) may also is = let h : ◌≡◌ {A = ℕ} 100 114 = ap first_byte is in absurd (omega arith)
-same_command (Demo seed size) (Replay true) may also is = let h : ◌≡◌ {A = ℕ} 100 114 = ap first_byte is in absurd (omega arith)
+same_command Check e may also is = same_plain Check e refl is
+same_command (Fresh json) e may also is = same_plain (Fresh json) e refl is
+same_command (Build json) e may also is = same_plain (Build json) e refl is
+same_command (Replay json) e may also is = same_plain (Replay json) e refl is
+same_command (Topdown json) e may also is = same_plain (Topdown json) e refl is
+same_command Scan e may also is = same_plain Scan e refl is
+same_command Auto e may also is = same_plain Auto e refl is
+same_command (Demo seed size) Check may also is = sym (same_plain Check (Demo seed size) refl (sym is))
+same_command (Demo seed size) (Fresh json) may also is = sym (same_plain (Fresh json) (Demo seed size) refl (sym is))
+same_command (Demo seed size) (Build json) may also is = sym (same_plain (Build json) (Demo seed size) refl (sym is))
+same_command (Demo seed size) (Replay json) may also is = sym (same_plain (Replay json) (Demo seed size) refl (sym is))
+same_command (Demo seed size) (Topdown json) may also is = sym (same_plain (Topdown json) (Demo seed size) refl (sym is))
+same_command (Demo seed size) Scan may also is = sym (same_plain Scan (Demo seed size) refl (sym is))
+same_command (Demo seed size) Auto may also is = sym (same_plain Auto (Demo seed size) refl (sym is))
 same_command (Demo seed size) (Demo other many) may also is = ap₂ Demo (same_number seed other (seed_small seed size may) (seed_small other many also) (ap second is))
     (same_number size many (size_small seed size may) (size_small other many also) (ap third is))

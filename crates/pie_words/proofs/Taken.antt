@@ -1,5 +1,5 @@
 -- What `clap` takes from the words of each command.
-use Rattle.std.proofs.Common.{◌≡◌, ℕ, Bool, true, false, List, [], ◌∷◌, Option, Some, None, option_map, codes, refl, ap, arith, ◌∙◌, rules}
+use Rattle.std.proofs.Common.{◌≡◌, ◌==◌, ℕ, Bool, true, false, cond, List, [], ◌∷◌, Option, Some, None, option_map, codes, refl, sym, ap, ◌∙◌, rules}
 use Rattle.std.proofs.lemmas.Bool.{false≢true}
 use Rattle.clap.specs.Walk.{Row, Text, one_of, rows_of}
 use Rattle.clap.specs.Simple.{subcommand_of, subcommand_rows_of}
@@ -16,7 +16,7 @@ use Rattle.pie_words.specs.Commands.{words_of}
 use Rattle.pie_words.specs.inner.Commands.{is_plain}
 use Rattle.pie_words.specs.inner.Grammar.{commands}
 use Rattle.pie_words.specs.declared.command.Command.{Command}
-use Rattle.pie_words.specs.declared.command.Command.TheVariants.{Check, Fresh, Build, Replay, Demo}
+use Rattle.pie_words.specs.declared.command.Command.TheVariants.{Check, Fresh, Build, Replay, Demo, Topdown, Scan, Auto}
 
 -- the name of a command
 abbrev pub name_of : Command → Text
@@ -24,6 +24,9 @@ name_of Check = codes "check"
 name_of (Fresh json) = codes "fresh"
 name_of (Build json) = codes "build"
 name_of (Replay json) = codes "replay"
+name_of (Topdown json) = codes "topdown"
+name_of Scan = codes "scan"
+name_of Auto = codes "auto"
 name_of (Demo seed size) = codes "demo"
 
 -- a flag as text
@@ -49,6 +52,10 @@ named (Build false) plain = refl
 named (Build true) plain = refl
 named (Replay false) plain = refl
 named (Replay true) plain = refl
+named (Topdown false) plain = refl
+named (Topdown true) plain = refl
+named Scan plain = refl
+named Auto plain = refl
 named (Demo seed size) plain = absurd (false≢true plain)
 
 pub met : (c : Command) → is_plain c ≡ true → subcommand_of commands (words_of c) ≡ Some (name_in (subcommand_of commands (words_of c)), rows_in (subcommand_of commands (words_of c)))
@@ -60,6 +67,10 @@ met (Build false) plain = refl
 met (Build true) plain = refl
 met (Replay false) plain = refl
 met (Replay true) plain = refl
+met (Topdown false) plain = refl
+met (Topdown true) plain = refl
+met Scan plain = refl
+met Auto plain = refl
 met (Demo seed size) plain = absurd (false≢true plain)
 
 -- the flag that a command may have
@@ -68,6 +79,9 @@ flag_of Check = false
 flag_of (Fresh json) = json
 flag_of (Build json) = json
 flag_of (Replay json) = json
+flag_of (Topdown json) = json
+flag_of Scan = false
+flag_of Auto = false
 flag_of (Demo seed size) = false
 
 -- a command with the flag
@@ -76,6 +90,9 @@ is_flagged Check = false
 is_flagged (Fresh json) = true
 is_flagged (Build json) = true
 is_flagged (Replay json) = true
+is_flagged (Topdown json) = true
+is_flagged Scan = false
+is_flagged Auto = false
 is_flagged (Demo seed size) = false
 
 pub flagged : (c : Command) → is_flagged c ≡ true → one_of (codes "json") (rows_in (subcommand_of commands (words_of c))) ≡ Some (flag_text (flag_of c))
@@ -87,6 +104,10 @@ flagged (Build false) has = refl
 flagged (Build true) has = refl
 flagged (Replay false) has = refl
 flagged (Replay true) has = refl
+flagged (Topdown false) has = refl
+flagged (Topdown true) has = refl
+flagged Scan has = absurd (false≢true has)
+flagged Auto has = absurd (false≢true has)
 flagged (Demo seed size) has = absurd (false≢true has)
 
 pub flag_read : (f : Found) (c : Command) → is_flagged c ≡ true → rows_of f ≡ rows_in (subcommand_of commands (words_of c))
@@ -105,6 +126,10 @@ flag_is (Build false) read f has rows set unset = unset (flag_read f (Build fals
 flag_is (Build true) read f has rows set unset = set (flag_read f (Build true) has rows)
 flag_is (Replay false) read f has rows set unset = unset (flag_read f (Replay false) has rows)
 flag_is (Replay true) read f has rows set unset = set (flag_read f (Replay true) has rows)
+flag_is (Topdown false) read f has rows set unset = unset (flag_read f (Topdown false) has rows)
+flag_is (Topdown true) read f has rows set unset = set (flag_read f (Topdown true) has rows)
+flag_is Scan read f has rows set unset = absurd (false≢true has)
+flag_is Auto read f has rows set unset = absurd (false≢true has)
 flag_is (Demo seed size) read f has rows set unset = absurd (false≢true has)
 
 pub taken : (c : Command) → is_plain c ≡ true → takes commands (words_of c) ≡ true
@@ -116,59 +141,59 @@ taken (Build false) plain = refl
 taken (Build true) plain = refl
 taken (Replay false) plain = refl
 taken (Replay true) plain = refl
+taken (Topdown false) plain = refl
+taken (Topdown true) plain = refl
+taken Scan plain = refl
+taken Auto plain = refl
 taken (Demo seed size) plain = absurd (false≢true plain)
 
 abbrev first_byte : Text → ℕ
 first_byte [] = 0
 first_byte (b ∷ bytes) = b
 
-pub check_named : (c : Command) → name_of c ≡ codes "check" → c ≡ Check
-check_named Check is = refl
-check_named (Fresh json) is = let h : ◌≡◌ {A = ℕ} 102 99 = ap first_byte is in absurd (omega arith)
-check_named (Build json) is = let h : ◌≡◌ {A = ℕ} 98 99 = ap first_byte is in absurd (omega arith)
-check_named (Replay json) is = let h : ◌≡◌ {A = ℕ} 114 99 = ap first_byte is in absurd (omega arith)
-check_named (Demo seed size) is = let h : ◌≡◌ {A = ℕ} 100 99 = ap first_byte is in absurd (omega arith)
+-- the command without numbers whose name has this first byte, with this flag
+abbrev plain_at : ℕ → Bool → Command
+plain_at b json = cond (b == 99) Check
+    (cond (b == 102) (Fresh json)
+    (cond (b == 98) (Build json)
+    (cond (b == 114) (Replay json)
+    (cond (b == 116) (Topdown json)
+    (cond (b == 115) Scan Auto)))))
 
-pub fresh_named : (c : Command) (read : Bool) (f : Found) → name_of c ≡ codes "fresh"
+is_at : (c : Command) → is_plain c ≡ true → plain_at (first_byte (name_of c)) (flag_of c) ≡ c
+is_at Check plain = refl
+is_at (Fresh json) plain = refl
+is_at (Build json) plain = refl
+is_at (Replay json) plain = refl
+is_at (Topdown json) plain = refl
+is_at Scan plain = refl
+is_at Auto plain = refl
+is_at (Demo seed size) plain = absurd (false≢true plain)
+
+-- a command is the one that has its name, with its flag
+pub by_name : (c : Command) (name : Text) → is_plain c ≡ true → name_of c ≡ name → plain_at (first_byte name) (flag_of c) ≡ c
+by_name c name plain is = ap (λ n. plain_at (first_byte n) (flag_of c)) (sym is) ∙ is_at c plain
+
+-- and so it is with the flag that was read off its words, where it has one
+pub by_flag : (c : Command) (name : Text) (read : Bool) (f : Found) → is_plain c ≡ true → name_of c ≡ name → is_flagged (plain_at (first_byte name) (flag_of c)) ≡ true
     → rows_of f ≡ rows_in (subcommand_of commands (words_of c))
     → (one_text f (codes "json") ≡ Some (codes "true") → read ≡ true)
     → (one_text f (codes "json") ≡ Some (codes "false") → read ≡ false)
-    → Fresh read ≡ c
-fresh_named Check read f name rows set unset = let h : ◌≡◌ {A = ℕ} 99 102 = ap first_byte name in absurd (omega arith)
-fresh_named (Fresh json) read f name rows set unset = ap Fresh (flag_is (Fresh json) read f refl rows set unset)
-fresh_named (Build json) read f name rows set unset = let h : ◌≡◌ {A = ℕ} 98 102 = ap first_byte name in absurd (omega arith)
-fresh_named (Replay json) read f name rows set unset = let h : ◌≡◌ {A = ℕ} 114 102 = ap first_byte name in absurd (omega arith)
-fresh_named (Demo seed size) read f name rows set unset = let h : ◌≡◌ {A = ℕ} 100 102 = ap first_byte name in absurd (omega arith)
-
-pub build_named : (c : Command) (read : Bool) (f : Found) → name_of c ≡ codes "build"
-    → rows_of f ≡ rows_in (subcommand_of commands (words_of c))
-    → (one_text f (codes "json") ≡ Some (codes "true") → read ≡ true)
-    → (one_text f (codes "json") ≡ Some (codes "false") → read ≡ false)
-    → Build read ≡ c
-build_named Check read f name rows set unset = let h : ◌≡◌ {A = ℕ} 99 98 = ap first_byte name in absurd (omega arith)
-build_named (Fresh json) read f name rows set unset = let h : ◌≡◌ {A = ℕ} 102 98 = ap first_byte name in absurd (omega arith)
-build_named (Build json) read f name rows set unset = ap Build (flag_is (Build json) read f refl rows set unset)
-build_named (Replay json) read f name rows set unset = let h : ◌≡◌ {A = ℕ} 114 98 = ap first_byte name in absurd (omega arith)
-build_named (Demo seed size) read f name rows set unset = let h : ◌≡◌ {A = ℕ} 100 98 = ap first_byte name in absurd (omega arith)
-
-pub replay_named : (c : Command) (read : Bool) (f : Found) → name_of c ≡ codes "replay"
-    → rows_of f ≡ rows_in (subcommand_of commands (words_of c))
-    → (one_text f (codes "json") ≡ Some (codes "true") → read ≡ true)
-    → (one_text f (codes "json") ≡ Some (codes "false") → read ≡ false)
-    → Replay read ≡ c
-replay_named Check read f name rows set unset = let h : ◌≡◌ {A = ℕ} 99 114 = ap first_byte name in absurd (omega arith)
-replay_named (Fresh json) read f name rows set unset = let h : ◌≡◌ {A = ℕ} 102 114 = ap first_byte name in absurd (omega arith)
-replay_named (Build json) read f name rows set unset = let h : ◌≡◌ {A = ℕ} 98 114 = ap first_byte name in absurd (omega arith)
-replay_named (Replay json) read f name rows set unset = ap Replay (flag_is (Replay json) read f refl rows set unset)
-replay_named (Demo seed size) read f name rows set unset = let h : ◌≡◌ {A = ℕ} 100 114 = ap first_byte name in absurd (omega arith)
+    → plain_at (first_byte name) read ≡ c
+by_flag c name read f plain is has rows set unset =
+    let same = by_name c name plain is in
+    ap (plain_at (first_byte name)) (flag_is c read f (ap is_flagged (sym same) ∙ has) rows set unset) ∙ same
 
 pub is_named : (c : Command) → is_plain c ≡ true → (name_of c ≡ codes "check" → ⊥) → (name_of c ≡ codes "fresh" → ⊥) → (name_of c ≡ codes "build" → ⊥)
-    → (name_of c ≡ codes "replay" → ⊥) → ⊥
-is_named Check plain check fresh build replay = check refl
-is_named (Fresh json) plain check fresh build replay = fresh refl
-is_named (Build json) plain check fresh build replay = build refl
-is_named (Replay json) plain check fresh build replay = replay refl
-is_named (Demo seed size) plain check fresh build replay = absurd (false≢true plain)
+    → (name_of c ≡ codes "replay" → ⊥) → (name_of c ≡ codes "topdown" → ⊥) → (name_of c ≡ codes "scan" → ⊥) → (name_of c ≡ codes "auto" → ⊥) → ⊥
+is_named Check plain check fresh build replay topdown scan auto = check refl
+is_named (Fresh json) plain check fresh build replay topdown scan auto = fresh refl
+is_named (Build json) plain check fresh build replay topdown scan auto = build refl
+is_named (Replay json) plain check fresh build replay topdown scan auto = replay refl
+is_named (Topdown json) plain check fresh build replay topdown scan auto = topdown refl
+is_named Scan plain check fresh build replay topdown scan auto = scan refl
+is_named Auto plain check fresh build replay topdown scan auto = auto refl
+is_named (Demo seed size) plain check fresh build replay topdown scan auto = absurd (false≢true plain)
 
 -- what was found, from its name and its matches apart
 pub paired : {A B X Y : Type 0} (f : X → A) (g : X → B) (h : Y → A) (k : Y → B) (r : Option X) (o : Option Y)

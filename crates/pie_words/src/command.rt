@@ -13,4 +13,10 @@ pub enum Command {
     Replay(bool),
     /// `demo SEED SIZE`: make a project of SIZE files, 1 to 1,000, from SEED in memory, and build it after each of ten changes.
     Demo(u64, u32),
+    /// `topdown`, true with `--json`: build what differs from the records of the last build, with no change list.
+    Topdown(bool),
+    /// `scan`: tell the change list that scanning below the tops of the input finds.
+    Scan,
+    /// `auto`: build by the change list that scanning below the tops of the input finds.
+    Auto,
 }

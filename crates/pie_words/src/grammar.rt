@@ -52,6 +52,9 @@ fn named(name: &str, flags: &ArgMatches<'_>) -> Result<Command, WordsFault>
         "fresh" => Ok(Command::Fresh(flags.get_flag("json"))),
         "build" => Ok(Command::Build(flags.get_flag("json"))),
         "replay" => Ok(Command::Replay(flags.get_flag("json"))),
+        "topdown" => Ok(Command::Topdown(flags.get_flag("json"))),
+        "scan" => Ok(Command::Scan),
+        "auto" => Ok(Command::Auto),
         _ => Err(WordsFault::Usage),
     }
 }
@@ -64,7 +67,10 @@ fn commands<'a>(alloc: Global) -> Result<clap::Command<'a>, AllocError>
     let checks = commands.subcommand(clap::Command::new(alloc, "check"))?;
     let builds = checks.subcommand(with_json(alloc, "fresh")?)?;
     let replays = builds.subcommand(with_json(alloc, "build")?)?;
-    replays.subcommand(with_json(alloc, "replay")?)
+    let topdowns = replays.subcommand(with_json(alloc, "replay")?)?;
+    let scans = topdowns.subcommand(with_json(alloc, "topdown")?)?;
+    let autos = scans.subcommand(clap::Command::new(alloc, "scan"))?;
+    autos.subcommand(clap::Command::new(alloc, "auto"))
 }
 
 // A command with the flag `--json`.

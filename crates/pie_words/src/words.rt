@@ -90,6 +90,9 @@ fn one_word(word: &str) -> bool
         "fresh" => true,
         "build" => true,
         "replay" => true,
+        "topdown" => true,
+        "scan" => true,
+        "auto" => true,
         _ => false,
     }
 }
@@ -102,6 +105,7 @@ fn two_words(first: &str, second: &str) -> bool
         ("fresh", "--json") => true,
         ("build", "--json") => true,
         ("replay", "--json") => true,
+        ("topdown", "--json") => true,
         _ => false,
     }
 }

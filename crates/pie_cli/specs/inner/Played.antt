@@ -23,7 +23,7 @@ HasNoScript command = (json : Bool) → command ≢ commands.Replay json
 
 -- a command that reads no input
 abbrev pub HasNoInput : Command → Type 0
-HasNoInput command = (json : Bool) → (command ≢ commands.Build json) × (command ≢ commands.Replay json)
+HasNoInput command = ((json : Bool) → (command ≢ commands.Build json) × (command ≢ commands.Replay json)) × (command ≢ commands.Scan)
 
 -- the tasks that a report tells have canonical bytes, by which they are ordered
 abbrev pub IsTellable : Report → Type 0

@@ -11,7 +11,9 @@ use Rattle.pie_words.specs.Commands.{texts_of, usage_text, words_of}
 use Rattle.pie_base.specs.declared.status.Status.TheVariants as status
 use Rattle.pie_cli.specs.Check.{IsCheckText}
 use Rattle.pie_cli.specs.Fresh.{IsFreshText}
-use Rattle.pie_cli.proofs.Building.{runs_memory}
+use Rattle.pie_cli.specs.Build.{MakeSays}
+use Rattle.pie_cli.specs.Scan.{ScanSays}
+use Rattle.pie_cli.proofs.Listing.{runs_memory}
 use Rattle.pie_cli.specs.Run.{IsNoScript}
 use Rattle.pie_cli.specs.inner.Played.{HasNoScript}
 use Rattle.pie_cli.proofs.Ending.{ends_by, ends_memory, ends_shown, not_shown}
@@ -70,10 +72,13 @@ pub returns-in-Ok-clause-build : goal.returns-in-Ok-clause-build
 returns-in-Ok-clause-build g c = λ json is. c.run_command.ensures.build json (same_command _ _ c.in-Ok.ensures.allowed refl (sym c.in-Ok.ensures.accepted ∙ is))
 
 pub returns-in-Ok-clause-input : goal.returns-in-Ok-clause-input
-returns-in-Ok-clause-input g c = λ none. c.run_command.ensures.input (λ json. (
-  λ is. (none json).0 (c.in-Ok.ensures.accepted ∙ ap words_of is),
-  λ is. (none json).1 (c.in-Ok.ensures.accepted ∙ ap words_of is),
-))
+returns-in-Ok-clause-input g c = λ none. c.run_command.ensures.input (
+  λ json. (
+    λ is. (none.0 json).0 (c.in-Ok.ensures.accepted ∙ ap words_of is),
+    λ is. (none.0 json).1 (c.in-Ok.ensures.accepted ∙ ap words_of is),
+  ),
+  λ is. none.1 (c.in-Ok.ensures.accepted ∙ ap words_of is),
+)
 
 pub returns-in-Ok-clause-replay : goal.returns-in-Ok-clause-replay
 returns-in-Ok-clause-replay g c = λ json is. c.run_command.ensures.replay json (same_command _ _ c.in-Ok.ensures.allowed refl (sym c.in-Ok.ensures.accepted ∙ is))
@@ -107,7 +112,7 @@ returns-in-Err-Usage-clause-input g c = λ none. (
 
 pub returns-in-Err-OutOfMemory-clause-build : goal.returns-in-Err-OutOfMemory-clause-build
 returns-in-Err-OutOfMemory-clause-build g c = λ json is.
-    runs_memory g.F.Files.holds g.F.Files.faults g.I.Source.left g.I.Source.faults json c.args.files.now c.args.input.now c.args.input.now
+    runs_memory (MakeSays json) g.F.Files.holds g.F.Files.faults g.I.Source.left g.I.Source.faults c.args.files.now c.args.input.now c.args.input.now
     (g.K.Sink.held c.args.out.now)
 
 pub returns-in-Err-OutOfMemory-clause-input : goal.returns-in-Err-OutOfMemory-clause-input
@@ -132,3 +137,17 @@ returns-in-Err-Usage-clause-demo g c = λ seed size may is. absurd (c.in-Err-Usa
 
 pub returns-in-Err-OutOfMemory-clause-demo : goal.returns-in-Err-OutOfMemory-clause-demo
 returns-in-Err-OutOfMemory-clause-demo g c = λ seed size may is. record { says = says_memory (g.K.Sink.held c.args.out.now); nothing_asked = refl }
+
+pub returns-in-Ok-clause-scan : goal.returns-in-Ok-clause-scan
+returns-in-Ok-clause-scan g c = λ is. c.run_command.ensures.scan (same_command _ _ c.in-Ok.ensures.allowed refl (sym c.in-Ok.ensures.accepted ∙ is))
+
+pub returns-in-Err-Usage-clause-scan : goal.returns-in-Err-Usage-clause-scan
+returns-in-Err-Usage-clause-scan g c = λ is. absurd (c.in-Err-Usage.ensures.refused (ap Err c.in-Err-Usage.field-0-is) commands.Scan refl is)
+
+pub returns-in-Err-OutOfMemory-clause-scan : goal.returns-in-Err-OutOfMemory-clause-scan
+returns-in-Err-OutOfMemory-clause-scan g c = λ is. record {
+  scanned = runs_memory ScanSays g.F.Files.holds g.F.Files.faults g.I.Source.left g.I.Source.faults c.args.files.now c.args.input.now c.args.input.now
+      (g.K.Sink.held c.args.out.now);
+  same = refl;
+  crash = none_before g.F.Files.holds g.F.Files.moment g.F.Files.left_since g.F.Files.images c.args.files.now;
+}

@@ -1,7 +1,7 @@
 use Rattle.std.proofs.Common.{refl}
 use Rattle.pie_cli.specs.Build.{RunsBuild}
 use Rattle.pie_cli.specs.Fresh.{RunsFresh}
-use Rattle.pie_cli.proofs.Building.{at_build_flag}
+use Rattle.pie_cli.proofs.Listing.{at_build_flag}
 use Rattle.pie_cli.proofs.Demos.{ends_demo, not_input}
 use Rattle.pie_cli.proofs.Ending.{ends_by, ends_unread}
 use Rattle.pie_cli.specs.inner.Played.{HasNoScript}
@@ -20,17 +20,17 @@ returns-in-Fresh-clause-fresh g c = λ json is.
 pub returns-in-Build-clause-build : goal.returns-in-Build-clause-build
 returns-in-Build-clause-build g c = λ json is.
     at_build_flag
-    (λ b. RunsBuild g.F.Files.holds g.F.Files.faults g.I.Source.left g.I.Source.faults b c.args.files.now c.run_build.new.files c.args.input.now
-    c.run_build.new.input (g.K.Sink.held c.args.out.now) (g.K.Sink.held c.run_build.new.out) c.run_build.result)
-    c.args.command c.in-Build.json json c.in-Build.is is c.run_build.ensures.build
+    (λ b. RunsBuild g.F.Files.holds g.F.Files.faults g.I.Source.left g.I.Source.faults b c.args.files.now c.run_by_list.new.files c.args.input.now
+    c.run_by_list.new.input (g.K.Sink.held c.args.out.now) (g.K.Sink.held c.run_by_list.new.out) c.run_by_list.result)
+    c.args.command c.in-Build.json json c.in-Build.is is c.run_by_list.ensures.lists
 
 pub returns-in-Build-clause-input : goal.returns-in-Build-clause-input
-returns-in-Build-clause-input g c = λ none. absurd ((none c.in-Build.json).0 c.in-Build.is)
+returns-in-Build-clause-input g c = λ none. absurd ((none.0 c.in-Build.json).0 c.in-Build.is)
 
 pub returns-in-Build-clause-ends : goal.returns-in-Build-clause-ends
 returns-in-Build-clause-ends g c =
-    ends_by (Unit {0}) (HasNoScript c.args.command) _ _ (g.I.Source.faults c.args.input.now) (g.I.Source.faults c.run_build.new.input) _ _
-    (g.K.Sink.held c.args.out.now) (g.K.Sink.held c.run_build.new.out) c.run_build.result (λ h. tt {0}) c.run_build.ensures.ends
+    ends_by (Unit {0}) (HasNoScript c.args.command) _ _ (g.I.Source.faults c.args.input.now) (g.I.Source.faults c.run_by_list.new.input) _ _
+    (g.K.Sink.held c.args.out.now) (g.K.Sink.held c.run_by_list.new.out) c.run_by_list.result (λ h. tt {0}) c.run_by_list.ensures.ends
 
 pub returns-in-Replay-clause-replay : goal.returns-in-Replay-clause-replay
 returns-in-Replay-clause-replay g c = λ json is.
@@ -43,7 +43,7 @@ pub returns-in-Replay-clause-rest : goal.returns-in-Replay-clause-rest
 returns-in-Replay-clause-rest g c = λ none. absurd (none c.in-Replay.json c.in-Replay.is)
 
 pub returns-in-Replay-clause-input : goal.returns-in-Replay-clause-input
-returns-in-Replay-clause-input g c = λ none. absurd ((none c.in-Replay.json).1 c.in-Replay.is)
+returns-in-Replay-clause-input g c = λ none. absurd ((none.0 c.in-Replay.json).1 c.in-Replay.is)
 
 pub returns-in-Replay-clause-ends : goal.returns-in-Replay-clause-ends
 returns-in-Replay-clause-ends g c =
@@ -77,3 +77,18 @@ returns-in-Demo-clause-ends g c =
 
 pub returns-in-Demo-clause-input : goal.returns-in-Demo-clause-input
 returns-in-Demo-clause-input g c = λ none. (refl, not_input c.run_demo.result c.run_demo.ensures.says.ends)
+
+pub returns-in-Scan-clause-scan : goal.returns-in-Scan-clause-scan
+returns-in-Scan-clause-scan g c = λ is. record {
+  scanned = c.run_by_list-in-Scan.ensures.lists;
+  same = c.run_by_list-in-Scan.ensures.none.0;
+  crash = c.run_by_list-in-Scan.ensures.none.1;
+}
+
+pub returns-in-Scan-clause-input : goal.returns-in-Scan-clause-input
+returns-in-Scan-clause-input g c = λ none. absurd (none.1 c.in-Scan.is)
+
+pub returns-in-Scan-clause-ends : goal.returns-in-Scan-clause-ends
+returns-in-Scan-clause-ends g c =
+    ends_by (Unit {0}) (HasNoScript c.args.command) _ _ (g.I.Source.faults c.args.input.now) (g.I.Source.faults c.run_by_list-in-Scan.new.input) _ _
+    (g.K.Sink.held c.args.out.now) (g.K.Sink.held c.run_by_list-in-Scan.new.out) c.run_by_list-in-Scan.result (λ h. tt {0}) c.run_by_list-in-Scan.ensures.ends

@@ -1,5 +1,5 @@
 use Rattle.std.proofs.Common.{true, refl, rules}
-use Rattle.pie_words.specs.declared.command.Command.TheVariants.{Fresh, Build, Replay}
+use Rattle.pie_words.specs.declared.command.Command.TheVariants.{Fresh, Build, Replay, Topdown}
 use Rattle.pie_words.proofs.words.two_words.Goals as goal
 
 pub returns-in-fresh-text-clause-accepted : goal.returns-in-fresh-text-clause-accepted
@@ -10,3 +10,6 @@ returns-in-build-text-clause-accepted c = λ is. (Build true, refl, search rules
 
 pub returns-in-replay-text-clause-accepted : goal.returns-in-replay-text-clause-accepted
 returns-in-replay-text-clause-accepted c = λ is. (Replay true, refl, search rules)
+
+pub returns-in-topdown-text-clause-accepted : goal.returns-in-topdown-text-clause-accepted
+returns-in-topdown-text-clause-accepted c = λ is. (Topdown true, refl, search rules)

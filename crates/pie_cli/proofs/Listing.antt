@@ -1,4 +1,4 @@
--- What `build` says of an input and of a build.
+-- What a command says that reads a list of paths, by its input.
 use Rattle.std.proofs.Common.{◌≡◌, ◌⊎◌, ℕ, Bool, true, List, [], Option, None, Some, inl, inr, refl, sym, ◌∙◌, subst, arith, rules}
 use Rattle.std.specs.Prelude.{IfSome, Vec, Err}
 use Rattle.std.proofs.lemmas.Bool.{false≢true}
@@ -15,9 +15,12 @@ use Rattle.pie_report.specs.Refused.{bad_input_text}
 use Rattle.pie_script.specs.declared.fault.InputFault.{InputFault}
 use Rattle.pie_words.specs.declared.command.Command.{Command}
 use Rattle.pie_words.specs.declared.command.Command.TheVariants as commands
-use Rattle.pie_cli.specs.Build.{BuildSays, IsBuildText, IsRead, MakeSays, RunsBuild}
+use Rattle.pie_cli.specs.Listed.{IsListText, IsRead, ListSays, RunsByList, RunsSaying}
+use Rattle.pie_files.proofs.Reading.{none_before}
+use Rattle.pie_cli.specs.declared.listed.ByList.{ByList}
+use Rattle.pie_cli.specs.declared.listed.ByList.TheVariants.{Build, Scan}
+use Rattle.pie_cli.specs.inner.ByList.{ChangesNone}
 use Rattle.pie_cli.specs.Run.{is_answer, input_fault_text, GainsAtMost, GainsPrefix, GainsSome, Shows}
-use Rattle.pie_cli.specs.inner.Unread.{Makes}
 use Rattle.pie_cli.proofs.Statuses.{answer_is_told, memory_is_no_answer}
 
 -- the input is refused with this
@@ -58,31 +61,34 @@ gains_more Fewer More Failed held gained ended more h =
     either (inl some) = inl (allows_more Fewer More Failed held gained more some)
     either (inr none) = inr none
 
-module _ {S I : Type 0} (holds : S → Option Directory) (faults : S → ℕ) (left : I → Option (List ℕ)) (input_faults : I → ℕ) (json : Bool) where
-  -- a build with the names of the input
+module _ {S I : Type 0} (says : List (List ℕ) → Option Directory → Option Directory → List ℕ → Status → Type 0) (holds : S → Option Directory) (faults : S → ℕ)
+    (left : I → Option (List ℕ)) (input_faults : I → ℕ) where
+  abbrev Text : S → S → I → I → List ℕ → Type 0
+  Text old new input after = IsListText says holds old new (left input) (left after) (Rose (input_faults input) (input_faults after))
+
+  -- the command with the paths of the input
   pub runs_made : (old new : S) (input after : I) (names : List (List ℕ)) (held gained : Option (List ℕ)) (ended : Status)
-      → IsRead names (left input) (left after) → Makes holds faults json names old new held gained ended → (ended ≡ status.Input → ⊥)
-      → RunsBuild holds faults left input_faults json old new input after held gained ended
-  runs_made old new input after names held gained ended read makes no_input = record {
-    built = λ a. let made = makes.made a in (made.0, inr (names, read, made.1), made.2);
-    printed = gains_more (λ text. (said : Status) × MakeSays json names (holds old) (holds new) text said)
-        (IsBuildText holds json old new (left input) (left after) (Rose (input_faults input) (input_faults after))) (Rose (faults old) (faults new)) held gained ended
-        (λ text says. inl (says.0, inr (names, read, says.1))) makes.printed;
+      → IsRead names (left input) (left after) → RunsSaying (says names) holds faults old new held gained ended → (ended ≡ status.Input → ⊥)
+      → RunsByList says holds faults left input_faults old new input after held gained ended
+  runs_made old new input after names held gained ended read ran no_input = record {
+    said = λ a. let one = ran.said a in (one.0, inr (names, read, one.1), one.2);
+    printed = gains_more (λ text. (said : Status) × says names (holds old) (holds new) text said) (Text old new input after) (Rose (faults old) (faults new))
+        held gained ended (λ text one. inl (one.0, inr (names, read, one.1))) ran.printed;
     bad = never_bad (left input) (left after) names (new ≡ old) read;
     unread = λ is. absurd (no_input is);
   }
 
-  -- a change list that is refused
+  -- a list that is refused
   pub runs_bad : (old : S) (input after : I) (fault : InputFault) (held gained : Option (List ℕ)) (ended : Status)
       → IfSome (left input) (λ bytes. IsBad bytes fault) → Shows held gained (bad_input_text fault) status.BadInput ended
-      → GainsPrefix held gained (bad_input_text fault) → RunsBuild holds faults left input_faults json old old input after held gained ended
+      → GainsPrefix held gained (bad_input_text fault) → RunsByList says holds faults left input_faults old old input after held gained ended
   runs_bad old input after fault held gained ended bad shows prefix =
-      let says : BuildSays holds json old old (left input) (left after) (bad_input_text fault) status.BadInput = inl ((fault, bad, refl, refl), refl) in
-      let some : GainsSome (IsBuildText holds json old old (left input) (left after) (Rose (input_faults input) (input_faults after))) (Rose (faults old) (faults old)) held
-      gained = inl (bad_input_text fault, inl (status.BadInput, says), prefix) in
+      let one : ListSays says holds old old (left input) (left after) (bad_input_text fault) status.BadInput = inl ((fault, bad, refl, refl), refl) in
+      let some : GainsSome (Text old old input after) (Rose (faults old) (faults old)) held gained =
+      inl (bad_input_text fault, inl (status.BadInput, one), prefix) in
       record {
-        built = λ a. let s = shows (answer_is_told ended a) in
-            (bad_input_text fault, subst (λ x. BuildSays holds json old old (left input) (left after) (bad_input_text fault) x) (sym s.0) says, s.1);
+        said = λ a. let s = shows (answer_is_told ended a) in
+            (bad_input_text fault, subst (λ x. ListSays says holds old old (left input) (left after) (bad_input_text fault) x) (sym s.0) one, s.1);
         printed = record { prefix = inl some; cut = λ is. some };
         bad = in_any_case (left input) (old ≡ old) refl;
         unread = λ is. refl;
@@ -91,12 +97,11 @@ module _ {S I : Type 0} (holds : S → Option Directory) (faults : S → ℕ) (l
   -- an input that failed
   pub runs_failed : (old : S) (input after : I) (held gained : Option (List ℕ)) (ended : Status) → Rose (input_faults input) (input_faults after)
       → Shows held gained input_fault_text status.Input ended → GainsPrefix held gained input_fault_text
-      → RunsBuild holds faults left input_faults json old old input after held gained ended
+      → RunsByList says holds faults left input_faults old old input after held gained ended
   runs_failed old input after held gained ended rose shows prefix =
-      let some : GainsSome (IsBuildText holds json old old (left input) (left after) (Rose (input_faults input) (input_faults after))) (Rose (faults old) (faults old)) held
-      gained = inl (input_fault_text, inr (rose, refl), prefix) in
+      let some : GainsSome (Text old old input after) (Rose (faults old) (faults old)) held gained = inl (input_fault_text, inr (rose, refl), prefix) in
       record {
-        built = λ a. absurd (false≢true (subst (λ x. is_answer x ≡ true) (shows (answer_is_told ended a)).0 a));
+        said = λ a. absurd (false≢true (subst (λ x. is_answer x ≡ true) (shows (answer_is_told ended a)).0 a));
         printed = record { prefix = inl some; cut = λ is. some };
         bad = in_any_case (left input) (old ≡ old) refl;
         unread = λ is. refl;
@@ -104,13 +109,19 @@ module _ {S I : Type 0} (holds : S → Option Directory) (faults : S → ℕ) (l
 
   -- out of memory before anything was asked of the files
   pub runs_memory : (old : S) (input after : I) (held : Option (List ℕ))
-      → RunsBuild holds faults left input_faults json old old input after held held status.Memory
+      → RunsByList says holds faults left input_faults old old input after held held status.Memory
   runs_memory old input after held = record {
-    built = λ a. absurd (memory_is_no_answer a);
+    said = λ a. absurd (memory_is_no_answer a);
     printed = record { prefix = inr refl; cut = λ is. absurd (cc) };
     bad = in_any_case (left input) (old ≡ old) refl;
     unread = λ is. refl;
   }
+
+-- where nothing was asked of the files, nothing was changed
+pub none_changed : {S : Type 0} (holds : S → Option Directory) (moment : S → ℕ) (left_since : S → ℕ → Directory → Type 0) (images : S → Directory → Type 0)
+    (which : ByList) (old : S) → ChangesNone holds moment left_since images which old old
+none_changed holds moment left_since images (Build json) old = tt {0}
+none_changed holds moment left_since images Scan old = (refl, none_before holds moment left_since images old)
 
 -- a command has one flag
 pub at_build_flag : (P : Bool → Type 0) (command : Command) (a b : Bool) → command ≡ commands.Build a → command ≡ commands.Build b → P a → P b

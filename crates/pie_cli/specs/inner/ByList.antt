@@ -1,0 +1,19 @@
+-- What commands say that read a list of paths.
+use Rattle.std.specs.Prelude.{◌≡◌, ℕ, List, Option}
+use Rattle.pie_base.specs.declared.status.Status.{Status}
+use Rattle.pie_files.specs.Directory.{Directory}
+use Rattle.pie_files.specs.Reading.{LeavesAsBefore}
+use Rattle.pie_cli.specs.declared.listed.ByList.{ByList}
+use Rattle.pie_cli.specs.declared.listed.ByList.TheVariants.{Build, Scan}
+use Rattle.pie_cli.specs.Build.{MakeSays}
+use Rattle.pie_cli.specs.Scan.{ScanSays}
+
+-- what a command says of its paths
+abbrev pub says_of : ByList → List (List ℕ) → Option Directory → Option Directory → List ℕ → Status → Type 0
+says_of (Build json) = MakeSays json
+says_of Scan = ScanSays
+
+-- a command that scans changes no file
+abbrev pub ChangesNone : {S : Type 0} → (S → Option Directory) → (S → ℕ) → (S → ℕ → Directory → Type 0) → (S → Directory → Type 0) → ByList → S → S → Type 0
+ChangesNone holds moment left_since images (Build json) old new = Unit {0}
+ChangesNone holds moment left_since images Scan old new = (holds new ≡ holds old) × LeavesAsBefore holds moment left_since images old new
