@@ -15,7 +15,7 @@ fn read(alloc: Global, words: &[&str]) -> Result<Result<Command, WordsFault>, Fa
 #[test]
 fn each_command_is_read(rt: HostRuntime) -> Result<(), Fail> {
     let alloc = rt.alloc();
-    let cases: [(&[&str], Command); 7] = [
+    let cases: [(&[&str], Command); 11] = [
         (&["check"], Command::Check),
         (&["fresh"], Command::Fresh(false)),
         (&["fresh", "--json"], Command::Fresh(true)),
@@ -23,6 +23,10 @@ fn each_command_is_read(rt: HostRuntime) -> Result<(), Fail> {
         (&["build", "--json"], Command::Build(true)),
         (&["replay"], Command::Replay(false)),
         (&["replay", "--json"], Command::Replay(true)),
+        (&["topdown"], Command::Topdown(false)),
+        (&["topdown", "--json"], Command::Topdown(true)),
+        (&["scan"], Command::Scan),
+        (&["auto"], Command::Auto),
     ];
     for (words, wanted) in cases {
         let answer = read(alloc, words)?;
@@ -72,7 +76,7 @@ fn other_numbers_of_a_demo_are_refused(rt: HostRuntime) -> Result<(), Fail> {
 #[test]
 fn other_words_are_refused(rt: HostRuntime) -> Result<(), Fail> {
     let alloc = rt.alloc();
-    let cases: [&[&str]; 15] = [
+    let cases: [&[&str]; 18] = [
         &[],
         &[""],
         &["frob"],
@@ -83,6 +87,9 @@ fn other_words_are_refused(rt: HostRuntime) -> Result<(), Fail> {
         &["fresh", ""],
         &["build", "--jso"],
         &["replay", "1"],
+        &["scan", "--json"],
+        &["auto", "--json"],
+        &["cached"],
         &["--help"],
         &["demo"],
         &["demo", "7"],
