@@ -13,8 +13,8 @@ use Rattle.pie_scan.specs.Scanned.{AreScanned}
 pub record HasManifest (tops : List (List ℕ)) (d : Directory) : Type 0 where
   pub manifest : Manifest
   pub held : HoldsManifest d manifest
-  pub store : hash_in d store_path ≡ Some manifest.store
-  pub tops : manifest.tops ≡ in_path_order tops
+  pub its_store : hash_in d store_path ≡ Some manifest.store
+  pub its_tops : manifest.tops ≡ in_path_order tops
   pub scanned : AreScanned d tops manifest.entries
 
 -- each path but those of the manifest and of the marker has the file that it had

@@ -1,12 +1,14 @@
 //! The manifest of a directory, put into place.
-ghost use Rattle.std.specs.Prelude.{◌≡◌, ◌∷◌, [], true, All, Some, IfOk, IfSome, OnOk};
+ghost use Rattle.std.specs.Prelude.{◌≡◌, true, All, Some, IfOk, IfSome, OnOk};
+ghost use Rattle.pie_commit.specs.Outcomes.{HasBrought};
+ghost use Rattle.pie_commit.specs.inner.Plans.{wanted_by};
 ghost use Rattle.pie_files.specs.Reading.{ReadsOnly};
 ghost use Rattle.pie_files.specs.Streams.{Counted};
-ghost use Rattle.pie_listing.specs.Held.{hash_in, manifest_path, store_path};
+ghost use Rattle.pie_listing.specs.Held.{hash_in, store_path};
 ghost use Rattle.pie_scan.specs.Entries.{AreInOrder};
 ghost use Rattle.pie_scan.specs.Texts.{HasMark};
 ghost use Rattle.pie_auto.specs.Kept.{KeepsAllButManifest, Wrote};
-ghost use Rattle.pie_auto.specs.inner.Drafts.{IsDraft, IsManifestPlan, IsTextOf, WritesOne};
+ghost use Rattle.pie_auto.specs.inner.Drafts.{IsDraft, IsManifestPlan, IsTextOf, WritesManifest, WritesOne};
 
 use pie_base::{OutOfMemory, Path};
 use pie_commit::{Pending, Plan, commit};
@@ -59,8 +61,17 @@ fn put_manifest<F: Files>(
     ensures counted { Counted F.faults FilesError.Failed files.old files.new result }
 {
     let plan = plan_of(alloc, files, tops, store)?;
-    commit(files, &plan)?;
-    Ok(())
+    put(files, &plan)
+}
+
+// Does what such a plan says.
+fn put<F: Files>(files: &mut F, plan: &Plan) -> Result<(), FilesError>
+    requires { WritesManifest plan.now }
+    ensures done { OnOk result (HasBrought (wanted_by plan.now) (F.holds files.old) (F.holds files.new)) }
+    ensures rest { KeepsAllButManifest (F.holds files.old) (F.holds files.new) }
+    ensures counted { Counted F.faults FilesError.Failed files.old files.new result }
+{
+    commit(files, plan)
 }
 
 // The plan that writes it.
@@ -70,9 +81,9 @@ fn plan_of<F: Files>(
     files: &mut F,
     tops: &[Path],
     store: [u8; 32],
-) -> Result<Box<Plan>, FilesError>
-    ensures plan { IfSome (F.holds files.old) (λ d. IfOk result (λ plan. IsManifestPlan d tops.now store plan.value)) }
-    ensures one { IfOk result (λ plan. WritesOne plan.value) }
+) -> Result<Plan, FilesError>
+    ensures plan { IfSome (F.holds files.old) (λ d. IfOk result (IsManifestPlan d tops.now store)) }
+    ensures one { IfOk result WritesManifest }
     ensures reads { ReadsOnly F.holds F.moment F.left_since F.images F.faults files.old files.new result }
 {
     let entries = scan(alloc, files, tops)?;
@@ -86,15 +97,14 @@ fn draft(
     tops: &[Path],
     store: [u8; 32],
     entries: Vec<Entry>,
-) -> Result<Box<Plan>, OutOfMemory>
+) -> Result<Plan, OutOfMemory>
     requires ordered { AreInOrder entries.items }
     requires marks { All HasMark entries.items }
-    ensures draft { IfOk result (λ plan. IsDraft tops.now store entries.items plan.value) }
-    ensures one { IfOk result (λ plan. WritesOne plan.value) }
+    ensures draft { IfOk result (IsDraft tops.now store entries.items) }
+    ensures one { IfOk result WritesManifest }
 {
     let text = text_of(alloc, tops, store, entries)?;
     let plan = plan_with(alloc, text)?;
-    let plan = Box::new(alloc, plan)?;
     Ok(plan)
 }
 
@@ -124,8 +134,7 @@ fn text_of(
 
 // The plan that writes a file with these bytes at the place of the manifest, and changes nothing else.
 fn plan_with(alloc: Global, text: Vec<u8>) -> Result<Plan, OutOfMemory>
-    ensures writes { IfOk result (λ plan. plan.writes.items ≡ (manifest_path, text) ∷ []) }
-    ensures one { IfOk result WritesOne }
+    ensures { IfOk result (WritesOne text) }
 {
     let path = Path::known(alloc, ".pie/manifest")?;
     let mut writes = Vec::new(alloc);

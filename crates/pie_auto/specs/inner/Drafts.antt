@@ -15,24 +15,28 @@ use Rattle.pie_scan.specs.Texts.{IsManifestText}
 pub record IsTextOf (tops : List (List ℕ)) (store : List ℕ) (entries : List Entry) (bytes : List ℕ) : Type 0 where
   pub manifest : Manifest
   pub text : IsManifestText manifest bytes
-  pub store : manifest.store ≡ store
-  pub tops : manifest.tops ≡ in_path_order tops
-  pub entries : manifest.entries ≡ entries
+  pub its_store : manifest.store ≡ store
+  pub its_tops : manifest.tops ≡ in_path_order tops
+  pub its_entries : manifest.entries ≡ entries
 
--- a plan writes the manifest alone
-pub record WritesOne (p : Plan) : Type 0 where
+-- a plan writes the manifest alone, with these bytes
+pub record WritesOne (bytes : Vec ℕ Global) (p : Plan) : Type 0 where
   pub sound : is_sound p ≡ true
   pub places : has_own_places p ≡ true
-  pub bytes : Vec ℕ Global
   pub writes : p.writes.items ≡ (manifest_path, bytes) ∷ []
   pub removals : p.removals.items ≡ []
   pub pending : p.pending ≡ Keep
   pub store : p.store ≡ None
 
--- and these bytes are such a text
+-- with some bytes
+abbrev pub WritesManifest : Plan → Type 0
+WritesManifest p = (bytes : Vec ℕ Global) × WritesOne bytes p
+
+-- with such a text
 pub record IsDraft (tops : List (List ℕ)) (store : List ℕ) (entries : List Entry) (p : Plan) : Type 0 where
-  pub one : WritesOne p
-  pub text : IsTextOf tops store entries one.bytes.items
+  pub bytes : Vec ℕ Global
+  pub one : WritesOne bytes p
+  pub text : IsTextOf tops store entries bytes.items
 
 -- with the entries of a directory
 pub record IsManifestPlan (d : Directory) (tops : List (List ℕ)) (store : List ℕ) (p : Plan) : Type 0 where
