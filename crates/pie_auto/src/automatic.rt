@@ -1,0 +1,152 @@
+//! A build by the change list that scanning finds.
+ghost use Rattle.std.specs.Prelude.{◌≡◌, ◌≤◌, ◌+◌, ◌++◌, length, All, IfOk, IfSome, OnOk};
+ghost use Rattle.pie_build.specs.Left.{KeepsRest};
+ghost use Rattle.pie_build.specs.inner.Rebuilt.{IsRefusal, Tells};
+ghost use Rattle.pie_listing.specs.Listings.{IsListing};
+ghost use Rattle.pie_value.specs.Canonical.{IsEncodableTask};
+ghost use Rattle.pie_auto.specs.Found.{BuildsBy, Follows, HasFound, KeepsOutside};
+ghost use Rattle.pie_auto.specs.Kept.{KeepsAllButManifest};
+ghost use Rattle.pie_auto.specs.inner.Parts.{IsFollowed};
+
+use crate::keep_manifest;
+use pie_base::Path;
+use pie_files::{Files, FilesError};
+use pie_incremental::build;
+use pie_listing::{Listing, list};
+use pie_project::BuildError;
+use pie_report::Report;
+use pie_topdown_build::build_topdown;
+use pie_value::Verdict;
+use pie_vm::Runs;
+use std::alloc::Global;
+
+/// What scanning found, and what the build came to.
+#[derive(Drop)]
+pub struct Automatic {
+    /// The paths at which the directory differs from that of the manifest, or why there is no list.
+    pub listing: Listing,
+    pub report: Report,
+}
+
+/// Finds what changed by scanning the sources at or below these tops and the files under `out/`, and builds that: by the change list, or
+/// without one where the manifest gives none. After an accepted build the manifest of what it left is written. Where that fails, the build is in
+/// place, and its report is lost. The tasks that are started are added to the runs, and reported.
+/// Rule: docs/BUILDING.md, "Builds that find what changed".
+#[tactic(auto, using(crate::proofs::Finding::outside))]
+pub fn auto<F: Files>(
+    alloc: Global,
+    files: &mut F,
+    tops: &[Path],
+    runs: &mut Runs,
+) -> Result<Automatic, BuildError>
+    ensures found { IfSome (F.holds files.old) (λ d. IfOk result (λ found. HasFound tops.now d found.listing found.report (F.holds files.new))) }
+    ensures rest { KeepsOutside (F.holds files.old) (F.holds files.new) }
+    ensures refused { IsRefusal result → F.holds files.new ≡ F.holds files.old }
+    ensures ran { IfOk result (λ found. runs.new ≡ runs.old ++ found.report.ran.items) }
+    ensures few { length runs.new ≤ length runs.old + 100000 }
+    ensures encodable { IfOk result (λ found. All IsEncodableTask found.report.ran.items) }
+    ensures told { Tells F.faults files.old files.new result }
+{
+    match list(alloc, files, tops) {
+        Ok(listing) => with_listing(alloc, files, tops, listing, runs),
+        Err(FilesError::Failed) => Err(BuildError::Files),
+        Err(FilesError::OutOfMemory) => Err(BuildError::OutOfMemory),
+    }
+}
+
+// Builds by what was found, and keeps the manifest.
+#[tactic(auto, using(crate::proofs::Finding::outside))]
+fn with_listing<F: Files>(
+    alloc: Global,
+    files: &mut F,
+    tops: &[Path],
+    listing: Listing,
+    runs: &mut Runs,
+) -> Result<Automatic, BuildError>
+    ensures listing { IfOk result (λ found. found.listing ≡ listing) }
+    ensures followed { IfSome (F.holds files.old) (λ d. IfOk result (λ found. IsFollowed tops.now d found.listing found.report (F.holds files.new))) }
+    ensures rest { KeepsOutside (F.holds files.old) (F.holds files.new) }
+    ensures refused { IsRefusal result → F.holds files.new ≡ F.holds files.old }
+    ensures ran { IfOk result (λ found. runs.new ≡ runs.old ++ found.report.ran.items) }
+    ensures few { length runs.new ≤ length runs.old + 100000 }
+    ensures encodable { IfOk result (λ found. All IsEncodableTask found.report.ran.items) }
+    ensures told { Tells F.faults files.old files.new result }
+{
+    match build_by(alloc, files, &listing, runs) {
+        Ok(report) => finish(alloc, files, tops, listing, report),
+        Err(error) => Err(error),
+    }
+}
+
+// Builds by what was found.
+fn build_by<F: Files>(
+    alloc: Global,
+    files: &mut F,
+    listing: &Listing,
+    runs: &mut Runs,
+) -> Result<Report, BuildError>
+    ensures built { IfSome (F.holds files.old) (λ d. IfOk result (λ r. BuildsBy listing.now d r (F.holds files.new))) }
+    ensures rest { KeepsRest (F.holds files.old) (F.holds files.new) }
+    ensures refused { IsRefusal result → F.holds files.new ≡ F.holds files.old }
+    ensures ran { IfOk result (λ r. runs.new ≡ runs.old ++ r.ran.items) }
+    ensures few { length runs.new ≤ length runs.old + 100000 }
+    ensures encodable { IfOk result (λ r. All IsEncodableTask r.ran.items) }
+    ensures told { Tells F.faults files.old files.new result }
+{
+    match listing {
+        Listing::Listed(paths) => build(alloc, files, paths.as_slice(), runs),
+        Listing::Unlisted(_) => build_topdown(alloc, files, runs),
+    }
+}
+
+// Keeps the manifest, if the build was accepted.
+fn finish<F: Files>(
+    alloc: Global,
+    files: &mut F,
+    tops: &[Path],
+    listing: Listing,
+    report: Report,
+) -> Result<Automatic, BuildError>
+    ensures listing { IfOk result (λ found. found.listing ≡ listing) }
+    ensures report { IfOk result (λ found. found.report ≡ report) }
+    ensures follows { OnOk result (Follows report.verdict tops.now (F.holds files.old) (F.holds files.new)) }
+    ensures rest { KeepsAllButManifest (F.holds files.old) (F.holds files.new) }
+    ensures accepted { IsRefusal result → ⊥ }
+    ensures told { Tells F.faults files.old files.new result }
+{
+    match keep(alloc, files, tops, &report.verdict) {
+        Ok(()) => Ok(Automatic { listing, report }),
+        Err(error) => Err(error),
+    }
+}
+
+#[tactic(auto, using(crate::proofs::Keeping::all_but))]
+fn keep<F: Files>(
+    alloc: Global,
+    files: &mut F,
+    tops: &[Path],
+    verdict: &Verdict,
+) -> Result<(), BuildError>
+    ensures follows { OnOk result (Follows verdict.now tops.now (F.holds files.old) (F.holds files.new)) }
+    ensures rest { KeepsAllButManifest (F.holds files.old) (F.holds files.new) }
+    ensures accepted { IsRefusal result → ⊥ }
+    ensures told { Tells F.faults files.old files.new result }
+{
+    match verdict {
+        Verdict::Accepted => keep_accepted(alloc, files, tops),
+        Verdict::Refused(_) => Ok(()),
+    }
+}
+
+fn keep_accepted<F: Files>(alloc: Global, files: &mut F, tops: &[Path]) -> Result<(), BuildError>
+    ensures follows { OnOk result (Follows Accepted tops.now (F.holds files.old) (F.holds files.new)) }
+    ensures rest { KeepsAllButManifest (F.holds files.old) (F.holds files.new) }
+    ensures accepted { IsRefusal result → ⊥ }
+    ensures told { Tells F.faults files.old files.new result }
+{
+    match keep_manifest(alloc, files, tops) {
+        Ok(_) => Ok(()),
+        Err(FilesError::Failed) => Err(BuildError::Files),
+        Err(FilesError::OutOfMemory) => Err(BuildError::OutOfMemory),
+    }
+}

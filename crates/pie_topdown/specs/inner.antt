@@ -1,0 +1,8 @@
+-- Definitions that no clause of `pie_cli::run` rests on: invariants, and what functions say to each other.
+pub mod Ledgers
+pub mod Frames
+pub mod Turns
+pub mod Places
+pub mod Entries
+pub mod Roots
+pub mod Ended

@@ -1,0 +1,199 @@
+//! Entered tasks that begin: with the check of an old record, or with a run.
+ghost use Rattle.std.specs.Prelude.{◌≡◌, ◌<◌, ◌≤◌, ◌+◌, length, Some, true, slice_get, IfOk, IfSome, OnOk};
+ghost use Rattle.pie_files.specs.Reading.{ReadsOnly};
+ghost use Rattle.pie_record.specs.Canonical.{IsStorable};
+ghost use Rattle.pie_results.specs.inner.Failures.{is_done as specs_is_done};
+ghost use Rattle.pie_topdown.specs.inner.Frames.{IsCheck, MayStart, IsSite};
+ghost use Rattle.pie_topdown.specs.inner.Turns.{TurnsTo, below, Nearer, room, Spends, StartsOne, Keeps};
+
+use crate::builder::Builder;
+use crate::hand::{Check, Hand, Turn};
+use crate::stands::write_stands;
+use pie_base::{OutOfMemory, Path};
+use pie_code::Checked;
+use pie_files::{Files, FilesError};
+use pie_graph::TaskNo;
+use pie_record::{Outcome, TaskRecord};
+use pie_running::RunningTask;
+use pie_vm::Runs;
+use std::alloc::Global;
+
+impl<'a> Builder<'a> {
+    /// An entered task begins: with the check of its old record, if it has one whose function stayed the same and whose writes are there, or else it
+    /// runs.
+    #[tactic(auto, using(pie_files::proofs::Reading::reads))]
+    pub(crate) fn begin<F: Files>(
+        &mut self,
+        no: TaskNo,
+        code: &'a Checked,
+        files: &mut F,
+        runs: &mut Runs,
+    ) -> Result<Turn<'a>, FilesError>
+        requires site { IsSite self.old }
+        requires starts { MayStart self.old.ledger no.0 code.now.params }
+        ensures turns { IfOk result (TurnsTo self.new) }
+        ensures nearer { IfOk result (Nearer (below self.old + 3000006) self.new) }
+        ensures spends { IfOk result (Spends (room self.old + 1) runs.old runs.new self.new) }
+        ensures starts { StartsOne runs.old runs.new }
+        ensures few { length runs.new ≤ length runs.old + (room self.old + 1) }
+        ensures kept { OnOk result (Keeps self.old self.new) }
+        ensures reads { ReadsOnly F.holds F.moment F.left_since F.images F.faults files.old files.new result }
+    {
+        match self.old_record(no)? {
+            Some(rec) => self.begin_with(no, code, rec, files, runs),
+            None => Ok(self.start(no, code, runs)?),
+        }
+    }
+
+    // The record that an entered task had, if its function stayed the same.
+    #[tactic(auto, using(crate::proofs::Naming::named_encodable, crate::proofs::Naming::kept_storable))]
+    fn old_record(&self, no: TaskNo) -> Result<Option<Box<TaskRecord>>, OutOfMemory>
+        requires site { IsSite self.now }
+        requires number { no.0 < length self.now.ledger.tables.names }
+        ensures { IfOk result (λ found. IfSome found (λ rec. IsStorable rec.value × (slice_get self.now.ledger.tables.names no.0 ≡ Some rec.value.task))) }
+    {
+        let _names = self.ledger.tables.names.as_slice();
+        let task = self.ledger.tables.names.task(no);
+        let Some(old) = self.plan.earlier.names.number(task)? else {
+            return Ok(None);
+        };
+        if !flag_of(self.plan.same.as_slice(), old) {
+            return Ok(None);
+        }
+        match self.plan.earlier.records.get(old) {
+            Some(rec) => {
+                let found = copy_done(self.alloc, rec)?;
+                Ok(found)
+            }
+            None => Ok(None),
+        }
+    }
+
+    // The same with an old record.
+    #[tactic(auto, using(pie_files::proofs::Reading::reads, crate::proofs::Twice::reads_then))]
+    fn begin_with<F: Files>(
+        &mut self,
+        no: TaskNo,
+        code: &'a Checked,
+        rec: Box<TaskRecord>,
+        files: &mut F,
+        runs: &mut Runs,
+    ) -> Result<Turn<'a>, FilesError>
+        requires site { IsSite self.old }
+        requires starts { MayStart self.old.ledger no.0 code.now.params }
+        requires storable { IsStorable rec.value }
+        requires named { slice_get self.old.ledger.tables.names no.0 ≡ Some rec.value.task }
+        ensures turns { IfOk result (TurnsTo self.new) }
+        ensures nearer { IfOk result (Nearer (below self.old + 3000006) self.new) }
+        ensures spends { IfOk result (Spends (room self.old + 1) runs.old runs.new self.new) }
+        ensures starts { StartsOne runs.old runs.new }
+        ensures few { length runs.new ≤ length runs.old + (room self.old + 1) }
+        ensures kept { OnOk result (Keeps self.old self.new) }
+        ensures reads { ReadsOnly F.holds F.moment F.left_since F.images F.faults files.old files.new result }
+    {
+        if !self.writes_stand(rec.writes.as_slice(), files)? {
+            return Ok(self.start(no, code, runs)?);
+        }
+        let check = self.check_of(no, code, rec)?;
+        Ok(Turn::Goes(Hand::Checks(check)))
+    }
+
+    // The check of a record from its first observation on.
+    fn check_of(
+        &self,
+        no: TaskNo,
+        code: &'a Checked,
+        rec: Box<TaskRecord>,
+    ) -> Result<Box<Check<'a>>, OutOfMemory>
+        requires starts { MayStart self.now.ledger no.0 code.now.params }
+        requires storable { IsStorable rec.value }
+        requires named { slice_get self.now.ledger.tables.names no.0 ≡ Some rec.value.task }
+        ensures check { IfOk result (λ c. IsCheck self.now.ledger c.value) }
+        ensures first { IfOk result (λ c. c.value.at ≡ 0) }
+    {
+        let check = Check {
+            no,
+            code,
+            rec: Box::into_inner(rec),
+            at: 0,
+            required: Vec::new(self.alloc),
+        };
+        let check = Box::new(self.alloc, check)?;
+        Ok(check)
+    }
+
+    // Whether what was written is there.
+    #[tactic(auto, using(pie_files::proofs::Reading::reads))]
+    fn writes_stand<F: Files>(
+        &mut self,
+        writes: &[(Path, [u8; 32])],
+        files: &mut F,
+    ) -> Result<bool, FilesError>
+        ensures same { self.new ≡ record self.old { named = self.new.named } }
+        ensures reads { ReadsOnly F.holds F.moment F.left_since F.images F.faults files.old files.new result }
+    {
+        for write in writes {
+            if !write_stands(&mut self.named, write, files)? {
+                return Ok(false);
+            }
+        }
+        Ok(true)
+    }
+
+    /// An entered task starts to run.
+    #[tactic(auto, using(crate::proofs::Naming::named_encodable, crate::proofs::Starting::started_stands))]
+    pub(crate) fn start(
+        &mut self,
+        no: TaskNo,
+        code: &'a Checked,
+        runs: &mut Runs,
+    ) -> Result<Turn<'a>, OutOfMemory>
+        requires site { IsSite self.old }
+        requires starts { MayStart self.old.ledger no.0 code.now.params }
+        ensures turns { IfOk result (TurnsTo self.new) }
+        ensures nearer { IfOk result (Nearer (below self.old + 2000004) self.new) }
+        ensures spends { IfOk result (Spends (room self.old + 1) runs.old runs.new self.new) }
+        ensures starts { StartsOne runs.old runs.new }
+        ensures few { length runs.new ≤ length runs.old + (room self.old + 1) }
+        ensures kept { OnOk result (Keeps self.old self.new) }
+    {
+        let _names = self.ledger.tables.names.as_slice();
+        let task = RunningTask::start(
+            self.alloc,
+            code,
+            self.ledger.tables.names.task(no),
+            no,
+            runs,
+        )?;
+        self.ledger.runs(no);
+        Ok(Turn::Goes(Hand::Runs(task)))
+    }
+}
+
+// A record, if its task gave an output.
+fn copy_done(alloc: Global, rec: &TaskRecord) -> Result<Option<Box<TaskRecord>>, OutOfMemory>
+    ensures { IfOk result (λ found. IfSome found (λ r. (r.value ≡ rec.now) × (specs_is_done rec.now.outcome ≡ true))) }
+{
+    if !is_done(&rec.outcome) {
+        return Ok(None);
+    }
+    let copy = Box::new(alloc, rec.copy(alloc)?)?;
+    Ok(Some(copy))
+}
+
+fn is_done(outcome: &Outcome) -> bool
+    ensures { result ≡ specs_is_done outcome.now }
+{
+    match outcome {
+        Outcome::Done(_) => true,
+        Outcome::Failed(_) | Outcome::Cycled(_) => false,
+    }
+}
+
+// The flag of a task, false past the last.
+fn flag_of(flags: &[bool], no: TaskNo) -> bool {
+    match flags.get(no.0 as usize) {
+        Some(flag) => *flag,
+        None => false,
+    }
+}

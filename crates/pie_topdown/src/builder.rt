@@ -1,0 +1,71 @@
+//! A build between two steps, and its steps.
+ghost use Rattle.std.specs.Prelude.{◌≤◌, ◌+◌, length, IfOk, OnOk};
+ghost use Rattle.pie_files.specs.Reading.{ReadsOnly};
+ghost use Rattle.pie_topdown.specs.inner.Frames.{IsSite};
+ghost use Rattle.pie_topdown.specs.inner.Turns.{Stands, TurnsTo, hand_mass, below, Nearer, hand_room, room, Fits, Spends, StartsOne, Keeps};
+
+use crate::hand::{Frame, Hand, Turn};
+use crate::ledger::Ledger;
+use crate::plan::Plan;
+use pie_base::OutOfMemory;
+use pie_files::{Files, FilesError};
+use pie_named::Named;
+use pie_view::Stage;
+use pie_vm::Runs;
+use std::alloc::Global;
+
+/// A build between two steps. After a call that fails it is of no use.
+#[derive(Drop)]
+pub(crate) struct Builder<'a> {
+    pub(crate) alloc: Global,
+    pub(crate) plan: Plan<'a>,
+    pub(crate) ledger: Ledger,
+    pub(crate) stage: Stage,
+    /// What was asked of the files.
+    pub(crate) named: Named,
+    /// What waits, each for the one above it, the last for what is in hand.
+    pub(crate) stack: Vec<Frame<'a>>,
+}
+
+impl<'a> Builder<'a> {
+    /// One step: an entered task begins, a record is compared in one place, a task runs up to its next event, or what waits goes on.
+    #[tactic(auto, using(pie_files::proofs::Reading::reads))]
+    pub(crate) fn step<F: Files>(
+        &mut self,
+        hand: Hand<'a>,
+        files: &mut F,
+        runs: &mut Runs,
+    ) -> Result<Turn<'a>, FilesError>
+        requires { Stands self.old hand }
+        ensures turns { IfOk result (TurnsTo self.new) }
+        ensures nearer { IfOk result (Nearer (below self.old + hand_mass hand.entry) self.new) }
+        ensures spends { IfOk result (Spends (room self.old + hand_room hand.entry) runs.old runs.new self.new) }
+        ensures starts { StartsOne runs.old runs.new }
+        ensures few { length runs.new ≤ length runs.old + (room self.old + hand_room hand.entry) }
+        ensures kept { OnOk result (Keeps self.old self.new) }
+        ensures reads { ReadsOnly F.holds F.moment F.left_since F.images F.faults files.old files.new result }
+    {
+        match hand {
+            Hand::Enters(no, code) => self.begin(no, code, files, runs),
+            Hand::Checks(check) => self.check(check, files, runs),
+            Hand::Runs(task) => self.event(task, files),
+            Hand::Ended => Ok(self.resume()?),
+        }
+    }
+
+    // What waits for a task that has ended goes on.
+    #[tactic(auto, using(crate::proofs::Stacking::popped_site, crate::proofs::Stacking::popped_frame, crate::proofs::Stacking::popped_mass, crate::proofs::Stacking::popped_room, crate::proofs::Stacking::same_keeps))]
+    fn resume(&mut self) -> Result<Turn<'a>, OutOfMemory>
+        requires { IsSite self.old }
+        ensures turns { IfOk result (TurnsTo self.new) }
+        ensures nearer { IfOk result (Nearer (below self.old) self.new) }
+        ensures fits { IfOk result (Fits (room self.old) self.new) }
+        ensures kept { OnOk result (Keeps self.old self.new) }
+    {
+        match self.stack.pop() {
+            Some(Frame::Checks(check)) => Ok(Turn::Goes(Hand::Checks(check))),
+            Some(Frame::Waits(caller)) => self.answer_again(caller),
+            None => Ok(Turn::Rests),
+        }
+    }
+}

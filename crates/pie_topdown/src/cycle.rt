@@ -1,0 +1,38 @@
+//! Cycles of tasks on the stack.
+
+use crate::builder::Builder;
+use crate::hand::Frame;
+use pie_base::OutOfMemory;
+use pie_graph::TaskNo;
+use pie_value::{Task, Tasks};
+
+impl<'a> Builder<'a> {
+    /// The tasks on the stack from the one with this number on, and the one above them. Tasks are numbered as they are entered, so those that stand
+    /// above a task have greater numbers.
+    pub(crate) fn cycle(&self, from: TaskNo, top: &Task) -> Result<Tasks, OutOfMemory> {
+        let mut tasks = Vec::new(self.alloc);
+        for frame in &self.stack {
+            note(&mut tasks, frame, from)?;
+        }
+        tasks.push(top.copy()?)?;
+        Ok(Tasks::new(tasks))
+    }
+}
+
+// The task of a frame is in the cycle where it has this number or a greater one.
+fn note(tasks: &mut Vec<Task>, frame: &Frame, from: TaskNo) -> Result<(), OutOfMemory> {
+    match frame {
+        Frame::Checks(check) => put(tasks, check.no, &check.rec.task, from),
+        Frame::Waits(caller) => {
+            let notes = &caller.waiting.notes;
+            put(tasks, notes.no(), notes.task(), from)
+        }
+    }
+}
+
+fn put(tasks: &mut Vec<Task>, no: TaskNo, task: &Task, from: TaskNo) -> Result<(), OutOfMemory> {
+    if no.0 >= from.0 {
+        tasks.push(task.copy()?)?;
+    }
+    Ok(())
+}

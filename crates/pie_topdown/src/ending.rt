@@ -1,0 +1,107 @@
+//! Tasks that end.
+ghost use Rattle.std.specs.Prelude.{◌≡◌, ◌<◌, ◌+◌, length, IfOk, OnOk};
+ghost use Rattle.pie_running.specs.inner.Noted.{IsSound};
+ghost use Rattle.pie_tables.specs.Tabled.{HasFailed};
+ghost use Rattle.pie_value.specs.Canonical.{IsEncodable};
+ghost use Rattle.pie_value.specs.Values.{tree_of};
+ghost use Rattle.pie_topdown.specs.inner.Frames.{IsNoted, IsSite};
+ghost use Rattle.pie_topdown.specs.inner.Turns.{TurnsTo, below, Nearer, room, Fits, Keeps};
+
+use crate::builder::Builder;
+use crate::hand::{Hand, Turn};
+use pie_base::{FaultKind, OutOfMemory};
+use pie_graph::TaskNo;
+use pie_record::{Deps, Outcome, TaskRecord, Writes};
+use pie_running::{NoteParts, Notes};
+use pie_value::{Fault, Value};
+
+impl<'a> Builder<'a> {
+    /// The task that runs is done with this output.
+    pub(crate) fn done(
+        &mut self,
+        no: TaskNo,
+        notes: Notes,
+        output: Value,
+    ) -> Result<Turn<'a>, OutOfMemory>
+        requires site { IsSite self.old }
+        requires sound { IsSound notes }
+        requires noted { IsNoted self.old.ledger notes }
+        requires number { no.0 ≡ notes.number }
+        ensures turns { IfOk result (TurnsTo self.new) }
+        ensures nearer { IfOk result (Nearer (below self.old + 1) self.new) }
+        ensures fits { IfOk result (Fits (room self.old) self.new) }
+        ensures kept { OnOk result (Keeps self.old self.new) }
+    {
+        if !output.is_small() {
+            return self.fail(no, FaultKind::Big);
+        }
+        self.done_small(no, notes, output)
+    }
+
+    // The same with an output within the limits.
+    #[tactic(auto, using(crate::proofs::Ending::done_storable, crate::proofs::Ending::done_needs, crate::proofs::Stacking::grown_site))]
+    fn done_small(
+        &mut self,
+        no: TaskNo,
+        notes: Notes,
+        output: Value,
+    ) -> Result<Turn<'a>, OutOfMemory>
+        requires site { IsSite self.old }
+        requires sound { IsSound notes }
+        requires noted { IsNoted self.old.ledger notes }
+        requires number { no.0 ≡ notes.number }
+        requires output { IsEncodable (tree_of output) }
+        ensures turns { IfOk result (TurnsTo self.new) }
+        ensures nearer { IfOk result (Nearer (below self.old + 1) self.new) }
+        ensures fits { IfOk result (Fits (room self.old) self.new) }
+        ensures kept { OnOk result (Keeps self.old self.new) }
+    {
+        let NoteParts {
+            task,
+            deps,
+            writes,
+            needs,
+            ..
+        } = notes.into_parts();
+        let rec = TaskRecord {
+            task,
+            deps: Deps::new(deps),
+            writes: Writes::new(writes),
+            outcome: Outcome::Done(output),
+        };
+        self.ledger.end(no, rec, needs)?;
+        Ok(Turn::Goes(Hand::Ended))
+    }
+
+    /// The task that runs fails in this way.
+    pub(crate) fn fail(&mut self, no: TaskNo, kind: FaultKind) -> Result<Turn<'a>, OutOfMemory>
+        requires site { IsSite self.old }
+        requires number { no.0 < length self.old.ledger.tables.names }
+        ensures turns { IfOk result (TurnsTo self.new) }
+        ensures nearer { IfOk result (Nearer (below self.old + 1) self.new) }
+        ensures fits { IfOk result (Fits (room self.old) self.new) }
+        ensures kept { OnOk result (Keeps self.old self.new) }
+    {
+        let task = self.ledger.tables.names.task(no).copy()?;
+        self.fail_as(no, Outcome::Failed(Fault { task, kind }))
+    }
+
+    /// The task that runs fails as one did that it required, or in a cycle.
+    #[tactic(auto, using(crate::proofs::Stacking::grown_site))]
+    pub(crate) fn fail_as(
+        &mut self,
+        no: TaskNo,
+        outcome: Outcome,
+    ) -> Result<Turn<'a>, OutOfMemory>
+        requires site { IsSite self.old }
+        requires number { no.0 < length self.old.ledger.tables.names }
+        requires failed { HasFailed outcome }
+        ensures turns { IfOk result (TurnsTo self.new) }
+        ensures nearer { IfOk result (Nearer (below self.old + 1) self.new) }
+        ensures fits { IfOk result (Fits (room self.old) self.new) }
+        ensures kept { OnOk result (Keeps self.old self.new) }
+    {
+        self.ledger.fail(no, outcome)?;
+        Ok(Turn::Goes(Hand::Ended))
+    }
+}

@@ -1,0 +1,222 @@
+//! The tasks that were entered, by their numbers.
+ghost use Rattle.std.specs.List.{Contains};
+ghost use Rattle.std.specs.Option.{option_map};
+ghost use Rattle.std.specs.Prelude.{◌≡◌, ◌<◌, ◌++◌, ◌∷◌, [], length, map, All, Some, None, false, slice_get, slice_set, IfOk, IfSome, OnOk};
+ghost use Rattle.pie_graph.specs.Numbers.{numbers};
+ghost use Rattle.pie_old.specs.inner.Rows.{paths_in, tasks_at};
+ghost use Rattle.pie_record.specs.Canonical.{IsStorable};
+ghost use Rattle.pie_record.specs.inner.Records.{record_of};
+ghost use Rattle.pie_store.specs.Canonical.{needs as needs_by};
+ghost use Rattle.pie_tables.specs.Tabled.{HasFailed, IsGiven};
+ghost use Rattle.pie_value.specs.Canonical.{IsEncodableTask};
+ghost use Rattle.pie_topdown.specs.inner.Ledgers.{HasOutput, row_with, IsLedger, Grows};
+
+use pie_base::{MAX_TASKS, OutOfMemory, Path};
+use pie_graph::{Edges, IndexedRows, TaskNo, TaskRows};
+use pie_record::{Deps, Outcome, Records, TaskNames, TaskRecord, Writes};
+use pie_tables::Tables;
+use pie_value::Task;
+use std::alloc::Global;
+
+/// The tasks that were entered, with the records of those that have ended. A call that runs out of memory leaves them of no use.
+#[derive(Drop)]
+pub(crate) struct Ledger {
+    pub(crate) alloc: Global,
+    pub(crate) tables: Tables,
+    /// What each task that is done requires and wrote.
+    pub(crate) rows: IndexedRows,
+    /// At which place of the order each task ended.
+    pub(crate) places: Vec<usize>,
+    /// The tasks that have ended, in order.
+    pub(crate) order: Vec<TaskNo>,
+}
+
+impl Ledger {
+    /// No task was entered.
+    #[tactic(auto, using(crate::proofs::Keeping::none_ledger))]
+    pub(crate) fn new(alloc: Global) -> Result<Ledger, OutOfMemory>
+        ensures ledger { IfOk result IsLedger }
+        ensures none { IfOk result (λ l. l.tables.names ≡ []) }
+    {
+        let tables = Tables::new(alloc, TaskNames::new(alloc), Records::new(alloc))?;
+        Ok(Ledger {
+            alloc,
+            tables,
+            rows: IndexedRows::new(alloc),
+            places: Vec::new(alloc),
+            order: Vec::new(alloc),
+        })
+    }
+
+    /// A task is entered, and gets the next number.
+    #[tactic(auto, using(crate::proofs::Keeping::added_ledger, crate::proofs::Keeping::added_grows))]
+    pub(crate) fn add(&mut self, task: Task) -> Result<TaskNo, OutOfMemory>
+        requires ledger { IsLedger self.old }
+        requires encodable { IsEncodableTask task }
+        requires absent { ¬ (Contains self.old.tables.names task) }
+        requires few { length self.old.tables.names < MAX_TASKS }
+        ensures ledger { OnOk result (IsLedger self.new) }
+        ensures grows { OnOk result (Grows self.old self.new) }
+        ensures names { OnOk result (self.new.tables.names ≡ self.old.tables.names ++ task ∷ []) }
+        ensures number { IfOk result (λ no. no.0 ≡ length self.old.tables.names) }
+    {
+        let _no = self.rows.add()?;
+        self.places.push(0)?;
+        let no = self.tables.add(task)?;
+        Ok(no)
+    }
+
+    /// How a task ended, if it has.
+    pub(crate) fn outcome(&self, no: TaskNo) -> Result<Option<Outcome>, OutOfMemory>
+        requires { IsLedger self.now }
+        ensures outcome { IfOk result (λ o. o ≡ option_map (λ r. r.outcome) (record_of self.now.tables.records no.0)) }
+        ensures given { IfOk result (λ o. IfSome o IsGiven) }
+    {
+        self.tables.outcome(no)
+    }
+
+    /// A task starts to run.
+    #[tactic(auto, using(crate::proofs::Keeping::ran_ledger))]
+    pub(crate) fn runs(&mut self, no: TaskNo)
+        requires ledger { IsLedger self.old }
+        requires number { no.0 < length self.old.tables.names }
+        ensures ledger { IsLedger self.new }
+        ensures names { self.new.tables.names ≡ self.old.tables.names }
+        ensures grows { Grows self.old self.new }
+    {
+        self.tables.runs(no);
+    }
+
+    /// A task ends with this record, which requires the tasks of these numbers. One that has ended stays as it is.
+    pub(crate) fn end(
+        &mut self,
+        no: TaskNo,
+        rec: TaskRecord,
+        needs: Vec<TaskNo>,
+    ) -> Result<(), OutOfMemory>
+        requires ledger { IsLedger self.old }
+        requires named { slice_get self.old.tables.names no.0 ≡ Some rec.task }
+        requires storable { IsStorable rec }
+        requires needs { tasks_at self.old.tables.names (numbers needs.items) ≡ map Some (needs_by rec) }
+        requires ended { All (HasOutput self.old.tables.records) (numbers needs.items) }
+        ensures ledger { OnOk result (IsLedger self.new) }
+        ensures grows { OnOk result (Grows self.old self.new) }
+        ensures names { OnOk result (self.new.tables.names ≡ self.old.tables.names) }
+    {
+        if self.has_ended(no) {
+            return Ok(());
+        }
+        self.end_first(no, rec, needs)
+    }
+
+    fn has_ended(&self, no: TaskNo) -> bool
+        ensures { result ≡ false → record_of self.now.tables.records no.0 ≡ None }
+    {
+        self.tables.records.get(no).is_some()
+    }
+
+    // The same of a task that hasn't ended.
+    #[tactic(auto, using(crate::proofs::Keeping::needs_inside))]
+    fn end_first(
+        &mut self,
+        no: TaskNo,
+        rec: TaskRecord,
+        needs: Vec<TaskNo>,
+    ) -> Result<(), OutOfMemory>
+        requires ledger { IsLedger self.old }
+        requires open { record_of self.old.tables.records no.0 ≡ None }
+        requires named { slice_get self.old.tables.names no.0 ≡ Some rec.task }
+        requires storable { IsStorable rec }
+        requires needs { tasks_at self.old.tables.names (numbers needs.items) ≡ map Some (needs_by rec) }
+        requires ended { All (HasOutput self.old.tables.records) (numbers needs.items) }
+        ensures ledger { OnOk result (IsLedger self.new) }
+        ensures grows { OnOk result (Grows self.old self.new) }
+        ensures names { OnOk result (self.new.tables.names ≡ self.old.tables.names) }
+    {
+        self.set_row(no, needs, rec.writes.as_slice())?;
+        self.places[no.0 as usize] = self.order.len();
+        self.order.push(no)?;
+        self.tables.put(no, rec)?;
+        Ok(())
+    }
+
+    // The row of a task that requires these and wrote there.
+    fn set_row(
+        &mut self,
+        no: TaskNo,
+        needs: Vec<TaskNo>,
+        writes: &[(Path, [u8; 32])],
+    ) -> Result<(), OutOfMemory>
+        requires number { no.0 < length self.old.rows }
+        requires needs { All (λ n. n < length self.old.rows) (numbers needs.items) }
+        ensures set { OnOk result (self.new.rows ≡ slice_set self.old.rows no.0 (row_with (numbers needs.items) (paths_in writes.now))) }
+        ensures tables { self.new.tables ≡ self.old.tables }
+        ensures places { self.new.places ≡ self.old.places }
+        ensures order { self.new.order ≡ self.old.order }
+    {
+        let edges = Edges {
+            needs,
+            reads: Vec::new(self.alloc),
+            lists: Vec::new(self.alloc),
+            writes: paths_of(self.alloc, writes)?,
+        };
+        self.rows.set_edges(no, edges)?;
+        Ok(())
+    }
+
+    /// A task fails. One that has ended stays as it is.
+    pub(crate) fn fail(&mut self, no: TaskNo, outcome: Outcome) -> Result<(), OutOfMemory>
+        requires ledger { IsLedger self.old }
+        requires number { no.0 < length self.old.tables.names }
+        requires failed { HasFailed outcome }
+        ensures ledger { OnOk result (IsLedger self.new) }
+        ensures grows { OnOk result (Grows self.old self.new) }
+        ensures names { OnOk result (self.new.tables.names ≡ self.old.tables.names) }
+    {
+        if self.has_ended(no) {
+            return Ok(());
+        }
+        self.fail_first(no, outcome)
+    }
+
+    // The same of a task that hasn't ended.
+    #[tactic(auto, using(crate::proofs::Keeping::failed_ledger, crate::proofs::Keeping::failed_grows))]
+    fn fail_first(&mut self, no: TaskNo, outcome: Outcome) -> Result<(), OutOfMemory>
+        requires ledger { IsLedger self.old }
+        requires open { record_of self.old.tables.records no.0 ≡ None }
+        requires number { no.0 < length self.old.tables.names }
+        requires failed { HasFailed outcome }
+        ensures ledger { OnOk result (IsLedger self.new) }
+        ensures grows { OnOk result (Grows self.old self.new) }
+        ensures names { OnOk result (self.new.tables.names ≡ self.old.tables.names) }
+    {
+        let rec = failed_record(self.alloc, self.tables.names.task(no), outcome)?;
+        self.tables.put(no, rec)?;
+        Ok(())
+    }
+}
+
+// The record of a task that failed. It tells nothing but how, since nobody checks it or keeps it.
+fn failed_record(alloc: Global, task: &Task, outcome: Outcome) -> Result<TaskRecord, OutOfMemory>
+    ensures task { IfOk result (λ rec. rec.task ≡ task.now) }
+    ensures outcome { IfOk result (λ rec. rec.outcome ≡ outcome) }
+{
+    let task = task.copy()?;
+    Ok(TaskRecord {
+        task,
+        deps: Deps::new(Vec::new(alloc)),
+        writes: Writes::new(Vec::new(alloc)),
+        outcome,
+    })
+}
+
+// The paths of writes.
+fn paths_of(alloc: Global, writes: &[(Path, [u8; 32])]) -> Result<Vec<Path>, OutOfMemory>
+    ensures { IfOk result (λ paths. paths.items ≡ paths_in writes.now) }
+{
+    let mut paths = Vec::with_capacity(alloc, writes.len())?;
+    for (path, _) in writes {
+        paths.push(path.copy()?)?;
+    }
+    Ok(paths)
+}

@@ -1,0 +1,177 @@
+//! Tasks that the task that runs requires.
+ghost use Rattle.std.specs.List.{Contains};
+ghost use Rattle.std.specs.Prelude.{◌≡◌, ◌+◌, ◌*◌, Some, slice_get, IfOk, OnOk};
+ghost use Rattle.pie_running.specs.inner.Frames.{IsWaiting};
+ghost use Rattle.pie_value.specs.Canonical.{IsEncodable};
+ghost use Rattle.pie_value.specs.Values.{tree_of};
+ghost use Rattle.pie_topdown.specs.declared.entering.Entry.TheVariants.{May};
+ghost use Rattle.pie_topdown.specs.inner.Entries.{MayEnter};
+ghost use Rattle.pie_topdown.specs.inner.Frames.{IsNoted, IsCaller, IsSite};
+ghost use Rattle.pie_topdown.specs.inner.Ledgers.{HasOutput};
+ghost use Rattle.pie_topdown.specs.inner.Turns.{TurnsTo, below, Nearer, room, Fits, Keeps};
+
+use crate::builder::Builder;
+use crate::entering::Entry;
+use crate::hand::{Frame, Hand, Turn};
+use pie_base::{FaultKind, OutOfMemory};
+use pie_code::Checked;
+use pie_graph::TaskNo;
+use pie_record::Outcome;
+use pie_running::{Caller, Done, Waiting};
+use pie_value::{Fault, How, Task, Value};
+
+impl<'a> Builder<'a> {
+    /// A task is required: it is answered from how it ended, or is entered and settled first.
+    pub(crate) fn require(
+        &mut self,
+        no: TaskNo,
+        waiting: Waiting<'a>,
+        required: Task,
+        how: How,
+    ) -> Result<Turn<'a>, OutOfMemory>
+        requires site { IsSite self.old }
+        requires waits { IsWaiting waiting }
+        requires noted { IsNoted self.old.ledger waiting.notes }
+        requires number { no.0 ≡ waiting.notes.number }
+        ensures turns { IfOk result (TurnsTo self.new) }
+        ensures nearer { IfOk result (Nearer (below self.old + (2 * waiting.entry.notes.left + 1)) self.new) }
+        ensures fits { IfOk result (Fits (room self.old) self.new) }
+        ensures kept { OnOk result (Keeps self.old self.new) }
+    {
+        if !required.is_small() {
+            return self.fail(no, FaultKind::Big);
+        }
+        let caller = Caller {
+            waiting,
+            required,
+            how,
+        };
+        match self.ledger.tables.names.number(&caller.required)? {
+            Some(callee) => self.answer(caller, callee),
+            None => self.descend_from(caller),
+        }
+    }
+
+    /// The task that a caller waited for has ended.
+    pub(crate) fn answer_again(&mut self, caller: Caller<'a>) -> Result<Turn<'a>, OutOfMemory>
+        requires site { IsSite self.old }
+        requires caller { IsCaller self.old.ledger caller }
+        ensures turns { IfOk result (TurnsTo self.new) }
+        ensures nearer { IfOk result (Nearer (below self.old + (2 * caller.entry.waiting.notes.left + 1)) self.new) }
+        ensures fits { IfOk result (Fits (room self.old) self.new) }
+        ensures kept { OnOk result (Keeps self.old self.new) }
+    {
+        match self.ledger.tables.names.number(&caller.required)? {
+            Some(callee) => self.answer(caller, callee),
+            None => self.fail_as_unknown(caller),
+        }
+    }
+
+    // An entered task is required. Where it hasn't ended, it stands on the stack.
+    fn answer(&mut self, caller: Caller<'a>, callee: TaskNo) -> Result<Turn<'a>, OutOfMemory>
+        requires site { IsSite self.old }
+        requires caller { IsCaller self.old.ledger caller }
+        requires named { slice_get self.old.ledger.tables.names callee.0 ≡ Some caller.required }
+        ensures turns { IfOk result (TurnsTo self.new) }
+        ensures nearer { IfOk result (Nearer (below self.old + (2 * caller.entry.waiting.notes.left + 1)) self.new) }
+        ensures fits { IfOk result (Fits (room self.old) self.new) }
+        ensures kept { OnOk result (Keeps self.old self.new) }
+    {
+        let no = caller.waiting.notes.no();
+        match self.ledger.outcome(callee)? {
+            Some(Outcome::Done(output)) => self.give(caller, callee, output),
+            Some(failed) => self.fail_as(no, failed),
+            None => {
+                let tasks = self.cycle(callee, caller.waiting.notes.task())?;
+                self.fail_as(no, Outcome::Cycled(tasks))
+            }
+        }
+    }
+
+    // The task goes on with the output of the one that it required.
+    fn give(
+        &self,
+        caller: Caller<'a>,
+        callee: TaskNo,
+        output: Value,
+    ) -> Result<Turn<'a>, OutOfMemory>
+        requires site { IsSite self.now }
+        requires caller { IsCaller self.now.ledger caller }
+        requires named { slice_get self.now.ledger.tables.names callee.0 ≡ Some caller.required }
+        requires output { IsEncodable (tree_of output) }
+        requires ended { HasOutput self.now.ledger.tables.records callee.0 }
+        ensures turns { IfOk result (TurnsTo self.now) }
+        ensures nearer { IfOk result (Nearer (below self.now + (2 * caller.entry.waiting.notes.left + 1)) self.now) }
+        ensures fits { IfOk result (Fits (room self.now) self.now) }
+    {
+        let Caller {
+            waiting,
+            required,
+            how,
+        } = caller;
+        let done = Done {
+            no: callee,
+            height: 0,
+            output,
+        };
+        let task = waiting.give(self.alloc, required, how, done)?;
+        Ok(Turn::Goes(Hand::Runs(task)))
+    }
+
+    // A task that wasn't entered is required.
+    fn descend_from(&mut self, caller: Caller<'a>) -> Result<Turn<'a>, OutOfMemory>
+        requires site { IsSite self.old }
+        requires caller { IsCaller self.old.ledger caller }
+        requires absent { ¬ (Contains self.old.ledger.tables.names caller.required) }
+        ensures turns { IfOk result (TurnsTo self.new) }
+        ensures nearer { IfOk result (Nearer (below self.old + (2 * caller.entry.waiting.notes.left + 1)) self.new) }
+        ensures fits { IfOk result (Fits (room self.old) self.new) }
+        ensures kept { OnOk result (Keeps self.old self.new) }
+    {
+        match self.entry(&caller.required) {
+            Entry::May(code) => self.push_caller(caller, code),
+            Entry::Unknown => self.fail_as_unknown(caller),
+            Entry::Full => Ok(Turn::Many),
+        }
+    }
+
+    // The required task is entered, and the caller waits for it.
+    fn push_caller(
+        &mut self,
+        caller: Caller<'a>,
+        code: &'a Checked,
+    ) -> Result<Turn<'a>, OutOfMemory>
+        requires site { IsSite self.old }
+        requires caller { IsCaller self.old.ledger caller }
+        requires absent { ¬ (Contains self.old.ledger.tables.names caller.required) }
+        requires may { MayEnter self.old caller.required (May code) }
+        ensures turns { IfOk result (TurnsTo self.new) }
+        ensures nearer { IfOk result (Nearer (below self.old + (2 * caller.entry.waiting.notes.left + 1)) self.new) }
+        ensures fits { IfOk result (Fits (room self.old) self.new) }
+        ensures kept { OnOk result (Keeps self.old self.new) }
+    {
+        let no = self.enter(caller.required.copy()?, code)?;
+        self.stack.push(Frame::Waits(caller))?;
+        Ok(Turn::Goes(Hand::Enters(no, code)))
+    }
+
+    // The required task is of no function.
+    fn fail_as_unknown(&mut self, caller: Caller<'a>) -> Result<Turn<'a>, OutOfMemory>
+        requires site { IsSite self.old }
+        requires caller { IsCaller self.old.ledger caller }
+        ensures turns { IfOk result (TurnsTo self.new) }
+        ensures nearer { IfOk result (Nearer (below self.old + (2 * caller.entry.waiting.notes.left + 1)) self.new) }
+        ensures fits { IfOk result (Fits (room self.old) self.new) }
+        ensures kept { OnOk result (Keeps self.old self.new) }
+    {
+        let no = caller.waiting.notes.no();
+        let task = caller.required.copy()?;
+        self.fail_as(
+            no,
+            Outcome::Failed(Fault {
+                task,
+                kind: FaultKind::Unknown,
+            }),
+        )
+    }
+}

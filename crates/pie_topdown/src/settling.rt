@@ -1,0 +1,179 @@
+//! The one call: from the roots and the records of the build before to what a build makes.
+ghost use Rattle.std.specs.Prelude.{◌≡◌, ◌≤◌, ◌+◌, length, All, IfOk};
+ghost use Rattle.pie_checks.specs.declared.built.Built.{Built};
+ghost use Rattle.pie_files.specs.Reading.{ReadsOnly};
+ghost use Rattle.pie_record.specs.Canonical.{IsStorable};
+ghost use Rattle.pie_results.specs.inner.Made.{IsEmptyWhereRefused, IsKept};
+ghost use Rattle.pie_store.specs.Canonical.{AreInOrder};
+ghost use Rattle.pie_tables.specs.Tabled.{IsTables};
+ghost use Rattle.pie_value.specs.Canonical.{IsEncodableTask};
+ghost use Rattle.pie_value.specs.declared.verdict.Verdict.TheVariants.{Refused};
+ghost use Rattle.pie_topdown.specs.inner.Ended.{StoredIf};
+ghost use Rattle.pie_topdown.specs.inner.Frames.{IsSite};
+ghost use Rattle.pie_topdown.specs.inner.Roots.{AreSettled, Started};
+ghost use Rattle.pie_topdown.specs.inner.Turns.{room};
+
+use crate::builder::Builder;
+use crate::ledger::Ledger;
+use crate::plan::Plan;
+use pie_base::{MAX_TASKS, OutOfMemory, Text};
+use pie_checks::Built;
+use pie_code::Checked;
+use pie_files::{Files, FilesError};
+use pie_named::Named;
+use pie_old::{Loaded, Old, load, same_code};
+use pie_record::{Records, TaskNames};
+use pie_results::results;
+use pie_store::{Funcs, NoOffers, Rows, StoreImage};
+use pie_tables::Tables;
+use pie_types::Typed;
+use pie_value::{Refusal, Task, Verdict};
+use pie_view::Stage;
+use pie_vm::Runs;
+use std::alloc::Global;
+
+/// Settles the roots in order up to the first that fails, from the records of an earlier build. A record is kept where its function has one of these
+/// digests and what it wrote and observed is there as it was recorded; else its task runs. It changes no file. `Failed` comes only where the count
+/// of faults rose. The tasks that are started are added to the runs. Nothing is offered so far, so nothing is reused.
+/// Rule: docs/BUILDING.md, "A build without a list".
+#[tactic(auto, using(pie_files::proofs::Reading::reads))]
+pub fn topdown<F: Files>(
+    alloc: Global,
+    typed: &Typed,
+    code: &[Checked],
+    digests: &[(Text, [u8; 32])],
+    image: StoreImage,
+    roots: &[Task],
+    _offers: &mut NoOffers,
+    files: &mut F,
+    runs: &mut Runs,
+    reused: &mut Vec<Task>,
+) -> Result<Built, FilesError>
+    requires storable { All IsStorable image.rows }
+    requires order { AreInOrder image.rows }
+    requires roots { All IsEncodableTask roots.now }
+    ensures refused_empty { IfOk result IsEmptyWhereRefused }
+    ensures kept { IfOk result IsKept }
+    ensures stored { IfOk result (λ b. StoredIf b.verdict typed.now roots.now b) }
+    ensures started { Started runs.old runs.new }
+    ensures few { length runs.new ≤ length runs.old + 50000 }
+    ensures reused { reused.new.items ≡ reused.old.items }
+    ensures reads { ReadsOnly F.holds F.moment F.left_since F.images F.faults files.old files.new result }
+{
+    let mut builder = begun(alloc, typed, code, digests, image)?;
+    match builder.settle_all(roots, files, runs)? {
+        Some(refusal) => Ok(refused(alloc, refusal)),
+        None => {
+            let built = builder.built(roots)?;
+            Ok(built)
+        }
+    }
+}
+
+// A build of this pipeline in which nothing was entered.
+fn begun<'a>(
+    alloc: Global,
+    typed: &'a Typed,
+    code: &'a [Checked],
+    digests: &[(Text, [u8; 32])],
+    image: StoreImage,
+) -> Result<Box<Builder<'a>>, OutOfMemory>
+    requires storable { All IsStorable image.rows }
+    requires order { AreInOrder image.rows }
+    ensures site { IfOk result (λ b. IsSite b.value) }
+    ensures room { IfOk result (λ b. room b.value ≤ MAX_TASKS) }
+    ensures typed { IfOk result (λ b. b.value.plan.typed.now ≡ typed.now) }
+{
+    let StoreImage { funcs, rows, .. } = image;
+    let plan = plan_of(alloc, typed, code, digests, funcs, rows)?;
+    let ledger = Ledger::new(alloc)?;
+    let builder = Builder {
+        alloc,
+        plan,
+        ledger,
+        stage: Stage::new(alloc),
+        named: Named::new(alloc),
+        stack: Vec::new(alloc),
+    };
+    let builder = Box::new(alloc, builder)?;
+    Ok(builder)
+}
+
+// What a build is of.
+fn plan_of<'a>(
+    alloc: Global,
+    typed: &'a Typed,
+    code: &'a [Checked],
+    digests: &[(Text, [u8; 32])],
+    funcs: Funcs,
+    rows: Rows,
+) -> Result<Plan<'a>, OutOfMemory>
+    requires storable { All IsStorable rows }
+    requires order { AreInOrder rows }
+    ensures earlier { IfOk result (λ p. IsTables p.earlier) }
+    ensures typed { IfOk result (λ p. p.typed.now ≡ typed.now) }
+{
+    let earlier = earlier_of(alloc, rows)?;
+    let same = same_code(alloc, earlier.names.as_slice(), funcs.as_slice(), digests)?;
+    Ok(Plan {
+        typed,
+        code,
+        earlier,
+        same,
+    })
+}
+
+// The tasks of the build before with their records. Where there are more than a build may have, as no build leaves them, they count as none.
+fn earlier_of(alloc: Global, rows: Rows) -> Result<Tables, OutOfMemory>
+    requires storable { All IsStorable rows }
+    requires order { AreInOrder rows }
+    ensures { IfOk result IsTables }
+{
+    match load(alloc, rows)? {
+        Loaded::Whole(old) => {
+            let Old { tables, .. } = old;
+            Ok(tables)
+        }
+        Loaded::Many(_) => {
+            let tables = Tables::new(alloc, TaskNames::new(alloc), Records::new(alloc))?;
+            Ok(tables)
+        }
+    }
+}
+
+impl<'a> Builder<'a> {
+    // What is made where all roots have outputs.
+    #[tactic(auto, using(crate::proofs::Making::ledger_acyclic, crate::proofs::Making::made_stored))]
+    fn built(&self, roots: &[Task]) -> Result<Built, OutOfMemory>
+        requires site { IsSite self.now }
+        requires roots { All IsEncodableTask roots.now }
+        requires settled { AreSettled self.now.ledger roots.now }
+        ensures refused_empty { IfOk result IsEmptyWhereRefused }
+        ensures kept { IfOk result IsKept }
+        ensures stored { IfOk result (λ b. StoredIf b.verdict self.now.plan.typed.now roots.now b) }
+    {
+        let _names = self.ledger.tables.names.as_slice();
+        let built = results(
+            self.alloc,
+            &self.ledger.tables,
+            &self.ledger.rows,
+            &self.stage,
+            roots,
+        )?;
+        Ok(built)
+    }
+}
+
+// A refused build makes nothing.
+fn refused(alloc: Global, refusal: Refusal) -> Built
+    ensures verdict { result.verdict ≡ Refused refusal }
+    ensures refused_empty { IsEmptyWhereRefused result }
+    ensures kept { IsKept result }
+{
+    Built {
+        verdict: Verdict::Refused(refusal),
+        rows: Vec::new(alloc),
+        files: Vec::new(alloc),
+        outputs: Vec::new(alloc),
+    }
+}

@@ -1,0 +1,205 @@
+//! An accepted build put into place.
+ghost use Rattle.std.specs.Prelude.{◌≡◌, true, IfOk};
+ghost use Rattle.pie_build.specs.Left.{KeepsRest};
+ghost use Rattle.pie_build.specs.Stored.{MayStand};
+ghost use Rattle.pie_commit.specs.inner.Plans.{is_sound};
+ghost use Rattle.pie_files.specs.Streams.{Counted};
+ghost use Rattle.pie_incremental.specs.inner.Joined.{ChangesOut, IsDrafted};
+ghost use Rattle.pie_results.specs.inner.Files.{InPathOrder};
+ghost use Rattle.pie_value.specs.declared.verdict.Verdict.TheVariants as verdicts;
+
+use crate::held::{held_under_out, is_pending};
+use pie_base::{OutOfMemory, Path, Text};
+use pie_build::{accepted, copies, copies_of_tasks, paths_of};
+use pie_commit::Plan;
+use pie_diff::Held;
+use pie_files::{Files, FilesError};
+use pie_incremental::{OwnFiles, changes_plan, commit_plan};
+use pie_project::Project;
+use pie_record::TaskRecord;
+use pie_report::Report;
+use pie_store::{Funcs, Rows, StoreImage, encode_store};
+use pie_value::{Task, Tasks, Value};
+use std::alloc::Global;
+
+/// What an accepted build has made.
+#[derive(Drop)]
+pub(crate) struct Made {
+    /// The records of the live tasks in store order.
+    pub(crate) rows: Vec<TaskRecord>,
+    /// The files of those that ran.
+    pub(crate) contents: Vec<(Path, Vec<u8>)>,
+    /// The output of each root.
+    pub(crate) outputs: Vec<(Task, Value)>,
+}
+
+/// Writes and removes what isn't as it was made, and reports it. The plan and the report are made before the first write.
+#[tactic(auto, using(pie_build::proofs::OwnPaths::same_keeps))]
+pub(crate) fn accept<F: Files>(
+    alloc: Global,
+    files: &mut F,
+    project: &Project,
+    store: Vec<u8>,
+    made: Made,
+    ran: Vec<Task>,
+) -> Result<Box<Report>, FilesError>
+    requires rows { MayStand project.now.digests.items project.now.roots.items made.rows.items }
+    requires contents { InPathOrder made.contents.items }
+    ensures rest { KeepsRest (F.holds files.old) (F.holds files.new) }
+    ensures verdict { IfOk result (λ r. r.value.verdict ≡ verdicts.Accepted) }
+    ensures ran { IfOk result (λ r. r.value.ran ≡ ran) }
+    ensures counted { Counted F.faults FilesError.Failed files.old files.new result }
+{
+    let held = held_under_out(alloc, files)?;
+    let own = own_files(alloc, files, store)?;
+    put_into_place(alloc, files, project, &own, &held, made, ran)
+}
+
+// The builder's own files.
+#[tactic(auto, using(pie_files::proofs::Reading::reads))]
+fn own_files<F: Files>(
+    alloc: Global,
+    files: &mut F,
+    store: Vec<u8>,
+) -> Result<OwnFiles, FilesError>
+    ensures reads { ReadsOnly F.holds F.moment F.left_since F.images F.faults files.old files.new result }
+{
+    let pending = is_pending(alloc, files)?;
+    let pending = if pending { Some(Vec::new(alloc)) } else { None };
+    Ok(OwnFiles { store, pending })
+}
+
+// The same with what is held.
+#[tactic(auto, using(pie_build::proofs::OwnPaths::same_keeps))]
+fn put_into_place<F: Files>(
+    alloc: Global,
+    files: &mut F,
+    project: &Project,
+    own: &OwnFiles,
+    held: &Held,
+    made: Made,
+    ran: Vec<Task>,
+) -> Result<Box<Report>, FilesError>
+    requires rows { MayStand project.now.digests.items project.now.roots.items made.rows.items }
+    requires contents { InPathOrder made.contents.items }
+    ensures rest { KeepsRest (F.holds files.old) (F.holds files.new) }
+    ensures verdict { IfOk result (λ r. r.value.verdict ≡ verdicts.Accepted) }
+    ensures ran { IfOk result (λ r. r.value.ran ≡ ran) }
+    ensures counted { Counted F.faults FilesError.Failed files.old files.new result }
+{
+    let Made {
+        rows,
+        contents,
+        outputs,
+    } = made;
+    let live = rows.len();
+    let image = image_of(alloc, project, rows)?;
+    let plan = plan_of(alloc, own, held, &image, contents)?;
+    let report = report_of(alloc, &plan, live, ran, outputs)?;
+    commit_then(files, &plan, report)
+}
+
+// Commits a plan, and then hands the report on.
+#[tactic(auto, using(pie_incremental::proofs::Joining::out_keeps))]
+fn commit_then<F: Files>(
+    files: &mut F,
+    plan: &Plan,
+    report: Box<Report>,
+) -> Result<Box<Report>, FilesError>
+    requires sound { is_sound plan.now ≡ true }
+    requires changes { ChangesOut plan.now }
+    ensures rest { KeepsRest (F.holds files.old) (F.holds files.new) }
+    ensures report { IfOk result (λ r. r ≡ report) }
+    ensures counted { Counted F.faults FilesError.Failed files.old files.new result }
+{
+    match commit_plan(files, plan) {
+        Ok(()) => Ok(report),
+        Err(error) => Err(error),
+    }
+}
+
+// What the store is to say.
+#[tactic(auto, using(pie_incremental::proofs::Storing::drafts))]
+fn image_of(
+    alloc: Global,
+    project: &Project,
+    rows: Vec<TaskRecord>,
+) -> Result<Box<StoreImage>, OutOfMemory>
+    requires { MayStand project.now.digests.items project.now.roots.items rows.items }
+    ensures { IfOk result (λ image. IsDrafted image.value) }
+{
+    let funcs = copies_of_funcs(alloc, project.digests.as_slice())?;
+    let roots = copies_of_tasks(alloc, project.roots.as_slice())?;
+    let image = StoreImage {
+        version: 2,
+        pipeline: None,
+        funcs: Funcs::new(funcs),
+        roots: Tasks::new(roots),
+        rows: Rows::new(rows),
+    };
+    let image = Box::new(alloc, image)?;
+    Ok(image)
+}
+
+// Functions with their digests, in a list of their own.
+fn copies_of_funcs(
+    alloc: Global,
+    digests: &[(Text, [u8; 32])],
+) -> Result<Vec<(Text, [u8; 32])>, OutOfMemory>
+    ensures { IfOk result (λ copied. copied.items ≡ digests.now) }
+{
+    let mut copied = Vec::new(alloc);
+    for (name, digest) in digests {
+        copied.push((name.copy()?, *digest))?;
+    }
+    Ok(copied)
+}
+
+// The plan of an accepted build.
+fn plan_of(
+    alloc: Global,
+    own: &OwnFiles,
+    held: &Held,
+    image: &StoreImage,
+    contents: Vec<(Path, Vec<u8>)>,
+) -> Result<Box<Plan>, OutOfMemory>
+    requires image { IsDrafted image.now }
+    requires contents { InPathOrder contents.items }
+    ensures sound { IfOk result (λ p. is_sound p.value ≡ true) }
+    ensures changes { IfOk result (λ p. ChangesOut p.value) }
+{
+    let text = text_of(alloc, image)?;
+    let plan = changes_plan(alloc, own, held, image.rows.as_slice(), contents, text)?;
+    let plan = Box::new(alloc, plan)?;
+    Ok(plan)
+}
+
+// The text of the store. Where the number of roots has more than 32 bits, it is out of memory.
+#[tactic(auto, using(pie_incremental::proofs::Storing::drafted_storable))]
+fn text_of(alloc: Global, image: &StoreImage) -> Result<Vec<u8>, OutOfMemory>
+    requires { IsDrafted image.now }
+{
+    let roots = image.roots.as_slice();
+    if roots.len() > u32::MAX as usize {
+        return Err(OutOfMemory);
+    }
+    encode_store(alloc, image)
+}
+
+// What is reported of an accepted build.
+fn report_of(
+    alloc: Global,
+    plan: &Plan,
+    live: usize,
+    ran: Vec<Task>,
+    outputs: Vec<(Task, Value)>,
+) -> Result<Box<Report>, OutOfMemory>
+    ensures verdict { IfOk result (λ r. r.value.verdict ≡ verdicts.Accepted) }
+    ensures ran { IfOk result (λ r. r.value.ran ≡ ran) }
+{
+    let wrote = paths_of(alloc, plan.writes.as_slice())?;
+    let removed = copies(alloc, plan.removals.as_slice())?;
+    let report = accepted(live, ran, wrote, removed, outputs)?;
+    let report = Box::new(alloc, report)?;
+    Ok(report)
+}

@@ -1,0 +1,59 @@
+//! What a build without a list begins from.
+ghost use Rattle.pie_files.specs.Reading.{ReadsOnly};
+ghost use Rattle.std.specs.Prelude.{IfOk};
+ghost use Rattle.pie_topdown_build.specs.inner.Bases.{IsWhole};
+
+use pie_base::{OutOfMemory, Path};
+use pie_files::{Files, FilesError};
+use pie_store::{Cause, StoreFault, StoreImage, decode_store};
+use std::alloc::Global;
+
+/// What a build without a list begins from.
+#[derive(Drop)]
+pub(crate) enum Start {
+    /// It starts afresh, for this cause.
+    Afresh(Cause),
+    From(Box<Base>),
+}
+
+/// What the build before left.
+#[derive(Drop)]
+pub(crate) struct Base {
+    /// What the store says.
+    pub(crate) image: StoreImage,
+    /// The bytes of the store.
+    pub(crate) store: Vec<u8>,
+}
+
+/// The cause to start afresh, or what the build before left: a marker, no store, or a store that can't be read, in this order. Pending names aren't
+/// looked at. Rule: docs/BUILDING.md, "A build without a list".
+#[tactic(auto, using(pie_files::proofs::Reading::reads))]
+pub(crate) fn find_base<F: Files>(alloc: Global, files: &mut F) -> Result<Start, FilesError>
+    ensures whole { IfOk result IsWhole }
+    ensures reads { ReadsOnly F.holds F.moment F.left_since F.images F.faults files.old files.new result }
+{
+    let marker = Path::known(alloc, ".pie/open")?;
+    if files.exists(&marker)? {
+        return Ok(Start::Afresh(Cause::Interrupted));
+    }
+    let place = Path::known(alloc, ".pie/store")?;
+    match files.read(&place)? {
+        Some(found) => with_store(alloc, found.bytes),
+        None => Ok(Start::Afresh(Cause::NoStore)),
+    }
+}
+
+// What a build begins from where these are the bytes of the store.
+fn with_store(alloc: Global, store: Vec<u8>) -> Result<Start, FilesError>
+    ensures whole { IfOk result IsWhole }
+    ensures never { result ≡ Err Failed → ⊥ }
+{
+    match decode_store(alloc, store.as_slice()) {
+        Ok(image) => {
+            let base = Box::new(alloc, Base { image, store })?;
+            Ok(Start::From(base))
+        }
+        Err(StoreFault::OutOfMemory) => Err(FilesError::OutOfMemory),
+        Err(fault) => Ok(Start::Afresh(Cause::Damaged(fault))),
+    }
+}

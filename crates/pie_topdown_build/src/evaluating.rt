@@ -1,0 +1,80 @@
+//! The evaluation of the roots from the records of the build before.
+ghost use Rattle.std.specs.Prelude.{◌≡◌, ◌≤◌, ◌+◌, length, All, IfOk};
+ghost use Rattle.pie_digest.specs.Digests.{HasNames};
+ghost use Rattle.pie_files.specs.Reading.{ReadsOnly};
+ghost use Rattle.pie_incremental.specs.inner.Joined.{IsImage, IsMade};
+ghost use Rattle.pie_store.specs.Canonical.{AreFuncs};
+ghost use Rattle.pie_topdown.specs.inner.Roots.{Started};
+ghost use Rattle.pie_value.specs.Canonical.{IsEncodableTask};
+
+use pie_base::OutOfMemory;
+use pie_checks::Built;
+use pie_code::Checked;
+use pie_codegen::compile;
+use pie_files::{Files, FilesError};
+use pie_incremental::put_digests;
+use pie_project::Project;
+use pie_store::{NoOffers, StoreImage};
+use pie_topdown::topdown;
+use pie_vm::Runs;
+use std::alloc::Global;
+
+/// Settles the roots of a project from the records of a store. One of version 1 gets the digests of the functions where it is of this pipeline.
+#[tactic(auto, using(pie_files::proofs::Reading::reads))]
+pub(crate) fn evaluate<F: Files>(
+    alloc: Global,
+    files: &mut F,
+    project: &Project,
+    image: StoreImage,
+    runs: &mut Runs,
+) -> Result<Box<Built>, FilesError>
+    requires image { IsImage image }
+    requires names { HasNames project.now.typed project.now.digests.items }
+    requires funcs { AreFuncs project.now.digests.items }
+    requires roots { All IsEncodableTask project.now.roots.items }
+    ensures made { IfOk result (λ b. IsMade project.now.digests.items project.now.roots.items b.value) }
+    ensures started { Started runs.old runs.new }
+    ensures few { length runs.new ≤ length runs.old + 50000 }
+    ensures reads { ReadsOnly F.holds F.moment F.left_since F.images F.faults files.old files.new result }
+{
+    let mut image = Box::new(alloc, image)?;
+    put_digests(alloc, files, &mut image, project.digests.as_slice())?;
+    let code = compile(alloc, &project.typed)?;
+    settled(alloc, files, project, code.as_slice(), image, runs)
+}
+
+// The same with the code of the functions.
+#[tactic(auto, using(pie_files::proofs::Reading::reads))]
+fn settled<F: Files>(
+    alloc: Global,
+    files: &mut F,
+    project: &Project,
+    code: &[Checked],
+    image: Box<StoreImage>,
+    runs: &mut Runs,
+) -> Result<Box<Built>, FilesError>
+    requires image { IsImage image.value }
+    requires names { HasNames project.now.typed project.now.digests.items }
+    requires funcs { AreFuncs project.now.digests.items }
+    requires roots { All IsEncodableTask project.now.roots.items }
+    ensures made { IfOk result (λ b. IsMade project.now.digests.items project.now.roots.items b.value) }
+    ensures started { Started runs.old runs.new }
+    ensures few { length runs.new ≤ length runs.old + 50000 }
+    ensures reads { ReadsOnly F.holds F.moment F.left_since F.images F.faults files.old files.new result }
+{
+    let mut reused = Vec::new(alloc);
+    let built = topdown(
+        alloc,
+        &project.typed,
+        code,
+        project.digests.as_slice(),
+        Box::into_inner(image),
+        project.roots.as_slice(),
+        &mut NoOffers,
+        files,
+        runs,
+        &mut reused,
+    )?;
+    let built = Box::new(alloc, built)?;
+    Ok(built)
+}

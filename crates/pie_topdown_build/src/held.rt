@@ -1,0 +1,38 @@
+//! What stands under `out/`, and whether names are pending.
+ghost use Rattle.pie_files.specs.Reading.{ReadsOnly};
+
+use pie_base::Path;
+use pie_diff::Held;
+use pie_files::{Files, FilesError};
+use std::alloc::Global;
+
+/// What stands under `out/`: every file is looked at.
+#[tactic(auto, using(pie_files::proofs::Reading::reads))]
+pub(crate) fn held_under_out<F: Files>(alloc: Global, files: &mut F) -> Result<Held, FilesError>
+    ensures reads { ReadsOnly F.holds F.moment F.left_since F.images F.faults files.old files.new result }
+{
+    let out = Path::known(alloc, "out")?;
+    let paths = files.all_under(&out)?;
+    let mut held = Held::new(alloc);
+    look_at(&mut held, paths.as_slice(), files)?;
+    Ok(held)
+}
+
+#[tactic(auto, using(pie_files::proofs::Reading::reads))]
+fn look_at<F: Files>(held: &mut Held, paths: &[Path], files: &mut F) -> Result<(), FilesError>
+    ensures reads { ReadsOnly F.holds F.moment F.left_since F.images F.faults files.old files.new result }
+{
+    for path in paths {
+        held.look(path, files)?;
+    }
+    Ok(())
+}
+
+/// Whether a file of pending names is there.
+#[tactic(auto, using(pie_files::proofs::Reading::reads))]
+pub(crate) fn is_pending<F: Files>(alloc: Global, files: &mut F) -> Result<bool, FilesError>
+    ensures reads { ReadsOnly F.holds F.moment F.left_since F.images F.faults files.old files.new result }
+{
+    let names = Path::known(alloc, ".pie/pending")?;
+    files.exists(&names)
+}
