@@ -18,8 +18,10 @@ use Rattle.pie_words.specs.declared.command.Command.TheVariants as commands
 use Rattle.pie_cli.specs.Listed.{IsListText, IsRead, ListSays, RunsByList, RunsSaying}
 use Rattle.pie_files.proofs.Reading.{none_before}
 use Rattle.pie_cli.specs.declared.listed.ByList.{ByList}
-use Rattle.pie_cli.specs.declared.listed.ByList.TheVariants.{Build, Scan}
-use Rattle.pie_cli.specs.inner.ByList.{ChangesNone}
+use Rattle.pie_cli.specs.declared.listed.ByList.TheVariants.{Auto, Build, Scan}
+use Rattle.pie_auto.proofs.Finding.{outside_same}
+use Rattle.pie_cli.proofs.Rest.{keeps_same}
+use Rattle.pie_cli.specs.inner.ByList.{ChangesNone, KeepsBy}
 use Rattle.pie_cli.specs.Run.{is_answer, input_fault_text, GainsAtMost, GainsPrefix, GainsSome, Shows}
 use Rattle.pie_cli.proofs.Statuses.{answer_is_told, memory_is_no_answer}
 
@@ -121,10 +123,21 @@ module _ {S I : Type 0} (says : List (List ℕ) → Option Directory → Option 
 pub none_changed : {S : Type 0} (holds : S → Option Directory) (moment : S → ℕ) (left_since : S → ℕ → Directory → Type 0) (images : S → Directory → Type 0)
     (which : ByList) (old : S) → ChangesNone holds moment left_since images which old old
 none_changed holds moment left_since images (Build json) old = tt {0}
+none_changed holds moment left_since images Auto old = tt {0}
 none_changed holds moment left_since images Scan old = (refl, none_before holds moment left_since images old)
+
+pub none_kept : (which : ByList) (before after : Option Directory) → after ≡ before → KeepsBy which before after
+none_kept (Build json) before after is = keeps_same before after is
+none_kept Scan before after is = keeps_same before after is
+none_kept Auto before after is = outside_same before after is
 
 -- a command has one flag
 pub at_build_flag : (P : Bool → Type 0) (command : Command) (a b : Bool) → command ≡ commands.Build a → command ≡ commands.Build b → P a → P b
 at_build_flag P command a b first second p =
     let both : commands.Build a ≡ commands.Build b = sym first ∙ second in
+    let same : a ≡ b = cc in subst P same p
+
+pub at_topdown_flag : (P : Bool → Type 0) (command : Command) (a b : Bool) → command ≡ commands.Topdown a → command ≡ commands.Topdown b → P a → P b
+at_topdown_flag P command a b first second p =
+    let both : commands.Topdown a ≡ commands.Topdown b = sym first ∙ second in
     let same : a ≡ b = cc in subst P same p

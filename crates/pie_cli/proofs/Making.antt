@@ -1,5 +1,6 @@
 -- What was printed of a command that says something of what the files held and hold.
-use Rattle.std.proofs.Common.{◌≡◌, Err, ℕ, List, Option, inl, inr, refl, sym, subst}
+use Rattle.std.proofs.Common.{◌≡◌, ◌≤◌, ◌+◌, ◌++◌, Err, ℕ, List, length, Option, inl, inr, refl, sym, ap, subst, ◌∙◌, arith}
+use Rattle.std.proofs.lemmas.List.{length-append}
 use Rattle.pie_base.specs.declared.status.Status.{Status}
 use Rattle.pie_base.specs.declared.status.Status.TheVariants as status
 use Rattle.pie_files.specs.Directory.{Directory}
@@ -10,6 +11,7 @@ use Rattle.pie_project.specs.declared.fault.BuildError.TheVariants as errors
 use Rattle.pie_project.specs.declared.fault.PipelineFault.{PipelineFault}
 use Rattle.pie_project.specs.declared.fault.RootsReason.{RootsReason}
 use Rattle.pie_report.specs.declared.report.Report.{Report}
+use Rattle.pie_value.specs.declared.task.Task.{Task}
 use Rattle.pie_cli.specs.Listed.{RunsSaying}
 use Rattle.pie_cli.specs.Run.{files_fault_text, GainsPrefix, GainsSome, Shows}
 use Rattle.pie_cli.proofs.Statuses.{answer_is_told, fault_is_no_answer, memory_is_no_answer}
@@ -19,6 +21,12 @@ pipeline_refused e fault is = subst (λ x. IsRefusal {A = Report} (Err x)) (sym 
 
 pub roots_refused : (e : BuildError) (reason : RootsReason) → e ≡ errors.Roots reason → IsRefusal {A = Report} (Err e)
 roots_refused e reason is = subst (λ x. IsRefusal {A = Report} (Err x)) (sym is) (tt {0})
+
+-- tasks that were all started in one call
+pub few_of : (n : ℕ) (old new ran : List Task) → new ≡ old ++ ran → length new ≤ length old + n → length ran ≤ n
+few_of n old new ran is few =
+    let a : length new ≡ length old + length ran = ap length is ∙ length-append old ran in
+    omega (arith, a, few)
 
 module _ {S : Type 0} (says : Option Directory → Option Directory → List ℕ → Status → Type 0) (holds : S → Option Directory) (faults : S → ℕ) (old new : S)
   where

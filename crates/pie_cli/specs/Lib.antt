@@ -1,3 +1,4 @@
+pub mod Auto
 pub mod Build
 pub mod Check
 pub mod Demo
@@ -6,4 +7,5 @@ pub mod Listed
 pub mod Replay
 pub mod Run
 pub mod Scan
+pub mod Topdown
 pub mod inner

@@ -14,11 +14,16 @@ IsUsage words = (command : Command) → is_allowed command ≡ true → words �
 -- no command that reads its input has these words
 abbrev pub NeedsNoInput : List (List ℕ) → Type 0
 NeedsNoInput words =
-    ((json : Bool) → (words ≢ words_of (commands.Build json)) × (words ≢ words_of (commands.Replay json))) × (words ≢ words_of commands.Scan)
+    ((json : Bool) → (words ≢ words_of (commands.Build json)) × (words ≢ words_of (commands.Replay json)))
+    × (words ≢ words_of commands.Scan) × (words ≢ words_of commands.Auto)
 
 -- no command that does the steps of a script has these words
 abbrev pub IsNoScript : List (List ℕ) → Type 0
 IsNoScript words = (json : Bool) → words ≢ words_of (commands.Replay json)
+
+-- no command that may change other files than those under `out/` and the builder's own three has these words
+abbrev pub StaysWithin : List (List ℕ) → Type 0
+StaysWithin words = IsNoScript words × (words ≢ words_of commands.Auto)
 
 -- what is printed where a call on the files failed
 abbrev pub files_fault_text : List ℕ

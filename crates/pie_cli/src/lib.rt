@@ -4,6 +4,7 @@
 mod check;
 mod clean;
 mod demo;
+mod finding;
 mod incremental;
 mod listed;
 mod print;

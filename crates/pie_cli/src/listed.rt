@@ -1,10 +1,10 @@
 //! Commands that read a list of paths.
 ghost use Rattle.std.specs.Prelude.{◌≡◌, true, IfOk, string_bytes};
-ghost use Rattle.pie_build.specs.Left.{KeepsRest};
 ghost use Rattle.pie_files.specs.Streams.{Counted};
 ghost use Rattle.pie_cli.specs.Run.{is_answer};
-ghost use Rattle.pie_cli.specs.inner.ByList.{says_of, ChangesNone};
+ghost use Rattle.pie_cli.specs.inner.ByList.{says_of, ChangesNone, KeepsBy};
 
+use crate::finding::auto;
 use crate::incremental::build;
 use crate::scan::scan;
 use crate::told::CommandResult;
@@ -19,6 +19,8 @@ pub(crate) enum ByList {
     Build(bool),
     /// `scan`: sources at or below the paths are scanned.
     Scan,
+    /// `auto`: what scanning them finds is built.
+    Auto,
 }
 
 /// Does what a command asks for with these paths, and tells what came of it.
@@ -31,12 +33,13 @@ pub(crate) fn with_list<F: Files>(
 ) -> Result<CommandResult, FilesError>
     ensures says { IfOk result (λ told. says_of which paths.now (F.holds files.old) (F.holds files.new) (string_bytes told.text) told.status) }
     ensures answer { IfOk result (λ told. is_answer told.status ≡ true) }
-    ensures rest { KeepsRest (F.holds files.old) (F.holds files.new) }
+    ensures rest { KeepsBy which (F.holds files.old) (F.holds files.new) }
     ensures none { ChangesNone F.holds F.moment F.left_since F.images which files.old files.new }
     ensures counted { Counted F.faults FilesError.Failed files.old files.new result }
 {
     match which {
         ByList::Build(json) => build(alloc, files, paths, json),
         ByList::Scan => scan(alloc, files, paths),
+        ByList::Auto => auto(alloc, files, paths),
     }
 }

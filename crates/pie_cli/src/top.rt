@@ -5,16 +5,18 @@ ghost use Rattle.pie_files.specs.Faults.{Rose};
 ghost use Rattle.pie_files.specs.Streams.{StaysInfallible};
 ghost use Rattle.pie_words.specs.Commands.{words_of, texts_of, is_allowed};
 ghost use Rattle.pie_words.specs.declared.command.Command.TheVariants as commands;
+ghost use Rattle.pie_cli.specs.Auto.{RunsAuto};
 ghost use Rattle.pie_cli.specs.Build.{RunsBuild};
 ghost use Rattle.pie_cli.specs.Check.{RunsCheck};
 ghost use Rattle.pie_cli.specs.Demo.{RunsDemo, SaysDemo};
 ghost use Rattle.pie_cli.specs.Fresh.{RunsFresh};
 ghost use Rattle.pie_cli.specs.Replay.{RunsReplay};
 ghost use Rattle.pie_cli.specs.Listed.{RunsByList, RunsSaying};
-ghost use Rattle.pie_cli.specs.Run.{is_answer, is_told, Ends, GainsPrefix, IsNoScript, IsUsage, NeedsNoInput, PrintsUsage, Shows};
+ghost use Rattle.pie_cli.specs.Run.{is_answer, is_told, Ends, GainsPrefix, IsNoScript, IsUsage, NeedsNoInput, PrintsUsage, Shows, StaysWithin};
 ghost use Rattle.pie_cli.specs.Scan.{RunsScan};
-ghost use Rattle.pie_cli.specs.inner.ByList.{says_of, ChangesNone};
-ghost use Rattle.pie_cli.specs.inner.Played.{HasNoInput, HasNoScript, Plays};
+ghost use Rattle.pie_cli.specs.Topdown.{RunsTopdown};
+ghost use Rattle.pie_cli.specs.inner.ByList.{says_of, ChangesNone, KeepsBy};
+ghost use Rattle.pie_cli.specs.inner.Played.{ChangesWithin, HasNoInput, HasNoScript, Plays};
 ghost use Rattle.pie_cli.specs.inner.Unread.{EndsUnread};
 ghost use Rattle.pie_replay.specs.Replays.{KeepsOthers};
 ghost use Rattle.pie_script.specs.Steps.{plain};
@@ -23,6 +25,7 @@ ghost use Rattle.pie_report.specs.Refused.{bad_input_text};
 use crate::check::check;
 use crate::clean::fresh;
 use crate::demo::tell_demo;
+use crate::finding::topdown;
 use crate::incremental::bad_input;
 use crate::listed::{ByList, with_list};
 use crate::print::print_text;
@@ -56,10 +59,14 @@ pub fn run<F: Files, I: Source, K: Sink>(
         → RunsReplay F.holds F.faults I.left I.faults json files.old files.new input.old input.new (K.held out.old) (K.held out.new) result }
     ensures scan { texts_of words.now ≡ words_of commands.Scan
         → RunsScan F.holds F.moment F.left_since F.images F.faults I.left I.faults files.old files.new input.old input.new (K.held out.old) (K.held out.new) result }
+    ensures auto { texts_of words.now ≡ words_of commands.Auto
+        → RunsAuto F.holds F.faults I.left I.faults files.old files.new input.old input.new (K.held out.old) (K.held out.new) result }
+    ensures topdown { (json : Bool) → texts_of words.now ≡ words_of (commands.Topdown json)
+        → RunsTopdown F.holds F.faults json files.old files.new (K.held out.old) (K.held out.new) result }
     ensures demo { (seed size : ℕ) → is_allowed (commands.Demo seed size) ≡ true → texts_of words.now ≡ words_of (commands.Demo seed size)
         → RunsDemo files.old files.new (K.held out.old) (K.held out.new) result }
     ensures usage { IsUsage (texts_of words.now) → PrintsUsage files.old files.new (K.held out.old) (K.held out.new) result }
-    ensures rest { IsNoScript (texts_of words.now) → KeepsRest (F.holds files.old) (F.holds files.new) }
+    ensures rest { StaysWithin (texts_of words.now) → KeepsRest (F.holds files.old) (F.holds files.new) }
     ensures ends { Ends (IsNoScript (texts_of words.now)) (F.faults files.old) (F.faults files.new) (I.faults input.old) (I.faults input.new) (K.faults out.old) (K.faults out.new) (K.held out.old) (K.held out.new) result }
     ensures infallible { StaysInfallible K.infallible K.faults out.old out.new }
     ensures input_infallible { StaysInfallible I.infallible I.faults input.old input.new }
@@ -92,8 +99,12 @@ fn run_command<F: Files, I: Source, K: Sink>(
         → RunsReplay F.holds F.faults I.left I.faults json files.old files.new input.old input.new (K.held out.old) (K.held out.new) result }
     ensures scan { command ≡ commands.Scan
         → RunsScan F.holds F.moment F.left_since F.images F.faults I.left I.faults files.old files.new input.old input.new (K.held out.old) (K.held out.new) result }
+    ensures auto { command ≡ commands.Auto
+        → RunsAuto F.holds F.faults I.left I.faults files.old files.new input.old input.new (K.held out.old) (K.held out.new) result }
+    ensures topdown { (json : Bool) → command ≡ commands.Topdown json
+        → RunsTopdown F.holds F.faults json files.old files.new (K.held out.old) (K.held out.new) result }
     ensures demo { (seed size : ℕ) → command ≡ commands.Demo seed size → RunsDemo files.old files.new (K.held out.old) (K.held out.new) result }
-    ensures rest { HasNoScript command → KeepsRest (F.holds files.old) (F.holds files.new) }
+    ensures rest { ChangesWithin command → KeepsRest (F.holds files.old) (F.holds files.new) }
     ensures ends { Ends (HasNoScript command) (F.faults files.old) (F.faults files.new) (I.faults input.old) (I.faults input.new) (K.faults out.old) (K.faults out.new) (K.held out.old) (K.held out.new) result }
     ensures infallible { StaysInfallible K.infallible K.faults out.old out.new }
     ensures input_infallible { StaysInfallible I.infallible I.faults input.old input.new }
@@ -104,6 +115,8 @@ fn run_command<F: Files, I: Source, K: Sink>(
         Command::Fresh(json) => run_fresh(alloc, files, out, json),
         Command::Build(json) => run_by_list(alloc, files, input, out, ByList::Build(json)),
         Command::Scan => run_by_list(alloc, files, input, out, ByList::Scan),
+        Command::Auto => run_by_list(alloc, files, input, out, ByList::Auto),
+        Command::Topdown(json) => run_topdown(alloc, files, out, json),
         Command::Replay(json) => run_replay(alloc, files, input, out, json),
         Command::Demo(seed, size) => run_demo(alloc, out, seed, size),
     }
@@ -149,7 +162,7 @@ fn run_by_list<F: Files, I: Source, K: Sink>(
 ) -> Status
     ensures lists { RunsByList (says_of which) F.holds F.faults I.left I.faults files.old files.new input.old input.new (K.held out.old) (K.held out.new) result }
     ensures none { ChangesNone F.holds F.moment F.left_since F.images which files.old files.new }
-    ensures rest { KeepsRest (F.holds files.old) (F.holds files.new) }
+    ensures rest { KeepsBy which (F.holds files.old) (F.holds files.new) }
     ensures ends { Ends (Unit {0}) (F.faults files.old) (F.faults files.new) (I.faults input.old) (I.faults input.new) (K.faults out.old) (K.faults out.new) (K.held out.old) (K.held out.new) result }
     ensures infallible { StaysInfallible K.infallible K.faults out.old out.new }
     ensures input_infallible { StaysInfallible I.infallible I.faults input.old input.new }
@@ -172,11 +185,25 @@ fn do_by_list<F: Files, K: Sink>(
 ) -> Status
     ensures says { RunsSaying (says_of which paths.now) F.holds F.faults files.old files.new (K.held out.old) (K.held out.new) result }
     ensures none { ChangesNone F.holds F.moment F.left_since F.images which files.old files.new }
-    ensures rest { KeepsRest (F.holds files.old) (F.holds files.new) }
+    ensures rest { KeepsBy which (F.holds files.old) (F.holds files.new) }
     ensures ends { EndsUnread (F.faults files.old) (F.faults files.new) (K.faults out.old) (K.faults out.new) (K.held out.old) (K.held out.new) result }
     ensures infallible { StaysInfallible K.infallible K.faults out.old out.new }
 {
     match with_list(alloc, files, paths, which) {
+        Ok(told) => show_told(out, told),
+        Err(FilesError::Failed) => show(out, "files fault\n", Status::Files),
+        Err(FilesError::OutOfMemory) => Status::Memory,
+    }
+}
+
+// A build without a list, with its report.
+fn run_topdown<F: Files, K: Sink>(alloc: Global, files: &mut F, out: &mut K, json: bool) -> Status
+    ensures topdown { RunsTopdown F.holds F.faults json files.old files.new (K.held out.old) (K.held out.new) result }
+    ensures rest { KeepsRest (F.holds files.old) (F.holds files.new) }
+    ensures ends { EndsUnread (F.faults files.old) (F.faults files.new) (K.faults out.old) (K.faults out.new) (K.held out.old) (K.held out.new) result }
+    ensures infallible { StaysInfallible K.infallible K.faults out.old out.new }
+{
+    match topdown(alloc, files, json) {
         Ok(told) => show_told(out, told),
         Err(FilesError::Failed) => show(out, "files fault\n", Status::Files),
         Err(FilesError::OutOfMemory) => Status::Memory,

@@ -4,7 +4,10 @@ use Rattle.pie_base.specs.declared.status.Status.{Status}
 use Rattle.pie_files.specs.Directory.{Directory}
 use Rattle.pie_files.specs.Reading.{LeavesAsBefore}
 use Rattle.pie_cli.specs.declared.listed.ByList.{ByList}
-use Rattle.pie_cli.specs.declared.listed.ByList.TheVariants.{Build, Scan}
+use Rattle.pie_cli.specs.declared.listed.ByList.TheVariants.{Auto, Build, Scan}
+use Rattle.pie_auto.specs.Found.{KeepsOutside}
+use Rattle.pie_build.specs.Left.{KeepsRest}
+use Rattle.pie_cli.specs.Auto.{AutoSays}
 use Rattle.pie_cli.specs.Build.{MakeSays}
 use Rattle.pie_cli.specs.Scan.{ScanSays}
 
@@ -12,8 +15,16 @@ use Rattle.pie_cli.specs.Scan.{ScanSays}
 abbrev pub says_of : ByList → List (List ℕ) → Option Directory → Option Directory → List ℕ → Status → Type 0
 says_of (Build json) = MakeSays json
 says_of Scan = ScanSays
+says_of Auto = AutoSays
 
 -- a command that scans changes no file
 abbrev pub ChangesNone : {S : Type 0} → (S → Option Directory) → (S → ℕ) → (S → ℕ → Directory → Type 0) → (S → Directory → Type 0) → ByList → S → S → Type 0
 ChangesNone holds moment left_since images (Build json) old new = Unit {0}
+ChangesNone holds moment left_since images Auto old new = Unit {0}
 ChangesNone holds moment left_since images Scan old new = (holds new ≡ holds old) × LeavesAsBefore holds moment left_since images old new
+
+-- the paths that have the files that they had
+abbrev pub KeepsBy : ByList → Option Directory → Option Directory → Type 0
+KeepsBy (Build json) before after = KeepsRest before after
+KeepsBy Scan before after = KeepsRest before after
+KeepsBy Auto before after = KeepsOutside before after

@@ -21,9 +21,13 @@ use Rattle.pie_cli.specs.Run.{files_fault_text, is_answer, Gains, GainsAtMost}
 abbrev pub HasNoScript : Command → Type 0
 HasNoScript command = (json : Bool) → command ≢ commands.Replay json
 
+-- a command that changes no other files than those under `out/` and the builder's own three
+abbrev pub ChangesWithin : Command → Type 0
+ChangesWithin command = HasNoScript command × (command ≢ commands.Auto)
+
 -- a command that reads no input
 abbrev pub HasNoInput : Command → Type 0
-HasNoInput command = ((json : Bool) → (command ≢ commands.Build json) × (command ≢ commands.Replay json)) × (command ≢ commands.Scan)
+HasNoInput command = ((json : Bool) → (command ≢ commands.Build json) × (command ≢ commands.Replay json)) × (command ≢ commands.Scan) × (command ≢ commands.Auto)
 
 -- the tasks that a report tells have canonical bytes, by which they are ordered
 abbrev pub IsTellable : Report → Type 0

@@ -12,7 +12,11 @@ use Rattle.pie_base.specs.declared.status.Status.TheVariants as status
 use Rattle.pie_cli.specs.Check.{IsCheckText}
 use Rattle.pie_cli.specs.Fresh.{IsFreshText}
 use Rattle.pie_cli.specs.Build.{MakeSays}
+use Rattle.pie_auto.proofs.Finding.{outside_same}
+use Rattle.pie_cli.specs.Auto.{AutoSays}
 use Rattle.pie_cli.specs.Scan.{ScanSays}
+use Rattle.pie_cli.specs.Topdown.{TopdownSays}
+use Rattle.pie_cli.proofs.Making.{made_none}
 use Rattle.pie_cli.proofs.Listing.{runs_memory}
 use Rattle.pie_cli.specs.Run.{IsNoScript}
 use Rattle.pie_cli.specs.inner.Played.{HasNoScript}
@@ -78,13 +82,17 @@ returns-in-Ok-clause-input g c = λ none. c.run_command.ensures.input (
     λ is. (none.0 json).1 (c.in-Ok.ensures.accepted ∙ ap words_of is),
   ),
   λ is. none.1 (c.in-Ok.ensures.accepted ∙ ap words_of is),
+  λ is. none.2 (c.in-Ok.ensures.accepted ∙ ap words_of is),
 )
 
 pub returns-in-Ok-clause-replay : goal.returns-in-Ok-clause-replay
 returns-in-Ok-clause-replay g c = λ json is. c.run_command.ensures.replay json (same_command _ _ c.in-Ok.ensures.allowed refl (sym c.in-Ok.ensures.accepted ∙ is))
 
 pub returns-in-Ok-clause-rest : goal.returns-in-Ok-clause-rest
-returns-in-Ok-clause-rest g c = λ none. c.run_command.ensures.rest (λ json is. none json (c.in-Ok.ensures.accepted ∙ ap words_of is))
+returns-in-Ok-clause-rest g c = λ none. c.run_command.ensures.rest (
+  λ json is. none.0 json (c.in-Ok.ensures.accepted ∙ ap words_of is),
+  λ is. none.1 (c.in-Ok.ensures.accepted ∙ ap words_of is),
+)
 
 pub returns-in-Ok-clause-ends : goal.returns-in-Ok-clause-ends
 returns-in-Ok-clause-ends g c =
@@ -151,3 +159,26 @@ returns-in-Err-OutOfMemory-clause-scan g c = λ is. record {
   same = refl;
   crash = none_before g.F.Files.holds g.F.Files.moment g.F.Files.left_since g.F.Files.images c.args.files.now;
 }
+
+pub returns-in-Ok-clause-auto : goal.returns-in-Ok-clause-auto
+returns-in-Ok-clause-auto g c = λ is. c.run_command.ensures.auto (same_command _ _ c.in-Ok.ensures.allowed refl (sym c.in-Ok.ensures.accepted ∙ is))
+
+pub returns-in-Err-Usage-clause-auto : goal.returns-in-Err-Usage-clause-auto
+returns-in-Err-Usage-clause-auto g c = λ is. absurd (c.in-Err-Usage.ensures.refused (ap Err c.in-Err-Usage.field-0-is) commands.Auto refl is)
+
+pub returns-in-Err-OutOfMemory-clause-auto : goal.returns-in-Err-OutOfMemory-clause-auto
+returns-in-Err-OutOfMemory-clause-auto g c = λ is. record {
+  found = runs_memory AutoSays g.F.Files.holds g.F.Files.faults g.I.Source.left g.I.Source.faults c.args.files.now c.args.input.now c.args.input.now
+      (g.K.Sink.held c.args.out.now);
+  rest = outside_same (g.F.Files.holds c.args.files.now) (g.F.Files.holds c.args.files.now) refl;
+}
+
+pub returns-in-Ok-clause-topdown : goal.returns-in-Ok-clause-topdown
+returns-in-Ok-clause-topdown g c = λ json is. c.run_command.ensures.topdown json (same_command _ _ c.in-Ok.ensures.allowed refl (sym c.in-Ok.ensures.accepted ∙ is))
+
+pub returns-in-Err-Usage-clause-topdown : goal.returns-in-Err-Usage-clause-topdown
+returns-in-Err-Usage-clause-topdown g c = λ json is. absurd (c.in-Err-Usage.ensures.refused (ap Err c.in-Err-Usage.field-0-is) (commands.Topdown json) refl is)
+
+pub returns-in-Err-OutOfMemory-clause-topdown : goal.returns-in-Err-OutOfMemory-clause-topdown
+returns-in-Err-OutOfMemory-clause-topdown g c = λ json is.
+    made_none (TopdownSays json) g.F.Files.holds g.F.Files.faults c.args.files.now c.args.files.now (g.K.Sink.held c.args.out.now)

@@ -1,9 +1,9 @@
-use Rattle.std.proofs.Common.{ℕ, List, Err, sym, ap, subst}
+use Rattle.std.proofs.Common.{ℕ, List, Err, refl, sym, ap, subst}
 use Rattle.pie_base.specs.declared.status.Status.TheVariants as status
 use Rattle.pie_report.specs.Refused.{bad_input_text}
 use Rattle.pie_cli.specs.Listed.{IsRead}
 use Rattle.pie_cli.specs.inner.ByList.{says_of}
-use Rattle.pie_cli.proofs.Listing.{bad_read, bad_told, none_changed, runs_bad, runs_failed, runs_made, runs_memory}
+use Rattle.pie_cli.proofs.Listing.{bad_read, bad_told, none_changed, none_kept, runs_bad, runs_failed, runs_made, runs_memory}
 use Rattle.pie_cli.proofs.Ending.{ends_failed, ends_memory, ends_shown, ends_unread}
 use Rattle.pie_cli.proofs.top.run_by_list.Goals as goal
 
@@ -63,3 +63,12 @@ returns-in-Err-Failed-clause-none g c = none_changed g.F.Files.holds g.F.Files.m
 
 pub returns-in-Err-OutOfMemory-clause-none : goal.returns-in-Err-OutOfMemory-clause-none
 returns-in-Err-OutOfMemory-clause-none g c = none_changed g.F.Files.holds g.F.Files.moment g.F.Files.left_since g.F.Files.images c.args.which c.args.files.now
+
+pub returns-in-Err-Bad-clause-rest : goal.returns-in-Err-Bad-clause-rest
+returns-in-Err-Bad-clause-rest g c = none_kept c.args.which (g.F.Files.holds c.args.files.now) (g.F.Files.holds c.args.files.now) refl
+
+pub returns-in-Err-Failed-clause-rest : goal.returns-in-Err-Failed-clause-rest
+returns-in-Err-Failed-clause-rest g c = none_kept c.args.which (g.F.Files.holds c.args.files.now) (g.F.Files.holds c.args.files.now) refl
+
+pub returns-in-Err-OutOfMemory-clause-rest : goal.returns-in-Err-OutOfMemory-clause-rest
+returns-in-Err-OutOfMemory-clause-rest g c = none_kept c.args.which (g.F.Files.holds c.args.files.now) (g.F.Files.holds c.args.files.now) refl

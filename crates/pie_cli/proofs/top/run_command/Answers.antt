@@ -1,7 +1,8 @@
 use Rattle.std.proofs.Common.{refl}
 use Rattle.pie_cli.specs.Build.{RunsBuild}
 use Rattle.pie_cli.specs.Fresh.{RunsFresh}
-use Rattle.pie_cli.proofs.Listing.{at_build_flag}
+use Rattle.pie_cli.proofs.Listing.{at_build_flag, at_topdown_flag}
+use Rattle.pie_cli.specs.Topdown.{RunsTopdown}
 use Rattle.pie_cli.proofs.Demos.{ends_demo, not_input}
 use Rattle.pie_cli.proofs.Ending.{ends_by, ends_unread}
 use Rattle.pie_cli.specs.inner.Played.{HasNoScript}
@@ -40,7 +41,7 @@ returns-in-Replay-clause-replay g c = λ json is.
     c.args.command c.in-Replay.json json c.in-Replay.is is c.run_replay.ensures.replay
 
 pub returns-in-Replay-clause-rest : goal.returns-in-Replay-clause-rest
-returns-in-Replay-clause-rest g c = λ none. absurd (none c.in-Replay.json c.in-Replay.is)
+returns-in-Replay-clause-rest g c = λ none. absurd (none.0 c.in-Replay.json c.in-Replay.is)
 
 pub returns-in-Replay-clause-input : goal.returns-in-Replay-clause-input
 returns-in-Replay-clause-input g c = λ none. absurd ((none.0 c.in-Replay.json).1 c.in-Replay.is)
@@ -92,3 +93,32 @@ pub returns-in-Scan-clause-ends : goal.returns-in-Scan-clause-ends
 returns-in-Scan-clause-ends g c =
     ends_by (Unit {0}) (HasNoScript c.args.command) _ _ (g.I.Source.faults c.args.input.now) (g.I.Source.faults c.run_by_list-in-Scan.new.input) _ _
     (g.K.Sink.held c.args.out.now) (g.K.Sink.held c.run_by_list-in-Scan.new.out) c.run_by_list-in-Scan.result (λ h. tt {0}) c.run_by_list-in-Scan.ensures.ends
+
+pub returns-in-Auto-clause-auto : goal.returns-in-Auto-clause-auto
+returns-in-Auto-clause-auto g c = λ is. record { found = c.run_by_list-in-Auto.ensures.lists; rest = c.run_by_list-in-Auto.ensures.rest }
+
+pub returns-in-Auto-clause-rest : goal.returns-in-Auto-clause-rest
+returns-in-Auto-clause-rest g c = λ none. absurd (none.1 c.in-Auto.is)
+
+pub returns-in-Auto-clause-input : goal.returns-in-Auto-clause-input
+returns-in-Auto-clause-input g c = λ none. absurd (none.2 c.in-Auto.is)
+
+pub returns-in-Auto-clause-ends : goal.returns-in-Auto-clause-ends
+returns-in-Auto-clause-ends g c =
+    ends_by (Unit {0}) (HasNoScript c.args.command) _ _ (g.I.Source.faults c.args.input.now) (g.I.Source.faults c.run_by_list-in-Auto.new.input) _ _
+    (g.K.Sink.held c.args.out.now) (g.K.Sink.held c.run_by_list-in-Auto.new.out) c.run_by_list-in-Auto.result (λ h. tt {0}) c.run_by_list-in-Auto.ensures.ends
+
+pub returns-in-Topdown-clause-topdown : goal.returns-in-Topdown-clause-topdown
+returns-in-Topdown-clause-topdown g c = λ json is.
+    at_topdown_flag
+    (λ b. RunsTopdown g.F.Files.holds g.F.Files.faults b c.args.files.now c.run_topdown.new.files (g.K.Sink.held c.args.out.now)
+    (g.K.Sink.held c.run_topdown.new.out) c.run_topdown.result)
+    c.args.command c.in-Topdown.json json c.in-Topdown.is is c.run_topdown.ensures.topdown
+
+pub returns-in-Topdown-clause-ends : goal.returns-in-Topdown-clause-ends
+returns-in-Topdown-clause-ends g c =
+    ends_unread (HasNoScript c.args.command) _ _ (g.I.Source.faults c.args.input.now) (g.I.Source.faults c.args.input.now) _ _ (g.K.Sink.held c.args.out.now)
+    (g.K.Sink.held c.run_topdown.new.out) c.run_topdown.result c.run_topdown.ensures.ends refl
+
+pub returns-in-Topdown-clause-input : goal.returns-in-Topdown-clause-input
+returns-in-Topdown-clause-input g c = λ none. (refl, c.run_topdown.ensures.ends.no_input)

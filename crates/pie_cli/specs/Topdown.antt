@@ -1,0 +1,21 @@
+-- What `topdown` prints, and the status that it ends with.
+use Rattle.std.specs.Prelude.{◌≡◌, ◌⊎◌, ◌≤◌, ℕ, Bool, List, length, Option}
+use Rattle.pie_base.specs.declared.status.Status.{Status}
+use Rattle.pie_files.specs.Directory.{Directory}
+use Rattle.pie_report.specs.declared.report.Report.{Report}
+use Rattle.pie_cli.specs.Build.{RefusesProject}
+use Rattle.pie_cli.specs.Fresh.{IsPrinted, verdict_status}
+use Rattle.pie_cli.specs.Listed.{RunsSaying}
+
+-- there is a report of at most 50,000 tasks, and the text is that of the report
+abbrev pub TellsTopdown : Bool → List ℕ → Status → Type 0
+TellsTopdown json text ended =
+    (report : Report) × (length report.ran.items ≤ 50000) × IsPrinted json report text × (ended ≡ verdict_status report.verdict)
+
+-- what a build without a list says
+abbrev pub TopdownSays : Bool → Option Directory → Option Directory → List ℕ → Status → Type 0
+TopdownSays json before after text ended = RefusesProject before after text ended ⊎ TellsTopdown json text ended
+
+-- what `topdown` says, whatever it ended with
+abbrev pub RunsTopdown : {S : Type 0} → (S → Option Directory) → (S → ℕ) → Bool → S → S → Option (List ℕ) → Option (List ℕ) → Status → Type 0
+RunsTopdown holds faults json = RunsSaying (TopdownSays json) holds faults
