@@ -1,6 +1,6 @@
 -- A build by what was found, and the manifest after it.
 use Rattle.std.proofs.Common.{◌≡◌, ℕ, Bool, true, false, List, refl, sym, ap, subst, ◌∙◌}
-use Rattle.std.specs.Prelude.{◌||◌, Option, None, Some, Result, Ok, Err, IfSome, IfOk}
+use Rattle.std.specs.Prelude.{◌||◌, Option, None, Some, IfSome}
 use Rattle.pie_base.specs.Path.{is_out, same_text}
 use Rattle.pie_build.specs.Left.{may_change, KeepsRest}
 use Rattle.pie_files.specs.Directory.{Directory, file_at}
@@ -8,8 +8,9 @@ use Rattle.pie_incremental.proofs.OwnPaths.{or_left, or_right}
 use Rattle.pie_incremental.specs.Kept.{is_builders}
 use Rattle.pie_incremental.specs.Own.{open_path, pending_path, store_path}
 use Rattle.pie_listing.specs.Held.{manifest_path}
-use Rattle.pie_auto.specs.Found.{KeepsOutside, may_find}
-use Rattle.pie_auto.specs.Kept.{KeepsAllButManifest}
+use Rattle.pie_value.specs.declared.verdict.Verdict.TheVariants.{Accepted}
+use Rattle.pie_auto.specs.Found.{Follows, KeepsOutside, may_find}
+use Rattle.pie_auto.specs.Kept.{KeepsAllButManifest, Wrote}
 
 none_of_four : (a b c d : Bool) → a ≡ false → b ≡ false → c ≡ false → d ≡ false → (a || (b || c || d)) ≡ false
 none_of_four a b c d p q r s =
@@ -56,3 +57,11 @@ outside_same (Some d) after is = record { kept = (d, is, λ q off. refl) }
 
 -- what the search takes for the paths that stay
 pub ruleset outside = (of_build, of_both, outside_then, outside_same)
+
+-- ---- what follows a build
+
+-- the manifest was kept, or there was no store
+pub kept_follows : (before after : Option Directory) (tops : List (List ℕ)) (wrote : Bool) → IfSome before (λ d. Wrote wrote tops d after)
+    → Follows Accepted tops before after
+kept_follows None after tops wrote h = tt
+kept_follows (Some d) after tops wrote h = (wrote, h)

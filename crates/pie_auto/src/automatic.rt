@@ -4,6 +4,7 @@ ghost use Rattle.pie_build.specs.Left.{KeepsRest};
 ghost use Rattle.pie_build.specs.inner.Rebuilt.{IsRefusal, Tells};
 ghost use Rattle.pie_listing.specs.Listings.{IsListing};
 ghost use Rattle.pie_value.specs.Canonical.{IsEncodableTask};
+ghost use Rattle.pie_value.specs.declared.verdict.Verdict.TheVariants.{Accepted};
 ghost use Rattle.pie_auto.specs.Found.{BuildsBy, Follows, HasFound, KeepsOutside};
 ghost use Rattle.pie_auto.specs.Kept.{KeepsAllButManifest};
 ghost use Rattle.pie_auto.specs.inner.Parts.{IsFollowed};

@@ -23,7 +23,7 @@ returns-in-Ok-clause-says g c =
       listing = found.listing;
       report = found.report;
       found = c.in-Ok.ensures.found;
-      few = few_of 100000 c.new.result c.auto.new.runs found.report.ran.items c.in-Ok.ensures.ran c.in-Ok.ensures.few;
+      few = few_of 100000 c.new-runs.result c.auto.new.runs found.report.ran.items c.in-Ok.ensures.ran c.in-Ok.ensures.few;
       is = told.ensures.text;
       status = told.ensures.status;
     })

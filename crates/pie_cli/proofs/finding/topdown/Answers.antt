@@ -21,7 +21,7 @@ returns-in-Ok-clause-says g c =
     let report = c.in-Ok.report in
     inr (
       report,
-      few_of 50000 c.new.result c.build_topdown.new.runs report.ran.items c.in-Ok.ensures.ran c.in-Ok.ensures.few,
+      few_of 50000 c.new-runs.result c.build_topdown.new.runs report.ran.items c.in-Ok.ensures.ran c.in-Ok.ensures.few,
       told.ensures.text,
       told.ensures.status,
     )

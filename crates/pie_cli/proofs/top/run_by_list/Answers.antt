@@ -2,6 +2,7 @@ use Rattle.std.proofs.Common.{ℕ, List, Err, refl, sym, ap, subst}
 use Rattle.pie_base.specs.declared.status.Status.TheVariants as status
 use Rattle.pie_report.specs.Refused.{bad_input_text}
 use Rattle.pie_cli.specs.Listed.{IsRead}
+use Rattle.pie_cli.specs.Run.{GainsPrefix, Shows}
 use Rattle.pie_cli.specs.inner.ByList.{says_of}
 use Rattle.pie_cli.proofs.Listing.{bad_read, bad_told, none_changed, none_kept, runs_bad, runs_failed, runs_made, runs_memory}
 use Rattle.pie_cli.proofs.Ending.{ends_failed, ends_memory, ends_shown, ends_unread}
@@ -21,16 +22,22 @@ returns-in-Ok-clause-ends g c =
 
 pub returns-in-Err-Bad-clause-lists : goal.returns-in-Err-Bad-clause-lists
 returns-in-Err-Bad-clause-lists g c =
+    let held = g.K.Sink.held c.args.out.now in
+    let gained = g.K.Sink.held c.show_bad.new.out in
+    let told = c.in-Err-Bad.fault-is in
     runs_bad (says_of c.args.which) g.F.Files.holds g.F.Files.faults g.I.Source.left g.I.Source.faults c.args.files.now c.args.input.now
     c.read_names.new.input c.in-Err-Bad.fault (g.K.Sink.held c.args.out.now) (g.K.Sink.held c.show_bad.new.out) c.show_bad.result
     (bad_read (g.I.Source.left c.args.input.now) (g.I.Source.left c.read_names.new.input) c.in-Err-Bad.field-0 c.in-Err-Bad.fault c.in-Err-Bad.field-0-is
-    c.in-Err-Bad.ensures.read) c.show_bad.ensures.shown c.show_bad.ensures.prefix
+    c.in-Err-Bad.ensures.read) (subst (λ f. Shows held gained (bad_input_text f) status.BadInput c.show_bad.result) told c.show_bad.ensures.shown)
+    (subst (λ f. GainsPrefix held gained (bad_input_text f)) told c.show_bad.ensures.prefix)
 
 pub returns-in-Err-Bad-clause-ends : goal.returns-in-Err-Bad-clause-ends
 returns-in-Err-Bad-clause-ends g c =
     ends_shown (Unit {0}) _ (g.I.Source.faults c.args.input.now) (g.I.Source.faults c.read_names.new.input) (g.K.Sink.faults c.args.out.now)
     (g.K.Sink.faults c.show_bad.new.out) (g.K.Sink.held c.args.out.now) (g.K.Sink.held c.show_bad.new.out) (bad_input_text c.in-Err-Bad.fault)
-    status.BadInput c.show_bad.result (λ is. absurd (cc)) (λ is. absurd (cc)) c.show_bad.ensures.shown c.show_bad.ensures.output c.show_bad.ensures.steady
+    status.BadInput c.show_bad.result (λ is. absurd (cc)) (λ is. absurd (cc))
+    (subst (λ f. Shows (g.K.Sink.held c.args.out.now) (g.K.Sink.held c.show_bad.new.out) (bad_input_text f) status.BadInput c.show_bad.result)
+    c.in-Err-Bad.fault-is c.show_bad.ensures.shown) c.show_bad.ensures.output c.show_bad.ensures.steady
     (c.in-Err-Bad.ensures.told.steady (bad_told c.in-Err-Bad.field-0 c.in-Err-Bad.fault c.in-Err-Bad.field-0-is))
 
 pub returns-in-Err-Failed-clause-lists : goal.returns-in-Err-Failed-clause-lists
