@@ -1,0 +1,63 @@
+-- What a running task is told of paths: it goes on as in the model, or fails with a right record.
+use Rattle.std.specs.Prelude.{◌≡◌, ℕ, ◌<◌, List}
+use Rattle.pie_base.specs.Path.{is_out}
+use Rattle.pie_value.specs.declared.event.By.{By}
+use Rattle.pie_value.specs.declared.event.Event.{Event}
+use Rattle.pie_value.specs.declared.event.Event.TheVariants as events
+use Rattle.pie_view.specs.Content.{Staged}
+use Rattle.pie_running.specs.declared.frame.Waiting.{Waiting}
+use Rattle.pie_running.specs.declared.frame.Caller.{Caller}
+use Rattle.pie_running.specs.declared.frame.Told.{Told}
+use Rattle.pie_running.specs.declared.frame.Told.TheVariants.{Goes, Fails}
+use Rattle.pie_running.specs.declared.looking.Sight.TheVariants.{Long}
+use Rattle.pie_running.specs.inner.Sights.{Sighted, listing_in}
+use Rattle.pie_running.specs.inner.Looks.{IsToldPresence, IsToldSight, IsToldDigest}
+use Rattle.pie_running.specs.inner.Told.{IsToldList, IsToldWrite}
+use Rattle.pie_task_laws.specs.Sites.{Site, Build, IsThere, IsSound, HaveOutputs}
+use Rattle.pie_task_laws.specs.Going.{Runs}
+use Rattle.pie_task_laws.specs.Coming.{IsAsking, EndsRight, failed_by}
+use Rattle.pie_task_laws.specs.Sights.{SeesOut}
+
+-- what becomes of a task that was told something
+abbrev pub GoesAs : Site → Build → List Caller → Told → Type 0
+GoesAs x b cs (Goes f) = Runs x b cs f.code.now f.machine f.notes
+GoesAs x b cs (Fails n k) = EndsRight x n (failed_by n k)
+
+-- a task looks at a path, and is shown what it sees there of tasks that ended with outputs
+pub record Looks (x : Site) (b : Build) (cs : List Caller) (w : Waiting) (path : List ℕ) (e : Event) (shown : Sighted → Type 0) : Type 0 where
+  pub there : IsThere x
+  pub sound : IsSound x b
+  pub asking : IsAsking x b cs w e
+  pub left : 0 < w.notes.left
+  pub outputs : HaveOutputs b w.notes.needs
+  pub sees : (o : Sighted) → shown o → SeesOut x b w.notes path o
+
+-- it is told whether a file is there, its bytes or their hash
+abbrev pub PresencesAreTold : Type 0
+PresencesAreTold =
+    (x : Site) (b : Build) (cs : List Caller) (w : Waiting) (path : List ℕ) (shown : Sighted → Type 0) (t : Told)
+    → Looks x b cs w path (events.Exists path) shown → IsToldPresence x.update.directory shown w path t → GoesAs x b cs t
+
+-- a file that is too long to be a value is seen with no stamp, so nothing is said of it
+abbrev pub ReadingsAreTold : Type 0
+ReadingsAreTold =
+    (x : Site) (b : Build) (cs : List Caller) (w : Waiting) (path : List ℕ) (by : By) (shown : Sighted → Type 0) (t : Told)
+    → Looks x b cs w path (events.Read path by) shown → (h : IsToldSight x.update.directory shown w path by t) → (h.sight ≡ Long → ⊥) → GoesAs x b cs t
+
+abbrev pub DigestsAreTold : Type 0
+DigestsAreTold =
+    (x : Site) (b : Build) (cs : List Caller) (w : Waiting) (path : List ℕ) (shown : Sighted → Type 0) (t : Told)
+    → Looks x b cs w path (events.Digest path) shown → IsToldDigest x.update.directory shown w path t → GoesAs x b cs t
+
+-- the entries of a directory
+abbrev pub ListingsAreTold : Type 0
+ListingsAreTold =
+    (x : Site) (b : Build) (cs : List Caller) (w : Waiting) (dir : List ℕ) (t : Told) → IsThere x → IsAsking x b cs w (events.List dir)
+    → 0 < w.notes.left → IsToldList w dir (listing_in x.update.directory dir) t → GoesAs x b cs t
+
+-- and that it wrote, which is staged
+abbrev pub WritesAreTold : Type 0
+WritesAreTold =
+    (x : Site) (b : Build) (cs : List Caller) (w : Waiting) (path bytes : List ℕ) (later : Staged) (t : Told) → IsThere x → IsSound x b
+    → IsAsking x b cs w (events.Write path bytes) → 0 < w.notes.left → IsToldWrite (is_out path) w b.stage later path bytes t
+    → GoesAs x (record b { stage = later }) cs t
