@@ -1,0 +1,9 @@
+pub mod Numbering
+pub mod Keeping
+pub mod Ending
+pub mod Pausing
+pub mod Seeing
+pub mod Telling
+pub mod Writing
+pub mod Answering
+pub mod Beginning

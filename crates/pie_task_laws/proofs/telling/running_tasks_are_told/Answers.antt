@@ -1,0 +1,18 @@
+use Rattle.pie_task_laws.proofs.Telling.{exists_told, reading_told, digest_told, list_told}
+use Rattle.pie_task_laws.proofs.Writing.{write_told}
+use Rattle.pie_task_laws.proofs.telling.running_tasks_are_told.Goals as goal
+
+pub returns-clause-presences : goal.returns-clause-presences
+returns-clause-presences c = λ x b cs w path shown t l h. exists_told x b cs w path shown t l h
+
+pub returns-clause-readings : goal.returns-clause-readings
+returns-clause-readings c = λ x b cs w path by shown t l h short. reading_told x b cs w path by shown t l h short
+
+pub returns-clause-digests : goal.returns-clause-digests
+returns-clause-digests c = λ x b cs w path shown t l h. digest_told x b cs w path shown t l h
+
+pub returns-clause-listings : goal.returns-clause-listings
+returns-clause-listings c = λ x b cs w dir t there a left h. list_told x b cs w dir t there a left h
+
+pub returns-clause-writes : goal.returns-clause-writes
+returns-clause-writes c = λ x b cs w path bytes later t there sound a left h. write_told x b cs w path bytes later t there sound a left h
