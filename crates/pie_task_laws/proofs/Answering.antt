@@ -20,7 +20,7 @@ use Rattle.pie_model.specs.declared.words.Event.TheVariants.{Require, Fail}
 use Rattle.pie_model.specs.declared.words.FaultKind.TheVariants as model_faults
 use Rattle.pie_model.specs.Trees.{is_done as ends_well, is_plain}
 use Rattle.pie_model.specs.Evaluation.{evaluation}
-use Rattle.pie_model.specs.Records.{Absent, Required, observed}
+use Rattle.pie_model.specs.Records.{Absent, Required, observed as observation}
 use Rattle.pie_model.specs.inner.Stack.{Frame, tasks_of}
 use Rattle.pie_step_laws.specs.Frames.{was_answered}
 use Rattle.pie_settle_laws.specs.Going.{before_wait}
@@ -34,25 +34,24 @@ use Rattle.pie_earlier_laws.specs.Telling.{told_by}
 use Rattle.pie_running.specs.declared.frame.RunningTask.{RunningTask}
 use Rattle.pie_running.specs.declared.frame.Waiting.{Waiting}
 use Rattle.pie_running.specs.declared.frame.Caller.{Caller}
-use Rattle.pie_running.specs.inner.Noted.{Noted, required}
+use Rattle.pie_running.specs.inner.Noted.{required, observed}
 use Rattle.pie_running.specs.inner.Told.{IsTold}
 use Rattle.pie_running.specs.inner.Means as running
 use Rattle.pie_running.proofs.Fitting.{fits_output}
 use Rattle.pie_running.proofs.FrameLemmas.{given_frame}
 use Rattle.pie_core_laws.specs.Update.{present}
 use Rattle.pie_core_laws.specs.Exact.{rank_by, IsExact}
-use Rattle.pie_core_laws.specs.Finishing.{IsRight}
 use Rattle.pie_core_laws.specs.Running.{AreRunning}
 use Rattle.pie_core_laws.proofs.Exactly as exactly
-use Rattle.pie_core_laws.proofs.Runs.{settled_answers, settled_stops, ended_right}
+use Rattle.pie_core_laws.proofs.Runs.{settled_answers, settled_stops}
 use Rattle.pie_task_laws.specs.Sites.{Site, Build, IsThere, IsSound}
 use Rattle.pie_task_laws.specs.Going.{GoesAbove, AllGo, AreTaken, MeanCallers, Wait, Runs}
-use Rattle.pie_task_laws.specs.Coming.{IsAsking, EndsRight, left_by, failed_by}
+use Rattle.pie_task_laws.specs.Coming.{IsAsking, EndsRight, failed_by}
 use Rattle.pie_task_laws.specs.Answering.{HasSettled, HasGiven, lost_task}
 use Rattle.pie_task_laws.proofs.Numbering.{some_running}
-use Rattle.pie_task_laws.proofs.Ending.{record_left, fails_own}
+use Rattle.pie_task_laws.proofs.Ending.{adds_one, has_ended, fails_own}
 
-lost_is : (how : How) (t : Task) → observation_of (lost_task how t) ≡ observed (Required (how_of how) (enc_task t)) Absent
+lost_is : (how : How) (t : Task) → observation_of (lost_task how t) ≡ observation (Required (how_of how) (enc_task t)) Absent
 lost_is required_as.Whole t = refl
 lost_is required_as.Hashed t = refl
 lost_is required_as.Ran t = refl
@@ -113,15 +112,14 @@ module _ (x : Site) (b : Build) (c : Caller) (cs : List Caller) (k : ℕ) (rec :
           taken = record { running = taken.running; once = taken.once };
         }))
 
-    ends_so : ends_well (record_of rec).outcome ≡ false → IsRight x.update (left_by c.waiting.notes (lost_task c.how c.required ∷ []) rec.outcome)
+    ends_so : ends_well (record_of rec).outcome ≡ false → EndsRight x b (observed (lost_task c.how c.required) c.waiting.notes) rec.outcome
     ends_so lost =
-        ended_right x.update G.base (before_wait g) (observed (Required (how_of c.how) (enc_task rec.task)) Absent ∷ []) (record_of rec).outcome
-        (left_by c.waiting.notes (lost_task c.how c.required ∷ []) rec.outcome) G.is_base
-        (settled_stops x.update b.names b.records b.walk G.base (take G.depth gs) (before_wait g) g.left (how_of c.how) k rec sound.exact sound.stands
-        sound.apart some G.goes refl waits settled kept lost) plain
-        (record_left x b c.waiting.code.now c.waiting.machine c.waiting.notes m.left g m.frame
-        (observed (Required (how_of c.how) (enc_task rec.task)) Absent ∷ []) (record_of rec).outcome (lost_task c.how c.required ∷ []) rec.outcome
-        (ap (λ o. o ∷ []) (lost_is c.how c.required ∙ ap (λ t. observed (Required (how_of c.how) (enc_task t)) Absent) (sym task))) refl)
+        let L = settled_stops x.update b.names b.records b.walk G.base (take G.depth gs) (before_wait g) g.left (how_of c.how) k rec sound.exact
+        sound.stands sound.apart some G.goes refl waits settled kept lost in
+        has_ended x b c.waiting.code.now c.waiting.machine c.waiting.notes m.left g m.frame G.base (observed (lost_task c.how c.required) c.waiting.notes)
+        (lost_task c.how c.required ∷ []) (observation (Required (how_of c.how) (enc_task rec.task)) Absent ∷ []) (record_of rec).outcome rec.outcome
+        G.is_base (record { is = L.is; wrote = L.wrote; stands = L.stands }) plain (adds_one c.waiting.notes (lost_task c.how c.required))
+        (ap (λ o. o ∷ []) (lost_is c.how c.required ∙ ap (λ t. observation (Required (how_of c.how) (enc_task t)) Absent) (sym task))) refl
 
 pub run_on : (x : Site) (b : Build) (c : Caller) (cs : List Caller) (k : ℕ) (rec : TaskRecord) (v : Value) (height : ℕ) (f : RunningTask) → IsThere x
     → HasSettled x b c cs k rec → HasGiven x rec v
@@ -136,16 +134,16 @@ run_on x b c cs k rec v height f there H given t = by H.wait.frames H.wait.mean 
 
 pub callers_end : (x : Site) (b : Build) (c : Caller) (cs : List Caller) (k : ℕ) (rec : TaskRecord) → HasSettled x b c cs k rec
     → ends_well (record_of rec).outcome ≡ false
-    → IsRight x.update (left_by c.waiting.notes (lost_task c.how c.required ∷ []) rec.outcome)
+    → EndsRight x b (observed (lost_task c.how c.required) c.waiting.notes) rec.outcome
 callers_end x b c cs k rec H lost = by H.wait.frames H.wait.mean H.wait.go H.wait.taken
   where
     by : (fs : List Frame) → MeanCallers x b fs (c ∷ cs) → AllGo x b fs → AreTaken b fs
-        → IsRight x.update (left_by c.waiting.notes (lost_task c.how c.required ∷ []) rec.outcome)
+        → EndsRight x b (observed (lost_task c.how c.required) c.waiting.notes) rec.outcome
     by [] m g a = absurd m
     by (g ∷ gs) m go a = ends_so x b c cs k rec H.sound H.settled H.kept H.task g gs m.0 go.0 a lost
 
 pub big_fails : (x : Site) (b : Build) (cs : List Caller) (w : Waiting) (t : Task) (how : How) → IsAsking x b cs w (events.Require t how)
-    → 0 < w.notes.left → is_small_task t ≡ false → EndsRight x w.notes (failed_by w.notes faults.Big)
+    → 0 < w.notes.left → is_small_task t ≡ false → EndsRight x b w.notes (failed_by w.notes faults.Big)
 big_fails x b cs w t how A left big =
     fails_own x b cs w.code.now w.machine w.notes A.runs faults.Big left
     (A.asks ∙ ap (λ z. cond z (Require (how_of how) (enc_task t)) (Fail model_faults.Big)) big)

@@ -1,29 +1,38 @@
 -- Tasks that begin, and those that wait for them.
-use Rattle.std.proofs.Common.{◌≡◌, ◌⊎◌, inl, inr, ℕ, suc, ◌-◌, ◌<◌, Bool, true, false, cond, Some, List, [], ◌∷◌, ◌++◌, map, length, take, refl, sym, ap, subst, ◌∙◌, arith}
+use Rattle.std.proofs.Common.{◌≡◌, ◌⊎◌, inl, inr, ℕ, suc, ◌-◌, ◌<◌, Bool, true, false, cond, None, Some, List, [], ◌∷◌, ◌++◌, map, length, take, refl, sym, ap, subst, ◌∙◌, arith}
 use Rattle.std.specs.Prelude.{slice_get, Contains}
 use Rattle.std.proofs.lemmas.Option.{slice_get_within}
+use Rattle.pie_base.specs.declared.fault.FaultKind.TheVariants.{Unknown}
 use Rattle.pie_value.specs.declared.task.Task.{Task}
 use Rattle.pie_value.specs.declared.event.Event.TheVariants as events
 use Rattle.pie_value.specs.declared.event.How.{How}
 use Rattle.pie_value.specs.Limits.{is_small_task}
 use Rattle.pie_value.specs.Canonical.{enc_task, IsCanonicalTask}
 use Rattle.pie_types.specs.Whole.{number_from}
+use Rattle.pie_view.specs.Content.{content}
 use Rattle.pie_walk.specs.Marks.{mark_of}
 use Rattle.pie_model.specs.Paths.{among}
 use Rattle.pie_model.specs.declared.words.Event.TheVariants.{Require, Fail}
 use Rattle.pie_model.specs.declared.words.FaultKind.TheVariants as model_faults
+use Rattle.pie_model.specs.declared.words.Outcome.TheVariants.{Failed}
+use Rattle.pie_model.specs.Seen.{first_write}
 use Rattle.pie_model.specs.inner.RecordLaws.{Passes}
 use Rattle.pie_model.specs.inner.Stack.{tasks_of}
 use Rattle.pie_model.proofs.Basics.{clash, among_split}
 use Rattle.pie_step_laws.specs.Frames.{begun, set_aside}
+use Rattle.pie_settle_laws.specs.Going.{HasLeft}
+use Rattle.pie_settle_laws.specs.Going.Ends.{failing}
 use Rattle.pie_settle_laws.proofs.Goings.{base_begins, still_waits}
+use Rattle.pie_settle_laws.proofs.Leaving.{going_ends}
 use Rattle.pie_model_pipeline.specs.Words.{how_of}
 use Rattle.pie_model_pipeline.specs.World.{world, next}
 use Rattle.pie_builder_laws.specs.Tables.{recorded}
+use Rattle.pie_builder_laws.proofs.Coded.{unknown_fails}
 use Rattle.pie_builder_laws.proofs.Naming.{canonical_at, other_back, place}
 use Rattle.pie_running.specs.declared.frame.RunningTask.{RunningTask}
 use Rattle.pie_running.specs.declared.frame.Waiting.{Waiting}
 use Rattle.pie_running.specs.declared.frame.Caller.{Caller}
+use Rattle.pie_running.specs.inner.Noted.{begun as no_notes}
 use Rattle.pie_running.specs.inner.Coded.{HasFunction}
 use Rattle.pie_running.specs.inner.Frames.{IsStarted}
 use Rattle.pie_running.proofs.Fitting.{required_has}
@@ -31,15 +40,19 @@ use Rattle.pie_running.proofs.FrameLemmas.{one_less, begun_frame, aside_frame}
 use Rattle.pie_core_laws.specs.Update.{present}
 use Rattle.pie_core_laws.specs.Exact.{runs, busy_by}
 use Rattle.pie_core_laws.specs.Running.{IsRunningTask, IsBaseOf}
-use Rattle.pie_core_laws.proofs.Runs.{some_tasks, required_begin}
+use Rattle.pie_core_laws.proofs.Runs.{required_begin, ended_right}
 use Rattle.pie_task_laws.specs.Sites.{Site, Build, IsThere, IsExactAt}
 use Rattle.pie_task_laws.specs.Going.{GoesAbove, Wait, Runs, MayBegin}
 use Rattle.pie_task_laws.specs.Steps.{IsUp, AllStep}
-use Rattle.pie_task_laws.specs.Coming.{IsAsking}
+use Rattle.pie_task_laws.specs.Coming.{IsAsking, left_as, EndsRight, failed_by}
 use Rattle.pie_task_laws.specs.Beginning.{calling, Takes}
 use Rattle.pie_task_laws.proofs.Numbering.{same_number, some_running, name_new}
 use Rattle.pie_task_laws.proofs.Keeping.{waiting_stay, beginning_stay, named_still}
 use Rattle.pie_task_laws.proofs.Ending.{some_left}
+
+some_tasks : 0 < world.most_tasks
+unfolding world
+some_tasks = omega arith
 
 -- an old live task or a present root begins with nothing below it
 pub bases_may : (x : Site) (b : Build) (cs : List Caller) (t : Task) → IsBaseOf x.update (enc_task t) → Wait x b cs → MayBegin x b cs t
@@ -165,3 +178,23 @@ taken_run x old new cs t k f e T M function started =
         by : (y ≡ enc_task t) ⊎ (among y (tasks_of M.wait.frames) ≡ true) → IsRunningTask new.names new.walk y
         by (inl h) = record { number = k; task = t; named = T.named; bytes = h; ran = T.up }
         by (inr h) = (waiting_stay x old new cs e T.steps M.wait).taken.running y h
+
+-- ---- a task without a function
+
+some_events : (t : List ℕ) → (begun world t).left ≡ suc 1000000
+unfolding world
+some_events t = refl
+
+pub lost_end : (x : Site) (b : Build) (cs : List Caller) (t : Task) (k left : ℕ) → MayBegin x b cs t → IsCanonicalTask t (enc_task t)
+    → number_from 0 x.update.functions t ≡ None → ((p : List ℕ) → content b.stage k p ≡ None)
+    → EndsRight x b (no_notes t k left) (failed_by (no_notes t k left) Unknown)
+lost_end x b cs t k left M canonical none empty =
+    let L : HasLeft world (present x.update) M.goes.base (begun world (enc_task t)) [] (Failed (enc_task t) model_faults.Unknown)
+    = going_ends world (present x.update) (recorded b.names b.records) (Passes (busy_by b.names b.walk)) M.goes.base (take M.goes.depth M.wait.frames)
+    (begun world (enc_task t)) M.goes.goes [] (Failed (enc_task t) model_faults.Unknown)
+    (failing 1000000 model_faults.Unknown (some_events (enc_task t)) (unknown_fails x.update.functions t [] none canonical)) in
+    record {
+      right = ended_right x.update M.goes.base (begun world (enc_task t)) [] (Failed (enc_task t) model_faults.Unknown)
+          (left_as (no_notes t k left) (failed_by (no_notes t k left) Unknown)) M.goes.is_base L refl refl;
+      staged = λ p. empty p ∙ ap (first_write p) (sym L.wrote);
+    }

@@ -2,6 +2,7 @@
 use Rattle.std.proofs.Common.{◌≡◌, ℕ, true, Some, List, [], ◌∷◌, ◌++◌, map, take, refl, sym, ap, subst, ◌∙◌, append-nil}
 use Rattle.std.specs.Prelude.{slice_get}
 use Rattle.pie_value.specs.declared.task.Task.{Task}
+use Rattle.pie_value.specs.declared.event.Event.{Event}
 use Rattle.pie_value.specs.Canonical.{enc_task}
 use Rattle.pie_code.specs.declared.code.Code.{Code}
 use Rattle.pie_vm.specs.Machines.{Standing}
@@ -17,6 +18,7 @@ use Rattle.pie_model_pipeline.specs.World.{world}
 use Rattle.pie_builder_laws.specs.Names.{called_in}
 use Rattle.pie_builder_laws.specs.Tables.{recorded}
 use Rattle.pie_builder_laws.specs.Views.{AreNumbersOf}
+use Rattle.pie_running.specs.declared.frame.Waiting.{Waiting}
 use Rattle.pie_running.specs.declared.frame.Caller.{Caller}
 use Rattle.pie_running.specs.inner.Noted.{Noted}
 use Rattle.pie_running.specs.inner.Means as running
@@ -26,6 +28,7 @@ use Rattle.pie_core_laws.specs.Exact.{busy_by}
 use Rattle.pie_core_laws.specs.Running.{AreRunning}
 use Rattle.pie_task_laws.specs.Sites.{Site, Build, IsExactAt}
 use Rattle.pie_task_laws.specs.Going.{GoesAbove, AllGo, AreTaken, MeanCallers, Wait, Runs, MayBegin}
+use Rattle.pie_task_laws.specs.Coming.{IsAsking}
 use Rattle.pie_task_laws.specs.Steps.{IsUp, Steps, AllStep, OthersStep}
 use Rattle.pie_task_laws.proofs.Numbering.{same_number, up_at, name_stays, numbers_stay}
 
@@ -120,6 +123,14 @@ module _ (x : Site) (these : ℕ → Type 0) (old new : Build) (e : IsExactAt x 
 pub running_stay : (x : Site) (old new : Build) (cs : List Caller) (code : Code) (m : Standing) (n : Noted) → IsExactAt x old → AllStep x old new
     → Runs x old cs code m n → Runs x new cs code m n
 running_stay x old new cs code m n e S R = runs_still x (λ k. Unit {0}) old new e S cs code m n R (λ y i k t a b. tt)
+
+pub asking_stay : (x : Site) (old new : Build) (cs : List Caller) (w : Waiting) (v : Event) → IsExactAt x old → AllStep x old new
+    → IsAsking x old cs w v → IsAsking x new cs w v
+asking_stay x old new cs w v e S A = record {
+  runs = running_stay x old new cs w.code.now w.machine w.notes e S A.runs;
+  asks = A.asks;
+  came = A.came;
+}
 
 pub waiting_stay : (x : Site) (old new : Build) (cs : List Caller) → IsExactAt x old → AllStep x old new → Wait x old cs → Wait x new cs
 waiting_stay x old new cs e S W = wait_still x (λ k. Unit {0}) old new e S cs W (λ y i k t a b. tt)

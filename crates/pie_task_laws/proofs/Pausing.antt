@@ -32,7 +32,7 @@ use Rattle.pie_core_laws.specs.Update.{present}
 use Rattle.pie_task_laws.specs.Sites.{Site, Build, IsThere, IsExactAt}
 use Rattle.pie_task_laws.specs.Going.{Runs}
 use Rattle.pie_task_laws.specs.Coming.{IsAsking, EndsRight, failed_by, output_by, Gives, PausesAs}
-use Rattle.pie_task_laws.proofs.Ending.{ends_right, next_is, left_right, fails_right, some_left, fails_own}
+use Rattle.pie_task_laws.proofs.Ending.{adds_none, next_is, left_right, fails_right, some_left, fails_own}
 
 module _ (x : Site) (b : Build) (cs : List Caller) (there : IsThere x) (e : IsExactAt x b) where
   -- ---- it asks
@@ -69,23 +69,23 @@ module _ (x : Site) (b : Build) (cs : List Caller) (there : IsThere x) (e : IsEx
 
   module _ (code : Code) (m : Standing) (n : Noted) (R : Runs x b cs code m n) where
     gives_value : (v : Value) → 0 < n.left → EvaluatedTo code n.task.args (map answer_of R.frame.progress.answers) (done (tree_of v))
-        → EndsRight x n (output_by n v)
+        → EndsRight x b n (output_by n v)
     gives_value v left came = by (is_small (tree_of v)) refl
       where
         next_one : next x.update.functions R.frame.task R.frame.progress.answers ≡ cond (is_small (tree_of v)) (Done (enc (tree_of v))) (Fail model_faults.Big)
         next_one = next_is x b cs code m n R there e (done (tree_of v)) came
 
-        by : (z : Bool) → is_small (tree_of v) ≡ z → EndsRight x n (cond z (ends.Done v) (failed_by n faults.Big))
+        by : (z : Bool) → is_small (tree_of v) ≡ z → EndsRight x b n (cond z (ends.Done v) (failed_by n faults.Big))
         by true f =
-            ends_right x n (ends.Done v) (left_right x b cs code m n R [] (Ended (enc (tree_of v))) [] (ends.Done v)
+            left_right x b cs code m n R n [] [] (Ended (enc (tree_of v))) (ends.Done v)
             (with_value (n.left - 1) (enc (tree_of v)) (some_left x b cs code m n R left)
-            (next_one ∙ ap (λ z. cond z (Done (enc (tree_of v))) (Fail model_faults.Big)) f)) refl refl refl)
+            (next_one ∙ ap (λ z. cond z (Done (enc (tree_of v))) (Fail model_faults.Big)) f)) refl (adds_none n) refl refl
         by false f = fails_own x b cs code m n R faults.Big left (next_one ∙ ap (λ z. cond z (Done (enc (tree_of v))) (Fail model_faults.Big)) f)
 
-    stops : (k : FaultKind) → StopsFor code n (map answer_of R.frame.progress.answers) k → EndsRight x n (failed_by n k)
+    stops : (k : FaultKind) → StopsFor code n (map answer_of R.frame.progress.answers) k → EndsRight x b n (failed_by n k)
     stops k (inl h) =
-        subst (λ j. EndsRight x n (failed_by n j)) (sym h.1)
-        (ends_right x n (failed_by n faults.Budget) (fails_right x b cs code m n R [] faults.Budget [] (without_events (R.means.left ∙ h.0)) refl))
+        subst (λ j. EndsRight x b n (failed_by n j)) (sym h.1)
+        (fails_right x b cs code m n R n [] [] faults.Budget (without_events (R.means.left ∙ h.0)) (adds_none n) refl)
     stops k (inr h) = fails_own x b cs code m n R k h.0 (next_is x b cs code m n R there e (fails k) h.1)
 
   -- what a machine gives
@@ -95,7 +95,7 @@ module _ (x : Site) (b : Build) (cs : List Caller) (there : IsThere x) (e : IsEx
       (λ given h. (G.means given h).1)
   pauses f (paused.Ends n v) R G =
       let c = G.means (map answer_of R.frame.progress.answers) R.means.follows in
-      subst (λ k. EndsRight x k (output_by k v)) (sym G.comes) (gives_value f.code.now f.machine f.notes R v c.0 c.1)
+      subst (λ k. EndsRight x b k (output_by k v)) (sym G.comes) (gives_value f.code.now f.machine f.notes R v c.0 c.1)
   pauses f (paused.Fails n k) R G =
       let c = G.means (map answer_of R.frame.progress.answers) R.means.follows in
-      subst (λ j. EndsRight x j (failed_by j k)) (sym G.comes) (stops f.code.now f.machine f.notes R k c.1)
+      subst (λ j. EndsRight x b j (failed_by j k)) (sym G.comes) (stops f.code.now f.machine f.notes R k c.1)

@@ -60,7 +60,7 @@ use Rattle.pie_task_laws.specs.Sites.{Site, Build, IsThere}
 use Rattle.pie_task_laws.specs.Going.{GoesAbove, AreTaken, Runs}
 use Rattle.pie_task_laws.specs.Coming.{IsAsking, EndsRight, failed_by}
 use Rattle.pie_task_laws.specs.Telling.{GoesAs, Looks}
-use Rattle.pie_task_laws.proofs.Ending.{fails_right, some_left, fails_own}
+use Rattle.pie_task_laws.proofs.Ending.{adds_one, fails_right, some_left, fails_own}
 use Rattle.pie_task_laws.proofs.Seeing.{seen_by, seen_visible}
 
 module _ (x : Site) (b : Build) (cs : List Caller) (w : Waiting) (there : IsThere x) (R : Runs x b cs w.code.now w.machine w.notes)
@@ -87,10 +87,10 @@ module _ (x : Site) (b : Build) (cs : List Caller) (w : Waiting) (there : IsTher
       }))
 
   -- it has failed with these notes
-  pub failed_as : (n : Noted) (k : FaultKind) → EndsRight x n (failed_by n k) → (t : Told) → HasFailed n k t → GoesAs x b cs t
+  pub failed_as : (n : Noted) (k : FaultKind) → EndsRight x b n (failed_by n k) → (t : Told) → HasFailed n k t → GoesAs x b cs t
   failed_as n k r (told.Goes f) h = absurd h
   failed_as n k r (told.Fails m j) h =
-      subst (λ (y : Noted). EndsRight x y (failed_by y j)) (sym h.0) (subst (λ i. EndsRight x n (failed_by n i)) (sym h.1) r)
+      subst (λ (y : Noted). EndsRight x b y (failed_by y j)) (sym h.0) (subst (λ i. EndsRight x b n (failed_by n i)) (sym h.1) r)
 
   look_goes : (l : Look) (p : List ℕ) → next x.update.functions R.frame.task R.frame.progress.answers ≡ LookAt l p → (seen : Sight)
       → visible_at (file_at x.update.directory) R.frame.progress.own R.frame.progress.kids p ≡ seen_file seen → (f : RunningTask) (y : Dep × Answer)
@@ -127,8 +127,8 @@ module _ (x : Site) (b : Build) (cs : List Caller) (w : Waiting) (there : IsTher
   look_told l p q (Some seen) v tells is none e came fits missed lost (told.Fails n k) h = absurd h
   look_told l p q None v tells is none e came fits missed lost t h =
       failed_as (observed missed w.notes) faults.Clash
-      (fails_right x b cs w.code.now w.machine w.notes R (observation (Looked l p) Absent ∷ []) faults.Clash (missed ∷ [])
-      (clashing (w.notes.left - 1) l p one_more q v) (ap (λ y. y ∷ []) lost))
+      (fails_right x b cs w.code.now w.machine w.notes R (observed missed w.notes) (missed ∷ []) (observation (Looked l p) Absent ∷ []) faults.Clash
+      (clashing (w.notes.left - 1) l p one_more q v) (adds_one w.notes missed) (ap (λ y. y ∷ []) lost))
       t h
 
   -- a listing: the task goes on with the entries, or fails where they are too many
@@ -151,9 +151,11 @@ module _ (x : Site) (b : Build) (cs : List Caller) (w : Waiting) (there : IsTher
   list_goes d q came true e (told.Fails n k) h = absurd h
   list_goes d q came false e t h =
       failed_as (observed (absent_dep kinds.List d) w.notes) faults.Big
-      (fails_right x b cs w.code.now w.machine w.notes R (observation (Listed d) Absent ∷ []) faults.Big (absent_dep kinds.List d ∷ [])
+      (fails_right x b cs w.code.now w.machine w.notes R (observed (absent_dep kinds.List d) w.notes) (absent_dep kinds.List d ∷ [])
+      (observation (Listed d) Absent ∷ []) faults.Big
       (listing_too_much (w.notes.left - 1) d one_more q
-      (limit_is x.update.functions x.update.directory d ∙ ap (λ z. cond z (Some (entries_of x.update.directory d)) None) e)) refl)
+      (limit_is x.update.functions x.update.directory d ∙ ap (λ z. cond z (Some (entries_of x.update.directory d)) None) e))
+      (adds_one w.notes (absent_dep kinds.List d)) refl)
       t h
 
 -- ---- the events that look

@@ -94,7 +94,8 @@ write_told x b cs w path bytes st t there sound A left h = by (is_out path) refl
     by true f (told.Fails n j) k = absurd k
     by false f (told.Goes g) k = absurd k.1
     by false f (told.Fails n j) k =
-        failed_as x b cs w there A.runs left w.notes faults.BadWrite
+        subst (λ z. GoesAs x (with_stage b z) cs (told.Fails n j)) (sym k.0)
+        (failed_as x b cs w there A.runs left w.notes faults.BadWrite
         (fails_own x b cs w.code.now w.machine w.notes A.runs faults.BadWrite left
         (A.asks ∙ ap (λ z. cond z (Write path bytes) (Fail model_faults.BadWrite)) f))
-        (told.Fails n j) k.1
+        (told.Fails n j) k.1)

@@ -1,5 +1,5 @@
 -- Tasks that waited, once the one that they require is settled.
-use Rattle.std.specs.Prelude.{◌≡◌, ℕ, ◌<◌, false, List, [], ◌∷◌, ◌++◌, Some}
+use Rattle.std.specs.Prelude.{◌≡◌, ℕ, ◌<◌, false, List, ◌∷◌, Some}
 use Rattle.pie_base.specs.declared.fault.FaultKind.TheVariants.{Big}
 use Rattle.pie_value.specs.declared.task.Task.{Task}
 use Rattle.pie_value.specs.declared.value.Value.{Value}
@@ -23,12 +23,11 @@ use Rattle.pie_builder_laws.specs.Requiring.{of_task, requiring_kind, requiring_
 use Rattle.pie_running.specs.declared.frame.RunningTask.{RunningTask}
 use Rattle.pie_running.specs.declared.frame.Waiting.{Waiting}
 use Rattle.pie_running.specs.declared.frame.Caller.{Caller}
-use Rattle.pie_running.specs.inner.Noted.{required}
+use Rattle.pie_running.specs.inner.Noted.{required, observed}
 use Rattle.pie_running.specs.inner.Told.{IsTold}
-use Rattle.pie_core_laws.specs.Finishing.{IsRight}
 use Rattle.pie_task_laws.specs.Sites.{Site, Build, IsThere, IsSound}
 use Rattle.pie_task_laws.specs.Going.{Wait, Runs}
-use Rattle.pie_task_laws.specs.Coming.{IsAsking, EndsRight, left_by, failed_by}
+use Rattle.pie_task_laws.specs.Coming.{IsAsking, EndsRight, failed_by}
 
 -- the newest task waits for one that is settled, with this record
 pub record HasSettled (x : Site) (b : Build) (c : Caller) (cs : List Caller) (k : ℕ) (rec : TaskRecord) : Type 0 where
@@ -61,10 +60,10 @@ abbrev pub CallersEnd : Type 0
 CallersEnd =
     (x : Site) (b : Build) (c : Caller) (cs : List Caller) (k : ℕ) (rec : TaskRecord) → HasSettled x b c cs k rec
     → ends_well (record_of rec).outcome ≡ false
-    → IsRight x.update (left_by c.waiting.notes (lost_task c.how c.required ∷ []) rec.outcome)
+    → EndsRight x b (observed (lost_task c.how c.required) c.waiting.notes) rec.outcome
 
 -- a task that requires one past the limits fails
 abbrev pub BigRequiresFail : Type 0
 BigRequiresFail =
     (x : Site) (b : Build) (cs : List Caller) (w : Waiting) (t : Task) (how : How) → IsAsking x b cs w (events.Require t how) → 0 < w.notes.left
-    → is_small_task t ≡ false → EndsRight x w.notes (failed_by w.notes Big)
+    → is_small_task t ≡ false → EndsRight x b w.notes (failed_by w.notes Big)

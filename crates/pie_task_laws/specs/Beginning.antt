@@ -1,16 +1,18 @@
 -- Tasks that begin: old live ones and present roots that were taken, and new ones that are required.
 use Rattle.std.specs.Prelude.{◌≡◌, ℕ, ◌<◌, true, false, List, [], ◌∷◌, ◌++◌, length, None, Some, slice_get}
+use Rattle.pie_base.specs.declared.fault.FaultKind.TheVariants.{Unknown}
 use Rattle.pie_value.specs.declared.task.Task.{Task}
 use Rattle.pie_value.specs.declared.event.Event.TheVariants as events
 use Rattle.pie_value.specs.declared.event.How.{How}
 use Rattle.pie_value.specs.Limits.{is_small_task}
-use Rattle.pie_value.specs.Canonical.{enc_task}
+use Rattle.pie_value.specs.Canonical.{enc_task, IsCanonicalTask}
 use Rattle.pie_types.specs.Whole.{number_from}
 use Rattle.pie_view.specs.Content.{content}
 use Rattle.pie_walk.specs.Marks.{mark_of}
 use Rattle.pie_running.specs.declared.frame.RunningTask.{RunningTask}
 use Rattle.pie_running.specs.declared.frame.Waiting.{Waiting}
 use Rattle.pie_running.specs.declared.frame.Caller.{Caller}
+use Rattle.pie_running.specs.inner.Noted.{begun}
 use Rattle.pie_running.specs.inner.Coded.{HasFunction}
 use Rattle.pie_running.specs.inner.Frames.{IsStarted}
 use Rattle.pie_core_laws.specs.Exact.{runs}
@@ -18,7 +20,7 @@ use Rattle.pie_core_laws.specs.Running.{IsBaseOf}
 use Rattle.pie_task_laws.specs.Sites.{Site, Build, IsThere, IsExactAt}
 use Rattle.pie_task_laws.specs.Going.{Wait, Runs, MayBegin}
 use Rattle.pie_task_laws.specs.Steps.{IsUp, AllStep}
-use Rattle.pie_task_laws.specs.Coming.{IsAsking}
+use Rattle.pie_task_laws.specs.Coming.{IsAsking, EndsRight, failed_by}
 
 -- a task that waits for one that it requires
 abbrev pub calling : Waiting → Task → How → Caller
@@ -60,3 +62,10 @@ abbrev pub TakenTasksRun : Type 0
 TakenTasksRun =
     (x : Site) (old new : Build) (cs : List Caller) (t : Task) (k : ℕ) (f : RunningTask) → IsExactAt x old → Takes x old new t k → MayBegin x old cs t
     → HasFunction x.update.functions x.codes t f.code.now → IsStarted f.code.now t k f → Runs x new cs f.code.now f.machine f.notes
+
+-- and one without a function fails, with a right record
+abbrev pub LostTasksEnd : Type 0
+LostTasksEnd =
+    (x : Site) (b : Build) (cs : List Caller) (t : Task) (k left : ℕ) → MayBegin x b cs t → IsCanonicalTask t (enc_task t)
+    → number_from 0 x.update.functions t ≡ None → ((p : List ℕ) → content b.stage k p ≡ None)
+    → EndsRight x b (begun t k left) (failed_by (begun t k left) Unknown)

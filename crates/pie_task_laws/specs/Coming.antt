@@ -1,8 +1,7 @@
 -- What comes of a running task: it asks something, or ends with a right record.
-use Rattle.std.specs.Prelude.{◌≡◌, List, [], ◌∷◌, ◌++◌, map, cond}
+use Rattle.std.specs.Prelude.{◌≡◌, ℕ, List, map, cond}
 use Rattle.pie_base.specs.declared.fault.FaultKind.{FaultKind}
 use Rattle.pie_base.specs.declared.fault.FaultKind.TheVariants.{Big}
-use Rattle.pie_value.specs.declared.task.Task.{Task}
 use Rattle.pie_value.specs.declared.value.Value.{Value}
 use Rattle.pie_value.specs.declared.event.Answer.{Answer}
 use Rattle.pie_value.specs.declared.event.Event.{Event}
@@ -10,7 +9,7 @@ use Rattle.pie_value.specs.Values.{tree_of}
 use Rattle.pie_value.specs.Limits.{is_small}
 use Rattle.pie_operators.specs.Domain.{wants}
 use Rattle.pie_vm.specs.Machines.{Follows}
-use Rattle.pie_record.specs.declared.dep.Dep.{Dep}
+use Rattle.pie_view.specs.Content.{content}
 use Rattle.pie_record.specs.declared.task_record.Outcome.{Outcome}
 use Rattle.pie_record.specs.declared.task_record.Outcome.TheVariants.{Done, Failed}
 use Rattle.pie_record.specs.declared.task_record.TaskRecord.{TaskRecord}
@@ -26,6 +25,7 @@ use Rattle.pie_running.specs.inner.Steps.{Comes}
 use Rattle.pie_running.specs.inner.Told.{EvaluatedTo, ComesAs}
 use Rattle.pie_core_laws.specs.Update.{present}
 use Rattle.pie_core_laws.specs.Finishing.{IsRight}
+use Rattle.pie_core_laws.specs.Seeing.{written_now}
 use Rattle.pie_task_laws.specs.Sites.{Site, Build, IsThere, IsExactAt}
 use Rattle.pie_task_laws.specs.Going.{Runs}
 
@@ -37,13 +37,14 @@ pub record IsAsking (x : Site) (b : Build) (cs : List Caller) (w : Waiting) (e :
 
 -- ---- how it ends
 
--- the record of a task that observed this last and ends so
-abbrev pub left_by : Noted → List Dep → Outcome → TaskRecord
-left_by n last o = record { task = n.task; deps = n.deps ++ last; writes = n.writes; outcome = o }
+-- the record of a task that ends with these notes and so
+abbrev pub left_as : Noted → Outcome → TaskRecord
+left_as n o = record { task = n.task; deps = n.deps; writes = n.writes; outcome = o }
 
--- a task that ends with these notes and so has a right record
-abbrev pub EndsRight : Site → Noted → Outcome → Type 0
-EndsRight x n o = IsRight x.update (record { task = n.task; deps = n.deps; writes = n.writes; outcome = o })
+-- a task that ends with these notes and so has a right record, and what it staged is what its evaluation wrote first
+pub record EndsRight (x : Site) (b : Build) (n : Noted) (o : Outcome) : Type 0 where
+  pub right : IsRight x.update (left_as n o)
+  pub staged : (p : List ℕ) → content b.stage n.number p ≡ written_now x.update n.task p
 
 -- it fails for this
 abbrev pub failed_by : Noted → FaultKind → Outcome
@@ -57,8 +58,8 @@ output_by n v = cond (is_small (tree_of v)) (Done v) (failed_by n Big)
 
 abbrev pub PausesAs : Site → Build → List Caller → Paused → Type 0
 PausesAs x b cs (Asks w e) = IsAsking x b cs w e
-PausesAs x b cs (Ends n v) = EndsRight x n (output_by n v)
-PausesAs x b cs (Fails n k) = EndsRight x n (failed_by n k)
+PausesAs x b cs (Ends n v) = EndsRight x b n (output_by n v)
+PausesAs x b cs (Fails n k) = EndsRight x b n (failed_by n k)
 
 -- what a machine gives
 pub record Gives (f : RunningTask) (p : Paused) : Type 0 where

@@ -1,9 +1,11 @@
 -- Steps of a build beside its running tasks: they go on as before.
 use Rattle.std.specs.Prelude.{◌≡◌, ℕ, true, List, ◌++◌}
 use Rattle.pie_value.specs.declared.task.Task.{Task}
+use Rattle.pie_value.specs.declared.event.Event.{Event}
 use Rattle.pie_code.specs.declared.code.Code.{Code}
 use Rattle.pie_vm.specs.Machines.{Standing}
 use Rattle.pie_view.specs.Content.{Staged, content}
+use Rattle.pie_running.specs.declared.frame.Waiting.{Waiting}
 use Rattle.pie_running.specs.declared.frame.Caller.{Caller}
 use Rattle.pie_running.specs.inner.Noted.{Noted}
 use Rattle.pie_core_laws.specs.Exact.{runs}
@@ -11,6 +13,7 @@ use Rattle.pie_core_laws.specs.Finishing.{StaysExact}
 use Rattle.pie_walk.specs.Marks.{mark_of}
 use Rattle.pie_task_laws.specs.Sites.{Site, Build, IsExactAt}
 use Rattle.pie_task_laws.specs.Going.{Wait, Runs, MayBegin}
+use Rattle.pie_task_laws.specs.Coming.{IsAsking}
 
 -- a task was taken, and isn't settled
 abbrev pub IsUp : Build → ℕ → Type 0
@@ -36,6 +39,12 @@ abbrev pub RunningTasksStay : Type 0
 RunningTasksStay =
     (x : Site) (old new : Build) (cs : List Caller) (code : Code) (m : Standing) (n : Noted) → IsExactAt x old → AllStep x old new
     → Runs x old cs code m n → Runs x new cs code m n
+
+-- what it asks it still asks
+abbrev pub AskingTasksStay : Type 0
+AskingTasksStay =
+    (x : Site) (old new : Build) (cs : List Caller) (w : Waiting) (v : Event) → IsExactAt x old → AllStep x old new → IsAsking x old cs w v
+    → IsAsking x new cs w v
 
 abbrev pub WaitingTasksStay : Type 0
 WaitingTasksStay = (x : Site) (old new : Build) (cs : List Caller) → IsExactAt x old → AllStep x old new → Wait x old cs → Wait x new cs

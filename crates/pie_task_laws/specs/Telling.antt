@@ -21,7 +21,7 @@ use Rattle.pie_task_laws.specs.Sights.{SeesOut}
 -- what becomes of a task that was told something
 abbrev pub GoesAs : Site → Build → List Caller → Told → Type 0
 GoesAs x b cs (Goes f) = Runs x b cs f.code.now f.machine f.notes
-GoesAs x b cs (Fails n k) = EndsRight x n (failed_by n k)
+GoesAs x b cs (Fails n k) = EndsRight x b n (failed_by n k)
 
 -- a task looks at a path, and is shown what it sees there of tasks that ended with outputs
 pub record Looks (x : Site) (b : Build) (cs : List Caller) (w : Waiting) (path : List ℕ) (e : Event) (shown : Sighted → Type 0) : Type 0 where

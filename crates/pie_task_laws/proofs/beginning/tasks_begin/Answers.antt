@@ -1,4 +1,4 @@
-use Rattle.pie_task_laws.proofs.Beginning.{bases_may, requirers_wait, new_may, required_known, taken_run}
+use Rattle.pie_task_laws.proofs.Beginning.{bases_may, requirers_wait, new_may, required_known, taken_run, lost_end}
 use Rattle.pie_task_laws.proofs.beginning.tasks_begin.Goals as goal
 
 pub returns-clause-bases : goal.returns-clause-bases
@@ -15,3 +15,6 @@ returns-clause-known c = λ x b cs w t how there a. required_known x b cs w t ho
 
 pub returns-clause-runs : goal.returns-clause-runs
 returns-clause-runs c = λ x old new cs t k f e takes m function started. taken_run x old new cs t k f e takes m function started
+
+pub returns-clause-lost : goal.returns-clause-lost
+returns-clause-lost c = λ x b cs t k left m canonical none empty. lost_end x b cs t k left m canonical none empty

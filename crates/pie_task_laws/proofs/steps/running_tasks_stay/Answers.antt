@@ -1,8 +1,11 @@
-use Rattle.pie_task_laws.proofs.Keeping.{running_stay, waiting_stay, beginning_stay, callers_stay, stagings_step}
+use Rattle.pie_task_laws.proofs.Keeping.{running_stay, asking_stay, waiting_stay, beginning_stay, callers_stay, stagings_step}
 use Rattle.pie_task_laws.proofs.steps.running_tasks_stay.Goals as goal
 
 pub returns-clause-running : goal.returns-clause-running
 returns-clause-running c = λ x old new cs code m n e s r. running_stay x old new cs code m n e s r
+
+pub returns-clause-asking : goal.returns-clause-asking
+returns-clause-asking c = λ x old new cs w v e s a. asking_stay x old new cs w v e s a
 
 pub returns-clause-waiting : goal.returns-clause-waiting
 returns-clause-waiting c = λ x old new cs e s w. waiting_stay x old new cs e s w
