@@ -10,8 +10,6 @@ use Rattle.pie_value.specs.declared.event.How.TheVariants as required_as
 use Rattle.pie_value.specs.Limits.{is_small_task}
 use Rattle.pie_value.specs.Values.{tree_of}
 use Rattle.pie_value.specs.Canonical.{enc, enc_task}
-use Rattle.pie_types.specs.Headings.{function_in}
-use Rattle.pie_type_laws.specs.Fitting.{OutputFits}
 use Rattle.pie_record.specs.declared.task_record.TaskRecord.{TaskRecord}
 use Rattle.pie_record.specs.inner.Records.{record_of as kept_of}
 use Rattle.pie_walk.specs.Marks.{IsSettled}
@@ -36,18 +34,17 @@ use Rattle.pie_running.specs.declared.frame.Waiting.{Waiting}
 use Rattle.pie_running.specs.declared.frame.Caller.{Caller}
 use Rattle.pie_running.specs.inner.Noted.{required, observed}
 use Rattle.pie_running.specs.inner.Told.{IsTold}
-use Rattle.pie_running.specs.inner.Means as running
-use Rattle.pie_running.proofs.Fitting.{fits_output}
-use Rattle.pie_running.proofs.FrameLemmas.{given_frame}
 use Rattle.pie_core_laws.specs.Update.{present}
 use Rattle.pie_core_laws.specs.Exact.{rank_by, IsExact}
 use Rattle.pie_core_laws.specs.Running.{AreRunning}
 use Rattle.pie_core_laws.proofs.Exactly as exactly
 use Rattle.pie_core_laws.proofs.Runs.{settled_answers, settled_stops}
-use Rattle.pie_task_laws.specs.Sites.{Site, Build, IsThere, IsSound}
-use Rattle.pie_task_laws.specs.Going.{GoesAbove, AllGo, AreTaken, MeanCallers, Wait, Runs}
+use Rattle.pie_task_laws.specs.Sites.{Site, Build, IsSound}
+use Rattle.pie_task_laws.specs.Frames.{IsFrame, IsCaller, AreCallers}
+use Rattle.pie_task_laws.specs.Going.{GoesAbove, AllGo, AreTaken, Runs}
 use Rattle.pie_task_laws.specs.Coming.{IsAsking, EndsRight, failed_by}
 use Rattle.pie_task_laws.specs.Answering.{HasSettled, HasGiven, lost_task}
+use Rattle.pie_task_laws.proofs.Frames.{given_frame}
 use Rattle.pie_task_laws.proofs.Numbering.{some_running}
 use Rattle.pie_task_laws.proofs.Ending.{adds_one, has_ended, fails_own}
 
@@ -70,7 +67,7 @@ module _ (x : Site) (b : Build) (c : Caller) (cs : List Caller) (k : ℕ) (rec :
       (record_by_number b.names b.records k rec.task sound.exact.tasks (sound.exact.named k rec kept) ∙ ap (option_map record_of) kept)
 
   -- the newest frame, and those below it
-  module _ (g : Frame) (gs : List Frame) (m : running.MeansCaller x.update.functions x.headings x.codes b.names b.stage g c) (G : GoesAbove x b gs (before_wait g))
+  module _ (g : Frame) (gs : List Frame) (m : IsCaller x b g c) (G : GoesAbove x b gs (before_wait g))
       (taken : AreTaken b (g ∷ gs)) where
     waits : next x.update.functions g.task g.progress.answers ≡ Require (how_of c.how) (enc_task rec.task)
     waits = m.waits ∙ ap (λ t. Require (how_of c.how) (enc_task t)) (sym task)
@@ -78,10 +75,10 @@ module _ (x : Site) (b : Build) (c : Caller) (cs : List Caller) (k : ℕ) (rec :
     some : AreRunning b.names b.walk (tasks_of (before_wait g ∷ take G.depth gs))
     some = some_running b.names b.walk G.depth g gs taken.running
 
-    told_on : IsThere x → MeanCallers x b gs cs → AllGo x b gs → (v : Value) (height : ℕ) (f : RunningTask) → HasGiven x rec v
+    told_on : AreCallers x b gs cs → AllGo x b gs → (v : Value) (height : ℕ) (f : RunningTask) → HasGiven rec v
         → IsTold c.waiting f (required (of_task c.how c.required v) k height c.waiting.notes) (requiring_answer c.how v)
         → Runs x b cs f.code.now f.machine f.notes
-    told_on there mean go v height f H t =
+    told_on mean go v height f H t =
         let named : slice_get b.names k ≡ Some c.required = sound.exact.named k rec kept ∙ ap Some task in
         let after : Frame = was_answered world (present x.update) g g.left (how_of c.how) (enc_task rec.task) (enc (tree_of v)) in
         let same : was_answered world (present x.update) g g.left (how_of c.how) (enc_task c.required) (enc (tree_of v)) ≡ after
@@ -90,17 +87,14 @@ module _ (x : Site) (b : Build) (c : Caller) (cs : List Caller) (k : ℕ) (rec :
           below = gs;
           frame = after;
           mean = mean;
-          means = subst (λ z. running.MeansFrame x.update.functions x.headings x.codes b.names b.stage c.waiting.code.now f.machine
+          means = subst (λ z. IsFrame x b c.waiting.code.now f.machine
               (required (of_task c.how c.required v) k height c.waiting.notes) (c.waiting.notes.left - 1) z) same
-              (subst (λ z. running.MeansFrame x.update.functions x.headings x.codes b.names b.stage c.waiting.code.now f.machine
+              (subst (λ z. IsFrame x b c.waiting.code.now f.machine
               (required (of_task c.how c.required v) k height c.waiting.notes) z
               (was_answered world (present x.update) g g.left (how_of c.how) (enc_task c.required) (enc (tree_of v))))
               (m.frame.left ∙ one_off m.left c.waiting.notes.left m.is_left)
-              (given_frame x.update.functions x.headings x.codes b.names b.stage c.waiting.code.now c.waiting.machine c.waiting.notes m.left g m.frame
-              g.left f.machine c.how c.required v k height (evaluation world (present x.update) (enc_task c.required)) named H.canonical t.follows
-              (fits_output x.update.functions x.headings x.codes there.compiled b.names b.stage c.waiting.code.now c.waiting.machine c.waiting.notes
-              m.left g m.frame c.required c.how v m.came
-              (subst (λ u. OutputFits (function_in u.func x.headings) (tree_of v)) task H.fits))));
+              (given_frame x b c.waiting.code.now c.waiting.machine c.waiting.notes m.left g m.frame g.left f.machine c.how c.required v k height
+              (evaluation world (present x.update) (enc_task rec.task)) named H.canonical t.follows));
           go = go;
           goes = record {
             base = G.base;
@@ -121,23 +115,23 @@ module _ (x : Site) (b : Build) (c : Caller) (cs : List Caller) (k : ℕ) (rec :
         G.is_base (record { is = L.is; wrote = L.wrote; stands = L.stands }) plain (adds_one c.waiting.notes (lost_task c.how c.required))
         (ap (λ o. o ∷ []) (lost_is c.how c.required ∙ ap (λ t. observation (Required (how_of c.how) (enc_task t)) Absent) (sym task))) refl
 
-pub run_on : (x : Site) (b : Build) (c : Caller) (cs : List Caller) (k : ℕ) (rec : TaskRecord) (v : Value) (height : ℕ) (f : RunningTask) → IsThere x
-    → HasSettled x b c cs k rec → HasGiven x rec v
+pub run_on : (x : Site) (b : Build) (c : Caller) (cs : List Caller) (k : ℕ) (rec : TaskRecord) (v : Value) (height : ℕ) (f : RunningTask)
+    → HasSettled x b c cs k rec → HasGiven rec v
     → IsTold c.waiting f (required (of_task c.how c.required v) k height c.waiting.notes) (requiring_answer c.how v)
     → Runs x b cs f.code.now f.machine f.notes
-run_on x b c cs k rec v height f there H given t = by H.wait.frames H.wait.mean H.wait.go H.wait.taken
+run_on x b c cs k rec v height f H given t = by H.wait.frames H.wait.mean H.wait.go H.wait.taken
   where
-    by : (fs : List Frame) → MeanCallers x b fs (c ∷ cs) → AllGo x b fs → AreTaken b fs → Runs x b cs f.code.now f.machine f.notes
+    by : (fs : List Frame) → AreCallers x b fs (c ∷ cs) → AllGo x b fs → AreTaken b fs → Runs x b cs f.code.now f.machine f.notes
     by [] m g a = absurd m
     by (g ∷ gs) m go a =
-        told_on x b c cs k rec H.sound H.settled H.kept H.task g gs m.0 go.0 a there m.1 go.1 v height f given t
+        told_on x b c cs k rec H.sound H.settled H.kept H.task g gs m.0 go.0 a m.1 go.1 v height f given t
 
 pub callers_end : (x : Site) (b : Build) (c : Caller) (cs : List Caller) (k : ℕ) (rec : TaskRecord) → HasSettled x b c cs k rec
     → ends_well (record_of rec).outcome ≡ false
     → EndsRight x b (observed (lost_task c.how c.required) c.waiting.notes) rec.outcome
 callers_end x b c cs k rec H lost = by H.wait.frames H.wait.mean H.wait.go H.wait.taken
   where
-    by : (fs : List Frame) → MeanCallers x b fs (c ∷ cs) → AllGo x b fs → AreTaken b fs
+    by : (fs : List Frame) → AreCallers x b fs (c ∷ cs) → AllGo x b fs → AreTaken b fs
         → EndsRight x b (observed (lost_task c.how c.required) c.waiting.notes) rec.outcome
     by [] m g a = absurd m
     by (g ∷ gs) m go a = ends_so x b c cs k rec H.sound H.settled H.kept H.task g gs m.0 go.0 a lost

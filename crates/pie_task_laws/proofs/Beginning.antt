@@ -35,17 +35,17 @@ use Rattle.pie_running.specs.declared.frame.Caller.{Caller}
 use Rattle.pie_running.specs.inner.Noted.{begun as no_notes}
 use Rattle.pie_running.specs.inner.Coded.{HasFunction}
 use Rattle.pie_running.specs.inner.Frames.{IsStarted}
-use Rattle.pie_running.proofs.Fitting.{required_has}
-use Rattle.pie_running.proofs.FrameLemmas.{one_less, begun_frame, aside_frame}
+use Rattle.pie_running.proofs.FrameLemmas.{one_less}
 use Rattle.pie_core_laws.specs.Update.{present}
 use Rattle.pie_core_laws.specs.Exact.{runs, busy_by}
 use Rattle.pie_core_laws.specs.Running.{IsRunningTask, IsBaseOf}
 use Rattle.pie_core_laws.proofs.Runs.{required_begin, ended_right}
-use Rattle.pie_task_laws.specs.Sites.{Site, Build, IsThere, IsExactAt}
+use Rattle.pie_task_laws.specs.Sites.{Site, Build, IsExactAt}
 use Rattle.pie_task_laws.specs.Going.{GoesAbove, Wait, Runs, MayBegin}
 use Rattle.pie_task_laws.specs.Steps.{IsUp, AllStep}
 use Rattle.pie_task_laws.specs.Coming.{IsAsking, left_as, EndsRight, failed_by}
 use Rattle.pie_task_laws.specs.Beginning.{calling, Takes}
+use Rattle.pie_task_laws.proofs.Frames.{begun_frame, aside_frame}
 use Rattle.pie_task_laws.proofs.Numbering.{same_number, some_running, name_new}
 use Rattle.pie_task_laws.proofs.Keeping.{waiting_stay, beginning_stay, named_still}
 use Rattle.pie_task_laws.proofs.Ending.{some_left}
@@ -82,11 +82,9 @@ module _ (x : Site) (b : Build) (cs : List Caller) (w : Waiting) (t : Task) (how
       record {
         left = w.notes.left - 1;
         is_left = one_less w.notes.left left;
-        frame = aside_frame x.update.functions x.headings x.codes b.names b.stage w.code.now w.machine w.notes w.notes.left A.runs.frame A.runs.means
-            (w.notes.left - 1);
+        frame = aside_frame x b w.code.now w.machine w.notes w.notes.left A.runs.frame A.runs.means (w.notes.left - 1);
         waits = requires;
         canonical = canonical;
-        came = A.came;
       },
       A.runs.mean,
     );
@@ -142,12 +140,6 @@ new_may x old new cs w t how e few left A small S names =
         let inside : i.0 < length old.names = slice_get_within old.names i.0 t at in
         omega (arith, same, inside)
 
-pub required_known : (x : Site) (b : Build) (cs : List Caller) (w : Waiting) (t : Task) (how : How) → IsThere x → IsAsking x b cs w (events.Require t how)
-    → (n : ℕ) × (number_from 0 x.update.functions t ≡ Some n)
-required_known x b cs w t how there A =
-    required_has x.update.functions x.headings x.codes there.compiled b.names b.stage w.code.now w.machine w.notes w.notes.left A.runs.frame A.runs.means
-    there.headings t how A.came
-
 -- a task that may begin and is taken runs
 pub taken_run : (x : Site) (old new : Build) (cs : List Caller) (t : Task) (k : ℕ) (f : RunningTask) → IsExactAt x old → Takes x old new t k
     → MayBegin x old cs t → HasFunction x.update.functions x.codes t f.code.now → IsStarted f.code.now t k f → Runs x new cs f.code.now f.machine f.notes
@@ -157,7 +149,7 @@ taken_run x old new cs t k f e T M function started =
       below = N.wait.frames;
       frame = begun world (enc_task t);
       mean = N.wait.mean;
-      means = begun_frame x.update.functions x.headings x.codes new.names new.stage t f k T.named function started.config started.notes T.empty;
+      means = begun_frame x new t f k T.named function started.config started.notes T.empty;
       go = N.wait.go;
       goes = N.goes;
       taken = record { running = running; once = (other (among (enc_task t) (tasks_of M.wait.frames)) refl, M.wait.taken.once) };

@@ -30,16 +30,17 @@ use Rattle.pie_builder_laws.proofs.Naming.{canonical_at}
 use Rattle.pie_running.specs.declared.frame.Caller.{Caller}
 use Rattle.pie_running.specs.inner.Noted.{Noted, observed}
 use Rattle.pie_running.specs.inner.Told.{EvaluatedTo}
-use Rattle.pie_running.specs.inner.Means.{MeansFrame}
-use Rattle.pie_running.proofs.FrameLemmas.{does, one_less}
+use Rattle.pie_running.proofs.FrameLemmas.{one_less}
 use Rattle.pie_core_laws.specs.Update.{present}
 use Rattle.pie_core_laws.specs.Exact.{busy_by}
 use Rattle.pie_core_laws.specs.Running.{IsBaseOf, left_record}
 use Rattle.pie_core_laws.proofs.Runs.{ended_right}
 use Rattle.pie_model.specs.inner.Stack.{Frame}
 use Rattle.pie_task_laws.specs.Sites.{Site, Build, IsThere, IsExactAt}
+use Rattle.pie_task_laws.specs.Frames.{IsFrame}
 use Rattle.pie_task_laws.specs.Going.{Runs}
 use Rattle.pie_task_laws.specs.Coming.{left_as, EndsRight, failed_by}
+use Rattle.pie_task_laws.proofs.Frames.{does}
 
 -- ---- notes at an end
 
@@ -57,7 +58,7 @@ pub adds_one : (n : Noted) (d : Dep) → Adds n (observed d n) (d ∷ [])
 adds_one n d = record { task = refl; number = refl; deps = refl; writes = refl }
 
 module _ (x : Site) (b : Build) (code : Code) (m : Standing) (n : Noted) (left : ℕ) (g : Frame)
-    (F : MeansFrame x.update.functions x.headings x.codes b.names b.stage code m n left g) where
+    (F : IsFrame x b code m n left g) where
   -- the record that notes give is the one that the frame leaves
   record_left : (k : Noted) (ds : List Dep) (last : List Observation) (e : Outcome) (o : Ending) → Adds n k ds → map observation_of ds ≡ last
       → outcome_of o ≡ e → record_of (left_as k o) ≡ left_record g last e
@@ -85,8 +86,7 @@ module _ (x : Site) (b : Build) (cs : List Caller) (code : Code) (m : Standing) 
   pub next_is : IsThere x → IsExactAt x b → (o : Given Tree) → EvaluatedTo code n.task.args (map answer_of R.frame.progress.answers) o
       → next x.update.functions R.frame.task R.frame.progress.answers ≡ event_of o
   next_is there e o came =
-      does x.update.functions x.headings x.codes b.names b.stage code m n n.left R.frame R.means there.compiled
-      (canonical_at b.names e.tasks n.number n.task R.means.named) o came
+      does x b code m n n.left R.frame R.means there (canonical_at b.names e.tasks n.number n.task R.means.named) o came
 
   pub left_right : (k : Noted) (ds : List Dep) (last : List Observation) (e : Outcome) (o : Ending) → Ends world (present x.update) R.frame last e
       → is_plain e ≡ true → Adds n k ds → map observation_of ds ≡ last → outcome_of o ≡ e → EndsRight x b k o

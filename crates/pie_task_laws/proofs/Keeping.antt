@@ -21,15 +21,15 @@ use Rattle.pie_builder_laws.specs.Views.{AreNumbersOf}
 use Rattle.pie_running.specs.declared.frame.Waiting.{Waiting}
 use Rattle.pie_running.specs.declared.frame.Caller.{Caller}
 use Rattle.pie_running.specs.inner.Noted.{Noted}
-use Rattle.pie_running.specs.inner.Means as running
-use Rattle.pie_running.proofs.FrameLemmas.{frame_moves}
 use Rattle.pie_core_laws.specs.Update.{present}
 use Rattle.pie_core_laws.specs.Exact.{busy_by}
 use Rattle.pie_core_laws.specs.Running.{AreRunning}
 use Rattle.pie_task_laws.specs.Sites.{Site, Build, IsExactAt}
-use Rattle.pie_task_laws.specs.Going.{GoesAbove, AllGo, AreTaken, MeanCallers, Wait, Runs, MayBegin}
+use Rattle.pie_task_laws.specs.Frames.{IsFrame, AreCallers}
+use Rattle.pie_task_laws.specs.Going.{GoesAbove, AllGo, AreTaken, Wait, Runs, MayBegin}
 use Rattle.pie_task_laws.specs.Coming.{IsAsking}
 use Rattle.pie_task_laws.specs.Steps.{IsUp, Steps, AllStep, OthersStep}
+use Rattle.pie_task_laws.proofs.Frames.{frame_moves}
 use Rattle.pie_task_laws.proofs.Numbering.{same_number, up_at, name_stays, numbers_stay}
 
 module _ (x : Site) (these : ℕ → Type 0) (old new : Build) (e : IsExactAt x old) (S : Steps x these old new) where
@@ -68,14 +68,14 @@ module _ (x : Site) (these : ℕ → Type 0) (old new : Build) (e : IsExactAt x 
       }
 
   frame_still : (code : Code) (m : Standing) (n : Noted) (left : ℕ) (g : Frame) → IsUp old n.number → these n.number
-      → running.MeansFrame x.update.functions x.headings x.codes old.names old.stage code m n left g
-      → running.MeansFrame x.update.functions x.headings x.codes new.names new.stage code m n left g
+      → IsFrame x old code m n left g
+      → IsFrame x new code m n left g
   frame_still code m n left g up spared F =
-      frame_moves x.update.functions x.headings x.codes old.names old.stage code m n left g F new.names new.stage (named_still n.number n.task F.named)
+      frame_moves x old code m n left g F new (named_still n.number n.task F.named)
       (numbers_still n.needs (called_in n.deps) F.needs) (S.staged n.number up spared)
 
-  pub callers_still : (fs : List Frame) (cs : List Caller) → Spared fs → AreRunning old.names old.walk (tasks_of fs) → MeanCallers x old fs cs
-      → MeanCallers x new fs cs
+  pub callers_still : (fs : List Frame) (cs : List Caller) → Spared fs → AreRunning old.names old.walk (tasks_of fs) → AreCallers x old fs cs
+      → AreCallers x new fs cs
   callers_still [] [] spared r m = m
   callers_still [] (c ∷ cs) spared r m = absurd m
   callers_still (g ∷ gs) [] spared r m = absurd m
@@ -89,7 +89,6 @@ module _ (x : Site) (these : ℕ → Type 0) (old new : Build) (e : IsExactAt x 
           (spared g.task (among_here g.task (tasks_of gs)) c.waiting.notes.number c.waiting.notes.task m.0.frame.named m.0.frame.task) m.0.frame;
       waits = m.0.waits;
       canonical = m.0.canonical;
-      came = m.0.came;
     },
     callers_still gs cs (λ y i. spared y (among_there y g.task (tasks_of gs) i)) (λ y i. r y (among_there y g.task (tasks_of gs) i)) m.1,
   )
@@ -129,7 +128,6 @@ pub asking_stay : (x : Site) (old new : Build) (cs : List Caller) (w : Waiting) 
 asking_stay x old new cs w v e S A = record {
   runs = running_stay x old new cs w.code.now w.machine w.notes e S A.runs;
   asks = A.asks;
-  came = A.came;
 }
 
 pub waiting_stay : (x : Site) (old new : Build) (cs : List Caller) → IsExactAt x old → AllStep x old new → Wait x old cs → Wait x new cs

@@ -1,4 +1,5 @@
 pub mod Numbering
+pub mod Frames
 pub mod Keeping
 pub mod Ending
 pub mod Pausing

@@ -27,11 +27,11 @@ use Rattle.pie_running.specs.declared.frame.Paused.{Paused}
 use Rattle.pie_running.specs.declared.frame.Paused.TheVariants as paused
 use Rattle.pie_running.specs.inner.Noted.{Noted}
 use Rattle.pie_running.specs.inner.Told.{EvaluatedTo, StopsFor}
-use Rattle.pie_running.proofs.FrameLemmas.{moved_frame}
 use Rattle.pie_core_laws.specs.Update.{present}
 use Rattle.pie_task_laws.specs.Sites.{Site, Build, IsThere, IsExactAt}
 use Rattle.pie_task_laws.specs.Going.{Runs}
 use Rattle.pie_task_laws.specs.Coming.{IsAsking, EndsRight, failed_by, output_by, Gives, PausesAs}
+use Rattle.pie_task_laws.proofs.Frames.{moved_frame}
 use Rattle.pie_task_laws.proofs.Ending.{adds_none, next_is, left_right, fails_right, some_left, fails_own}
 
 module _ (x : Site) (b : Build) (cs : List Caller) (there : IsThere x) (e : IsExactAt x b) where
@@ -50,13 +50,12 @@ module _ (x : Site) (b : Build) (cs : List Caller) (there : IsThere x) (e : IsEx
           below = R.below;
           frame = R.frame;
           mean = R.mean;
-          means = moved_frame x.update.functions x.headings x.codes b.names b.stage w.code.now m w.notes w.notes.left R.frame R.means w.machine c.0;
+          means = moved_frame x b w.code.now m w.notes w.notes.left R.frame R.means w.machine c.0;
           go = R.go;
           goes = R.goes;
           taken = R.taken;
         };
         asks = next_is x b cs w.code.now m w.notes R there e (wants v) c.1;
-        came = c.1;
       }
 
   asks_as : (w : Waiting) (v : Event) (code : Code) (m : Standing) (n : Noted) → w.code.now ≡ code → w.notes ≡ n → Runs x b cs code m n

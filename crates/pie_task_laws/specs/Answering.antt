@@ -9,8 +9,6 @@ use Rattle.pie_value.specs.declared.event.How.{How}
 use Rattle.pie_value.specs.Limits.{is_small_task}
 use Rattle.pie_value.specs.Values.{tree_of}
 use Rattle.pie_value.specs.Canonical.{enc, IsCanonical}
-use Rattle.pie_types.specs.Headings.{function_in}
-use Rattle.pie_type_laws.specs.Fitting.{OutputFits}
 use Rattle.pie_record.specs.declared.dep.Dep.{Dep}
 use Rattle.pie_record.specs.declared.dep.DepOn.TheVariants.{Called}
 use Rattle.pie_record.specs.declared.task_record.Outcome.TheVariants.{Done}
@@ -25,7 +23,7 @@ use Rattle.pie_running.specs.declared.frame.Waiting.{Waiting}
 use Rattle.pie_running.specs.declared.frame.Caller.{Caller}
 use Rattle.pie_running.specs.inner.Noted.{required, observed}
 use Rattle.pie_running.specs.inner.Told.{IsTold}
-use Rattle.pie_task_laws.specs.Sites.{Site, Build, IsThere, IsSound}
+use Rattle.pie_task_laws.specs.Sites.{Site, Build, IsSound}
 use Rattle.pie_task_laws.specs.Going.{Wait, Runs}
 use Rattle.pie_task_laws.specs.Coming.{IsAsking, EndsRight, failed_by}
 
@@ -37,17 +35,16 @@ pub record HasSettled (x : Site) (b : Build) (c : Caller) (cs : List Caller) (k 
   pub kept : kept_of b.records k ≡ Some rec
   pub task : rec.task ≡ c.required
 
--- its output has canonical bytes, and is of the type that its function answers
-pub record HasGiven (x : Site) (rec : TaskRecord) (v : Value) : Type 0 where
+-- its output has canonical bytes
+pub record HasGiven (rec : TaskRecord) (v : Value) : Type 0 where
   pub outcome : rec.outcome ≡ Done v
   pub canonical : IsCanonical (tree_of v) (enc (tree_of v))
-  pub fits : OutputFits (function_in rec.task.func x.headings) (tree_of v)
 
 -- the newest that waits is told the output, and runs on
 abbrev pub CallersRunOn : Type 0
 CallersRunOn =
-    (x : Site) (b : Build) (c : Caller) (cs : List Caller) (k : ℕ) (rec : TaskRecord) (v : Value) (height : ℕ) (f : RunningTask) → IsThere x
-    → HasSettled x b c cs k rec → HasGiven x rec v
+    (x : Site) (b : Build) (c : Caller) (cs : List Caller) (k : ℕ) (rec : TaskRecord) (v : Value) (height : ℕ) (f : RunningTask)
+    → HasSettled x b c cs k rec → HasGiven rec v
     → IsTold c.waiting f (required (of_task c.how c.required v) k height c.waiting.notes) (requiring_answer c.how v)
     → Runs x b cs f.code.now f.machine f.notes
 

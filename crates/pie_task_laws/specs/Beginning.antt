@@ -17,7 +17,7 @@ use Rattle.pie_running.specs.inner.Coded.{HasFunction}
 use Rattle.pie_running.specs.inner.Frames.{IsStarted}
 use Rattle.pie_core_laws.specs.Exact.{runs}
 use Rattle.pie_core_laws.specs.Running.{IsBaseOf}
-use Rattle.pie_task_laws.specs.Sites.{Site, Build, IsThere, IsExactAt}
+use Rattle.pie_task_laws.specs.Sites.{Site, Build, IsExactAt}
 use Rattle.pie_task_laws.specs.Going.{Wait, Runs, MayBegin}
 use Rattle.pie_task_laws.specs.Steps.{IsUp, AllStep}
 use Rattle.pie_task_laws.specs.Coming.{IsAsking, EndsRight, failed_by}
@@ -42,12 +42,6 @@ NewTasksMayBegin =
     (x : Site) (old new : Build) (cs : List Caller) (w : Waiting) (t : Task) (how : How) → IsExactAt x old → length old.names < 50000
     → 0 < w.notes.left → IsAsking x old cs w (events.Require t how) → is_small_task t ≡ true → AllStep x old new → new.names ≡ old.names ++ t ∷ []
     → MayBegin x new (calling w t how ∷ cs) t
-
--- a required task has a function
-abbrev pub RequiredTasksAreKnown : Type 0
-RequiredTasksAreKnown =
-    (x : Site) (b : Build) (cs : List Caller) (w : Waiting) (t : Task) (how : How) → IsThere x → IsAsking x b cs w (events.Require t how)
-    → (n : ℕ) × (number_from 0 x.update.functions t ≡ Some n)
 
 -- a step takes a task that may begin, for which nothing is staged
 pub record Takes (x : Site) (old new : Build) (t : Task) (k : ℕ) : Type 0 where

@@ -12,9 +12,9 @@ use Rattle.pie_settle_laws.specs.Going.{before_wait}
 use Rattle.pie_model_pipeline.specs.World.{world}
 use Rattle.pie_running.specs.declared.frame.Caller.{Caller}
 use Rattle.pie_running.specs.inner.Noted.{Noted}
-use Rattle.pie_running.specs.inner.Means as running
 use Rattle.pie_core_laws.specs.Running.{GoesIn, AreRunning, IsBaseOf}
 use Rattle.pie_task_laws.specs.Sites.{Site, Build}
+use Rattle.pie_task_laws.specs.Frames.{IsFrame, AreCallers}
 
 -- ---- frames of the model
 
@@ -38,18 +38,10 @@ pub record AreTaken (b : Build) (fs : List Frame) : Type 0 where
 
 -- ---- what they are to a builder
 
--- a task that has come so far, by its code, its machine and its notes, is this frame
-abbrev pub MeansFrame : Site → Build → Code → Standing → Noted → Frame → Type 0
-MeansFrame x b code m n f = running.MeansFrame x.update.functions x.headings x.codes b.names b.stage code m n n.left f
-
--- those that wait are these frames
-abbrev pub MeanCallers : Site → Build → List Frame → List Caller → Type 0
-MeanCallers x b fs cs = running.MeanCallers x.update.functions x.headings x.codes b.names b.stage fs cs
-
 -- these tasks wait, the newest first
 pub record Wait (x : Site) (b : Build) (cs : List Caller) : Type 0 where
   pub frames : List Frame
-  pub mean : MeanCallers x b frames cs
+  pub mean : AreCallers x b frames cs
   pub go : AllGo x b frames
   pub taken : AreTaken b frames
 
@@ -57,8 +49,8 @@ pub record Wait (x : Site) (b : Build) (cs : List Caller) : Type 0 where
 pub record Runs (x : Site) (b : Build) (cs : List Caller) (code : Code) (m : Standing) (n : Noted) : Type 0 where
   pub below : List Frame
   pub frame : Frame
-  pub mean : MeanCallers x b below cs
-  pub means : MeansFrame x b code m n frame
+  pub mean : AreCallers x b below cs
+  pub means : IsFrame x b code m n n.left frame
   pub go : AllGo x b below
   pub goes : GoesAbove x b below frame
   pub taken : AreTaken b (frame ∷ below)

@@ -1,4 +1,5 @@
 pub mod Sites
+pub mod Frames
 pub mod Going
 pub mod Steps
 pub mod Beginning

@@ -2,22 +2,19 @@
 use Rattle.std.specs.Prelude.{ℕ, List, Contains}
 use Rattle.pie_value.specs.declared.task.Task.{Task}
 use Rattle.pie_code.specs.declared.code.Code.{Code}
-use Rattle.pie_types.specs.Headings.{Heading}
 use Rattle.pie_record.specs.declared.records.Records.{Records}
 use Rattle.pie_walk.specs.States.{WalkState}
 use Rattle.pie_walk.specs.Standing.{Stands}
 use Rattle.pie_view.specs.Content.{Staged}
 use Rattle.pie_builder_laws.specs.Events.{AreCompiled}
-use Rattle.pie_builder_laws.specs.Fits.{HasHeadings}
 use Rattle.pie_core_laws.specs.Update.{Update}
 use Rattle.pie_core_laws.specs.Exact.{IsExact}
 use Rattle.pie_core_laws.specs.Keeping.{Separates}
 use Rattle.pie_core_laws.specs.Seeing.{HasOutput}
 
--- what a build goes by, and the headings and codes of its functions
+-- what a build goes by, and the codes of its functions
 pub record Site : Type 0 where
   pub update : Update
-  pub headings : List Heading
   pub codes : List Code
 
 -- its tasks by their numbers, their records, the state of its walk, and what tasks staged
@@ -27,10 +24,9 @@ pub record Build : Type 0 where
   pub walk : WalkState
   pub stage : Staged
 
--- the headings and codes are those of the functions
-pub record IsThere (x : Site) : Type 0 where
-  pub compiled : AreCompiled x.update.functions x.codes
-  pub headings : HasHeadings x.update.functions x.headings
+-- the codes are those of the functions
+abbrev pub IsThere : Site → Type 0
+IsThere x = AreCompiled x.update.functions x.codes
 
 -- the build is exact
 abbrev pub IsExactAt : Site → Build → Type 0

@@ -13,7 +13,7 @@ use Rattle.pie_running.specs.declared.looking.Sight.TheVariants.{Long}
 use Rattle.pie_running.specs.inner.Sights.{Sighted, listing_in}
 use Rattle.pie_running.specs.inner.Looks.{IsToldPresence, IsToldSight, IsToldDigest}
 use Rattle.pie_running.specs.inner.Told.{IsToldList, IsToldWrite}
-use Rattle.pie_task_laws.specs.Sites.{Site, Build, IsThere, IsSound, HaveOutputs}
+use Rattle.pie_task_laws.specs.Sites.{Site, Build, IsSound, HaveOutputs}
 use Rattle.pie_task_laws.specs.Going.{Runs}
 use Rattle.pie_task_laws.specs.Coming.{IsAsking, EndsRight, failed_by}
 use Rattle.pie_task_laws.specs.Sights.{SeesOut}
@@ -25,7 +25,6 @@ GoesAs x b cs (Fails n k) = EndsRight x b n (failed_by n k)
 
 -- a task looks at a path, and is shown what it sees there of tasks that ended with outputs
 pub record Looks (x : Site) (b : Build) (cs : List Caller) (w : Waiting) (path : List ℕ) (e : Event) (shown : Sighted → Type 0) : Type 0 where
-  pub there : IsThere x
   pub sound : IsSound x b
   pub asking : IsAsking x b cs w e
   pub left : 0 < w.notes.left
@@ -52,12 +51,12 @@ DigestsAreTold =
 -- the entries of a directory
 abbrev pub ListingsAreTold : Type 0
 ListingsAreTold =
-    (x : Site) (b : Build) (cs : List Caller) (w : Waiting) (dir : List ℕ) (t : Told) → IsThere x → IsAsking x b cs w (events.List dir)
+    (x : Site) (b : Build) (cs : List Caller) (w : Waiting) (dir : List ℕ) (t : Told) → IsAsking x b cs w (events.List dir)
     → 0 < w.notes.left → IsToldList w dir (listing_in x.update.directory dir) t → GoesAs x b cs t
 
 -- and that it wrote, which is staged
 abbrev pub WritesAreTold : Type 0
 WritesAreTold =
-    (x : Site) (b : Build) (cs : List Caller) (w : Waiting) (path bytes : List ℕ) (later : Staged) (t : Told) → IsThere x → IsSound x b
+    (x : Site) (b : Build) (cs : List Caller) (w : Waiting) (path bytes : List ℕ) (later : Staged) (t : Told) → IsSound x b
     → IsAsking x b cs w (events.Write path bytes) → 0 < w.notes.left → IsToldWrite (is_out path) w b.stage later path bytes t
     → GoesAs x (record b { stage = later }) cs t

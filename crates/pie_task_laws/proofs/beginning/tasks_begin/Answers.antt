@@ -1,4 +1,4 @@
-use Rattle.pie_task_laws.proofs.Beginning.{bases_may, requirers_wait, new_may, required_known, taken_run, lost_end}
+use Rattle.pie_task_laws.proofs.Beginning.{bases_may, requirers_wait, new_may, taken_run, lost_end}
 use Rattle.pie_task_laws.proofs.beginning.tasks_begin.Goals as goal
 
 pub returns-clause-bases : goal.returns-clause-bases
@@ -9,9 +9,6 @@ returns-clause-waits c = λ x b cs w t how k e left a small named. requirers_wai
 
 pub returns-clause-new : goal.returns-clause-new
 returns-clause-new c = λ x old new cs w t how e few left a small s names. new_may x old new cs w t how e few left a small s names
-
-pub returns-clause-known : goal.returns-clause-known
-returns-clause-known c = λ x b cs w t how there a. required_known x b cs w t how there a
 
 pub returns-clause-runs : goal.returns-clause-runs
 returns-clause-runs c = λ x old new cs t k f e takes m function started. taken_run x old new cs t k f e takes m function started

@@ -12,7 +12,7 @@ pub returns-clause-digests : goal.returns-clause-digests
 returns-clause-digests c = λ x b cs w path shown t l h. digest_told x b cs w path shown t l h
 
 pub returns-clause-listings : goal.returns-clause-listings
-returns-clause-listings c = λ x b cs w dir t there a left h. list_told x b cs w dir t there a left h
+returns-clause-listings c = λ x b cs w dir t a left h. list_told x b cs w dir t a left h
 
 pub returns-clause-writes : goal.returns-clause-writes
-returns-clause-writes c = λ x b cs w path bytes later t there sound a left h. write_told x b cs w path bytes later t there sound a left h
+returns-clause-writes c = λ x b cs w path bytes later t sound a left h. write_told x b cs w path bytes later t sound a left h
