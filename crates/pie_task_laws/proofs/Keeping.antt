@@ -67,7 +67,7 @@ module _ (x : Site) (these : ℕ → Type 0) (old new : Build) (e : IsExactAt x 
         ran = S.up m.number m.ran (spared y i m.number m.task m.named m.bytes);
       }
 
-  frame_still : (code : Code) (m : Standing) (n : Noted) (left : ℕ) (g : Frame) → IsUp old n.number → these n.number
+  pub frame_still : (code : Code) (m : Standing) (n : Noted) (left : ℕ) (g : Frame) → IsUp old n.number → these n.number
       → IsFrame x old code m n left g
       → IsFrame x new code m n left g
   frame_still code m n left g up spared F =
@@ -93,7 +93,7 @@ module _ (x : Site) (these : ℕ → Type 0) (old new : Build) (e : IsExactAt x 
     callers_still gs cs (λ y i. spared y (among_there y g.task (tasks_of gs) i)) (λ y i. r y (among_there y g.task (tasks_of gs) i)) m.1,
   )
 
-  pub wait_still : (cs : List Caller) (W : Wait x old cs) → Spared W.frames → Wait x new cs
+  abbrev pub wait_still : (cs : List Caller) (W : Wait x old cs) → Spared W.frames → Wait x new cs
   wait_still cs W spared = record {
     frames = W.frames;
     mean = callers_still W.frames cs spared W.taken.running W.mean;
@@ -101,7 +101,7 @@ module _ (x : Site) (these : ℕ → Type 0) (old new : Build) (e : IsExactAt x 
     taken = record { running = running_still W.frames spared W.taken.running; once = W.taken.once };
   }
 
-  pub runs_still : (cs : List Caller) (code : Code) (m : Standing) (n : Noted) (R : Runs x old cs code m n) → Spared (R.frame ∷ R.below)
+  abbrev pub runs_still : (cs : List Caller) (code : Code) (m : Standing) (n : Noted) (R : Runs x old cs code m n) → Spared (R.frame ∷ R.below)
       → Runs x new cs code m n
   runs_still cs code m n R spared = record {
     below = R.below;
@@ -119,7 +119,7 @@ module _ (x : Site) (these : ℕ → Type 0) (old new : Build) (e : IsExactAt x 
 
 -- ---- the laws
 
-pub running_stay : (x : Site) (old new : Build) (cs : List Caller) (code : Code) (m : Standing) (n : Noted) → IsExactAt x old → AllStep x old new
+abbrev pub running_stay : (x : Site) (old new : Build) (cs : List Caller) (code : Code) (m : Standing) (n : Noted) → IsExactAt x old → AllStep x old new
     → Runs x old cs code m n → Runs x new cs code m n
 running_stay x old new cs code m n e S R = runs_still x (λ k. Unit {0}) old new e S cs code m n R (λ y i k t a b. tt)
 
@@ -130,10 +130,10 @@ asking_stay x old new cs w v e S A = record {
   asks = A.asks;
 }
 
-pub waiting_stay : (x : Site) (old new : Build) (cs : List Caller) → IsExactAt x old → AllStep x old new → Wait x old cs → Wait x new cs
+abbrev pub waiting_stay : (x : Site) (old new : Build) (cs : List Caller) → IsExactAt x old → AllStep x old new → Wait x old cs → Wait x new cs
 waiting_stay x old new cs e S W = wait_still x (λ k. Unit {0}) old new e S cs W (λ y i k t a b. tt)
 
-pub beginning_stay : (x : Site) (old new : Build) (cs : List Caller) (t : Task) → IsExactAt x old → AllStep x old new → MayBegin x old cs t
+abbrev pub beginning_stay : (x : Site) (old new : Build) (cs : List Caller) (t : Task) → IsExactAt x old → AllStep x old new → MayBegin x old cs t
     → MayBegin x new cs t
 beginning_stay x old new cs t e S M = record {
   wait = waiting_stay x old new cs e S M.wait;
@@ -153,7 +153,7 @@ others x b cs code m n e R y i k t named bytes same =
     one : t ≡ n.task
     one = inside (sym named ∙ ap (slice_get b.names) same ∙ R.means.named)
 
-pub callers_stay : (x : Site) (old new : Build) (cs : List Caller) (code : Code) (m : Standing) (n : Noted) → IsExactAt x old
+abbrev pub callers_stay : (x : Site) (old new : Build) (cs : List Caller) (code : Code) (m : Standing) (n : Noted) → IsExactAt x old
     → OthersStep x n.number old new → Runs x old cs code m n → Wait x new cs
 callers_stay x old new cs code m n e S R = record {
   frames = R.below;

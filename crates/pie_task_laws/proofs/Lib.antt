@@ -4,7 +4,7 @@ pub mod Keeping
 pub mod Ending
 pub mod Pausing
 pub mod Seeing
-pub mod Telling
+pub mod Told
 pub mod Writing
-pub mod Answering
-pub mod Beginning
+pub mod Answered
+pub mod Begun

@@ -38,7 +38,7 @@ module _ (x : Site) (b : Build) (cs : List Caller) (there : IsThere x) (e : IsEx
   -- ---- it asks
 
   -- a machine that goes further with these answers asks this
-  Asked : Waiting → Event → Code → Standing → Noted → Type 0
+  abbrev Asked : Waiting → Event → Code → Standing → Noted → Type 0
   Asked w v code m n =
       (given : List Answer) → Follows code n.task.args given m → Follows code n.task.args given w.machine × EvaluatedTo code n.task.args given (wants v)
 
@@ -90,8 +90,8 @@ module _ (x : Site) (b : Build) (cs : List Caller) (there : IsThere x) (e : IsEx
   -- what a machine gives
   pub pauses : (f : RunningTask) (p : Paused) → Runs x b cs f.code.now f.machine f.notes → Gives f p → PausesAs x b cs p
   pauses f (paused.Asks w v) R G =
-      asks_as w v f.code.now f.machine f.notes (G.means (map answer_of R.frame.progress.answers) R.means.follows).0 G.comes.1.0 R
-      (λ given h. (G.means given h).1)
+      asks_as w v f.code.now f.machine f.notes (G.means (map answer_of R.frame.progress.answers) R.means.follows).0 G.comes.1 R
+      (λ given h. let c = G.means given h in (c.1, c.2))
   pauses f (paused.Ends n v) R G =
       let c = G.means (map answer_of R.frame.progress.answers) R.means.follows in
       subst (λ k. EndsRight x b k (output_by k v)) (sym G.comes) (gives_value f.code.now f.machine f.notes R v c.0 c.1)

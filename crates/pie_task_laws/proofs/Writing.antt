@@ -33,7 +33,7 @@ use Rattle.pie_task_laws.specs.Telling.{GoesAs}
 use Rattle.pie_task_laws.proofs.Frames.{with_stage, wrote_frame}
 use Rattle.pie_task_laws.proofs.Keeping.{goes_still, callers_stay}
 use Rattle.pie_task_laws.proofs.Ending.{some_left, fails_own}
-use Rattle.pie_task_laws.proofs.Telling.{failed_as}
+use Rattle.pie_task_laws.proofs.Told.{failed_as}
 
 module _ (x : Site) (b : Build) (cs : List Caller) (w : Waiting) (e : IsExactAt x b) (R : Runs x b cs w.code.now w.machine w.notes)
     (left : 0 < w.notes.left) (path bytes : List ℕ) (st : Staged) (keeps : KeepsFirst b.stage st w.notes.number path bytes) where
@@ -46,7 +46,7 @@ module _ (x : Site) (b : Build) (cs : List Caller) (w : Waiting) (e : IsExactAt 
     staged = λ k u o p. others_stay b.stage st w.notes.number path bytes keeps k o p;
   }
 
-  callers : Wait x (with_stage b st) cs
+  abbrev callers : Wait x (with_stage b st) cs
   callers = callers_stay x b (with_stage b st) cs w.code.now w.machine w.notes e step R
 
   goes : next x.update.functions R.frame.task R.frame.progress.answers ≡ Write path bytes

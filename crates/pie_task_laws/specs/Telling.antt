@@ -10,7 +10,7 @@ use Rattle.pie_running.specs.declared.frame.Caller.{Caller}
 use Rattle.pie_running.specs.declared.frame.Told.{Told}
 use Rattle.pie_running.specs.declared.frame.Told.TheVariants.{Goes, Fails}
 use Rattle.pie_running.specs.declared.looking.Sight.TheVariants.{Long}
-use Rattle.pie_running.specs.inner.Sights.{Sighted, listing_in}
+use Rattle.pie_running.specs.inner.Sights.{listing_in}
 use Rattle.pie_running.specs.inner.Looks.{IsToldPresence, IsToldSight, IsToldDigest}
 use Rattle.pie_running.specs.inner.Told.{IsToldList, IsToldWrite}
 use Rattle.pie_task_laws.specs.Sites.{Site, Build, IsSound, HaveOutputs}
@@ -23,30 +23,29 @@ abbrev pub GoesAs : Site → Build → List Caller → Told → Type 0
 GoesAs x b cs (Goes f) = Runs x b cs f.code.now f.machine f.notes
 GoesAs x b cs (Fails n k) = EndsRight x b n (failed_by n k)
 
--- a task looks at a path, and is shown what it sees there of tasks that ended with outputs
-pub record Looks (x : Site) (b : Build) (cs : List Caller) (w : Waiting) (path : List ℕ) (e : Event) (shown : Sighted → Type 0) : Type 0 where
+-- a task that required tasks with outputs looks at a path
+pub record Looks (x : Site) (b : Build) (cs : List Caller) (w : Waiting) (e : Event) : Type 0 where
   pub sound : IsSound x b
   pub asking : IsAsking x b cs w e
   pub left : 0 < w.notes.left
   pub outputs : HaveOutputs b w.notes.needs
-  pub sees : (o : Sighted) → shown o → SeesOut x b w.notes path o
 
 -- it is told whether a file is there, its bytes or their hash
 abbrev pub PresencesAreTold : Type 0
 PresencesAreTold =
-    (x : Site) (b : Build) (cs : List Caller) (w : Waiting) (path : List ℕ) (shown : Sighted → Type 0) (t : Told)
-    → Looks x b cs w path (events.Exists path) shown → IsToldPresence x.update.directory shown w path t → GoesAs x b cs t
+    (x : Site) (b : Build) (cs : List Caller) (w : Waiting) (path : List ℕ) (t : Told) → Looks x b cs w (events.Exists path)
+    → IsToldPresence x.update.directory (SeesOut x b w.notes path) w path t → GoesAs x b cs t
 
 -- a file that is too long to be a value is seen with no stamp, so nothing is said of it
 abbrev pub ReadingsAreTold : Type 0
 ReadingsAreTold =
-    (x : Site) (b : Build) (cs : List Caller) (w : Waiting) (path : List ℕ) (by : By) (shown : Sighted → Type 0) (t : Told)
-    → Looks x b cs w path (events.Read path by) shown → (h : IsToldSight x.update.directory shown w path by t) → (h.sight ≡ Long → ⊥) → GoesAs x b cs t
+    (x : Site) (b : Build) (cs : List Caller) (w : Waiting) (path : List ℕ) (by : By) (t : Told) → Looks x b cs w (events.Read path by)
+    → (h : IsToldSight x.update.directory (SeesOut x b w.notes path) w path by t) → (h.sight ≡ Long → ⊥) → GoesAs x b cs t
 
 abbrev pub DigestsAreTold : Type 0
 DigestsAreTold =
-    (x : Site) (b : Build) (cs : List Caller) (w : Waiting) (path : List ℕ) (shown : Sighted → Type 0) (t : Told)
-    → Looks x b cs w path (events.Digest path) shown → IsToldDigest x.update.directory shown w path t → GoesAs x b cs t
+    (x : Site) (b : Build) (cs : List Caller) (w : Waiting) (path : List ℕ) (t : Told) → Looks x b cs w (events.Digest path)
+    → IsToldDigest x.update.directory (SeesOut x b w.notes path) w path t → GoesAs x b cs t
 
 -- the entries of a directory
 abbrev pub ListingsAreTold : Type 0

@@ -1,4 +1,4 @@
-use Rattle.pie_task_laws.proofs.Answering.{run_on, callers_end, big_fails}
+use Rattle.pie_task_laws.proofs.Answered.{run_on, callers_end, big_fails}
 use Rattle.pie_task_laws.proofs.answering.requirers_are_answered.Goals as goal
 
 pub returns-clause-answered : goal.returns-clause-answered

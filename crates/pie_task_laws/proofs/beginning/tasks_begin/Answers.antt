@@ -1,4 +1,4 @@
-use Rattle.pie_task_laws.proofs.Beginning.{bases_may, requirers_wait, new_may, taken_run, lost_end}
+use Rattle.pie_task_laws.proofs.Begun.{bases_may, requirers_wait, new_may, taken_run, lost_end}
 use Rattle.pie_task_laws.proofs.beginning.tasks_begin.Goals as goal
 
 pub returns-clause-bases : goal.returns-clause-bases

@@ -94,7 +94,7 @@ module _ (x : Site) (b : Build) (c : Caller) (cs : List Caller) (k : ℕ) (rec :
               (was_answered world (present x.update) g g.left (how_of c.how) (enc_task c.required) (enc (tree_of v))))
               (m.frame.left ∙ one_off m.left c.waiting.notes.left m.is_left)
               (given_frame x b c.waiting.code.now c.waiting.machine c.waiting.notes m.left g m.frame g.left f.machine c.how c.required v k height
-              (evaluation world (present x.update) (enc_task rec.task)) named H.canonical t.follows));
+              (evaluation world (present x.update) (enc_task c.required)) named H.canonical t.follows));
           go = go;
           goes = record {
             base = G.base;

@@ -68,14 +68,14 @@ bases_may x b cs t is W = record {
 
 module _ (x : Site) (b : Build) (cs : List Caller) (w : Waiting) (t : Task) (how : How) (e : IsExactAt x b) (left : 0 < w.notes.left)
     (A : IsAsking x b cs w (events.Require t how)) (small : is_small_task t ≡ true) where
-  requires : next x.update.functions A.runs.frame.task A.runs.frame.progress.answers ≡ Require (how_of how) (enc_task t)
+  pub requires : next x.update.functions A.runs.frame.task A.runs.frame.progress.answers ≡ Require (how_of how) (enc_task t)
   requires = A.asks ∙ ap (λ z. cond z (Require (how_of how) (enc_task t)) (Fail model_faults.Big)) small
 
-  one_more : A.runs.frame.left ≡ suc (w.notes.left - 1)
+  pub one_more : A.runs.frame.left ≡ suc (w.notes.left - 1)
   one_more = some_left x b cs w.code.now w.machine w.notes A.runs left
 
   -- it waits above those that waited
-  pub asides : IsCanonicalTask t (enc_task t) → Wait x b (calling w t how ∷ cs)
+  abbrev pub asides : IsCanonicalTask t (enc_task t) → Wait x b (calling w t how ∷ cs)
   asides canonical = record {
     frames = set_aside A.runs.frame (w.notes.left - 1) ∷ A.runs.below;
     mean = (

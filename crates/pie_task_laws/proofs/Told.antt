@@ -54,6 +54,7 @@ use Rattle.pie_core_laws.specs.Exact.{busy_by}
 use Rattle.pie_task_laws.specs.Sites.{Site, Build}
 use Rattle.pie_task_laws.specs.Going.{GoesAbove, AreTaken, Runs}
 use Rattle.pie_task_laws.specs.Coming.{IsAsking, EndsRight, failed_by}
+use Rattle.pie_task_laws.specs.Sights.{SeesOut}
 use Rattle.pie_task_laws.specs.Telling.{GoesAs, Looks}
 use Rattle.pie_task_laws.proofs.Frames.{told_frame}
 use Rattle.pie_task_laws.proofs.Ending.{adds_one, fails_right, some_left, fails_own}
@@ -155,38 +156,38 @@ read_lost stamped.Mark path = refl
 read_lost stamped.Raw path = refl
 
 pub exists_told : (x : Site) (b : Build) (cs : List Caller) (w : Waiting) (path : List ℕ) (shown : Sighted → Type 0) (t : Told)
-    → Looks x b cs w path (events.Exists path) shown → IsToldPresence x.update.directory shown w path t → GoesAs x b cs t
-exists_told x b cs w path shown t L h =
+    → Looks x b cs w (events.Exists path) → ((o : Sighted) → shown o → SeesOut x b w.notes path o) → IsToldPresence x.update.directory shown w path t → GoesAs x b cs t
+exists_told x b cs w path shown t L sees h =
     look_told x b cs w L.asking.runs L.left looks.Exists path L.asking.asks h.sees.sight
-    (seen_visible x b cs w.code.now w.machine w.notes L.asking.runs L.sound L.outputs shown path h.sees.sight L.sees h.sees.sees)
+    (seen_visible x b cs w.code.now w.machine w.notes L.asking.runs L.sound L.outputs shown path h.sees.sight sees h.sees.sees)
     (λ seen. told_flag path (is_some seen)) (λ seen _. flag_is path seen) (λ seen. refl)
     (absent_dep kinds.Exists path) refl t
     (subst (λ o. IsToldOrFails w (absent_dep kinds.Exists path) o t) (ap (option_map (told_flag path)) h.sees.is
     ∙ map_twice is_some (told_flag path) h.sees.sight) h.told)
 
 pub read_told : (x : Site) (b : Build) (cs : List Caller) (w : Waiting) (path : List ℕ) (by : By) (shown : Sighted → Type 0) (sight : Sighted) (t : Told)
-    → Looks x b cs w path (events.Read path by) shown → Sees x.update.directory path shown sight
+    → Looks x b cs w (events.Read path by) → ((o : Sighted) → shown o → SeesOut x b w.notes path o) → Sees x.update.directory path shown sight
     → IsToldOrFails w (absent_dep (read_kind by) path) (option_map (told_reading by path) sight) t → GoesAs x b cs t
-read_told x b cs w path by shown sight t L p h =
+read_told x b cs w path by shown sight t L sees p h =
     look_told x b cs w L.asking.runs L.left (look_by by) path L.asking.asks sight
-    (seen_visible x b cs w.code.now w.machine w.notes L.asking.runs L.sound L.outputs shown path sight L.sees p)
+    (seen_visible x b cs w.code.now w.machine w.notes L.asking.runs L.sound L.outputs shown path sight sees p)
     (told_reading by path) (λ seen e. reading_as by path seen (λ f g. same_sight sight seen e (p.kept f g))) (λ seen. refl)
     (absent_dep (read_kind by) path) (read_lost by path) t h
 
 pub reading_told : (x : Site) (b : Build) (cs : List Caller) (w : Waiting) (path : List ℕ) (by : By) (shown : Sighted → Type 0) (t : Told)
-    → Looks x b cs w path (events.Read path by) shown → (h : IsToldSight x.update.directory shown w path by t) → (h.sight ≡ Long → ⊥) → GoesAs x b cs t
-reading_told x b cs w path by shown t L h short = each h.sight h.sees h.told short
+    → Looks x b cs w (events.Read path by) → ((o : Sighted) → shown o → SeesOut x b w.notes path o) → (h : IsToldSight x.update.directory shown w path by t) → (h.sight ≡ Long → ⊥) → GoesAs x b cs t
+reading_told x b cs w path by shown t L sees h short = each h.sight h.sees h.told short
   where
     each : (s : Found) → SightSays s (Sees x.update.directory path shown) → IsToldReading w by path s t → (s ≡ Long → ⊥) → GoesAs x b cs t
-    each (File found) p k d = read_told x b cs w path by shown (Some (found_in found)) t L p k
+    each (File found) p k d = read_told x b cs w path by shown (Some (found_in found)) t L sees p k
     each Long p k d = absurd (d refl)
-    each Clashes p k d = read_told x b cs w path by shown None t L p k
+    each Clashes p k d = read_told x b cs w path by shown None t L sees p k
 
 pub digest_told : (x : Site) (b : Build) (cs : List Caller) (w : Waiting) (path : List ℕ) (shown : Sighted → Type 0) (t : Told)
-    → Looks x b cs w path (events.Digest path) shown → IsToldDigest x.update.directory shown w path t → GoesAs x b cs t
-digest_told x b cs w path shown t L h =
+    → Looks x b cs w (events.Digest path) → ((o : Sighted) → shown o → SeesOut x b w.notes path o) → IsToldDigest x.update.directory shown w path t → GoesAs x b cs t
+digest_told x b cs w path shown t L sees h =
     look_told x b cs w L.asking.runs L.left looks.Digest path L.asking.asks h.sees.sight
-    (seen_visible x b cs w.code.now w.machine w.notes L.asking.runs L.sound L.outputs shown path h.sees.sight L.sees h.sees.sees)
+    (seen_visible x b cs w.code.now w.machine w.notes L.asking.runs L.sound L.outputs shown path h.sees.sight sees h.sees.sees)
     (λ seen. told_hash path (hash_in seen)) (λ seen _. hash_is path seen) (λ seen. refl)
     (absent_dep kinds.Digest path) refl t
     (subst (λ o. IsToldOrFails w (absent_dep kinds.Digest path) o t) (ap (option_map (told_hash path)) h.sees.is
