@@ -1,5 +1,5 @@
 -- Tasks that waited go on or end, once the one that they require is settled.
-use Rattle.std.proofs.Common.{◌≡◌, ℕ, suc, ◌-◌, ◌<◌, true, false, cond, Option, Some, List, [], ◌∷◌, ◌++◌, map, take, refl, sym, ap, subst, ◌∙◌, arith}
+use Rattle.std.proofs.Common.{◌≡◌, ℕ, suc, ◌-◌, ◌<◌, true, false, cond, Some, List, [], ◌∷◌, take, refl, sym, ap, subst, ◌∙◌, arith}
 use Rattle.std.specs.Prelude.{slice_get, option_map}
 use Rattle.pie_base.specs.declared.fault.FaultKind.TheVariants as faults
 use Rattle.pie_value.specs.declared.task.Task.{Task}
@@ -13,7 +13,6 @@ use Rattle.pie_value.specs.Canonical.{enc, enc_task}
 use Rattle.pie_record.specs.declared.task_record.TaskRecord.{TaskRecord}
 use Rattle.pie_record.specs.inner.Records.{record_of as kept_of}
 use Rattle.pie_walk.specs.Marks.{IsSettled}
-use Rattle.pie_model.specs.Paths.{among}
 use Rattle.pie_model.specs.declared.words.Event.TheVariants.{Require, Fail}
 use Rattle.pie_model.specs.declared.words.FaultKind.TheVariants as model_faults
 use Rattle.pie_model.specs.Trees.{is_done as ends_well, is_plain}
@@ -35,7 +34,7 @@ use Rattle.pie_running.specs.declared.frame.Caller.{Caller}
 use Rattle.pie_running.specs.inner.Noted.{required, observed}
 use Rattle.pie_running.specs.inner.Told.{IsTold}
 use Rattle.pie_core_laws.specs.Update.{present}
-use Rattle.pie_core_laws.specs.Exact.{rank_by, IsExact}
+use Rattle.pie_core_laws.specs.Exact.{rank_by}
 use Rattle.pie_core_laws.specs.Running.{AreRunning}
 use Rattle.pie_core_laws.proofs.Exactly as exactly
 use Rattle.pie_core_laws.proofs.Runs.{settled_answers, settled_stops}

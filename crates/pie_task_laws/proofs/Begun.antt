@@ -42,7 +42,7 @@ use Rattle.pie_core_laws.specs.Running.{IsRunningTask, IsBaseOf}
 use Rattle.pie_core_laws.proofs.Runs.{required_begin, ended_right}
 use Rattle.pie_task_laws.specs.Sites.{Site, Build, IsExactAt}
 use Rattle.pie_task_laws.specs.Going.{GoesAbove, Wait, Runs, MayBegin}
-use Rattle.pie_task_laws.specs.Steps.{IsUp, AllStep}
+use Rattle.pie_task_laws.specs.Steps.{AllStep}
 use Rattle.pie_task_laws.specs.Coming.{IsAsking, left_as, EndsRight, failed_by}
 use Rattle.pie_task_laws.specs.Beginning.{calling, Takes}
 use Rattle.pie_task_laws.proofs.Frames.{begun_frame, aside_frame}

@@ -1,5 +1,5 @@
 -- Steps beside the running tasks keep them going.
-use Rattle.std.proofs.Common.{◌≡◌, ℕ, true, Some, List, [], ◌∷◌, ◌++◌, map, take, refl, sym, ap, subst, ◌∙◌, append-nil}
+use Rattle.std.proofs.Common.{◌≡◌, ℕ, true, Some, List, [], ◌∷◌, take, sym, ap, subst, ◌∙◌, append-nil}
 use Rattle.std.specs.Prelude.{slice_get}
 use Rattle.pie_value.specs.declared.task.Task.{Task}
 use Rattle.pie_value.specs.declared.event.Event.{Event}
@@ -7,7 +7,6 @@ use Rattle.pie_value.specs.Canonical.{enc_task}
 use Rattle.pie_code.specs.declared.code.Code.{Code}
 use Rattle.pie_vm.specs.Machines.{Standing}
 use Rattle.pie_view.specs.Content.{Staged, content}
-use Rattle.pie_walk.specs.Marks.{mark_of}
 use Rattle.pie_model.specs.Paths.{among}
 use Rattle.pie_model.specs.inner.RecordLaws.{Passes}
 use Rattle.pie_model.specs.inner.Stack.{Frame, tasks_of}
@@ -26,11 +25,11 @@ use Rattle.pie_core_laws.specs.Exact.{busy_by}
 use Rattle.pie_core_laws.specs.Running.{AreRunning}
 use Rattle.pie_task_laws.specs.Sites.{Site, Build, IsExactAt}
 use Rattle.pie_task_laws.specs.Frames.{IsFrame, AreCallers}
-use Rattle.pie_task_laws.specs.Going.{GoesAbove, AllGo, AreTaken, Wait, Runs, MayBegin}
+use Rattle.pie_task_laws.specs.Going.{GoesAbove, AllGo, Wait, Runs, MayBegin}
 use Rattle.pie_task_laws.specs.Coming.{IsAsking}
 use Rattle.pie_task_laws.specs.Steps.{IsUp, Steps, AllStep, OthersStep}
 use Rattle.pie_task_laws.proofs.Frames.{frame_moves}
-use Rattle.pie_task_laws.proofs.Numbering.{same_number, up_at, name_stays, numbers_stay}
+use Rattle.pie_task_laws.proofs.Numbering.{up_at, name_stays, numbers_stay}
 
 module _ (x : Site) (these : ℕ → Type 0) (old new : Build) (e : IsExactAt x old) (S : Steps x these old new) where
   pub goes_still : (below : List Frame) (f : Frame) → GoesAbove x old below f → GoesAbove x new below f

@@ -1,11 +1,10 @@
 -- What comes of a running task is what comes in the model.
-use Rattle.std.proofs.Common.{◌≡◌, ◌⊎◌, inl, inr, ℕ, suc, ◌-◌, ◌<◌, Bool, true, false, cond, List, [], ◌∷◌, map, refl, sym, ap, subst, ◌∙◌}
+use Rattle.std.proofs.Common.{◌≡◌, inl, inr, ◌-◌, ◌<◌, Bool, true, false, cond, List, [], map, refl, sym, ap, subst, ◌∙◌}
 use Rattle.pie_base.specs.declared.fault.FaultKind.{FaultKind}
 use Rattle.pie_base.specs.declared.fault.FaultKind.TheVariants as faults
 use Rattle.pie_value.specs.declared.value.Value.{Value}
 use Rattle.pie_value.specs.declared.event.Answer.{Answer}
 use Rattle.pie_value.specs.declared.event.Event.{Event}
-use Rattle.pie_value.specs.Tree.{Tree}
 use Rattle.pie_value.specs.Values.{tree_of}
 use Rattle.pie_value.specs.Canonical.{enc}
 use Rattle.pie_value.specs.Limits.{is_small}
@@ -15,11 +14,10 @@ use Rattle.pie_vm.specs.Machines.{Standing, Follows}
 use Rattle.pie_record.specs.declared.task_record.Outcome.TheVariants as ends
 use Rattle.pie_model.specs.declared.words.Event.TheVariants.{Done, Fail}
 use Rattle.pie_model.specs.declared.words.FaultKind.TheVariants as model_faults
-use Rattle.pie_model.specs.declared.words.Outcome.TheVariants.{Ended, Failed}
+use Rattle.pie_model.specs.declared.words.Outcome.TheVariants.{Ended}
 use Rattle.pie_settle_laws.specs.Going.Ends.{with_value, without_events}
-use Rattle.pie_model_pipeline.specs.Words.{fault_of}
 use Rattle.pie_model_pipeline.specs.inner.Answers.{answer_of}
-use Rattle.pie_model_pipeline.specs.World.{world, next}
+use Rattle.pie_model_pipeline.specs.World.{next}
 use Rattle.pie_running.specs.declared.frame.RunningTask.{RunningTask}
 use Rattle.pie_running.specs.declared.frame.Waiting.{Waiting}
 use Rattle.pie_running.specs.declared.frame.Caller.{Caller}
@@ -27,7 +25,6 @@ use Rattle.pie_running.specs.declared.frame.Paused.{Paused}
 use Rattle.pie_running.specs.declared.frame.Paused.TheVariants as paused
 use Rattle.pie_running.specs.inner.Noted.{Noted}
 use Rattle.pie_running.specs.inner.Told.{EvaluatedTo, StopsFor}
-use Rattle.pie_core_laws.specs.Update.{present}
 use Rattle.pie_task_laws.specs.Sites.{Site, Build, IsThere, IsExactAt}
 use Rattle.pie_task_laws.specs.Going.{Runs}
 use Rattle.pie_task_laws.specs.Coming.{IsAsking, EndsRight, failed_by, output_by, Gives, PausesAs}

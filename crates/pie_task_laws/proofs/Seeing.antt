@@ -1,7 +1,6 @@
 -- What a running task sees is what is visible to it in the model.
-use Rattle.std.proofs.Common.{◌≡◌, ℕ, Bool, true, false, Option, Some, None, List, map, take, refl, sym, ap, subst, ◌∙◌}
+use Rattle.std.proofs.Common.{◌≡◌, ℕ, Bool, true, false, Option, Some, None, List, map, refl, sym, ap, ◌∙◌}
 use Rattle.pie_base.specs.Path.{is_out, is_source}
-use Rattle.pie_value.specs.Canonical.{enc_task}
 use Rattle.pie_view.specs.Content.{Staged, content}
 use Rattle.pie_files.specs.Directory.{file_at}
 use Rattle.pie_code.specs.declared.code.Code.{Code}

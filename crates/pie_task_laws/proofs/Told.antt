@@ -1,5 +1,5 @@
 -- A task that was told something goes on as in the model, or fails with a right record.
-use Rattle.std.proofs.Common.{◌≡◌, ℕ, suc, ◌-◌, ◌<◌, Bool, true, false, cond, Option, Some, None, List, [], ◌∷◌, ◌++◌, map, take, refl, sym, ap, subst, ◌∙◌}
+use Rattle.std.proofs.Common.{◌≡◌, ℕ, suc, ◌-◌, ◌<◌, Bool, true, false, cond, Some, None, List, [], ◌∷◌, ◌++◌, map, take, refl, sym, ap, subst, ◌∙◌}
 use Rattle.std.specs.Prelude.{is_some}
 use Rattle.std.specs.Option.{option_map}
 use Rattle.pie_base.specs.declared.fault.FaultKind.{FaultKind}
@@ -28,7 +28,7 @@ use Rattle.pie_model.specs.inner.RecordLaws.{Passes}
 use Rattle.pie_step_laws.specs.Frames.{gone_on}
 use Rattle.pie_settle_laws.specs.Going.Ends.{clashing, listing_too_much}
 use Rattle.pie_settle_laws.proofs.Goings.{absent_look, present_look, listing_made}
-use Rattle.pie_model_pipeline.specs.Words.{fault_of, look_by}
+use Rattle.pie_model_pipeline.specs.Words.{look_by}
 use Rattle.pie_model_pipeline.specs.inner.Answers.{answer_of}
 use Rattle.pie_model_pipeline.specs.Rows.{observation_of}
 use Rattle.pie_model_pipeline.specs.World.{world, next}
@@ -52,7 +52,7 @@ use Rattle.pie_running.proofs.Sighting.{map_twice, flag_is, reading_as, hash_is,
 use Rattle.pie_core_laws.specs.Update.{present}
 use Rattle.pie_core_laws.specs.Exact.{busy_by}
 use Rattle.pie_task_laws.specs.Sites.{Site, Build}
-use Rattle.pie_task_laws.specs.Going.{GoesAbove, AreTaken, Runs}
+use Rattle.pie_task_laws.specs.Going.{GoesAbove, Runs}
 use Rattle.pie_task_laws.specs.Coming.{IsAsking, EndsRight, failed_by}
 use Rattle.pie_task_laws.specs.Sights.{SeesOut}
 use Rattle.pie_task_laws.specs.Telling.{GoesAs, Looks}

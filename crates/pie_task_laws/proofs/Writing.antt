@@ -1,16 +1,14 @@
 -- A task that wrote something goes on as in the model, or fails with a right record.
-use Rattle.std.proofs.Common.{◌≡◌, ℕ, ◌-◌, ◌<◌, Bool, true, false, cond, Some, List, [], ◌∷◌, map, take, refl, sym, ap, subst, ◌∙◌, append-nil}
+use Rattle.std.proofs.Common.{◌≡◌, ℕ, ◌-◌, ◌<◌, Bool, true, false, cond, List, [], take, refl, sym, ap, subst, ◌∙◌, append-nil}
 use Rattle.sha2.specs.Sha256.{sha256}
 use Rattle.pie_base.specs.Path.{is_out}
 use Rattle.pie_base.specs.declared.fault.FaultKind.TheVariants as faults
 use Rattle.pie_value.specs.declared.event.Answer.TheVariants as answers
 use Rattle.pie_value.specs.declared.event.Event.TheVariants as events
 use Rattle.pie_view.specs.Content.{Staged}
-use Rattle.pie_model.specs.Paths.{among}
 use Rattle.pie_model.specs.declared.words.Event.TheVariants.{Write, Fail}
 use Rattle.pie_model.specs.declared.words.FaultKind.TheVariants as model_faults
 use Rattle.pie_model.specs.inner.RecordLaws.{Passes}
-use Rattle.pie_model.specs.inner.Stack.{tasks_of}
 use Rattle.pie_step_laws.specs.Frames.{has_written}
 use Rattle.pie_settle_laws.proofs.Goings.{write_made}
 use Rattle.pie_model_pipeline.specs.World.{world, next}

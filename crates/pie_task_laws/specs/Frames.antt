@@ -1,6 +1,5 @@
 -- A task that runs or waits, by its code, its machine and its notes, is a frame of the model. Nothing is said of the types of what it was told.
 use Rattle.std.specs.Prelude.{◌≡◌, ℕ, suc, List, [], ◌∷◌, map, length, Some, slice_get}
-use Rattle.pie_value.specs.declared.task.Task.{Task}
 use Rattle.pie_value.specs.Canonical.{enc_task, IsCanonicalTask}
 use Rattle.pie_code.specs.declared.code.Code.{Code}
 use Rattle.pie_vm.specs.Machines.{Standing, Follows}
