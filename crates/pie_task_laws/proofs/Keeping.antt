@@ -1,5 +1,5 @@
 -- Steps beside the running tasks keep them going.
-use Rattle.std.proofs.Common.{◌≡◌, ℕ, true, Some, List, [], ◌∷◌, take, sym, ap, subst, ◌∙◌, append-nil}
+use Rattle.std.proofs.Common.{◌≡◌, ℕ, true, false, Some, List, [], ◌∷◌, take, sym, ap, subst, ◌∙◌, append-nil}
 use Rattle.std.specs.Prelude.{slice_get}
 use Rattle.pie_value.specs.declared.task.Task.{Task}
 use Rattle.pie_value.specs.declared.event.Event.{Event}
@@ -7,6 +7,7 @@ use Rattle.pie_value.specs.Canonical.{enc_task}
 use Rattle.pie_code.specs.declared.code.Code.{Code}
 use Rattle.pie_vm.specs.Machines.{Standing}
 use Rattle.pie_view.specs.Content.{Staged, content}
+use Rattle.pie_walk.specs.Marks.{mark_of}
 use Rattle.pie_model.specs.Paths.{among}
 use Rattle.pie_model.specs.inner.RecordLaws.{Passes}
 use Rattle.pie_model.specs.inner.Stack.{Frame, tasks_of}
@@ -21,7 +22,7 @@ use Rattle.pie_running.specs.declared.frame.Waiting.{Waiting}
 use Rattle.pie_running.specs.declared.frame.Caller.{Caller}
 use Rattle.pie_running.specs.inner.Noted.{Noted}
 use Rattle.pie_core_laws.specs.Update.{present}
-use Rattle.pie_core_laws.specs.Exact.{busy_by}
+use Rattle.pie_core_laws.specs.Exact.{runs, busy_by}
 use Rattle.pie_core_laws.specs.Running.{AreRunning}
 use Rattle.pie_task_laws.specs.Sites.{Site, Build, IsExactAt}
 use Rattle.pie_task_laws.specs.Frames.{IsFrame, AreCallers}
@@ -29,7 +30,7 @@ use Rattle.pie_task_laws.specs.Going.{GoesAbove, AllGo, Wait, Runs, MayBegin}
 use Rattle.pie_task_laws.specs.Coming.{IsAsking}
 use Rattle.pie_task_laws.specs.Steps.{IsUp, Steps, AllStep, OthersStep}
 use Rattle.pie_task_laws.proofs.Frames.{frame_moves}
-use Rattle.pie_task_laws.proofs.Numbering.{up_at, name_stays, numbers_stay}
+use Rattle.pie_task_laws.proofs.Numbering.{same_number, up_at, name_stays, numbers_stay}
 
 module _ (x : Site) (these : ℕ → Type 0) (old new : Build) (e : IsExactAt x old) (S : Steps x these old new) where
   pub goes_still : (below : List Frame) (f : Frame) → GoesAbove x old below f → GoesAbove x new below f
@@ -127,6 +128,7 @@ pub asking_stay : (x : Site) (old new : Build) (cs : List Caller) (w : Waiting) 
 asking_stay x old new cs w v e S A = record {
   runs = running_stay x old new cs w.code.now w.machine w.notes e S A.runs;
   asks = A.asks;
+  came = A.came;
 }
 
 abbrev pub waiting_stay : (x : Site) (old new : Build) (cs : List Caller) → IsExactAt x old → AllStep x old new → Wait x old cs → Wait x new cs
@@ -172,3 +174,16 @@ stagings_step x b later e same = record {
   up = λ k u o. u;
   staged = λ k u o p. same k u p;
 }
+
+-- a task that was taken and had not run is another one than those that wait
+pub taken_pass : (x : Site) (old taken new : Build) (cs : List Caller) (t : Task) (k : ℕ) → IsExactAt x old → IsExactAt x taken → AllStep x old taken
+    → runs (mark_of old.walk.marks k) ≡ false → slice_get taken.names k ≡ Some t → OthersStep x k taken new → Wait x old cs → Wait x new cs
+taken_pass x old taken new cs t k e f S was named T W = wait_still x _ taken new f T cs (waiting_stay x old taken cs e S W) apart
+  where
+    apart : (y : List ℕ) → among y (tasks_of W.frames) ≡ true → (j : ℕ) (u : Task) → slice_get taken.names j ≡ Some u → y ≡ enc_task u → j ≡ k → ⊥
+    apart y i j u there bytes same =
+        let r = W.taken.running y i in
+        let at : r.number ≡ j
+        = same_number taken.names f.tasks r.number j r.task u (named_still x (λ n. Unit {0}) old taken e S r.number r.task r.named) there
+        (sym r.bytes ∙ bytes) in
+        clash (runs (mark_of old.walk.marks k)) (subst (λ n. runs (mark_of old.walk.marks n) ≡ true) (at ∙ same) r.ran) was

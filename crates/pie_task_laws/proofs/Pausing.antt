@@ -53,6 +53,7 @@ module _ (x : Site) (b : Build) (cs : List Caller) (there : IsThere x) (e : IsEx
           taken = R.taken;
         };
         asks = next_is x b cs w.code.now m w.notes R there e (wants v) c.1;
+        came = c.1;
       }
 
   asks_as : (w : Waiting) (v : Event) (code : Code) (m : Standing) (n : Noted) → w.code.now ≡ code → w.notes ≡ n → Runs x b cs code m n

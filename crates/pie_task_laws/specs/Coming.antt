@@ -1,5 +1,5 @@
 -- What comes of a running task: it asks something, or ends with a right record.
-use Rattle.std.specs.Prelude.{◌≡◌, ℕ, List, cond}
+use Rattle.std.specs.Prelude.{◌≡◌, ℕ, List, map, cond}
 use Rattle.pie_base.specs.declared.fault.FaultKind.{FaultKind}
 use Rattle.pie_base.specs.declared.fault.FaultKind.TheVariants.{Big}
 use Rattle.pie_value.specs.declared.value.Value.{Value}
@@ -7,12 +7,14 @@ use Rattle.pie_value.specs.declared.event.Answer.{Answer}
 use Rattle.pie_value.specs.declared.event.Event.{Event}
 use Rattle.pie_value.specs.Values.{tree_of}
 use Rattle.pie_value.specs.Limits.{is_small}
+use Rattle.pie_operators.specs.Domain.{wants}
 use Rattle.pie_vm.specs.Machines.{Follows}
 use Rattle.pie_view.specs.Content.{content}
 use Rattle.pie_record.specs.declared.task_record.Outcome.{Outcome}
 use Rattle.pie_record.specs.declared.task_record.Outcome.TheVariants.{Done, Failed}
 use Rattle.pie_record.specs.declared.task_record.TaskRecord.{TaskRecord}
 use Rattle.pie_model_pipeline.specs.Words.{effect_of}
+use Rattle.pie_model_pipeline.specs.inner.Answers.{answer_of}
 use Rattle.pie_running.specs.declared.frame.RunningTask.{RunningTask}
 use Rattle.pie_running.specs.declared.frame.Waiting.{Waiting}
 use Rattle.pie_running.specs.declared.frame.Caller.{Caller}
@@ -20,17 +22,18 @@ use Rattle.pie_running.specs.declared.frame.Paused.{Paused}
 use Rattle.pie_running.specs.declared.frame.Paused.TheVariants.{Asks, Ends, Fails}
 use Rattle.pie_running.specs.inner.Noted.{Noted}
 use Rattle.pie_running.specs.inner.Steps.{Comes}
-use Rattle.pie_running.specs.inner.Told.{ComesAs}
+use Rattle.pie_running.specs.inner.Told.{EvaluatedTo, ComesAs}
 use Rattle.pie_core_laws.specs.Update.{present}
 use Rattle.pie_core_laws.specs.Finishing.{IsRight}
 use Rattle.pie_core_laws.specs.Seeing.{written_now}
 use Rattle.pie_task_laws.specs.Sites.{Site, Build, IsThere, IsExactAt}
 use Rattle.pie_task_laws.specs.Going.{Runs}
 
--- the running task asks this, as in the model
+-- the running task asks this, by its code and in the model
 pub record IsAsking (x : Site) (b : Build) (cs : List Caller) (w : Waiting) (e : Event) : Type 0 where
   pub runs : Runs x b cs w.code.now w.machine w.notes
   pub asks : (present x.update).next runs.frame.task runs.frame.progress.answers ≡ effect_of e
+  pub came : EvaluatedTo w.code.now w.notes.task.args (map answer_of runs.frame.progress.answers) (wants e)
 
 -- ---- how it ends
 

@@ -1,5 +1,6 @@
 -- The tasks that run and wait in a build by what changed are frames of the model that go on.
--- A builder has the task in hand apart, and those that wait in a list with the oldest first: here they stand with the newest first.
+-- In pie_bottomup the one that runs is the task in hand (`hand`), and those that wait are the callers of the parked ones (`frames.parked`), the oldest
+-- first. Here they stand the newest first: in the reverse of that order, as `numbers_up` of pie_frames has their numbers.
 use Rattle.std.specs.Prelude.{ℕ, List, [], ◌∷◌, take}
 use Rattle.pie_value.specs.declared.task.Task.{Task}
 use Rattle.pie_value.specs.Canonical.{enc_task}

@@ -1,5 +1,5 @@
 -- Steps of a build beside its running tasks: they go on as before.
-use Rattle.std.specs.Prelude.{◌≡◌, ℕ, true, List, ◌++◌}
+use Rattle.std.specs.Prelude.{◌≡◌, ℕ, true, false, List, [], ◌∷◌, ◌++◌, Some, slice_get}
 use Rattle.pie_value.specs.declared.task.Task.{Task}
 use Rattle.pie_value.specs.declared.event.Event.{Event}
 use Rattle.pie_code.specs.declared.code.Code.{Code}
@@ -9,8 +9,13 @@ use Rattle.pie_running.specs.declared.frame.Waiting.{Waiting}
 use Rattle.pie_running.specs.declared.frame.Caller.{Caller}
 use Rattle.pie_running.specs.inner.Noted.{Noted}
 use Rattle.pie_core_laws.specs.Exact.{runs}
-use Rattle.pie_core_laws.specs.Finishing.{StaysExact}
+use Rattle.pie_core_laws.specs.Finishing.{Finishes, StaysExact}
+use Rattle.pie_core_laws.specs.Moving.{Moves}
+use Rattle.pie_graph.specs.Rows.{Row}
+use Rattle.pie_record.specs.declared.records.Records.{Records}
+use Rattle.pie_record.specs.declared.task_record.TaskRecord.{TaskRecord}
 use Rattle.pie_walk.specs.Marks.{mark_of}
+use Rattle.pie_walk.specs.States.{WalkState, with_one_more, settled}
 use Rattle.pie_task_laws.specs.Sites.{Site, Build, IsExactAt}
 use Rattle.pie_task_laws.specs.Going.{Wait, Runs, MayBegin}
 use Rattle.pie_task_laws.specs.Coming.{IsAsking}
@@ -64,3 +69,35 @@ abbrev pub StagingsStep : Type 0
 StagingsStep =
     (x : Site) (b : Build) (later : Staged) → IsExactAt x b
     → ((k : ℕ) → IsUp b k → (p : List ℕ) → content later k p ≡ content b.stage k p) → AllStep x b (record b { stage = later })
+
+-- where a task was taken that had not run, and is settled at once, those that wait still wait
+abbrev pub TakenTasksPass : Type 0
+TakenTasksPass =
+    (x : Site) (old taken new : Build) (cs : List Caller) (t : Task) (k : ℕ) → IsExactAt x old → IsExactAt x taken → AllStep x old taken
+    → runs (mark_of old.walk.marks k) ≡ false → slice_get taken.names k ≡ Some t → OthersStep x k taken new → Wait x old cs → Wait x new cs
+
+-- ---- kinds of steps
+
+-- moves of the walk
+abbrev pub MovesStep : Type 0
+MovesStep =
+    (x : Site) (b : Build) (after : WalkState) → StaysExact x.update b.names b.records b.walk b.names b.records after → Moves b.walk after
+    → AllStep x b (record b { walk = after })
+
+-- a new task
+abbrev pub NewTasksStep : Type 0
+NewTasksStep =
+    (x : Site) (b : Build) (t : Task) → StaysExact x.update b.names b.records b.walk (b.names ++ t ∷ []) b.records (with_one_more b.walk)
+    → AllStep x b (record b { names = b.names ++ t ∷ []; walk = with_one_more b.walk })
+
+-- the end of a task, which may be kept
+abbrev pub FinishesStep : Type 0
+FinishesStep =
+    (x : Site) (b : Build) (changed : Records) (after : WalkState) (k : ℕ) (row : Row) (rec : TaskRecord)
+    → StaysExact x.update b.names b.records b.walk b.names changed after → Finishes b.records b.walk after k row rec
+    → OthersStep x k b (record b { records = changed; walk = after })
+
+abbrev pub KeptTasksStep : Type 0
+KeptTasksStep =
+    (x : Site) (b : Build) (k : ℕ) → StaysExact x.update b.names b.records b.walk b.names b.records (settled b.walk k)
+    → OthersStep x k b (record b { walk = settled b.walk k })

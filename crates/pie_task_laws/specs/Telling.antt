@@ -1,5 +1,5 @@
 -- What a running task is told of paths: it goes on as in the model, or fails with a right record.
-use Rattle.std.specs.Prelude.{◌≡◌, ℕ, ◌<◌, List}
+use Rattle.std.specs.Prelude.{◌≡◌, ℕ, ◌<◌, List, length, Some}
 use Rattle.pie_base.specs.Path.{is_out}
 use Rattle.pie_value.specs.declared.event.By.{By}
 use Rattle.pie_value.specs.declared.event.Event.{Event}
@@ -10,10 +10,11 @@ use Rattle.pie_running.specs.declared.frame.Caller.{Caller}
 use Rattle.pie_running.specs.declared.frame.Told.{Told}
 use Rattle.pie_running.specs.declared.frame.Told.TheVariants.{Goes, Fails}
 use Rattle.pie_running.specs.declared.looking.Sight.TheVariants.{Long}
-use Rattle.pie_running.specs.inner.Sights.{listing_in}
+use Rattle.pie_running.specs.inner.Sights.{Sees, most_content, listing_in}
 use Rattle.pie_running.specs.inner.Looks.{IsToldPresence, IsToldSight, IsToldDigest}
-use Rattle.pie_running.specs.inner.Told.{IsToldList, IsToldWrite}
-use Rattle.pie_task_laws.specs.Sites.{Site, Build, IsSound, HaveOutputs}
+use Rattle.pie_running.specs.inner.Told.{IsToldList, IsToldWrite, told_reading, too_much}
+use Rattle.pie_running.specs.inner.Noted.{observed}
+use Rattle.pie_task_laws.specs.Sites.{Site, Build, IsThere, IsSound, HaveOutputs}
 use Rattle.pie_task_laws.specs.Going.{Runs}
 use Rattle.pie_task_laws.specs.Coming.{IsAsking, EndsRight, failed_by}
 use Rattle.pie_task_laws.specs.Sights.{SeesOut}
@@ -36,11 +37,18 @@ PresencesAreTold =
     (x : Site) (b : Build) (cs : List Caller) (w : Waiting) (path : List ℕ) (t : Told) → Looks x b cs w (events.Exists path)
     → IsToldPresence x.update.directory (SeesOut x b w.notes path) w path t → GoesAs x b cs t
 
--- a file that is too long to be a value is seen with no stamp, so nothing is said of it
+-- where a file is too long to be a value, what is noted lacks its stamp
 abbrev pub ReadingsAreTold : Type 0
 ReadingsAreTold =
     (x : Site) (b : Build) (cs : List Caller) (w : Waiting) (path : List ℕ) (by : By) (t : Told) → Looks x b cs w (events.Read path by)
     → (h : IsToldSight x.update.directory (SeesOut x b w.notes path) w path by t) → (h.sight ≡ Long → ⊥) → GoesAs x b cs t
+
+-- with it the task ends right: it fails for too many bytes, or for having no event left
+abbrev pub LongReadingsEnd : Type 0
+LongReadingsEnd =
+    (x : Site) (b : Build) (cs : List Caller) (w : Waiting) (path : List ℕ) (by : By) (file : List ℕ × ℕ) → IsThere x
+    → Looks x b cs w (events.Read path by) → Sees x.update.directory path (SeesOut x b w.notes path) (Some (Some file)) → most_content < length file.0
+    → EndsRight x b (observed (told_reading by path (Some file)).0 w.notes) (failed_by w.notes (too_much w.notes.left))
 
 abbrev pub DigestsAreTold : Type 0
 DigestsAreTold =

@@ -10,5 +10,5 @@ mod telling;
 pub use answering::requirers_are_answered;
 pub use beginning::tasks_begin;
 pub use coming::tasks_pause;
-pub use steps::running_tasks_stay;
+pub use steps::{builds_step, running_tasks_stay};
 pub use telling::running_tasks_are_told;

@@ -1,5 +1,6 @@
 use Rattle.pie_task_laws.specs.Sights.{SeesOut}
 use Rattle.pie_task_laws.proofs.Told.{exists_told, reading_told, digest_told, list_told}
+use Rattle.pie_task_laws.proofs.Lengthy.{long_ends}
 use Rattle.pie_task_laws.proofs.Writing.{write_told}
 use Rattle.pie_task_laws.proofs.telling.running_tasks_are_told.Goals as goal
 
@@ -8,6 +9,9 @@ returns-clause-presences c = λ x b cs w path t l h. exists_told x b cs w path (
 
 pub returns-clause-readings : goal.returns-clause-readings
 returns-clause-readings c = λ x b cs w path by t l h short. reading_told x b cs w path by (SeesOut x b w.notes path) t l (λ o i. i) h short
+
+pub returns-clause-long : goal.returns-clause-long
+returns-clause-long c = λ x b cs w path by file there l sees much. long_ends x b cs w path by file there l sees much
 
 pub returns-clause-digests : goal.returns-clause-digests
 returns-clause-digests c = λ x b cs w path t l h. digest_told x b cs w path (SeesOut x b w.notes path) t l (λ o i. i) h
