@@ -5,3 +5,4 @@ pub mod Holding
 pub mod Going
 pub mod Settling
 pub mod Resting
+pub mod Ended

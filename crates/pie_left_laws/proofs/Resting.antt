@@ -25,7 +25,7 @@ not_new m r e = clash (runs m) r (ap runs e)
 not_settled : (m : Mark) → runs m ≡ true → m ≡ Settled → ⊥
 not_settled m r e = clash (runs m) r (ap runs e)
 
-settled_or : (m : Mark) → (m ≡ Settled) ⊎ (m ≡ Settled → ⊥)
+pub settled_or : (m : Mark) → (m ≡ Settled) ⊎ (m ≡ Settled → ⊥)
 settled_or New = inr (λ e. cc)
 settled_or Visited = inr (λ e. cc)
 settled_or Runs = inr (λ e. cc)

@@ -1,5 +1,5 @@
 -- An accepted build by what changed: its records are those of a clean build, and its files with those that are there already are what a clean build provides.
-use Rattle.std.specs.Prelude.{◌≡◌, ◌⊎◌, ℕ, true, false, List, [], map, Some, slice_index_or, Contains}
+use Rattle.std.specs.Prelude.{◌≡◌, ◌⊎◌, ℕ, true, false, List, [], map, Some, None, slice_get, slice_index_or, Contains}
 use Rattle.pie_base.specs.Path.{is_out}
 use Rattle.pie_value.specs.declared.task.Task.{Task}
 use Rattle.pie_value.specs.declared.verdict.Verdict.TheVariants as verdicts
@@ -10,9 +10,11 @@ use Rattle.pie_tables.specs.declared.tables.Tables.{Tables}
 use Rattle.pie_graph.specs.Numbers.{IsMarked}
 use Rattle.pie_view.specs.Content.{Staged, content}
 use Rattle.pie_checks.specs.declared.built.Built.{Built}
+use Rattle.pie_results.specs.inner.Failures.{FailsFirst}
 use Rattle.pie_results.specs.inner.Files.{contents_in}
 use Rattle.pie_results.specs.inner.Made.{Makes}
 use Rattle.pie_results.specs.inner.Stored.{HaveEnded, StoredWhere}
+use Rattle.pie_walk.specs.declared.marks.Mark.TheVariants.{New}
 use Rattle.pie_walk.specs.Marks.{mark_of, IsSettled}
 use Rattle.pie_walk.specs.States.{WalkState}
 use Rattle.pie_walk.specs.Standing.{Stands}
@@ -22,6 +24,7 @@ use Rattle.pie_model.specs.Forest.{live_evaluations}
 use Rattle.pie_model.specs.Verdict.{verdict}
 use Rattle.pie_model.specs.declared.words.Verdict.TheVariants.{Accepted}
 use Rattle.pie_model.specs.Built.{bytes_at, store_rows, provided_at}
+use Rattle.pie_model_pipeline.specs.Clean.{with_output, output_bytes}
 use Rattle.pie_model_pipeline.specs.Rows.{record_of}
 use Rattle.pie_model_pipeline.specs.World.{world}
 use Rattle.pie_earlier_laws.specs.Left.{AreThere}
@@ -77,3 +80,19 @@ abbrev pub EndedWalksHaveWritten : Type 0
 EndedWalksHaveWritten =
     (u : Update) (t : Tables) (s : WalkState) (staged : Staged) → Stands s → s.stack ≡ [] → AreWritten u t s staged
     → AreStagedNow u t staged × KeptAreThere u t s
+
+-- a root has a number, and was met
+pub record IsMetRoot (names : List Task) (s : WalkState) (root : Task) : Type 0 where
+  pub number : ℕ
+  pub named : slice_get names number ≡ Some root
+  pub met : mark_of s.marks number ≡ New → ⊥
+
+-- so what is made at the end of a walk is an accepted build with the outputs of the roots, if it is accepted, where all roots were met unless one failed
+abbrev pub EndedBuildsAreAccepted : Type 0
+EndedBuildsAreAccepted =
+    (u : Update) (t : Tables) (s : WalkState) (staged : Staged) (roots : List Task) (b : Built) → IsExact u t.names t.records s → Stands s → Separates u
+    → OutIsMet u → s.stack ≡ [] → AreWritten u t s staged → map enc_task roots ≡ u.roots
+    → (FailsFirst t.names t.records roots None → (r : Task) → Contains roots r → IsMetRoot t.names s r) → Makes t s.rows staged roots b
+    → (HaveEnded t.names t.records s.rows roots → StoredWhere b.verdict t.names roots b) → b.verdict ≡ verdicts.Accepted
+    → IsAccepted u b.rows.items (contents_in b.files.items)
+    × (map output_bytes b.outputs.items ≡ map (with_output u.functions u.directory) u.roots)
