@@ -1,5 +1,5 @@
 -- The parts of a build by what changed, one after another.
-use Rattle.std.proofs.Common.{◌≡◌, ◌⊎◌, ℕ, ◌+◌, ◌≤◌, Bool, true, false, ◌||◌, List, [], ◌∷◌, ◌++◌, length, drop, Vec, Global, refl, sym, ap, subst, ◌∙◌, inl, inr, arith}
+use Rattle.std.proofs.Common.{◌≡◌, ℕ, ◌+◌, ◌≤◌, Bool, true, false, ◌||◌, List, [], ◌∷◌, ◌++◌, length, drop, Vec, Global, refl, sym, ap, subst, ◌∙◌, inl, inr, arith}
 use Rattle.std.specs.Prelude.{All, Option, None, Some, IfSome, IsSome, IfOk, Result, Ok, Err, codes}
 use Rattle.pie_report.specs.declared.report.Report.{Report}
 use Rattle.pie_project.specs.declared.fault.BuildError.{BuildError}
@@ -24,7 +24,7 @@ use Rattle.pie_commit.specs.declared.plan.Plan.{Plan}
 use Rattle.pie_commit.specs.Outcomes.{KeepsOthers}
 use Rattle.pie_store.specs.declared.cause.Cause.{Cause}
 use Rattle.pie_incremental.specs.Runs.{TellsFew}
-use Rattle.pie_incremental.specs.Kept.{KeepsAllFiles, KeepsFiles, is_builders}
+use Rattle.pie_incremental.specs.Kept.{KeepsAllFiles, is_builders}
 use Rattle.pie_incremental.specs.inner.Joined.{Started, ChangesOut}
 
 -- ---- the tasks that were started

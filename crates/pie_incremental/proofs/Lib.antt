@@ -8,3 +8,5 @@ pub mod Stopping
 pub mod Joining
 pub mod Storing
 pub mod Treating
+pub mod Placing
+pub mod Leaving

@@ -1,5 +1,5 @@
 -- What the plan of an accepted build leaves.
-use Rattle.std.proofs.Common.{◌≡◌, ℕ, zero, suc, Bool, true, false, cond, List, [], ◌∷◌, Vec, Global, Contains, refl, sym, ap, subst, ◌∙◌, arith}
+use Rattle.std.proofs.Common.{◌≡◌, ◌⊎◌, inl, inr, ℕ, zero, suc, Bool, true, false, cond, List, [], ◌∷◌, Vec, Global, Contains, refl, sym, ap, subst, ◌∙◌, arith}
 use Rattle.std.specs.Prelude.{◌||◌, not, Option, None, Some, IsSome, IfSome, OnOk, Result, Ok, Err}
 use Rattle.std.specs.List.{list_all, list_any, filter, AllByRecursion as ByRecursion}
 use Rattle.std.specs.List.Sorted.{IsStrictlySortedBy}
@@ -28,7 +28,7 @@ use Rattle.pie_incremental.specs.inner.Plans.{store_change, HasChanged, IsChange
 use Rattle.pie_incremental.proofs.Commits.{met}
 use Rattle.pie_incremental.proofs.OwnPaths.{and_left, and_right, or_left, or_right, places}
 
-abbrev Files : Type 0
+abbrev pub Files : Type 0
 Files = List (List ℕ × Vec ℕ Global)
 
 later_same : (w : Wanted) → later w Same ≡ w
@@ -138,7 +138,7 @@ module _ (p : List ℕ × Vec ℕ Global → Bool) where
 
 -- ---- the parts of a plan
 
-in_files : (q : List ℕ) (files : Files) → Contains (files_paths files) q → (f : List ℕ × Vec ℕ Global) × Contains files f × (f.0 ≡ q)
+pub in_files : (q : List ℕ) (files : Files) → Contains (files_paths files) q → (f : List ℕ × Vec ℕ Global) × Contains files f × (f.0 ≡ q)
 in_files q [] c = let l = c.1 in absurd (omega arith)
 in_files q (f ∷ files) (zero, l, e) = (f, (0, omega arith, refl), e)
 in_files q (f ∷ files) (suc k, l, e) =
@@ -219,6 +219,27 @@ module _ (own : OwnFiles) (held : List (List ℕ × List ℕ)) (rows : List Task
       by false e =
           ap (option_map (λ x. sha256 x.0)) (stays f.0 on (wants ∙ ap (λ b. cond b (Bytes f.1.items) Same) e) (files.written f c))
           ∙ sym (known.files f.0 on) ∙ hash_is (held_at held f.0) (sha256 f.1.items) e
+
+  -- each of the files has its content, or stays where it has the hash
+  pub put_at : (f : List ℕ × Vec ℕ Global) → Contains contents f
+      → (bytes_at left f.0 ≡ Some f.1.items) ⊎ ((hash_in d f.0 ≡ Some (sha256 f.1.items)) × (file_at left f.0 ≡ file_at d f.0))
+  put_at f c = by (is_new held f) refl
+    where
+      on : is_out f.0 ≡ true
+      on = files.out f c
+
+      wants : written (filter (is_new held) contents) f.0 ≡ cond (is_new held f) (Bytes f.1.items) Same
+      wants = written_of (is_new held) contents files.ordered f c
+
+      by : (b : Bool) → is_new held f ≡ b
+          → (bytes_at left f.0 ≡ Some f.1.items) ⊎ ((hash_in d f.0 ≡ Some (sha256 f.1.items)) × (file_at left f.0 ≡ file_at d f.0))
+      by true e =
+          let m = out_meets f.0 on (Bytes f.1.items) (list_any (same_text f.0) p.removals.items) (wants ∙ ap (λ b. cond b (Bytes f.1.items) Same) e) refl in
+          inl (ap (option_map (λ x. x.0)) m.1)
+      by false e = inr (
+        sym (known.files f.0 on) ∙ hash_is (held_at held f.0) (sha256 f.1.items) e,
+        stays f.0 on (wants ∙ ap (λ b. cond b (Bytes f.1.items) Same) e) (files.written f c),
+      )
 
   kept : (q : List ℕ) → is_out q ≡ true → (Contains (files_paths contents) q → ⊥) → Contains (written_by rows) q → file_at left q ≡ file_at d q
   kept q on none wrote = stays q on (written_none (is_new held) q contents (none_of q (files_paths contents) none)) wrote

@@ -14,13 +14,16 @@ use Rattle.pie_commit.specs.Outcomes.{AllDone, HasBrought, HasFile, IsAtRest, Is
 use Rattle.pie_commit.proofs.Bringing.{get_without}
 use Rattle.pie_commit.proofs.Standing.{removal_apart, same_path}
 use Rattle.pie_record.specs.declared.task_record.TaskRecord.{TaskRecord}
+use Rattle.pie_results.specs.inner.Files.{contents_in}
+use Rattle.pie_left_laws.specs.Placed.{IsPlaced}
 use Rattle.pie_incremental.specs.declared.base.OwnFiles.{OwnFiles}
 use Rattle.pie_incremental.specs.inner.Built.{AreFilesOf, IsBegun, IsKnown, IsOfBuild, IsPut}
 use Rattle.pie_incremental.specs.Kept.{is_builders}
 use Rattle.pie_incremental.specs.Own.{open_path, store_path, pending_path}
-use Rattle.pie_incremental.specs.inner.Plans.{IsChangesPlan, Marks, MayPut}
+use Rattle.pie_incremental.specs.inner.Plans.{IsChangesPlan, Marks, MayPlace, MayPut}
 use Rattle.pie_incremental.proofs.Commits.{changes_wanted}
 use Rattle.pie_incremental.proofs.OwnPaths.{and_left, and_right, or_left, or_right, five_off, places}
+use Rattle.pie_incremental.proofs.Placing.{is_placed}
 use Rattle.pie_incremental.proofs.Putting.{all_has, none_of, puts_of}
 
 none_written : (q : List ℕ) (writes : List (List ℕ × Vec ℕ Global)) → is_out q ≡ false → list_all (λ w. is_out w.0) writes ≡ true
@@ -65,6 +68,16 @@ module _ (own : OwnFiles) (held : List (List ℕ × List ℕ)) (rows : List Task
       (subst (λ w. Meets w (file_at d q) (file_at c q)) (changes_wanted p plan.places q off) (is q (ap (same_text q) (places p plan.places).marker ∙ off))))
       (Some (without_file c open_path)) refl (ap (option_map (λ f. f.0)) (get_without c open_path open_path))
 
+  placed : (c : Directory) → IsDone p d c → IsPlaced rows (contents_in contents) text.items d (without_file c open_path)
+  placed c is = is_placed own held rows contents text p plan d (without_file c open_path) known files
+      (λ q off. subst (λ o. Meets (changes p q) (file_at d q) o) (sym (removal_apart c open_path q off))
+      (subst (λ w. Meets w (file_at d q) (file_at c q)) (changes_wanted p plan.places q off) (is q (ap (same_text q) (places p plan.places).marker ∙ off))))
+      (ap (option_map (λ f. f.0)) (get_without c open_path open_path))
+
+  of_placed : (c : Directory) → IsOfThree p d c
+      → IsBegun d c ⊎ ((c ≡ d) ⊎ IsPlaced rows (contents_in contents) text.items d (without_file c open_path))
+  of_placed c three = ⊎_elim (λ way. inl (begun c way)) (λ rest. ⊎_elim (λ same. inr (inl same)) (λ is. inr (inr (placed c is))) rest) three
+
   of_build : (c : Directory) → IsOfThree p d c → IsOfBuild rows contents text.items d c
   of_build c three = ⊎_elim (λ way. inl (begun c way)) (λ rest. ⊎_elim (λ same. inr (inl same)) (λ is. inr (inr (done c is))) rest) three
 
@@ -74,6 +87,9 @@ module _ (own : OwnFiles) (held : List (List ℕ × List ℕ)) (rows : List Task
 
 pub may_put : (p : Plan) (d c : Directory) → IsOfThree p d c → MayPut p d c
 may_put p d c three own held rows contents text plan known files = of_build own held rows contents text p plan d known files c three
+
+pub may_place : (p : Plan) (d c : Directory) → IsOfThree p d c → MayPlace p d c
+may_place p d c three own held rows contents text plan known files = of_placed own held rows contents text p plan d known files c three
 
 -- ---- every image at the end
 

@@ -4,7 +4,7 @@ use Rattle.std.specs.Prelude.{All, Box, Option, None, Some, IfSome, IfOk, OnOk, 
 use Rattle.std.specs.List.{list_all}
 use Rattle.std.specs.Option.{option_map}
 use Rattle.std.proofs.lemmas.List.Elements.{All-weaker}
-use Rattle.pie_base.specs.Path.{is_out, same_text}
+use Rattle.pie_base.specs.Path.{is_out}
 use Rattle.pie_build.proofs.OwnPaths.{apart}
 use Rattle.pie_build.specs.Left.{Leaves, LeavesBy}
 use Rattle.pie_build.specs.inner.Projects.{IsReady}

@@ -2,6 +2,7 @@
 pub mod Bases
 pub mod Built
 pub mod Changes
+pub mod Cleaned
 pub mod Digested
 pub mod Joined
 pub mod Plans

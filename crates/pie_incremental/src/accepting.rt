@@ -1,14 +1,17 @@
 //! An accepted build by what changed, put into place.
 ghost use Rattle.std.specs.Prelude.{◌≡◌, true, IfSome, IfOk, OnOk};
+ghost use Rattle.pie_commit.specs.Outcomes.{LeavesFromRest};
 ghost use Rattle.pie_commit.specs.inner.Plans.{is_sound};
 ghost use Rattle.pie_files.specs.Streams.{Counted};
 ghost use Rattle.pie_build.specs.Left.{KeepsRest};
 ghost use Rattle.pie_build.specs.Stored.{MayStand};
 ghost use Rattle.pie_results.specs.inner.Files.{InPathOrder};
+ghost use Rattle.pie_store.specs.Texts.{IsStoreText};
 ghost use Rattle.pie_value.specs.declared.verdict.Verdict.TheVariants as verdicts;
 ghost use Rattle.pie_incremental.specs.Own.{IsClosed};
 ghost use Rattle.pie_incremental.specs.inner.Joined.{ChangesOut, Clears, IsDrafted, Treats};
-ghost use Rattle.pie_incremental.specs.inner.Plans.{HasChanged};
+ghost use Rattle.pie_incremental.specs.inner.Cleaned.{HasParts, IsPlanFor, LeavesWhere, MayLeave, TellsPlan};
+ghost use Rattle.pie_incremental.specs.inner.Plans.{HasChanged, MayPlace, Places};
 
 use crate::ending::Ending;
 use crate::{changes_plan, commit_plan, digests};
@@ -47,6 +50,9 @@ pub(crate) fn accept<F: Files>(
     requires rows { MayStand project.now.digests.items project.now.roots.items made.rows.items }
     requires contents { InPathOrder made.contents.items }
     ensures rest { KeepsRest (F.holds files.old) (F.holds files.new) }
+    ensures left { IfSome (F.holds files.old) (λ d. IfOk result (λ r. LeavesWhere ending.now.own ending.now.held project.now.digests.items project.now.roots.items made.rows.items made.contents.items made.outputs.items d r.value (F.holds files.new))) }
+    ensures crash { LeavesFromRest F.holds F.moment F.left_since F.images (MayLeave ending.now.own ending.now.held project.now.digests.items project.now.roots.items made.rows.items made.contents.items) files.old files.new }
+    ensures verdict { IfOk result (λ r. r.value.verdict ≡ verdicts.Accepted) }
     ensures ran { IfOk result (λ r. r.value.ran ≡ ran) }
     ensures names { IfOk result (λ r. Treats ending.now.own ending.now.names.items r.value.verdict (F.holds files.old) (F.holds files.new)) }
     ensures counted { Counted F.faults FilesError.Failed files.old files.new result }
@@ -74,6 +80,8 @@ fn commit_then<F: Files>(
     requires changes { ChangesOut plan.now }
     ensures rest { KeepsRest (F.holds files.old) (F.holds files.new) }
     ensures done { IfSome (F.holds files.old) (λ d. IsClosed d → OnOk result (HasChanged plan.now d (F.holds files.new))) }
+    ensures places { IfSome (F.holds files.old) (λ d. OnOk result (Places plan.now d (F.holds files.new))) }
+    ensures may_place { LeavesFromRest F.holds F.moment F.left_since F.images (MayPlace plan.now) files.old files.new }
     ensures report { IfOk result (λ r. r ≡ report) }
     ensures counted { Counted F.faults FilesError.Failed files.old files.new result }
 {
@@ -90,7 +98,8 @@ fn image_of(
     rows: Vec<TaskRecord>,
 ) -> Result<Box<StoreImage>, OutOfMemory>
     requires { MayStand project.now.digests.items project.now.roots.items rows.items }
-    ensures { IfOk result (λ image. IsDrafted image.value) }
+    ensures drafted { IfOk result (λ image. IsDrafted image.value) }
+    ensures parts { IfOk result (λ image. HasParts project.now.digests.items project.now.roots.items rows.items image.value) }
 {
     let funcs = digests::copies(alloc, project.digests.as_slice())?;
     let roots = copies_of_tasks(alloc, project.roots.as_slice())?;
@@ -117,6 +126,7 @@ fn plan_of(
     ensures sound { IfOk result (λ p. is_sound p.value ≡ true) }
     ensures changes { IfOk result (λ p. ChangesOut p.value) }
     ensures clears { IfOk result (λ p. Clears ending.now.own p.value) }
+    ensures plan { IfOk result (λ p. IsPlanFor ending.now.own ending.now.held image.now contents.items p.value) }
 {
     let text = text_of(alloc, image)?;
     let plan = changes_plan(
@@ -134,6 +144,7 @@ fn plan_of(
 // The text of the store. Where the number of roots has more than 32 bits, it is out of memory.
 fn text_of(alloc: Global, image: &StoreImage) -> Result<Vec<u8>, OutOfMemory>
     requires { IsDrafted image.now }
+    ensures { IfOk result (λ text. IsStoreText image.now text.items) }
 {
     let roots = image.roots.as_slice();
     if roots.len() > u32::MAX as usize {
@@ -152,6 +163,7 @@ fn report_of(
 ) -> Result<Box<Report>, OutOfMemory>
     ensures verdict { IfOk result (λ r. r.value.verdict ≡ verdicts.Accepted) }
     ensures ran { IfOk result (λ r. r.value.ran ≡ ran) }
+    ensures tells { IfOk result (λ r. TellsPlan plan.now live outputs.items r.value) }
 {
     let wrote = paths_of(alloc, plan.writes.as_slice())?;
     let removed = copies(alloc, plan.removals.as_slice())?;

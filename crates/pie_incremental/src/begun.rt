@@ -1,6 +1,7 @@
 //! What a build by what changed begins with.
-ghost use Rattle.std.specs.Prelude.{IfOk};
+ghost use Rattle.std.specs.Prelude.{IfOk, IfSome};
 ghost use Rattle.pie_files.specs.Reading.{ReadsOnly};
+ghost use Rattle.pie_incremental.specs.inner.Cleaned.{KnowsWhere};
 ghost use Rattle.pie_incremental.specs.inner.Joined.{IsBase, IsEndingOf, IsImage};
 
 use crate::ending::Ending;
@@ -32,6 +33,7 @@ pub(crate) fn begin<F: Files>(
     requires { IsBase base.value }
     ensures image { IfOk result (λ b. IsImage b.image.value) }
     ensures ending { IfOk result (λ b. IsEndingOf base.value changes.now b.ending.value) }
+    ensures known { IfSome (F.holds files.old) (λ d. IfOk result (λ b. KnowsWhere base.value d b.ending.value)) }
     ensures reads { ReadsOnly F.holds F.moment F.left_since F.images F.faults files.old files.new result }
 {
     let Base { image, names, own } = Box::into_inner(base);

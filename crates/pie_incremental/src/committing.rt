@@ -5,7 +5,7 @@ ghost use Rattle.pie_files.specs.Streams.{Counted};
 ghost use Rattle.pie_commit.specs.Outcomes.{IsAtRest, IsOfThree, KeepsOthers, LeavesFromRest};
 ghost use Rattle.pie_commit.specs.inner.Plans.{is_sound};
 ghost use Rattle.pie_incremental.specs.Own.{IsClosed};
-ghost use Rattle.pie_incremental.specs.inner.Plans.{HasChanged, Marks, MayPut, Puts};
+ghost use Rattle.pie_incremental.specs.inner.Plans.{HasChanged, Marks, MayPlace, MayPut, Places, Puts};
 
 use pie_commit::{Plan, commit};
 use pie_files::{Files, FilesError};
@@ -15,9 +15,11 @@ pub fn commit_plan<F: Files>(files: &mut F, plan: &Plan) -> Result<(), FilesErro
     requires { is_sound plan.now ≡ true }
     ensures done { IfSome (F.holds files.old) (λ d. IsClosed d → OnOk result (HasChanged plan.now d (F.holds files.new))) }
     ensures puts { IfSome (F.holds files.old) (λ d. OnOk result (Puts plan.now d (F.holds files.new))) }
+    ensures places { IfSome (F.holds files.old) (λ d. OnOk result (Places plan.now d (F.holds files.new))) }
     ensures outside { KeepsOthers plan.now (F.holds files.old) (F.holds files.new) }
     ensures crash { LeavesFromRest F.holds F.moment F.left_since F.images (IsOfThree plan.now) files.old files.new }
     ensures may_put { LeavesFromRest F.holds F.moment F.left_since F.images (MayPut plan.now) files.old files.new }
+    ensures may_place { LeavesFromRest F.holds F.moment F.left_since F.images (MayPlace plan.now) files.old files.new }
     ensures marks { IfSome (F.holds files.old) (λ d. Only d (F.images files.old) → Marks plan.now d (F.images files.new)) }
     ensures durable { OnOk result (IfSome (F.holds files.old) (λ d. Only d (F.images files.old) → IsAtRest (F.holds files.new) (F.images files.new))) }
     ensures counted { Counted F.faults FilesError.Failed files.old files.new result }

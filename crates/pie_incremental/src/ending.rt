@@ -3,9 +3,11 @@ ghost use Rattle.std.specs.Prelude.{◌≡◌, IfSome, IfOk, OnOk};
 ghost use Rattle.std.specs.Option.{option_copied};
 ghost use Rattle.pie_files.specs.Streams.{Counted};
 ghost use Rattle.pie_build.specs.Left.{KeepsRest};
+ghost use Rattle.pie_commit.specs.Outcomes.{LeavesFromRest};
 ghost use Rattle.pie_value.specs.declared.verdict.Verdict.TheVariants as verdicts;
-ghost use Rattle.pie_incremental.specs.Kept.{KeepsNames};
+ghost use Rattle.pie_incremental.specs.Kept.{IsOfNames, KeepsNames};
 ghost use Rattle.pie_incremental.specs.inner.Changes.{bytes_of};
+ghost use Rattle.pie_incremental.specs.inner.Cleaned.{LeavesBy, MayLeaveBy};
 ghost use Rattle.pie_incremental.specs.inner.Joined.{HasOwn, IsMade, Treats};
 
 use crate::accepting::{Made, accept};
@@ -45,6 +47,7 @@ impl Ending {
     pub(crate) fn keep<F: Files>(&self, alloc: Global, files: &mut F) -> Result<(), FilesError>
         ensures rest { KeepsRest (F.holds files.old) (F.holds files.new) }
         ensures names { IfSome (F.holds files.old) (λ d. HasOwn d self.now.own → OnOk result (KeepsNames self.now.names.items d (F.holds files.new))) }
+        ensures crash { LeavesFromRest F.holds F.moment F.left_since F.images (IsOfNames self.now.names.items (bytes_of self.now.own.pending)) files.old files.new }
         ensures counted { Counted F.faults FilesError.Failed files.old files.new result }
     {
         keep_names(alloc, files, self.names.as_slice(), self.pending())
@@ -61,6 +64,9 @@ pub(crate) fn finish<F: Files>(
     ran: Vec<Task>,
 ) -> Result<Box<Report>, FilesError>
     requires { IsMade project.now.digests.items project.now.roots.items built.value }
+    ensures left { IfSome (F.holds files.old) (λ d. IfOk result (λ r. LeavesBy built.value.verdict ending.now.own ending.now.held project.now.digests.items project.now.roots.items built.value d r.value (F.holds files.new))) }
+    ensures crash { LeavesFromRest F.holds F.moment F.left_since F.images (MayLeaveBy built.value.verdict ending.now.own ending.now.held project.now.digests.items project.now.roots.items built.value ending.now.names.items) files.old files.new }
+    ensures verdict { IfOk result (λ r. r.value.verdict ≡ built.value.verdict) }
     ensures rest { KeepsRest (F.holds files.old) (F.holds files.new) }
     ensures ran { IfOk result (λ r. r.value.ran ≡ ran) }
     ensures names { IfOk result (λ r. Treats ending.now.own ending.now.names.items r.value.verdict (F.holds files.old) (F.holds files.new)) }
@@ -99,6 +105,8 @@ fn refuse<F: Files>(
     ran: Vec<Task>,
 ) -> Result<Box<Report>, FilesError>
     ensures rest { KeepsRest (F.holds files.old) (F.holds files.new) }
+    ensures crash { LeavesFromRest F.holds F.moment F.left_since F.images (IsOfNames ending.now.names.items (bytes_of ending.now.own.pending)) files.old files.new }
+    ensures verdict { IfOk result (λ r. r.value.verdict ≡ verdicts.Refused refusal) }
     ensures ran { IfOk result (λ r. r.value.ran ≡ ran) }
     ensures names { IfOk result (λ r. Treats ending.now.own ending.now.names.items r.value.verdict (F.holds files.old) (F.holds files.new)) }
     ensures counted { Counted F.faults FilesError.Failed files.old files.new result }

@@ -1,5 +1,5 @@
 -- What the parts of an incremental build say to each other.
-use Rattle.std.specs.Prelude.{◌≡◌, ◌≤◌, ℕ, true, List, ◌++◌, Option, None, Some, IfSome}
+use Rattle.std.specs.Prelude.{◌≡◌, ℕ, true, List, ◌++◌, Option, None, Some, IfSome}
 use Rattle.std.specs.List.{All, list_all}
 use Rattle.pie_base.specs.Path.{is_out}
 use Rattle.pie_bottomup.specs.declared.state.Core.{Core}

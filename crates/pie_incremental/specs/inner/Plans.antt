@@ -1,5 +1,5 @@
 -- The plans of an incremental build, and what they leave.
-use Rattle.std.specs.Prelude.{◌≡◌, ℕ, true, false, cond, ◌==◌, List, [], Option, Some, None}
+use Rattle.std.specs.Prelude.{◌≡◌, ◌⊎◌, ℕ, true, false, cond, ◌==◌, List, [], Option, Some, None}
 use Rattle.std.specs.List.{list_all, filter}
 use Rattle.std.specs.declared.alloc.Global.{Global}
 use Rattle.std.proofs.Common.{Vec}
@@ -9,10 +9,12 @@ use Rattle.pie_commit.specs.declared.plan.Plan.{Plan}
 use Rattle.pie_commit.specs.inner.Plans.{Meets, changes, has_own_places}
 use Rattle.pie_diff.specs.Hashes.{is_new}
 use Rattle.pie_diff.specs.Removals.{AreRemovals}
-use Rattle.pie_files.specs.Directory.{Directory, file_at}
+use Rattle.pie_files.specs.Directory.{Directory, file_at, without_file}
 use Rattle.pie_record.specs.declared.task_record.TaskRecord.{TaskRecord}
+use Rattle.pie_results.specs.inner.Files.{contents_in}
+use Rattle.pie_left_laws.specs.Placed.{IsPlaced}
 use Rattle.pie_incremental.specs.declared.base.OwnFiles.{OwnFiles}
-use Rattle.pie_incremental.specs.inner.Built.{AreFilesOf, IsKnown, IsMarked, IsOfBuild, IsPut}
+use Rattle.pie_incremental.specs.inner.Built.{AreFilesOf, IsBegun, IsKnown, IsMarked, IsOfBuild, IsPut}
 use Rattle.pie_incremental.specs.Names.{kept_names}
 use Rattle.pie_incremental.specs.Own.{open_path, IsClosed}
 use Rattle.pie_incremental.specs.inner.Changes.{bytes_of, Changes}
@@ -52,10 +54,22 @@ abbrev pub Puts : Plan → Directory → Option Directory → Type 0
 Puts p d after = (own : OwnFiles) (held : List (List ℕ × List ℕ)) (rows : List TaskRecord) (contents : List (List ℕ × Vec ℕ Global)) (text : Vec ℕ Global)
     → IsChangesPlan own held rows contents text p → IsKnown own held d → AreFilesOf rows contents → IsPut rows contents text.items d after
 
+-- with the content of each file: it was written, or stayed where it has the hash
+abbrev pub Places : Plan → Directory → Option Directory → Type 0
+Places p d after = (own : OwnFiles) (held : List (List ℕ × List ℕ)) (rows : List TaskRecord) (contents : List (List ℕ × Vec ℕ Global)) (text : Vec ℕ Global)
+    → IsChangesPlan own held rows contents text p → IsKnown own held d → AreFilesOf rows contents
+    → (left : Directory) × (after ≡ Some left) × IsPlaced rows (contents_in contents) text.items d left
+
 -- the same of what a crash leaves
 abbrev pub MayPut : Plan → Directory → Directory → Type 0
 MayPut p d c = (own : OwnFiles) (held : List (List ℕ × List ℕ)) (rows : List TaskRecord) (contents : List (List ℕ × Vec ℕ Global)) (text : Vec ℕ Global)
     → IsChangesPlan own held rows contents text p → IsKnown own held d → AreFilesOf rows contents → IsOfBuild rows contents text.items d c
+
+-- with the content of each file
+abbrev pub MayPlace : Plan → Directory → Directory → Type 0
+MayPlace p d c = (own : OwnFiles) (held : List (List ℕ × List ℕ)) (rows : List TaskRecord) (contents : List (List ℕ × Vec ℕ Global)) (text : Vec ℕ Global)
+    → IsChangesPlan own held rows contents text p → IsKnown own held d → AreFilesOf rows contents
+    → IsBegun d c ⊎ ((c ≡ d) ⊎ IsPlaced rows (contents_in contents) text.items d (without_file c open_path))
 
 -- the same of every image at the end
 abbrev pub Marks : Plan → Directory → (Directory → Type 0) → Type 0

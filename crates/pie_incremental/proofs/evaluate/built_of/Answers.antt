@@ -1,7 +1,6 @@
 use Rattle.std.proofs.Common.{sym, subst}
 use Rattle.pie_bottomup.specs.declared.state.Core.{Core}
 use Rattle.pie_bottomup.specs.inner.States.{IsPlanOf}
-use Rattle.pie_checks.specs.declared.built.Built.{Built}
 use Rattle.pie_incremental.specs.inner.Joined.{IsMade}
 use Rattle.pie_incremental.proofs.Storing.{made}
 use Rattle.pie_incremental.proofs.evaluate.built_of.Goals as goal

@@ -1,0 +1,8 @@
+pub mod Provides
+pub mod Putting
+pub mod Changing
+pub mod Holding
+pub mod Going
+pub mod Settling
+pub mod Resting
+pub mod Ended

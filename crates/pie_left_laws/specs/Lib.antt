@@ -1,0 +1,5 @@
+pub mod Accepted
+pub mod Placed
+pub mod Reported
+pub mod Held
+pub mod Bases
