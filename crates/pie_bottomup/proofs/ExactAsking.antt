@@ -23,9 +23,10 @@ use Rattle.pie_running.specs.declared.frame.Told.{Told}
 use Rattle.pie_running.specs.declared.frame.Told.TheVariants.{Goes, Fails}
 use Rattle.pie_running.specs.declared.frame.Waiting.{Waiting}
 use Rattle.pie_running.specs.declared.looking.Sight.{Sight}
-use Rattle.pie_running.specs.declared.looking.Sight.TheVariants.{File, Long, Clashes}
+use Rattle.pie_running.specs.declared.looking.Sight.TheVariants.{File, Long, Clash}
 use Rattle.pie_running.specs.inner.Noted.{Noted, tasks_on, file_dep, absent_dep, observed, read_kind}
-use Rattle.pie_running.specs.inner.Told.{HasFailed, IsToldOrFails, IsToldReading, IsToldSmall, IsToldEntries, IsToldList, StagesFirst, KeepsFirst, IsToldWrite}
+use Rattle.pie_running.specs.inner.Told.{HasFailed, IsToldOrFails, IsToldReading, told_reading, IsToldSmall, IsToldEntries, IsToldList, paths_list, StagesFirst, KeepsFirst, IsToldWrite}
+use Rattle.pie_running.specs.inner.Sights.{found_in}
 use Rattle.pie_frames.specs.inner.Standing.{Holds}
 use Rattle.pie_core_laws.specs.Update.{Update}
 use Rattle.pie_core_laws.specs.Exact.{runs}
@@ -38,9 +39,9 @@ use Rattle.pie_bottomup.specs.inner.Recorded.{HasEnded}
 use Rattle.pie_bottomup.specs.inner.States.{IsOwn, IsCore, IsGoing, IsInHand, RunsOrRests}
 use Rattle.pie_bottomup.specs.inner.Loaded.{TestsExact}
 use Rattle.pie_bottomup.specs.inner.Exact.{IsPlanNow, BeginsAsOld, HoldsAsOld, IsExactCore, EndsRight, EndRight, TurnIsExact, StandsExact}
-use Rattle.pie_bottomup.specs.inner.Exact.{WalksExact, RunsExact, IsSiteNow, AsksExact, StepsExact, OwnsTold, ToldExact, FetchesExact}
+use Rattle.pie_bottomup.specs.inner.Exact.{WalksExact, RunsExact, IsSiteNow, AsksExact, StepsExact, OwnsTold, ToldExact, FetchesExact, FilesExact, Lacks}
 use Rattle.pie_bottomup.proofs.Owning.{same_own}
-use Rattle.pie_bottomup.proofs.ExactEvents.{SameBeside, staged_exact, puts_beside}
+use Rattle.pie_bottomup.proofs.ExactEvents.{SameBeside, staged_exact, puts_beside, lacking_may}
 use Rattle.pie_bottomup.proofs.ExactSteps.{if_ok_more, turn_exact}
 
 -- ---- the notes of a task that fails
@@ -78,14 +79,14 @@ looked_owns c task from w kind path None (Fails n k) told own =
 
 pub read_owns : (c : Core) (task : TaskNo) (from : ℕ) (w : Waiting) (by : By) (path : List ℕ) (sight : Sight) (t : Told)
     → IsToldReading w by path sight t → IsOwn c task from w.notes → OwnsTold c task from t
-read_owns c task from w by path (File found) t told own = looked_owns c task from w (read_kind by) path _ t told own
+read_owns c task from w by path (File found) t told own = looked_owns c task from w (read_kind by) path (Some (told_reading by path (found_in found))) t told own
 read_owns c task from w by path Long t told own = failed_owns c task from w.notes _ t told own
-read_owns c task from w by path Clashes t told own = looked_owns c task from w (read_kind by) path None t told own
+read_owns c task from w by path Clash t told own = looked_owns c task from w (read_kind by) path None t told own
 
 pub listed_owns : (c : Core) (task : TaskNo) (from : ℕ) (w : Waiting) (dir : List ℕ) (paths : Option (List (List ℕ))) (t : Told)
     → IsToldList w dir paths t → IsOwn c task from w.notes → OwnsTold c task from t
 listed_owns c task from w dir None t told own = failed_owns c task from w.notes _ t told own
-listed_owns c task from w dir (Some paths) t told own = small (is_small _) t told
+listed_owns c task from w dir (Some paths) t told own = small (is_small (paths_list paths)) t told
   where
     small : (b : Bool) (s : Told) → IsToldSmall b w dir paths s → OwnsTold c task from s
     small true (Goes f) is = tt
@@ -161,11 +162,11 @@ apart_firsts f tests done = let clash : Tests ≡ Done = sym tests ∙ done in c
 module _ {E : Type 0} (held : Option Directory) (old new : Core) (r : Result Turn E) where
   pub walk_steps : old.first ≡ Done → IfOk r (WalksExact old new) → IfOk r (StepsExact held old new)
   walk_steps done =
-      if_ok_more (WalksExact old new) (StepsExact held old new) (λ turn walks u site plan stands right. by u plan right walks stands) r
+      if_ok_more (WalksExact old new) (StepsExact held old new) (λ turn walks u site plan stands right. by turn u plan right walks stands) r
     where
-      by : {t : Turn} → (u : Update) → IsPlanNow u old.plan → EndRight u old new → WalksExact old new t → StandsExact u old → TurnIsExact u new t
-      by u plan right walks (inl loaded) = absurd (apart_firsts old.first loaded.0 done)
-      by u plan right walks (inr e) = walks u plan e right
+      by : (t : Turn) (u : Update) → IsPlanNow u old.plan → EndRight u old new → WalksExact old new t → StandsExact u old → TurnIsExact u new t
+      by t u plan right walks (inl loaded) = absurd (apart_firsts old.first loaded.0 done)
+      by t u plan right walks (inr e) = walks u plan e right
 
   pub test_steps : old.first ≡ Tests → OnOk r (TestsExact held old new) → IfOk r (StepsExact held old new)
   test_steps first tests = all r tests
@@ -196,3 +197,26 @@ module _ {E : Type 0} (held : Option Directory) (old new : Core) (r : Result Tur
       exact u (inl untested) (inl loaded) = absurd (none_some (sym untested.start.hand ∙ some))
       exact u (inr going) (inl loaded) = absurd (apart_firsts old.first loaded.0 going.site.tested)
       exact u c (inr e) = e
+
+-- the task in hand was taken
+pub in_hand : (c : Core) (h : InHand) → IsCore c → c.hand ≡ Some h → IsInHand c h
+in_hand c h (inl untested) some = absurd (let clash : None ≡ Some h = sym untested.start.hand ∙ some in cc)
+in_hand c h (inr going) some = subst (RunsOrRests c) some going.state
+
+-- ---- the file that a task is about to look at
+
+pub fetches : {E : Type 0} (held : Option Directory) (c new : Core) (task : TaskNo) (from : ℕ) (path : List ℕ) (writer : ℕ) (rows : List Row)
+    (staged : Staged) (number : TaskNo) (at : ℕ) (r : Result (Unit {0}) E) → rows ≡ c.frames.walk.rows → staged ≡ c.stage → number ≡ task → at ≡ from
+    → Lacks rows staged number.0 at path writer → OnOk r (FilesExact held c writer path new) → OnOk r (FetchesExact held c task.0 from new)
+fetches {E} held c new task from path writer rows staged number at r rs st n f lacks files = by r files
+  where
+    here : Lacks c.frames.walk.rows c.stage task.0 from path writer
+    here =
+        subst (λ (x : List Row). Lacks x c.stage task.0 from path writer) rs
+        (subst (λ (x : Staged). Lacks rows x task.0 from path writer) st
+        (subst (λ (x : TaskNo). Lacks rows staged x.0 from path writer) n
+        (subst (λ (x : ℕ). Lacks rows staged number.0 x path writer) f lacks)))
+
+    by : (s : Result (Unit {0}) E) → OnOk s (FilesExact held c writer path new) → OnOk s (FetchesExact held c task.0 from new)
+    by (Ok x) is = λ u site w settled e. is u site (lacking_may c task.0 from path writer w settled here) e
+    by (Err x) is = tt

@@ -3,6 +3,7 @@ use Rattle.std.proofs.Common.{◌≡◌, ◌⊎◌, ℕ, ◌<◌, ◌≤◌, ◌
 use Rattle.std.specs.Prelude.{slice_get, slice_index_or, take, drop, IfOk, OnOk}
 use Rattle.std.specs.List.{All, Contains, flat_map}
 use Rattle.std.proofs.lemmas.List.{take_all, drop_all, map-append}
+use Rattle.std.proofs.lemmas.Option.{slice_get_within}
 use Rattle.pie_value.specs.declared.task.Task.{Task}
 use Rattle.pie_value.specs.declared.event.How.{How}
 use Rattle.pie_value.specs.Canonical.{enc_task, IsCanonicalTask}
@@ -15,6 +16,7 @@ use Rattle.pie_record.specs.declared.dep.DepOn.{DepOn}
 use Rattle.pie_record.specs.declared.dep.DepOn.TheVariants.{File, Called}
 use Rattle.pie_record.specs.declared.task_record.Outcome.{Outcome}
 use Rattle.pie_record.specs.declared.task_record.TaskRecord.{TaskRecord}
+use Rattle.pie_record.specs.inner.Names.{Numbers}
 use Rattle.pie_record.specs.inner.Records.{record_of as kept_of}
 use Rattle.pie_store.specs.Canonical.{required_on}
 use Rattle.pie_tables.specs.declared.tables.Tables.{Tables}
@@ -255,3 +257,8 @@ module _ (old new : Core) (task : TaskNo) (from : ℕ) (t : Task) (rec : TaskRec
       by u plan taken right None e settled kept = right e rec settled kept
       by u plan taken right (Some was) e settled kept = lost_ended u plan taken was e same ran
   lost_exact (Err e) finished same ran ends = tt
+
+-- a task that has a number
+pub numbered_inside : (names : List Task) (t : Task) (o : Option TaskNo) (number : TaskNo) → o ≡ Some number → Numbers names t o
+    → number.0 < length names
+numbered_inside names t o number is numbers = slice_get_within names number.0 t (subst (Numbers names t) is numbers)
