@@ -1,9 +1,11 @@
 -- A build begins with the old tasks of an update, and is exact once these were tested.
-use Rattle.std.proofs.Common.{◌≡◌, ◌⊎◌, ℕ, ◌<◌, ◌≤◌, Bool, true, false, List, [], ◌∷◌, Option, None, Some, length, map, replicate, get_or, refl, sym, ap, ◌∙◌, subst, inl, inr, arith}
-use Rattle.std.specs.Prelude.{slice_get, slice_index_or}
+use Rattle.std.proofs.Common.{◌≡◌, ◌⊎◌, ℕ, ◌<◌, ◌≤◌, ◌+◌, ◌||◌, Bool, true, false, cond, List, [], ◌∷◌, ◌++◌, Option, None, Some, length, map, replicate, get_or, refl, sym, ap, ◌∙◌, subst, inl, inr, arith}
+use Rattle.std.specs.Prelude.{slice_get, slice_index_or, take}
+use Rattle.std.specs.Ordering.{nat_cmp, is_eq}
+use Rattle.std.specs.Cmp.Lexicographic.{slice_cmp}
 use Rattle.std.specs.List.{All, list_any}
 use Rattle.std.proofs.lemmas.Bool.{cases_lt}
-use Rattle.std.proofs.lemmas.List.{length-map, get_or-map, get_or_past, get_or-replicate, length-replicate}
+use Rattle.std.proofs.lemmas.List.{length-map, get_or-map, get_or_past, get_or-replicate, length-replicate, take_more}
 use Rattle.std.proofs.lemmas.List.Elements.{All-nil}
 use Rattle.std.proofs.lemmas.Option.{slice_get_within, get_or_from_slice_get}
 use Rattle.pie_base.specs.Path.{is_below}
@@ -21,6 +23,7 @@ use Rattle.pie_record.specs.declared.task_record.TaskRecord.{TaskRecord}
 use Rattle.pie_record.specs.inner.Records.{record_of as kept_of}
 use Rattle.pie_tables.specs.declared.tables.Tables.{Tables}
 use Rattle.pie_named.specs.declared.named.Named.{Named}
+use Rattle.pie_named.specs.Names.{is_named, is_above}
 use Rattle.pie_named.specs.inner.Known.{IsTrueOf}
 use Rattle.pie_view.specs.Content.{content}
 use Rattle.pie_old.specs.inner.Code.{is_same_code}
@@ -45,7 +48,8 @@ use Rattle.pie_core_laws.specs.Comparing.{IsOld}
 use Rattle.pie_core_laws.proofs.Begun.{begins_exact}
 use Rattle.pie_core_laws.proofs.Compared.{untouched_tested}
 use Rattle.pie_core_laws.proofs.Exactly.{not_busy_scheduled}
-use Rattle.pie_core_laws.proofs.Joined.{loaded_begin, same_codes}
+use Rattle.pie_core_laws.specs.Joins.{HasNames}
+use Rattle.pie_core_laws.proofs.Joined.{loaded_begin, names_grow, same_codes}
 use Rattle.pie_bottomup.specs.declared.plan.Plan.{Plan}
 use Rattle.pie_bottomup.specs.declared.state.Core.{Core}
 use Rattle.pie_bottomup.specs.declared.state.First.TheVariants.{Tests, Done}
@@ -104,6 +108,14 @@ loaded_core funcs digests kept changes c storable loaded unmet informed = λ u s
         unstaged = λ path. ap (λ staged. content staged n path) unmet.stage;
       };
     }
+
+-- one name more
+pub names_next : (old new : Named) (changes : List (List ℕ)) (i : ℕ) (path : List ℕ) → i < length changes → path ≡ get_or changes i path
+    → HasNames old (take i changes) → ((p : List ℕ) → is_named new p ≡ cond (is_eq (slice_cmp nat_cmp path p)) true (is_named old p))
+    → ((p : List ℕ) → is_above new p ≡ (is_below p path || is_above old p)) → HasNames new (take (i + 1) changes)
+names_next old new changes i path l e h f g =
+    subst (HasNames new) (sym (take_more changes i path l ∙ ap (λ (x : List ℕ). take i changes ++ x ∷ []) (sym e)))
+    (names_grow old new (take i changes) path h f g)
 
 -- ---- what is known
 
