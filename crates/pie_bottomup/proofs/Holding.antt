@@ -20,7 +20,7 @@ use Rattle.pie_bottomup.specs.declared.plan.Plan.{Plan}
 use Rattle.pie_bottomup.specs.declared.state.Core.{Core}
 use Rattle.pie_bottomup.specs.declared.state.First.TheVariants.{Tests, Done}
 use Rattle.pie_bottomup.specs.inner.States.{IsCore, IsUntested, IsDue}
-use Rattle.pie_bottomup.specs.inner.Tested.{WasHeld, TaskWasHeld, IsHeld, AreHeld, IsAsBefore, AreAsBefore, HoldsBy, Learns}
+use Rattle.pie_bottomup.specs.inner.Tested.{WasHeld, TaskWasHeld, IsHeld, AreHeld, IsAsBefore, AreAsBefore, HoldsBy, Learns, OnlySchedules}
 
 -- ---- one record
 
@@ -120,6 +120,13 @@ as_before d c count due held n rec l at off = by (slice_index_or c.plan.same.ite
     by false e = absurd (apart (sym (due n l e) ∙ off))
 
 -- ---- a task after it was asked
+
+-- the walk alone has more scheduled tasks
+pub only_on : (a b c : Core) → OnlySchedules a b → OnlySchedules b c → OnlySchedules a c
+only_on a b c one two = record {
+  walk = two.walk ∙ ap (λ (w : WalkState). record w { scheduled = c.frames.walk.scheduled }) one.walk;
+  stage = two.stage ∙ one.stage;
+}
 
 pub learns_named : (c : Core) (m : Named) → SameNames c.named m → StaysKnown c.named m → Learns c (record c { named = m })
 learns_named c m names stays = record { plan = refl; tables = refl; scheduled = λ n flag. flag; names = names; stays = stays }

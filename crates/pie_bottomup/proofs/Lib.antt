@@ -3,6 +3,14 @@ pub mod Beginning
 pub mod Calling
 pub mod Closing
 pub mod Cycles
+pub mod Exactly
+pub mod ExactAsking
+pub mod ExactBeginning
+pub mod ExactEnding
+pub mod ExactEvents
+pub mod ExactGrowing
+pub mod ExactSteps
+pub mod ExactWalking
 pub mod Finishing
 pub mod FirstStep
 pub mod Going

@@ -186,14 +186,14 @@ site_kept c f task distinct site holds recorded known stands e same =
 
 -- ---- a record of its own
 
-put_at : (old new : Records) (n : ℕ) (r : TaskRecord) → Puts old new n r → record_of new n ≡ Some r
+pub put_at : (old new : Records) (n : ℕ) (r : TaskRecord) → Puts old new n r → record_of new n ≡ Some r
 put_at old new n r puts = puts n ∙ (elim (nat_cmp n n) as (λ o. MatchOrdering o (n < n) (n ≡ n) (n < n) → cond (is_eq o) (Some r) (record_of old n) ≡ Some r) [
   | Less ↦ λ lt. absurd (omega (arith, lt))
   | Equal ↦ λ e. refl
   | Greater ↦ λ gt. absurd (omega (arith, gt))
 ]) (ranks n n)
 
-put_other : (old new : Records) (n : ℕ) (r : TaskRecord) → Puts old new n r → SameBut old new n
+pub put_other : (old new : Records) (n : ℕ) (r : TaskRecord) → Puts old new n r → SameBut old new n
 put_other old new n r puts k apart = puts k ∙ (elim (nat_cmp n k) as (λ o. MatchOrdering o (n < k) (n ≡ k) (k < n)
     → cond (is_eq o) (Some r) (record_of old k) ≡ record_of old k) [
       | Less ↦ λ lt. refl

@@ -1,12 +1,13 @@
 //! Tasks that waited, and are answered.
 ghost use Rattle.std.specs.Prelude.{◌≡◌, ◌+◌, true, None, IfOk, OnOk};
-ghost use Rattle.pie_tables.specs.Tabled.{IsTables, IsGiven};
+ghost use Rattle.pie_tables.specs.Tabled.{HasFailed, IsTables, IsGiven};
 ghost use Rattle.pie_frames.specs.inner.Standing.{Holds, IsParked, number_of};
 ghost use Rattle.pie_frames.specs.inner.Weights.{left_of};
 ghost use Rattle.pie_walk.specs.Marks.{IsSettled};
 ghost use Rattle.pie_base.specs.declared.fault.FaultKind.TheVariants.{Unknown};
 ghost use Rattle.pie_record.specs.declared.task_record.Outcome.TheVariants.{Failed};
 ghost use Rattle.pie_results.specs.inner.Failures.{is_done};
+ghost use Rattle.pie_bottomup.specs.inner.Exact.{CallerExact, RunsExact, lost_task};
 ghost use Rattle.pie_bottomup.specs.inner.Recorded.{HasOutput};
 ghost use Rattle.pie_bottomup.specs.inner.Running.{IsCaller};
 ghost use Rattle.pie_bottomup.specs.inner.States.{IsSite, GoesTo, Keeps, Nearer, rest};
@@ -15,9 +16,9 @@ use crate::state::{Core, InHand, Turn};
 use pie_base::{FaultKind, OutOfMemory};
 use pie_frames::Parked;
 use pie_graph::TaskNo;
-use pie_record::Outcome;
-use pie_running::{Caller, Done};
-use pie_value::{Fault, Task};
+use pie_record::{Dep, DepKind, DepOn, Deps, Outcome, TaskRecord, Writes};
+use pie_running::{Caller, Done, NoteParts};
+use pie_value::{Fault, How, Stamp, Task};
 
 impl<'a> Core<'a> {
     /// What a task required is settled: it goes on with the output, or fails as that one did.
@@ -32,6 +33,7 @@ impl<'a> Core<'a> {
         ensures turns { IfOk result (GoesTo self.new) }
         ensures nearer { IfOk result (Nearer (rest self.old + left_of parked.entry) self.new) }
         ensures kept { OnOk result (Keeps self.old self.new) }
+        ensures exact { IfOk result (RunsExact self.old no.0 parked.entry.from self.new) }
     {
         let Parked {
             caller,
@@ -54,8 +56,45 @@ impl<'a> Core<'a> {
                 self.hand = Some(InHand { no, from, task });
                 Ok(Turn::Went)
             }
-            failed => self.end_as(no, from, caller.waiting.into_notes(), failed),
+            failed => self.end_below(no, from, caller, failed),
         }
+    }
+
+    // The task ends as the one did that it required: that is the last that it observed.
+    #[tactic(auto, using(crate::proofs::Parts::named_encodable))]
+    fn end_below(
+        &mut self,
+        no: TaskNo,
+        from: usize,
+        caller: Caller<'a>,
+        outcome: Outcome,
+    ) -> Result<Turn, OutOfMemory>
+        requires site { IsSite self.old }
+        requires free { self.old.hand ≡ None }
+        requires holds { Holds no self.old.frames }
+        requires failed { HasFailed outcome }
+        ensures turns { IfOk result (GoesTo self.new) }
+        ensures nearer { IfOk result (Nearer (rest self.old + 1) self.new) }
+        ensures kept { OnOk result (Keeps self.old self.new) }
+        ensures exact { IfOk result (CallerExact self.old no from caller.entry self.new) }
+    {
+        let Caller {
+            waiting,
+            required,
+            how,
+        } = caller;
+        let NoteParts {
+            mut deps, writes, ..
+        } = waiting.into_notes().into_parts();
+        deps.push(lost(how, required))?;
+        let _names = self.tables.names.as_slice();
+        let rec = TaskRecord {
+            task: self.tables.names.task(no).copy()?,
+            deps: Deps::new(deps),
+            writes: Writes::new(writes),
+            outcome,
+        };
+        self.end_with(no, from, rec)
     }
 
     // How the required task ended. One that has no record counts as one of no function.
@@ -69,6 +108,20 @@ impl<'a> Core<'a> {
         }
         unknown(&caller.required)
     }
+}
+
+// The observation of a required task that gave no output.
+fn lost(how: How, required: Task) -> Dep
+    ensures { result ≡ lost_task how required }
+{
+    let kind = match how {
+        How::Whole => DepKind::Require,
+        How::Hashed => DepKind::RequireHash,
+        How::Ran => DepKind::Run,
+    };
+    let what = DepOn::Called(required);
+    let stamp = Stamp::Absent;
+    Dep { kind, what, stamp }
 }
 
 /// How a task ends that is of no function.

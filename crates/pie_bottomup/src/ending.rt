@@ -7,6 +7,7 @@ ghost use Rattle.pie_walk.specs.Marks.{IsSettled};
 ghost use Rattle.pie_tables.specs.Tabled.{IsKept};
 ghost use Rattle.pie_running.specs.inner.Noted.{IsSound};
 ghost use Rattle.pie_frames.specs.inner.Standing.{Holds};
+ghost use Rattle.pie_bottomup.specs.inner.Exact.{EndsExact, NotesExact, RunsExact};
 ghost use Rattle.pie_bottomup.specs.inner.Finished.{HasFinished, HasSameEdges, HasSettledWith, HasSwept};
 ghost use Rattle.pie_bottomup.specs.inner.Running.{EndsSo};
 ghost use Rattle.pie_bottomup.specs.inner.States.{AreCalled, HasCalled, IsAtRest, IsOwn, IsSite, HasScheduled, MayEnd, GoesTo, Keeps, Nearer, rest};
@@ -36,6 +37,7 @@ impl<'a> Core<'a> {
         ensures turns { IfOk result (GoesTo self.new) }
         ensures nearer { IfOk result (Nearer (rest self.old + 1) self.new) }
         ensures kept { OnOk result (Keeps self.old self.new) }
+        ensures exact { IfOk result (RunsExact self.old no.0 from self.new) }
     {
         if !output.is_small() {
             return self.fail(no, from, notes, FaultKind::Big);
@@ -57,6 +59,7 @@ impl<'a> Core<'a> {
         ensures turns { IfOk result (GoesTo self.new) }
         ensures nearer { IfOk result (Nearer (rest self.old + 1) self.new) }
         ensures kept { OnOk result (Keeps self.old self.new) }
+        ensures exact { IfOk result (NotesExact self.old no from notes self.new) }
     {
         let fault = Fault {
             task: self.tables.names.task(no).copy()?,
@@ -81,6 +84,7 @@ impl<'a> Core<'a> {
         ensures turns { IfOk result (GoesTo self.new) }
         ensures nearer { IfOk result (Nearer (rest self.old + 1) self.new) }
         ensures kept { OnOk result (Keeps self.old self.new) }
+        ensures exact { IfOk result (NotesExact self.old no from notes self.new) }
     {
         let NoteParts { deps, writes, .. } = notes.into_parts();
         let _names = self.tables.names.as_slice();
@@ -110,6 +114,9 @@ impl<'a> Core<'a> {
         ensures nearer { IfOk result (Nearer (rest self.old + 1) self.new) }
         ensures kept { OnOk result (Keeps self.old self.new) }
         ensures finished { OnOk result (HasFinished self.old self.new no.0 from rec) }
+        ensures same { OnOk result (self.new ≡ record self.old { frames = self.new.frames; tables = self.new.tables }) }
+        ensures ran { OnOk result (self.new.tables.ran.items ≡ self.old.tables.ran.items) }
+        ensures exact { IfOk result (EndsExact self.old no.0 from rec self.new) }
     {
         let old = self.tables.records.get(no);
         let output = has_other_output(old, &rec);
@@ -138,6 +145,8 @@ impl<'a> Core<'a> {
         requires holds { Holds no self.old.frames }
         ensures called { OnOk result (HasCalled self.old self.new no.0 output) }
         ensures holds { OnOk result (Holds no self.new.frames) }
+        ensures same { self.new ≡ record self.old { frames = self.new.frames } }
+        ensures parked { self.new.frames.parked ≡ self.old.frames.parked }
     {
         if output {
             self.frames.schedule_callers(no)?;
@@ -157,6 +166,9 @@ impl<'a> Core<'a> {
         ensures settled { OnOk result (IsSettled self.new.frames.walk.marks no.0) }
         ensures inside { OnOk result (no.0 < length self.new.frames.walk.rows) }
         ensures settles { OnOk result (HasSettledWith self.old self.new no.0 from rec) }
+        ensures same { self.new ≡ record self.old { frames = self.new.frames; tables = self.new.tables } }
+        ensures parked { self.new.frames.parked ≡ self.old.frames.parked }
+        ensures ran { self.new.tables.ran.items ≡ self.old.tables.ran.items }
     {
         let writes = paths_of(self.alloc, rec.writes.as_slice())?;
         self.tables.put(no, rec)?;
@@ -171,6 +183,8 @@ impl<'a> Core<'a> {
         requires number { no.0 < length self.old.frames.walk.rows }
         ensures swept { OnOk result (HasScheduled self.old self.new) }
         ensures told { OnOk result (HasSwept self.old self.new no.0 edges) }
+        ensures same { self.new ≡ record self.old { frames = self.new.frames } }
+        ensures parked { self.new.frames.parked ≡ self.old.frames.parked }
     {
         if edges {
             self.frames.sweep(no)?;

@@ -3,6 +3,7 @@ ghost use Rattle.std.specs.Prelude.{◌≡◌, ◌+◌, ◌*◌, None, IfOk, OnO
 ghost use Rattle.pie_files.specs.Reading.{ReadsOnly};
 ghost use Rattle.pie_running.specs.inner.Frames.{IsWaiting};
 ghost use Rattle.pie_frames.specs.inner.Standing.{Holds};
+ghost use Rattle.pie_bottomup.specs.inner.Exact.{AsksExact, ToldExact};
 ghost use Rattle.pie_bottomup.specs.inner.States.{IsInHand, IsOwn, IsSite, MayGo, GoesTo, Keeps, Nearer, rest, told_mass};
 
 use crate::state::{Core, InHand, Turn};
@@ -27,6 +28,7 @@ impl<'a> Core<'a> {
         ensures nearer { IfOk result (Nearer (rest self.old + 2 * hand.entry.task.notes.left + 1) self.new) }
         ensures kept { OnOk result (Keeps self.old self.new) }
         ensures reads { ReadsOnly F.holds F.moment F.left_since F.images F.faults files.old files.new result }
+        ensures exact { IfOk result (AsksExact (F.holds files.old) self.old hand.entry.no.0 hand.entry.from self.new) }
     {
         let InHand { no, from, task } = hand;
         match task.next()? {
@@ -55,6 +57,7 @@ impl<'a> Core<'a> {
         ensures nearer { IfOk result (Nearer (rest self.old + 2 * waiting.entry.notes.left + 1) self.new) }
         ensures kept { OnOk result (Keeps self.old self.new) }
         ensures reads { ReadsOnly F.holds F.moment F.left_since F.images F.faults files.old files.new result }
+        ensures exact { IfOk result (AsksExact (F.holds files.old) self.old no.0 from self.new) }
     {
         match event {
             Event::Exists(path) => self.exists(no, from, waiting, path, files),
@@ -90,6 +93,7 @@ impl<'a> Core<'a> {
         ensures nearer { IfOk result (Nearer (rest self.old + 2 * waiting.entry.notes.left + 1) self.new) }
         ensures kept { OnOk result (Keeps self.old self.new) }
         ensures reads { ReadsOnly F.holds F.moment F.left_since F.images F.faults files.old files.new result }
+        ensures exact { IfOk result (AsksExact (F.holds files.old) self.old no.0 from self.new) }
     {
         self.fetch(no, from, &path, files)?;
         self.exists_there(no, from, waiting, path, files)
@@ -113,6 +117,7 @@ impl<'a> Core<'a> {
         ensures nearer { IfOk result (Nearer (rest self.old + 2 * waiting.entry.notes.left + 1) self.new) }
         ensures kept { OnOk result (Keeps self.old self.new) }
         ensures reads { ReadsOnly F.holds F.moment F.left_since F.images F.faults files.old files.new result }
+        ensures exact { IfOk result (AsksExact (F.holds files.old) self.old no.0 from self.new) }
     {
         let told = waiting.exists(&self.sight(no, from), path, files)?;
         Ok(self.told(no, from, told)?)
@@ -137,6 +142,7 @@ impl<'a> Core<'a> {
         ensures nearer { IfOk result (Nearer (rest self.old + 2 * waiting.entry.notes.left + 1) self.new) }
         ensures kept { OnOk result (Keeps self.old self.new) }
         ensures reads { ReadsOnly F.holds F.moment F.left_since F.images F.faults files.old files.new result }
+        ensures exact { IfOk result (AsksExact (F.holds files.old) self.old no.0 from self.new) }
     {
         self.fetch(no, from, &path, files)?;
         self.read_there(no, from, waiting, path, by, files)
@@ -161,6 +167,7 @@ impl<'a> Core<'a> {
         ensures nearer { IfOk result (Nearer (rest self.old + 2 * waiting.entry.notes.left + 1) self.new) }
         ensures kept { OnOk result (Keeps self.old self.new) }
         ensures reads { ReadsOnly F.holds F.moment F.left_since F.images F.faults files.old files.new result }
+        ensures exact { IfOk result (AsksExact (F.holds files.old) self.old no.0 from self.new) }
     {
         let told = waiting.read(self.alloc, &self.sight(no, from), path, by, files)?;
         Ok(self.told(no, from, told)?)
@@ -184,6 +191,7 @@ impl<'a> Core<'a> {
         ensures nearer { IfOk result (Nearer (rest self.old + 2 * waiting.entry.notes.left + 1) self.new) }
         ensures kept { OnOk result (Keeps self.old self.new) }
         ensures reads { ReadsOnly F.holds F.moment F.left_since F.images F.faults files.old files.new result }
+        ensures exact { IfOk result (AsksExact (F.holds files.old) self.old no.0 from self.new) }
     {
         self.fetch(no, from, &path, files)?;
         self.digest_there(no, from, waiting, path, files)
@@ -207,6 +215,7 @@ impl<'a> Core<'a> {
         ensures nearer { IfOk result (Nearer (rest self.old + 2 * waiting.entry.notes.left + 1) self.new) }
         ensures kept { OnOk result (Keeps self.old self.new) }
         ensures reads { ReadsOnly F.holds F.moment F.left_since F.images F.faults files.old files.new result }
+        ensures exact { IfOk result (AsksExact (F.holds files.old) self.old no.0 from self.new) }
     {
         let told = waiting.digest(&self.sight(no, from), path, files)?;
         Ok(self.told(no, from, told)?)
@@ -230,6 +239,7 @@ impl<'a> Core<'a> {
         ensures nearer { IfOk result (Nearer (rest self.old + 2 * waiting.entry.notes.left + 1) self.new) }
         ensures kept { OnOk result (Keeps self.old self.new) }
         ensures reads { ReadsOnly F.holds F.moment F.left_since F.images F.faults files.old files.new result }
+        ensures exact { IfOk result (AsksExact (F.holds files.old) self.old no.0 from self.new) }
     {
         let told = waiting.list(self.alloc, dir, files)?;
         Ok(self.told(no, from, told)?)
@@ -244,6 +254,7 @@ impl<'a> Core<'a> {
         ensures turns { IfOk result (GoesTo self.new) }
         ensures nearer { IfOk result (Nearer (rest self.old + told_mass told.entry) self.new) }
         ensures kept { OnOk result (Keeps self.old self.new) }
+        ensures exact { IfOk result (ToldExact self.old no from told.entry self.new) }
     {
         match told {
             Told::Goes(task) => {

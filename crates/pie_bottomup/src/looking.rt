@@ -1,7 +1,11 @@
 //! What the task that runs sees under `out/`.
-ghost use Rattle.std.specs.Prelude.{◌≡◌, ◌<◌, length};
+ghost use Rattle.std.specs.Prelude.{◌≡◌, ◌<◌, true, length, drop, IfOk, IfSome, OnOk};
+ghost use Rattle.pie_base.specs.Path.{is_out};
 ghost use Rattle.pie_graph.specs.Numbers.{numbers, AllBelow};
+ghost use Rattle.pie_graph.specs.Rows.{row_at};
 ghost use Rattle.pie_files.specs.Reading.{ReadsOnly};
+ghost use Rattle.pie_view.specs.Seen.{Visible, IsOnly};
+ghost use Rattle.pie_bottomup.specs.inner.Exact.{FetchesExact, FilesExact, Lacks};
 
 use crate::state::Core;
 use pie_base::{OutOfMemory, Path};
@@ -55,6 +59,7 @@ impl<'b> OutSight<'b> {
     // Whose file the task sees that wrote nothing there.
     fn seen(&self, path: &Path) -> Result<Seen, OutOfMemory>
         requires { self.now.no.0 < length self.now.rows.now }
+        ensures { IfOk result (IsOnly (Visible self.now.rows.now (drop self.now.from (row_at self.now.rows.now self.now.no.0).needs) path.now)) }
     {
         let required = since(self.rows, self.no, self.from);
         let seen = view(self.alloc, self.rows, self.no, &[], required, path)?;
@@ -64,6 +69,7 @@ impl<'b> OutSight<'b> {
     // Whose file it is that the task sees, where its content isn't staged.
     fn lacking(&self, path: &Path) -> Result<Option<TaskNo>, OutOfMemory>
         requires { self.now.no.0 < length self.now.rows.now }
+        ensures { IfOk result (λ writer. IfSome writer (λ w. Lacks self.now.rows.now self.now.stage.now self.now.no.0 self.now.from path.now w.0)) }
     {
         if self.stage.get(self.no, path).is_some() {
             return Ok(None);
@@ -84,6 +90,8 @@ impl<'a> Core<'a> {
     pub(crate) fn sight<'b>(&'b self, no: TaskNo, from: usize) -> OutSight<'b>
         ensures rows { result.rows.now ≡ self.now.frames.walk.rows }
         ensures task { result.no ≡ no }
+        ensures from { result.from ≡ from }
+        ensures stage { result.stage.now ≡ self.now.stage }
     {
         OutSight {
             alloc: self.alloc,
@@ -106,6 +114,7 @@ impl<'a> Core<'a> {
         requires { no.0 < length self.old.frames.walk.rows }
         ensures same { self.new ≡ record self.old { stage = self.new.stage } }
         ensures reads { ReadsOnly F.holds F.moment F.left_since F.images F.faults files.old files.new result }
+        ensures exact { OnOk result (FetchesExact (F.holds files.old) self.old no.0 from self.new) }
     {
         if !path.under_out() {
             return Ok(());
@@ -124,8 +133,10 @@ impl<'a> Core<'a> {
         path: &Path,
         files: &mut F,
     ) -> Result<(), FilesError>
+        requires { is_out path.now ≡ true }
         ensures same { self.new ≡ record self.old { stage = self.new.stage } }
         ensures reads { ReadsOnly F.holds F.moment F.left_since F.images F.faults files.old files.new result }
+        ensures exact { OnOk result (FilesExact (F.holds files.old) self.old writer.0 path.now self.new) }
     {
         match files.read_within(path, MAX_CONTENT_BYTES)? {
             Within::Whole(found) => {
@@ -141,7 +152,8 @@ impl<'a> Core<'a> {
 #[tactic(auto, using(crate::proofs::Parts::part_below))]
 pub(crate) fn since<'b, R: TaskRows>(rows: &'b R, no: TaskNo, from: usize) -> &'b [TaskNo]
     requires { no.0 < length (R.rows rows.now) }
-    ensures { AllBelow (length (R.rows rows.now)) (numbers result.now) }
+    ensures below { AllBelow (length (R.rows rows.now)) (numbers result.now) }
+    ensures is { numbers result.now ≡ drop from (row_at (R.rows rows.now) no.0).needs }
 {
     let all = rows.callees(no);
     let from = from.min(all.len());

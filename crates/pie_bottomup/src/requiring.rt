@@ -5,6 +5,7 @@ ghost use Rattle.pie_graph.specs.Numbers.{numbers, AllBelow};
 ghost use Rattle.pie_value.specs.Canonical.{IsEncodableTask};
 ghost use Rattle.pie_running.specs.inner.Frames.{IsWaiting};
 ghost use Rattle.pie_frames.specs.inner.Standing.{Holds};
+ghost use Rattle.pie_bottomup.specs.inner.Exact.{RunsExact};
 ghost use Rattle.pie_bottomup.specs.inner.States.{IsOwn, IsSite, GoesTo, Keeps, Nearer, rest};
 
 use crate::cycle::turned;
@@ -33,6 +34,7 @@ impl<'a> Core<'a> {
         ensures turns { IfOk result (GoesTo self.new) }
         ensures nearer { IfOk result (Nearer (rest self.old + 2 * waiting.entry.notes.left + 1) self.new) }
         ensures kept { OnOk result (Keeps self.old self.new) }
+        ensures exact { IfOk result (RunsExact self.old no.0 from self.new) }
     {
         if !required.is_small() {
             return self.fail(no, from, waiting.into_notes(), FaultKind::Big);
@@ -60,6 +62,7 @@ impl<'a> Core<'a> {
         ensures turns { IfOk result (GoesTo self.new) }
         ensures nearer { IfOk result (Nearer (rest self.old + 2 * caller.entry.waiting.notes.left + 1) self.new) }
         ensures kept { OnOk result (Keeps self.old self.new) }
+        ensures exact { IfOk result (RunsExact self.old no.0 from self.new) }
     {
         let required = caller.required.copy()?;
         if self.is_full() {
@@ -88,6 +91,7 @@ impl<'a> Core<'a> {
         ensures turns { IfOk result (GoesTo self.new) }
         ensures nearer { IfOk result (Nearer (rest self.old + 2 * caller.entry.waiting.notes.left + 1) self.new) }
         ensures kept { OnOk result (Keeps self.old self.new) }
+        ensures exact { IfOk result (RunsExact self.old no.0 from self.new) }
     {
         match self.frames.park(no, caller, from, callee)? {
             Some(cycle) => {

@@ -9,6 +9,7 @@ ghost use Rattle.pie_value.specs.declared.task.Task.{Task};
 ghost use Rattle.pie_record.specs.inner.Records.{record_of};
 ghost use Rattle.pie_results.specs.inner.Failures.{refusal_by, refusal_in};
 ghost use Rattle.pie_running.specs.inner.Noted.{Noted};
+ghost use Rattle.pie_bottomup.specs.inner.Exact.{AddsExact, GoesExact, StillBegins};
 ghost use Rattle.pie_bottomup.specs.inner.States.{IsAtRest, IsNextRoot, IsOwn, IsSite, GoesTo, Keeps, Nearer, RootFailed, rest, room};
 
 use crate::state::{Core, Turn};
@@ -27,6 +28,7 @@ impl<'a> Core<'a> {
         ensures turns { IfOk result (GoesTo self.new) }
         ensures nearer { IfOk result (Nearer (rest self.old) self.new) }
         ensures kept { OnOk result (Keeps self.old self.new) }
+        ensures exact { IfOk result (GoesExact self.old self.new) }
     {
         if self.at >= self.plan.roots.len() || self.has_failed()? {
             return Ok(Turn::Settled);
@@ -48,6 +50,7 @@ impl<'a> Core<'a> {
         ensures turns { IfOk result (GoesTo self.new) }
         ensures nearer { IfOk result (Nearer (rest self.old) self.new) }
         ensures kept { OnOk result (Keeps self.old self.new) }
+        ensures exact { IfOk result (GoesExact self.old self.new) }
     {
         self.frames.begin(no)?;
         self.at += 1;
@@ -91,6 +94,7 @@ impl<'a> Core<'a> {
         ensures turns { IfOk result (GoesTo self.new) }
         ensures nearer { IfOk result (Nearer (rest self.old) self.new) }
         ensures kept { OnOk result (Keeps self.old self.new) }
+        ensures exact { IfOk result (GoesExact self.old self.new) }
     {
         if self.is_full() {
             return Ok(Turn::StartAfresh(self.too_many(root)));
@@ -130,9 +134,12 @@ impl<'a> Core<'a> {
         ensures at { self.new.at ≡ self.old.at }
         ensures kept { OnOk result (Keeps self.old self.new) }
         ensures weight { OnOk result (rest self.new ≤ rest self.old) }
+        ensures exact { OnOk result (AddsExact self.old self.new) }
+        ensures begins { (n : ℕ) (from : ℕ) → OnOk result (StillBegins self.old self.new n from) }
     {
         let no = self.frames.add()?;
         let _same = self.tables.add(task)?;
+        let _names = self.tables.names.as_slice();
         Ok(no)
     }
 }

@@ -3,8 +3,13 @@ ghost use Rattle.std.specs.Prelude.{◌≡◌, ◌≤◌, All, IfOk};
 ghost use Rattle.pie_value.specs.Canonical.{IsEncodableTask};
 ghost use Rattle.pie_record.specs.Canonical.{IsStorable};
 ghost use Rattle.pie_store.specs.Canonical.{AreInOrder};
-ghost use Rattle.pie_bottomup.specs.declared.state.First.TheVariants.{Done};
+ghost use Rattle.pie_files.specs.Directory.{Directory};
+ghost use Rattle.pie_named.specs.inner.Known.{IsTrueOf};
+ghost use Rattle.pie_old.specs.inner.Loaded.{IsOld};
+ghost use Rattle.pie_core_laws.specs.Joins.{HasNames};
+ghost use Rattle.pie_bottomup.specs.declared.state.First.TheVariants.{Tests, Done};
 ghost use Rattle.pie_bottomup.specs.inner.States.{IsCore, IsPlanOf, MayBegin, room};
+ghost use Rattle.pie_bottomup.specs.inner.Loaded.{BeginsExact};
 
 use crate::plan::Plan;
 use crate::state::{Core, First};
@@ -41,6 +46,7 @@ impl<'a> Core<'a> {
         ensures core { IfOk result IsCore }
         ensures plan { IfOk result (λ c. IsPlanOf typed.now digests.now roots.now c.plan) }
         ensures room { IfOk result (λ c. room c ≤ MAX_TASKS) }
+        ensures exact { IfOk result (BeginsExact image.funcs digests.now image.rows changes.now) }
     {
         let named = names_of(alloc, changes)?;
         let roots = copies(alloc, roots)?;
@@ -87,6 +93,7 @@ fn loaded(alloc: Global, rows: Rows) -> Result<(Old, First), OutOfMemory>
     requires order { AreInOrder rows }
     ensures begins { IfOk result (λ o. MayBegin o.0) }
     ensures first { IfOk result (λ o. o.1 ≡ Done → ⊥) }
+    ensures loaded { IfOk result (λ o. o.1 ≡ Tests → IsOld rows o.0) }
 {
     match load(alloc, rows)? {
         Loaded::Whole(old) => Ok((old, First::Tests)),
@@ -110,7 +117,11 @@ fn none(alloc: Global) -> Result<Old, OutOfMemory>
     })
 }
 
-fn names_of(alloc: Global, changes: &[Path]) -> Result<Named, OutOfMemory> {
+// These names, of which nothing is known yet.
+fn names_of(alloc: Global, changes: &[Path]) -> Result<Named, OutOfMemory>
+    ensures names { IfOk result (λ n. HasNames n changes.now) }
+    ensures known { IfOk result (λ n. (d : Directory) → IsTrueOf d n) }
+{
     let mut named = Named::new(alloc);
     for path in changes {
         named.name(path)?;

@@ -5,6 +5,7 @@ ghost use Rattle.pie_results.specs.inner.Made.{IsEmptyWhereRefused, IsKept};
 ghost use Rattle.pie_bottomup.specs.inner.States.{StartsOne, IsCore, HasSettled, TurnsTo, Nearer, Spends, mass, room};
 ghost use Rattle.pie_bottomup.specs.inner.Ended.{StoredIf};
 ghost use Rattle.pie_bottomup.specs.inner.Tested.{HasTested};
+ghost use Rattle.pie_bottomup.specs.inner.Exact.{StepsExact};
 ghost use Rattle.pie_bottomup.specs.declared.state.First.TheVariants.{Tests};
 
 use crate::plan::Plan;
@@ -85,6 +86,7 @@ impl<'a> Core<'a> {
         ensures spends { OnOk result (Spends self.old self.new runs.old runs.new) }
         ensures few { length runs.new ≤ length runs.old + room self.old }
         ensures tested { self.old.first ≡ Tests → OnOk result (HasTested (F.holds files.old) self.old self.new) }
+        ensures exact { IfOk result (StepsExact (F.holds files.old) self.old self.new) }
         ensures reads { ReadsOnly F.holds F.moment F.left_since F.images F.faults files.old files.new result }
     {
         match self.hand.take() {

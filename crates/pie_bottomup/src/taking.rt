@@ -3,6 +3,9 @@ ghost use Rattle.std.specs.Prelude.{◌≡◌, ◌<◌, ◌≤◌, ◌+◌, true
 ghost use Rattle.pie_tables.specs.Tabled.{HasFailed};
 ghost use Rattle.pie_frames.specs.inner.Standing.{Holds};
 ghost use Rattle.pie_compare.specs.inner.Standing.{RecordStands};
+ghost use Rattle.pie_graph.specs.Numbers.{IsMarked};
+ghost use Rattle.pie_running.specs.inner.Coded.{IsCodeFor};
+ghost use Rattle.pie_bottomup.specs.inner.Exact.{WalksExact, TakesExact, StartsExact, lost_record};
 ghost use Rattle.pie_bottomup.specs.inner.Running.{IsKnown};
 ghost use Rattle.pie_bottomup.specs.inner.States.{StartsOne, IsAsRecorded, IsAtRest, IsSite, GoesTo, Keeps, Nearer, Spends, SpendsOne, rest, room};
 
@@ -30,6 +33,7 @@ impl<'a> Core<'a> {
         ensures spends { OnOk result (Spends self.old self.new runs.old runs.new) }
         ensures starts { StartsOne runs.old runs.new }
         ensures few { length runs.new ≤ length runs.old + room self.old }
+        ensures exact { IfOk result (WalksExact self.old self.new) }
     {
         match self.frames.next()? {
             Next::Takes(no) => self.take(no, runs),
@@ -48,6 +52,7 @@ impl<'a> Core<'a> {
         ensures nearer { IfOk result (Nearer (rest self.old + 2000004) self.new) }
         ensures spends { OnOk result (SpendsOne self.old self.new runs.old runs.new) }
         ensures starts { StartsOne runs.old runs.new }
+        ensures exact { IfOk result (TakesExact self.old no.0 self.new) }
     {
         match code_of(self.plan.typed, self.plan.code, self.tables.names.task(no)) {
             Some(code) => self.take_known(no, code, runs),
@@ -72,6 +77,7 @@ impl<'a> Core<'a> {
         ensures nearer { IfOk result (Nearer (rest self.old + 2000004) self.new) }
         ensures spends { OnOk result (SpendsOne self.old self.new runs.old runs.new) }
         ensures starts { StartsOne runs.old runs.new }
+        ensures exact { IfOk result (StartsExact self.old no.0 self.new) }
     {
         if self.stands(no)? {
             return Ok(self.keep(no));
@@ -87,9 +93,11 @@ impl<'a> Core<'a> {
         requires recorded { IsAsRecorded self.old no.0 }
         requires known { IfSome (slice_get self.old.tables.names no.0) (IsKnown self.old.plan) }
         requires stands { RecordStands self.old.tables self.old.frames.walk.rows self.old.named no.0 }
+        requires same { IsMarked self.old.plan.same.items no.0 }
         ensures turns { GoesTo self.new result }
         ensures nearer { Nearer (rest self.old + 1) self.new result }
         ensures kept { Keeps self.old self.new }
+        ensures exact { StartsExact self.old no.0 self.new result }
     {
         let _names = self.tables.names.as_slice();
         self.frames.keep(no);
@@ -100,7 +108,8 @@ impl<'a> Core<'a> {
     fn stands(&self, no: TaskNo) -> Result<bool, OutOfMemory>
         requires site { IsSite self.now }
         requires number { no.0 < length self.now.tables.names }
-        ensures { IfOk result (λ stands. stands ≡ true → RecordStands self.now.tables self.now.frames.walk.rows self.now.named no.0) }
+        ensures stands { IfOk result (λ stands. stands ≡ true → RecordStands self.now.tables self.now.frames.walk.rows self.now.named no.0) }
+        ensures same { IfOk result (λ stands. stands ≡ true → IsMarked self.now.plan.same.items no.0) }
     {
         if !flag_of(self.plan.same.as_slice(), no) {
             return Ok(false);
@@ -122,6 +131,7 @@ impl<'a> Core<'a> {
         ensures nearer { IfOk result (Nearer (rest self.old + 2000004) self.new) }
         ensures spends { OnOk result (SpendsOne self.old self.new runs.old runs.new) }
         ensures starts { StartsOne runs.old runs.new }
+        ensures exact { IfOk result (StartsExact self.old no.0 self.new) }
     {
         let _names = self.tables.names.as_slice();
         let from = self.frames.walk().rows().callees(no).len();
@@ -136,12 +146,16 @@ impl<'a> Core<'a> {
         requires site { IsSite self.old }
         requires free { self.old.hand ≡ None }
         requires holds { Holds no self.old.frames }
+        requires none { IfSome (slice_get self.old.tables.names no.0) (λ t. IsCodeFor self.old.plan.typed.now self.old.plan.code.now t None) }
         ensures turns { IfOk result (GoesTo self.new) }
         ensures nearer { IfOk result (Nearer (rest self.old + 1) self.new) }
         ensures kept { OnOk result (Keeps self.old self.new) }
+        ensures exact { IfOk result (TakesExact self.old no.0 self.new) }
     {
+        let _names = self.tables.names.as_slice();
         let rec = lost(self.alloc, self.tables.names.task(no))?;
-        self.end_with(no, usize::MAX, rec)
+        let from = self.frames.walk().rows().callees(no).len();
+        self.end_with(no, from, rec)
     }
 }
 
@@ -149,6 +163,7 @@ impl<'a> Core<'a> {
 fn lost(alloc: Global, task: &Task) -> Result<TaskRecord, OutOfMemory>
     ensures task { IfOk result (λ rec. rec.task ≡ task.now) }
     ensures outcome { IfOk result (λ rec. HasFailed rec.outcome) }
+    ensures is { IfOk result (λ rec. rec ≡ lost_record task.now) }
 {
     let outcome = unknown(task)?;
     let task = task.copy()?;

@@ -3,7 +3,9 @@ ghost use Rattle.std.specs.Prelude.{◌≡◌, ◌⊎◌, ℕ, ◌<◌, ◌≤�
 ghost use Rattle.pie_bottomup.specs.declared.state.First.TheVariants.{Tests};
 ghost use Rattle.pie_files.specs.Reading.{ReadsOnly};
 ghost use Rattle.pie_bottomup.specs.inner.States.{StartsOne, IsAtRest, IsDue, IsTested, IsUntested, Keeps, TurnsTo, Nearer, Spends, rest, room};
-ghost use Rattle.pie_bottomup.specs.inner.Tested.{AreHeld, HasTested, HoldsBy, IsHeld, Learns, TaskWasHeld};
+ghost use Rattle.pie_bottomup.specs.inner.Tested.{AreHeld, HasTested, HoldsBy, IsHeld, Learns, OnlySchedules, TaskWasHeld};
+ghost use Rattle.pie_bottomup.specs.inner.Loaded.{TestsExact};
+ghost use Rattle.pie_bottomup.specs.inner.Exact.{StepsExact};
 
 use crate::flags::flag_of;
 use crate::state::{Core, First, Turn};
@@ -32,6 +34,7 @@ impl<'a> Core<'a> {
         ensures spends { OnOk result (Spends self.old self.new runs.old runs.new) }
         ensures few { length runs.new ≤ length runs.old + room self.old }
         ensures tested { self.old.first ≡ Tests → OnOk result (HasTested (F.holds files.old) self.old self.new) }
+        ensures exact { IfOk result (StepsExact (F.holds files.old) self.old self.new) }
         ensures reads { ReadsOnly F.holds F.moment F.left_since F.images F.faults files.old files.new result }
     {
         match &self.first {
@@ -54,7 +57,9 @@ impl<'a> Core<'a> {
         ensures nearer { IfOk result (Nearer (rest self.old) self.new) }
         ensures kept { OnOk result (Keeps self.old self.new) }
         ensures learns { OnOk result (Learns self.old self.new) }
+        ensures only { OnOk result (OnlySchedules self.old self.new) }
         ensures tested { OnOk result (HasTested (F.holds files.old) self.old self.new) }
+        ensures exact { OnOk result (TestsExact (F.holds files.old) self.old self.new) }
         ensures reads { ReadsOnly F.holds F.moment F.left_since F.images F.faults files.old files.new result }
     {
         self.test_all(files)?;
@@ -69,6 +74,7 @@ impl<'a> Core<'a> {
         ensures tested { OnOk result (IsTested self.old self.new) }
         ensures due { OnOk result ((n : ℕ) → n < length self.old.frames.walk.rows → IsDue self.new n) }
         ensures learns { OnOk result (Learns self.old self.new) }
+        ensures only { OnOk result (OnlySchedules self.old self.new) }
         ensures held { OnOk result (HoldsBy (F.holds files.old) self.old self.new (λ d. AreHeld d self.new (length self.old.frames.walk.rows))) }
         ensures reads { ReadsOnly F.holds F.moment F.left_since F.images F.faults files.old files.new result }
     {
@@ -87,6 +93,7 @@ impl<'a> Core<'a> {
         ensures tested { OnOk result (IsTested self.old self.new) }
         ensures due { OnOk result (IsDue self.new no.0) }
         ensures learns { OnOk result (Learns self.old self.new) }
+        ensures only { OnOk result (OnlySchedules self.old self.new) }
         ensures held { OnOk result (HoldsBy (F.holds files.old) self.old self.new (λ d. IsHeld d self.new no.0)) }
         ensures reads { ReadsOnly F.holds F.moment F.left_since F.images F.faults files.old files.new result }
     {

@@ -47,6 +47,11 @@ abbrev pub HasTested : Option Directory → Core → Core → Type 0
 HasTested held old new =
     HoldsBy held old new (λ d. AreHeld d new (length old.frames.walk.rows) × AreAsBefore d new (length old.frames.walk.rows))
 
+-- of the walk the flags of scheduled tasks alone may be others, and nothing is staged or taken away
+pub record OnlySchedules (old new : Core) : Type 0 where
+  pub walk : new.frames.walk ≡ record old.frames.walk { scheduled = new.frames.walk.scheduled }
+  pub stage : new.stage ≡ old.stage
+
 -- the plan and the tables stay, more tasks may be scheduled, and of the same names more may be known
 pub record Learns (old new : Core) : Type 0 where
   pub plan : new.plan ≡ old.plan

@@ -2,6 +2,7 @@ use Rattle.std.proofs.Common.{◌≡◌, ◌∙◌, List, Some, sym, subst}
 use Rattle.std.specs.Prelude.{slice_get}
 use Rattle.pie_value.specs.declared.task.Task.{Task}
 use Rattle.pie_bottomup.proofs.Sites.{site_grown, own_grown, last_named}
+use Rattle.pie_bottomup.proofs.ExactGrowing.{grown_exact, begins_still}
 use Rattle.pie_bottomup.proofs.state.Core.add.Goals as goal
 
 pub returns-clause-site : goal.returns-clause-site
@@ -17,3 +18,14 @@ returns-clause-named c =
 pub returns-clause-own : goal.returns-clause-own
 returns-clause-own c =
     own_grown c.args.self.now c.add.new.self c.add-2.new.self c.args.task c.in_ok-no.ensures.added c.in_ok-_same.ensures.added c.add-2.ensures.records
+
+pub returns-clause-exact : goal.returns-clause-exact
+returns-clause-exact c = λ stands u e.
+    grown_exact u c.args.self.now c.add.new.self c.add-2.new.self c.args.task e c.requires.stands c.in_ok-no.ensures.added c.in_ok-_same.ensures.added
+    c.add-2.ensures.records c.in_ok-_same.ensures.ran c.requires.site.tables stands
+    (record { distinct = c.as_slice-names.ensures.distinct; canonical = c.as_slice-names.ensures.canonical }) c.requires.site.sized c.requires.few
+    c.add.ensures.parked
+
+pub returns-clause-begins : goal.returns-clause-begins
+returns-clause-begins c = λ n from.
+    begins_still c.args.self.now c.add.new.self c.add-2.new.self c.args.task c.in_ok-no.ensures.added c.in_ok-_same.ensures.added c.add-2.ensures.records n from

@@ -1,6 +1,7 @@
 use Rattle.std.proofs.Common.{sym, subst}
 use Rattle.pie_bottomup.specs.inner.States.{RunsOrRests}
 use Rattle.pie_bottomup.proofs.Settling.{site_kept}
+use Rattle.pie_bottomup.proofs.ExactEnding.{kept_exact}
 use Rattle.pie_bottomup.proofs.state.Core.keep.Goals as goal
 
 pub returns-clause-turns : goal.returns-clause-turns
@@ -9,3 +10,8 @@ returns-clause-turns c = record {
       c.requires.stands c.keep.ensures.kept c.keep.ensures.parked;
   state = subst (RunsOrRests (record c.args.self.now { frames = c.keep.new.self })) (sym c.requires.free) c.keep.ensures.rests;
 }
+
+pub returns-clause-exact : goal.returns-clause-exact
+returns-clause-exact c = λ u plan taken.
+    kept_exact u c.args.self.now c.keep.new.self c.args.no plan taken c.requires.holds c.requires.same c.requires.stands c.keep.ensures.kept c.keep.ensures.parked
+    c.keep.ensures.rests

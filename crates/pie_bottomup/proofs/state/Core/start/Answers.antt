@@ -9,6 +9,7 @@ use Rattle.pie_bottomup.specs.declared.state.InHand.{InHand}
 use Rattle.pie_bottomup.specs.inner.Running.{IsKnown}
 use Rattle.pie_bottomup.proofs.Owning.{started_own, own_tables}
 use Rattle.pie_bottomup.proofs.Sites.{site_tables}
+use Rattle.pie_bottomup.proofs.ExactGrowing.{started_exact}
 use Rattle.pie_bottomup.proofs.state.Core.start.Goals as goal
 
 pub returns-clause-turns : goal.returns-clause-turns
@@ -39,3 +40,12 @@ returns-clause-spends c = record {
   room = omega arith;
   one = omega (arith, ap length c.in_ok-task.ensures.runs, length_push c.args.runs.now c.task.result.now);
 }
+
+pub returns-clause-exact : goal.returns-clause-exact
+returns-clause-exact c = λ u plan taken.
+    let self = c.args.self.now in
+    let needs : numbers c.callees-from.result.now ≡ (row_at self.frames.walk.rows c.args.no.0).needs =
+    c.callees-from.ensures.callees ∙ ap (λ (rows : List Row). (row_at rows c.args.no.0).needs) (c.rows.ensures ∙ ap (λ w. w.rows) c.walk.ensures) in
+    let hand : InHand = record { no = c.args.no; from = length c.callees-from.result.now; task = c.in_ok-task.task } in
+    started_exact u self c.runs.new.self c.args.no hand taken c.requires.holds c.runs.ensures.names c.runs.ensures.records c.runs.ensures.ran refl
+    (sym (length-map c.callees-from.result.now (λ (t : TaskNo). t.0)) ∙ ap length needs)

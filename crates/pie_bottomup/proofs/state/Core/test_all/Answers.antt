@@ -1,7 +1,7 @@
 use Rattle.std.proofs.Common.{◌∙◌}
 use Rattle.pie_files.proofs.Reading.{both_before}
 use Rattle.pie_bottomup.proofs.FirstStep.{tested_on, due_more}
-use Rattle.pie_bottomup.proofs.Holding.{learns_on, held_more}
+use Rattle.pie_bottomup.proofs.Holding.{learns_on, held_more, only_on}
 use Rattle.pie_bottomup.proofs.state.Core.test_all.Goals as goal
 
 pub loop-n-preserved : goal.loop-n-preserved
@@ -18,4 +18,5 @@ loop-n-preserved g c =
       learns_on c.args.self.now c.loop-n.self c.test.new.self before.6 more.learns,
       held_more (g.F.Files.holds c.args.files.now) (g.F.Files.holds c.loop-n.files) c.args.self.now c.loop-n.self c.test.new.self c.loop-n.n before.3
           more.learns before.7 more.held,
+      only_on c.args.self.now c.loop-n.self c.test.new.self before.8 more.only,
     )

@@ -1,0 +1,15 @@
+use Rattle.std.proofs.Common.{Option, sym, ◌∙◌, subst}
+use Rattle.std.specs.Prelude.{IfOk}
+use Rattle.pie_bottomup.specs.declared.state.InHand.{InHand}
+use Rattle.pie_bottomup.specs.inner.Exact.{AsksExact}
+use Rattle.pie_bottomup.proofs.ExactAsking.{event_steps, in_hand}
+use Rattle.pie_bottomup.proofs.state.Core.step.Goals as goal
+
+pub returns-in-Some-clause-exact : goal.returns-in-Some-clause-exact
+returns-in-Some-clause-exact g c =
+    let held = g.F.Files.holds c.args.files.now in
+    let hand = c.in-Some.hand in
+    let some = sym c.take.ensures.value ∙ c.in-Some.is in
+    event_steps held c.args.self.now c.event.new.self c.event.result hand c.requires some (in_hand c.args.self.now hand c.requires some)
+    (subst (λ (h : Option InHand). IfOk c.event.result (AsksExact held (record c.args.self.now { hand = h }) hand.no.0 hand.from c.event.new.self))
+    c.take.ensures.after c.event.ensures.exact)

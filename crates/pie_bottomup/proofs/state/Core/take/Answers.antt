@@ -1,0 +1,14 @@
+use Rattle.std.proofs.Common.{None, sym, subst}
+use Rattle.std.specs.Prelude.{IfSome}
+use Rattle.pie_value.specs.declared.task.Task.{Task}
+use Rattle.pie_running.specs.inner.Coded.{IsCodeFor}
+use Rattle.pie_bottomup.proofs.ExactSteps.{take_starts}
+use Rattle.pie_bottomup.proofs.state.Core.take.Goals as goal
+
+pub lose-requires-clause-none : goal.lose-requires-clause-none
+lose-requires-clause-none c =
+    subst (λ o. IfSome o (λ (t : Task). IsCodeFor c.args.self.now.plan.typed.now c.args.self.now.plan.code.now t None)) (sym c.task.ensures)
+    (rw c.in-None.is at c.code_of.ensures.found)
+
+pub returns-in-Some-clause-exact : goal.returns-in-Some-clause-exact
+returns-in-Some-clause-exact c = take_starts c.args.self.now c.take_known.new.self c.args.no.0 c.take_known.result c.take_known.ensures.exact
