@@ -26,7 +26,7 @@ use Rattle.pie_core_laws.specs.Exact.{runs, busy_by}
 use Rattle.pie_core_laws.specs.Running.{AreRunning}
 use Rattle.pie_task_laws.specs.Sites.{Site, Build, IsExactAt}
 use Rattle.pie_task_laws.specs.Frames.{IsFrame, AreCallers}
-use Rattle.pie_task_laws.specs.Going.{GoesAbove, AllGo, Wait, Runs, MayBegin}
+use Rattle.pie_task_laws.specs.Going.{GoesAbove, AllGo, AreTaken, Wait, Runs, MayBegin}
 use Rattle.pie_task_laws.specs.Coming.{IsAsking}
 use Rattle.pie_task_laws.specs.Steps.{IsUp, Steps, AllStep, OthersStep}
 use Rattle.pie_task_laws.proofs.Frames.{frame_moves}
@@ -187,3 +187,24 @@ taken_pass x old taken new cs t k e f S was named T W = wait_still x _ taken new
         = same_number taken.names f.tasks r.number j r.task u (named_still x (λ n. Unit {0}) old taken e S r.number r.task r.named) there
         (sym r.bytes ∙ bytes) in
         clash (runs (mark_of old.walk.marks k)) (subst (λ n. runs (mark_of old.walk.marks n) ≡ true) (at ∙ same) r.ran) was
+
+-- the newest that waits is another one than those below it
+pub older_stay : (x : Site) (old new : Build) (c : Caller) (cs : List Caller) → IsExactAt x old → OthersStep x c.waiting.notes.number old new
+    → Wait x old (c ∷ cs) → Wait x new cs
+older_stay x old new c cs e S W = by W.frames W.mean W.go W.taken
+  where
+    inside : {X : Type 0} {p q : X} → Some p ≡ Some q → p ≡ q
+    inside h = cc
+
+    by : (fs : List Frame) → AreCallers x old fs (c ∷ cs) → AllGo x old fs → AreTaken old fs → Wait x new cs
+    by [] m g a = absurd m
+    by (f ∷ fs) m g a = wait_still x _ old new e S cs (record { frames = fs; mean = m.1; go = g.1; taken = record { running = below; once = a.once.1 } }) apart
+      where
+        below : AreRunning old.names old.walk (tasks_of fs)
+        below y i = a.running y (among_there y f.task (tasks_of fs) i)
+
+        apart : (y : List ℕ) → among y (tasks_of fs) ≡ true → (k : ℕ) (t : Task) → slice_get old.names k ≡ Some t → y ≡ enc_task t
+            → k ≡ c.waiting.notes.number → ⊥
+        apart y i k t named bytes same =
+            let one : t ≡ c.waiting.notes.task = inside (sym named ∙ ap (slice_get old.names) same ∙ m.0.frame.named) in
+            clash (among f.task (tasks_of fs)) (subst (λ z. among z (tasks_of fs) ≡ true) (bytes ∙ ap enc_task one ∙ sym m.0.frame.task) i) a.once.0

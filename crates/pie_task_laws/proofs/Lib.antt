@@ -10,3 +10,4 @@ pub mod Lengthy
 pub mod Writing
 pub mod Answered
 pub mod Begun
+pub mod Together

@@ -7,3 +7,4 @@ pub mod Coming
 pub mod Sights
 pub mod Telling
 pub mod Answering
+pub mod Whole

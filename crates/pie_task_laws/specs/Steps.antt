@@ -64,6 +64,12 @@ CallersStay =
     (x : Site) (old new : Build) (cs : List Caller) (code : Code) (m : Standing) (n : Noted) → IsExactAt x old → OthersStep x n.number old new
     → Runs x old cs code m n → Wait x new cs
 
+-- where the newest that waits ends, the others still wait
+abbrev pub OlderCallersStay : Type 0
+OlderCallersStay =
+    (x : Site) (old new : Build) (c : Caller) (cs : List Caller) → IsExactAt x old → OthersStep x c.waiting.notes.number old new → Wait x old (c ∷ cs)
+    → Wait x new cs
+
 -- contents that are staged for tasks which don't run are such a step
 abbrev pub StagingsStep : Type 0
 StagingsStep =

@@ -1,4 +1,4 @@
-use Rattle.pie_task_laws.proofs.Keeping.{running_stay, asking_stay, waiting_stay, beginning_stay, callers_stay, taken_pass}
+use Rattle.pie_task_laws.proofs.Keeping.{running_stay, asking_stay, waiting_stay, beginning_stay, callers_stay, older_stay, taken_pass}
 use Rattle.pie_task_laws.proofs.steps.running_tasks_stay.Goals as goal
 
 pub returns-clause-running : goal.returns-clause-running
@@ -15,6 +15,9 @@ returns-clause-beginning c = λ x old new cs t e s m. beginning_stay x old new c
 
 pub returns-clause-callers : goal.returns-clause-callers
 returns-clause-callers c = λ x old new cs code m n e s r. callers_stay x old new cs code m n e s r
+
+pub returns-clause-older : goal.returns-clause-older
+returns-clause-older c = λ x old new d cs e s w. older_stay x old new d cs e s w
 
 pub returns-clause-passing : goal.returns-clause-passing
 returns-clause-passing c = λ x old taken new cs t k e f s was named g w. taken_pass x old taken new cs t k e f s was named g w
