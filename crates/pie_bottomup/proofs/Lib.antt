@@ -9,6 +9,7 @@ pub mod ExactBeginning
 pub mod ExactEnding
 pub mod ExactEvents
 pub mod ExactGrowing
+pub mod ExactResults
 pub mod ExactSteps
 pub mod ExactWalking
 pub mod Finishing

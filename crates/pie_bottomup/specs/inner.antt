@@ -2,6 +2,7 @@
 pub mod Ended
 pub mod Exact
 pub mod Loaded
+pub mod Made
 pub mod Finished
 pub mod Recorded
 pub mod Running

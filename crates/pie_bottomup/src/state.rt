@@ -6,6 +6,7 @@ ghost use Rattle.pie_bottomup.specs.inner.States.{StartsOne, IsCore, HasSettled,
 ghost use Rattle.pie_bottomup.specs.inner.Ended.{StoredIf};
 ghost use Rattle.pie_bottomup.specs.inner.Tested.{HasTested};
 ghost use Rattle.pie_bottomup.specs.inner.Exact.{StepsExact};
+ghost use Rattle.pie_bottomup.specs.inner.Made.{MadeExact};
 ghost use Rattle.pie_bottomup.specs.declared.state.First.TheVariants.{Tests};
 
 use crate::plan::Plan;
@@ -101,6 +102,7 @@ impl<'a> Core<'a> {
         ensures refused_empty { IfOk result IsEmptyWhereRefused }
         ensures kept { IfOk result IsKept }
         ensures stored { IfOk result (λ b. StoredIf b.verdict self.entry.plan b) }
+        ensures exact { IfOk result (MadeExact self.entry) }
     {
         self.built()
     }
@@ -111,6 +113,7 @@ impl<'a> Core<'a> {
         ensures refused_empty { IfOk result IsEmptyWhereRefused }
         ensures kept { IfOk result IsKept }
         ensures stored { IfOk result (λ b. StoredIf b.verdict self.now.plan b) }
+        ensures exact { IfOk result (MadeExact self.now) }
     {
         let _names = self.tables.names.as_slice();
         let built = results(

@@ -1,5 +1,5 @@
 -- What holds of a build by what changed between two steps, and by what it falls.
-use Rattle.std.specs.Prelude.{List, [], ◌∷◌, ◌++◌, ◌≡◌, ◌⊎◌, ℕ, ◌<◌, ◌≤◌, ◌+◌, ◌-◌, ◌*◌, Bool, true, false, length, All, Option, None, Some, IsSome, slice_get, slice_index_or}
+use Rattle.std.specs.Prelude.{List, [], ◌∷◌, ◌++◌, ◌≡◌, ◌⊎◌, ℕ, ◌<◌, ◌≤◌, ◌+◌, ◌-◌, ◌*◌, Bool, true, false, take, length, All, Option, None, Some, IsSome, slice_get, slice_index_or}
 use Rattle.std.specs.List.{Contains}
 use Rattle.pie_value.specs.declared.task.Task.{Task}
 use Rattle.pie_value.specs.Canonical.{IsEncodableTask}
@@ -118,6 +118,7 @@ pub record IsNextRoot (c : Core) (n : ℕ) : Type 0 where
 pub record RootFailed (c : Core) : Type 0 where
   pub root : Task
   pub among : Contains c.plan.roots.items root
+  pub begun : Contains (take c.at c.plan.roots.items) root
   pub number : ℕ
   pub named : slice_get c.tables.names number ≡ Some root
   pub failed : IsSome (refusal_by (record_of c.tables.records number))
