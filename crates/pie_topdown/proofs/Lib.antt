@@ -1,8 +1,8 @@
 pub mod Keeping
-pub mod Stacking
 pub mod Naming
-pub mod Starting
-pub mod Checking
-pub mod Ending
+pub mod Growing
+pub mod Stacking
+pub mod Passing
 pub mod Making
 pub mod Twice
+pub mod Going

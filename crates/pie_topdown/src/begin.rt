@@ -8,8 +8,8 @@ ghost use Rattle.pie_topdown.specs.inner.Turns.{TurnsTo, below, Nearer, room, Sp
 
 use crate::builder::Builder;
 use crate::hand::{Check, Hand, Turn};
-use crate::stands::write_stands;
-use pie_base::{OutOfMemory, Path};
+use crate::stands::writes_stand;
+use pie_base::OutOfMemory;
 use pie_code::Checked;
 use pie_files::{Files, FilesError};
 use pie_graph::TaskNo;
@@ -46,7 +46,7 @@ impl<'a> Builder<'a> {
     }
 
     // The record that an entered task had, if its function stayed the same.
-    #[tactic(auto, using(crate::proofs::Naming::named_encodable, crate::proofs::Naming::kept_storable))]
+    #[tactic(auto, using(crate::proofs::Naming::named_encodable))]
     fn old_record(&self, no: TaskNo) -> Result<Option<Box<TaskRecord>>, OutOfMemory>
         requires site { IsSite self.now }
         requires number { no.0 < length self.now.ledger.tables.names }
@@ -91,7 +91,7 @@ impl<'a> Builder<'a> {
         ensures kept { OnOk result (Keeps self.old self.new) }
         ensures reads { ReadsOnly F.holds F.moment F.left_since F.images F.faults files.old files.new result }
     {
-        if !self.writes_stand(rec.writes.as_slice(), files)? {
+        if !writes_stand(&mut self.named, rec.writes.as_slice(), files)? {
             return Ok(self.start(no, code, runs)?);
         }
         let check = self.check_of(no, code, rec)?;
@@ -122,26 +122,8 @@ impl<'a> Builder<'a> {
         Ok(check)
     }
 
-    // Whether what was written is there.
-    #[tactic(auto, using(pie_files::proofs::Reading::reads))]
-    fn writes_stand<F: Files>(
-        &mut self,
-        writes: &[(Path, [u8; 32])],
-        files: &mut F,
-    ) -> Result<bool, FilesError>
-        ensures same { self.new ≡ record self.old { named = self.new.named } }
-        ensures reads { ReadsOnly F.holds F.moment F.left_since F.images F.faults files.old files.new result }
-    {
-        for write in writes {
-            if !write_stands(&mut self.named, write, files)? {
-                return Ok(false);
-            }
-        }
-        Ok(true)
-    }
-
     /// An entered task starts to run.
-    #[tactic(auto, using(crate::proofs::Naming::named_encodable, crate::proofs::Starting::started_stands))]
+    #[tactic(auto, using(crate::proofs::Naming::named_encodable))]
     pub(crate) fn start(
         &mut self,
         no: TaskNo,

@@ -10,6 +10,7 @@ use crate::plan::Plan;
 use pie_base::OutOfMemory;
 use pie_files::{Files, FilesError};
 use pie_named::Named;
+use pie_value::Tasks;
 use pie_view::Stage;
 use pie_vm::Runs;
 use std::alloc::Global;
@@ -25,6 +26,8 @@ pub(crate) struct Builder<'a> {
     pub(crate) named: Named,
     /// What waits, each for the one above it, the last for what is in hand.
     pub(crate) stack: Vec<Frame<'a>>,
+    /// The cycle that was met, if one was: the records of its tasks say only that there is one.
+    pub(crate) circle: Option<Tasks>,
 }
 
 impl<'a> Builder<'a> {
@@ -54,7 +57,6 @@ impl<'a> Builder<'a> {
     }
 
     // What waits for a task that has ended goes on.
-    #[tactic(auto, using(crate::proofs::Stacking::popped_site, crate::proofs::Stacking::popped_frame, crate::proofs::Stacking::popped_mass, crate::proofs::Stacking::popped_room, crate::proofs::Stacking::same_keeps))]
     fn resume(&mut self) -> Result<Turn<'a>, OutOfMemory>
         requires { IsSite self.old }
         ensures turns { IfOk result (TurnsTo self.new) }

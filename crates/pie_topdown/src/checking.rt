@@ -50,7 +50,7 @@ impl<'a> Builder<'a> {
         requires site { IsSite self.old }
         requires check { IsCheck self.old.ledger check.value }
         ensures turns { IfOk result (TurnsTo self.new) }
-        ensures nearer { IfOk result (Nearer (below self.old + ((1000001 - check.value.at) + 2000004)) self.new) }
+        ensures nearer { IfOk result (Nearer (below self.old + ((1000001 - check.entry.value.at) + 2000004)) self.new) }
         ensures spends { IfOk result (Spends (room self.old + 1) runs.old runs.new self.new) }
         ensures starts { StartsOne runs.old runs.new }
         ensures few { length runs.new ≤ length runs.old + (room self.old + 1) }
@@ -72,7 +72,7 @@ impl<'a> Builder<'a> {
         requires check { IsCheck self.old.ledger check.value }
         requires place { IsPlace self.old.ledger check.value place }
         ensures turns { IfOk result (TurnsTo self.new) }
-        ensures nearer { IfOk result (Nearer (below self.old + ((1000001 - check.value.at) + 2000004)) self.new) }
+        ensures nearer { IfOk result (Nearer (below self.old + ((1000001 - check.entry.value.at) + 2000004)) self.new) }
         ensures spends { IfOk result (Spends (room self.old + 1) runs.old runs.new self.new) }
         ensures starts { StartsOne runs.old runs.new }
         ensures few { length runs.new ≤ length runs.old + (room self.old + 1) }
@@ -87,13 +87,12 @@ impl<'a> Builder<'a> {
     }
 
     // The record stands in one place more.
-    #[tactic(auto, using(crate::proofs::Checking::passed_check, crate::proofs::Stacking::same_keeps))]
     fn pass(&self, check: Box<Check<'a>>, no: Option<TaskNo>) -> Result<Turn<'a>, OutOfMemory>
         requires site { IsSite self.now }
         requires check { IsCheck self.now.ledger check.value }
         requires place { IsPlace self.now.ledger check.value (places.Stands no) }
         ensures turns { IfOk result (TurnsTo self.now) }
-        ensures nearer { IfOk result (Nearer (below self.now + ((1000001 - check.value.at) + 2000004)) self.now) }
+        ensures nearer { IfOk result (Nearer (below self.now + ((1000001 - check.entry.value.at) + 2000004)) self.now) }
         ensures fits { IfOk result (Fits (room self.now + 1) self.now) }
     {
         let mut check = check;
@@ -113,7 +112,7 @@ impl<'a> Builder<'a> {
         requires encodable { IsEncodableTask task }
         requires absent { ¬ (Contains self.old.ledger.tables.names task) }
         ensures turns { IfOk result (TurnsTo self.new) }
-        ensures nearer { IfOk result (Nearer (below self.old + ((1000001 - check.value.at) + 2000004)) self.new) }
+        ensures nearer { IfOk result (Nearer (below self.old + ((1000001 - check.entry.value.at) + 2000004)) self.new) }
         ensures spends { IfOk result (Spends (room self.old + 1) runs.old runs.new self.new) }
         ensures starts { StartsOne runs.old runs.new }
         ensures few { length runs.new ≤ length runs.old + (room self.old + 1) }
@@ -139,7 +138,7 @@ impl<'a> Builder<'a> {
         requires absent { ¬ (Contains self.old.ledger.tables.names task) }
         requires may { MayEnter self.old task (May code) }
         ensures turns { IfOk result (TurnsTo self.new) }
-        ensures nearer { IfOk result (Nearer (below self.old + ((1000001 - check.value.at) + 2000004)) self.new) }
+        ensures nearer { IfOk result (Nearer (below self.old + ((1000001 - check.entry.value.at) + 2000004)) self.new) }
         ensures fits { IfOk result (Fits (room self.old + 1) self.new) }
         ensures kept { OnOk result (Keeps self.old self.new) }
     {
@@ -168,7 +167,7 @@ impl<'a> Builder<'a> {
     }
 
     // What is found at this observation of a record.
-    #[tactic(auto, using(pie_files::proofs::Reading::reads, crate::proofs::Naming::ended_below))]
+    #[tactic(auto, using(pie_files::proofs::Reading::reads, crate::proofs::Growing::check_below))]
     fn look_at<F: Files>(
         &mut self,
         check: &Check<'a>,
@@ -222,12 +221,7 @@ impl<'a> Builder<'a> {
     }
 
     // What is found at an observation of a task.
-    fn look_at_task(
-        &self,
-        task: &Task,
-        kind: DepKind,
-        stamp: &Stamp,
-    ) -> Result<Place, OutOfMemory>
+    fn look_at_task(&self, task: &Task, kind: DepKind, stamp: &Stamp) -> Result<Place, OutOfMemory>
         requires site { IsSite self.now }
         requires encodable { IsEncodableTask task.now }
         ensures place { IfOk result (Tells self.now.ledger (task.now ∷ [])) }
@@ -257,7 +251,10 @@ impl<'a> Builder<'a> {
         ensures kept { OnOk result (Keeps self.old self.new) }
     {
         let Check {
-            no, rec, required, ..
+            no,
+            rec,
+            required,
+            ..
         } = Box::into_inner(check);
         self.ledger.end(no, rec, required)?;
         Ok(Turn::Goes(Hand::Ended))
@@ -265,7 +262,6 @@ impl<'a> Builder<'a> {
 }
 
 // One observation more was compared, of the task with this number if it is of one.
-#[tactic(auto, using(crate::proofs::Checking::stepped_check))]
 fn step_over<'a>(check: &mut Check<'a>, no: Option<TaskNo>) -> Result<(), OutOfMemory>
     requires { check.old.at ≤ 1000000 }
     ensures at { check.new.at ≡ check.old.at + 1 }

@@ -1,4 +1,5 @@
 //! Cycles of tasks on the stack.
+ghost use Rattle.std.specs.Prelude.{◌≡◌};
 
 use crate::builder::Builder;
 use crate::hand::Frame;
@@ -7,9 +8,21 @@ use pie_graph::TaskNo;
 use pie_value::{Task, Tasks};
 
 impl<'a> Builder<'a> {
-    /// The tasks on the stack from the one with this number on, and the one above them. Tasks are numbered as they are entered, so those that stand
-    /// above a task have greater numbers.
-    pub(crate) fn cycle(&self, from: TaskNo, top: &Task) -> Result<Tasks, OutOfMemory> {
+    /// The task with this number, which stands on the stack, is required by the one above it: the cycle is kept, unless one was.
+    pub(crate) fn close(&mut self, from: TaskNo, top: &Task) -> Result<(), OutOfMemory>
+        ensures same { self.new ≡ record self.old { circle = self.new.circle } }
+    {
+        if self.circle.is_some() {
+            return Ok(());
+        }
+        let tasks = self.cycle(from, top)?;
+        self.circle = Some(tasks);
+        Ok(())
+    }
+
+    // The tasks on the stack from the one with this number on, and the one above them. Tasks are numbered as they are entered, so those that stand
+    // above a task have greater numbers.
+    fn cycle(&self, from: TaskNo, top: &Task) -> Result<Tasks, OutOfMemory> {
         let mut tasks = Vec::new(self.alloc);
         for frame in &self.stack {
             note(&mut tasks, frame, from)?;

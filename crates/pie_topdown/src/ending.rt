@@ -39,7 +39,7 @@ impl<'a> Builder<'a> {
     }
 
     // The same with an output within the limits.
-    #[tactic(auto, using(crate::proofs::Ending::done_storable, crate::proofs::Ending::done_needs, crate::proofs::Stacking::grown_site))]
+    #[tactic(auto, using(crate::proofs::Stacking::grown_site))]
     fn done_small(
         &mut self,
         no: TaskNo,
@@ -88,11 +88,7 @@ impl<'a> Builder<'a> {
 
     /// The task that runs fails as one did that it required, or in a cycle.
     #[tactic(auto, using(crate::proofs::Stacking::grown_site))]
-    pub(crate) fn fail_as(
-        &mut self,
-        no: TaskNo,
-        outcome: Outcome,
-    ) -> Result<Turn<'a>, OutOfMemory>
+    pub(crate) fn fail_as(&mut self, no: TaskNo, outcome: Outcome) -> Result<Turn<'a>, OutOfMemory>
         requires site { IsSite self.old }
         requires number { no.0 < length self.old.ledger.tables.names }
         requires failed { HasFailed outcome }

@@ -67,7 +67,7 @@ impl<'a> Builder<'a> {
         }
     }
 
-    #[tactic(auto, using(crate::proofs::Twice::reads_then, crate::proofs::Naming::noted_below))]
+    #[tactic(auto, using(crate::proofs::Twice::reads_then, crate::proofs::Growing::noted_below))]
     fn exists<F: Files>(
         &mut self,
         no: TaskNo,
@@ -89,7 +89,7 @@ impl<'a> Builder<'a> {
         self.exists_there(no, waiting, path, files)
     }
 
-    #[tactic(auto, using(pie_files::proofs::Reading::reads, crate::proofs::Naming::noted_below))]
+    #[tactic(auto, using(pie_files::proofs::Reading::reads, crate::proofs::Growing::noted_below))]
     fn exists_there<F: Files>(
         &mut self,
         no: TaskNo,
@@ -111,7 +111,7 @@ impl<'a> Builder<'a> {
         Ok(self.told(no, told)?)
     }
 
-    #[tactic(auto, using(crate::proofs::Twice::reads_then, crate::proofs::Naming::noted_below))]
+    #[tactic(auto, using(crate::proofs::Twice::reads_then, crate::proofs::Growing::noted_below))]
     fn read<F: Files>(
         &mut self,
         no: TaskNo,
@@ -134,7 +134,7 @@ impl<'a> Builder<'a> {
         self.read_there(no, waiting, path, by, files)
     }
 
-    #[tactic(auto, using(pie_files::proofs::Reading::reads, crate::proofs::Naming::noted_below))]
+    #[tactic(auto, using(pie_files::proofs::Reading::reads, crate::proofs::Growing::noted_below))]
     fn read_there<F: Files>(
         &mut self,
         no: TaskNo,
@@ -157,7 +157,7 @@ impl<'a> Builder<'a> {
         Ok(self.told(no, told)?)
     }
 
-    #[tactic(auto, using(crate::proofs::Twice::reads_then, crate::proofs::Naming::noted_below))]
+    #[tactic(auto, using(crate::proofs::Twice::reads_then, crate::proofs::Growing::noted_below))]
     fn digest<F: Files>(
         &mut self,
         no: TaskNo,
@@ -179,7 +179,7 @@ impl<'a> Builder<'a> {
         self.digest_there(no, waiting, path, files)
     }
 
-    #[tactic(auto, using(pie_files::proofs::Reading::reads, crate::proofs::Naming::noted_below))]
+    #[tactic(auto, using(pie_files::proofs::Reading::reads, crate::proofs::Growing::noted_below))]
     fn digest_there<F: Files>(
         &mut self,
         no: TaskNo,

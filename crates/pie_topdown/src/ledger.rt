@@ -49,7 +49,7 @@ impl Ledger {
     }
 
     /// A task is entered, and gets the next number.
-    #[tactic(auto, using(crate::proofs::Keeping::added_ledger, crate::proofs::Keeping::added_grows))]
+    #[tactic(auto, using(crate::proofs::Keeping::added_grows))]
     pub(crate) fn add(&mut self, task: Task) -> Result<TaskNo, OutOfMemory>
         requires ledger { IsLedger self.old }
         requires encodable { IsEncodableTask task }
@@ -76,7 +76,7 @@ impl Ledger {
     }
 
     /// A task starts to run.
-    #[tactic(auto, using(crate::proofs::Keeping::ran_ledger))]
+    #[tactic(auto, using(crate::proofs::Keeping::same_grows))]
     pub(crate) fn runs(&mut self, no: TaskNo)
         requires ledger { IsLedger self.old }
         requires number { no.0 < length self.old.tables.names }
@@ -124,7 +124,7 @@ impl Ledger {
         needs: Vec<TaskNo>,
     ) -> Result<(), OutOfMemory>
         requires ledger { IsLedger self.old }
-        requires open { record_of self.old.tables.records no.0 ≡ None }
+        requires unended { record_of self.old.tables.records no.0 ≡ None }
         requires named { slice_get self.old.tables.names no.0 ≡ Some rec.task }
         requires storable { IsStorable rec }
         requires needs { tasks_at self.old.tables.names (numbers needs.items) ≡ map Some (needs_by rec) }
@@ -180,10 +180,9 @@ impl Ledger {
     }
 
     // The same of a task that hasn't ended.
-    #[tactic(auto, using(crate::proofs::Keeping::failed_ledger, crate::proofs::Keeping::failed_grows))]
     fn fail_first(&mut self, no: TaskNo, outcome: Outcome) -> Result<(), OutOfMemory>
         requires ledger { IsLedger self.old }
-        requires open { record_of self.old.tables.records no.0 ≡ None }
+        requires unended { record_of self.old.tables.records no.0 ≡ None }
         requires number { no.0 < length self.old.tables.names }
         requires failed { HasFailed outcome }
         ensures ledger { OnOk result (IsLedger self.new) }

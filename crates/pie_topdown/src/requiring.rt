@@ -18,7 +18,7 @@ use pie_code::Checked;
 use pie_graph::TaskNo;
 use pie_record::Outcome;
 use pie_running::{Caller, Done, Waiting};
-use pie_value::{Fault, How, Task, Value};
+use pie_value::{Fault, How, Task, Tasks, Value};
 
 impl<'a> Builder<'a> {
     /// A task is required: it is answered from how it ended, or is entered and settled first.
@@ -82,8 +82,9 @@ impl<'a> Builder<'a> {
             Some(Outcome::Done(output)) => self.give(caller, callee, output),
             Some(failed) => self.fail_as(no, failed),
             None => {
-                let tasks = self.cycle(callee, caller.waiting.notes.task())?;
-                self.fail_as(no, Outcome::Cycled(tasks))
+                self.close(callee, caller.waiting.notes.task())?;
+                let none = Tasks::new(Vec::new(self.alloc));
+                self.fail_as(no, Outcome::Cycled(none))
             }
         }
     }

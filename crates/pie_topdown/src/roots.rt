@@ -15,7 +15,7 @@ use pie_base::{FaultKind, OutOfMemory};
 use pie_code::Checked;
 use pie_files::{Files, FilesError};
 use pie_record::Outcome;
-use pie_value::{Fault, Refusal, Task};
+use pie_value::{Fault, Refusal, Task, Tasks};
 use pie_vm::Runs;
 
 impl<'a> Builder<'a> {
@@ -149,6 +149,15 @@ impl<'a> Builder<'a> {
         }
     }
 
+    // The cycle that was met.
+    fn closed(&self) -> Result<Refusal, OutOfMemory> {
+        let mut tasks = Vec::new(self.alloc);
+        if let Some(circle) = &self.circle {
+            put_all(&mut tasks, circle.as_slice())?;
+        }
+        Ok(Refusal::Cycle(Tasks::new(tasks)))
+    }
+
     // Why a root that was settled failed, if it did.
     fn refusal_of(&self, root: &Task) -> Result<Option<Refusal>, OutOfMemory>
         requires site { IsSite self.now }
@@ -161,7 +170,7 @@ impl<'a> Builder<'a> {
         match self.ledger.outcome(no)? {
             Some(Outcome::Done(_)) => Ok(None),
             Some(Outcome::Failed(fault)) => Ok(Some(Refusal::Fault(fault))),
-            Some(Outcome::Cycled(tasks)) => Ok(Some(Refusal::Cycle(tasks))),
+            Some(Outcome::Cycled(_)) => Ok(Some(self.closed()?)),
             None => Ok(Some(unknown(root.copy()?))),
         }
     }
@@ -173,4 +182,11 @@ fn unknown(task: Task) -> Refusal {
         task,
         kind: FaultKind::Unknown,
     })
+}
+
+fn put_all(tasks: &mut Vec<Task>, more: &[Task]) -> Result<(), OutOfMemory> {
+    for task in more {
+        tasks.push(task.copy()?)?;
+    }
+    Ok(())
 }

@@ -94,6 +94,7 @@ fn begun<'a>(
         stage: Stage::new(alloc),
         named: Named::new(alloc),
         stack: Vec::new(alloc),
+        circle: None,
     };
     let builder = Box::new(alloc, builder)?;
     Ok(builder)

@@ -14,9 +14,26 @@ use pie_stamp::hash_of;
 use pie_value::{Stamp, Value, encode};
 use std::alloc::Global;
 
-/// Whether what was written is at its path.
+/// Whether each of these contents is at its path.
 #[tactic(auto, using(pie_files::proofs::Reading::reads))]
-pub(crate) fn write_stands<F: Files>(
+pub(crate) fn writes_stand<F: Files>(
+    named: &mut Named,
+    writes: &[(Path, [u8; 32])],
+    files: &mut F,
+) -> Result<bool, FilesError>
+    ensures reads { ReadsOnly F.holds F.moment F.left_since F.images F.faults files.old files.new result }
+{
+    for write in writes {
+        if !write_stands(named, write, files)? {
+            return Ok(false);
+        }
+    }
+    Ok(true)
+}
+
+// Whether what was written is at its path.
+#[tactic(auto, using(pie_files::proofs::Reading::reads))]
+fn write_stands<F: Files>(
     named: &mut Named,
     write: &(Path, [u8; 32]),
     files: &mut F,

@@ -34,7 +34,7 @@ pub(crate) struct Made {
 }
 
 /// Writes and removes what isn't as it was made, and reports it. The plan and the report are made before the first write.
-#[tactic(auto, using(pie_build::proofs::OwnPaths::same_keeps))]
+#[tactic(auto, using(pie_build::proofs::OwnPaths::same_keeps, pie_incremental::proofs::Joining::rest_then))]
 pub(crate) fn accept<F: Files>(
     alloc: Global,
     files: &mut F,
@@ -57,11 +57,7 @@ pub(crate) fn accept<F: Files>(
 
 // The builder's own files.
 #[tactic(auto, using(pie_files::proofs::Reading::reads))]
-fn own_files<F: Files>(
-    alloc: Global,
-    files: &mut F,
-    store: Vec<u8>,
-) -> Result<OwnFiles, FilesError>
+fn own_files<F: Files>(alloc: Global, files: &mut F, store: Vec<u8>) -> Result<OwnFiles, FilesError>
     ensures reads { ReadsOnly F.holds F.moment F.left_since F.images F.faults files.old files.new result }
 {
     let pending = is_pending(alloc, files)?;

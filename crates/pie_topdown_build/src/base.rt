@@ -1,6 +1,6 @@
 //! What a build without a list begins from.
-ghost use Rattle.pie_files.specs.Reading.{ReadsOnly};
 ghost use Rattle.std.specs.Prelude.{IfOk};
+ghost use Rattle.pie_files.specs.Reading.{ReadsOnly};
 ghost use Rattle.pie_topdown_build.specs.inner.Bases.{IsWhole};
 
 use pie_base::{OutOfMemory, Path};
@@ -38,22 +38,21 @@ pub(crate) fn find_base<F: Files>(alloc: Global, files: &mut F) -> Result<Start,
     }
     let place = Path::known(alloc, ".pie/store")?;
     match files.read(&place)? {
-        Some(found) => with_store(alloc, found.bytes),
+        Some(found) => Ok(with_store(alloc, found.bytes)?),
         None => Ok(Start::Afresh(Cause::NoStore)),
     }
 }
 
 // What a build begins from where these are the bytes of the store.
-fn with_store(alloc: Global, store: Vec<u8>) -> Result<Start, FilesError>
+fn with_store(alloc: Global, store: Vec<u8>) -> Result<Start, OutOfMemory>
     ensures whole { IfOk result IsWhole }
-    ensures never { result ≡ Err Failed → ⊥ }
 {
     match decode_store(alloc, store.as_slice()) {
         Ok(image) => {
             let base = Box::new(alloc, Base { image, store })?;
             Ok(Start::From(base))
         }
-        Err(StoreFault::OutOfMemory) => Err(FilesError::OutOfMemory),
+        Err(StoreFault::OutOfMemory) => Err(OutOfMemory),
         Err(fault) => Ok(Start::Afresh(Cause::Damaged(fault))),
     }
 }

@@ -7,7 +7,7 @@ ghost use Rattle.pie_files.specs.Streams.{Counted};
 ghost use Rattle.pie_incremental.specs.inner.Joined.{IsImage, IsMade};
 ghost use Rattle.pie_store.specs.Canonical.{AreFuncs};
 ghost use Rattle.pie_value.specs.Canonical.{IsEncodableTask};
-ghost use Rattle.pie_topdown_build.specs.inner.Bases.{IsOkOrKeeps, Quiet};
+ghost use Rattle.pie_topdown_build.specs.inner.Bases.{Quiet};
 
 use crate::accepting::{Made, accept};
 use crate::base::{Base, Start, find_base};
@@ -28,6 +28,7 @@ use std::alloc::Global;
 /// clean build would, and no pending names; a refused one changes no file. The whole plan and the report are made before the first write. The tasks
 /// that are started are added to the runs, and reported.
 /// Rule: docs/BUILDING.md, "A build without a list".
+#[tactic(auto, using(pie_build::proofs::OwnPaths::same_keeps, pie_incremental::proofs::Joining::rest_then))]
 pub fn build_topdown<F: Files>(
     alloc: Global,
     files: &mut F,
@@ -73,6 +74,7 @@ fn afresh<F: Files>(
 }
 
 // Builds from what the build before left.
+#[tactic(auto, using(pie_build::proofs::OwnPaths::same_keeps, pie_incremental::proofs::Joining::rest_then))]
 fn from<F: Files>(
     alloc: Global,
     files: &mut F,
@@ -94,6 +96,7 @@ fn from<F: Files>(
 }
 
 // Builds a project from what the build before left. Roots beyond the limits of values are left to the clean build, which refuses them.
+#[tactic(auto, using(pie_build::proofs::OwnPaths::same_keeps, pie_incremental::proofs::Joining::rest_then))]
 fn with_project<F: Files>(
     alloc: Global,
     files: &mut F,
@@ -122,6 +125,7 @@ fn with_project<F: Files>(
 }
 
 // Settles the roots, and puts into place what was made.
+#[tactic(auto, using(pie_build::proofs::OwnPaths::same_keeps, pie_incremental::proofs::Joining::rest_then, pie_incremental::proofs::Joining::still_there, pie_incremental::proofs::Joining::told_all, pie_incremental::proofs::Joining::told_encodable, crate::proofs::Making::quiet_then))]
 fn run<F: Files>(
     alloc: Global,
     files: &mut F,
@@ -148,6 +152,7 @@ fn run<F: Files>(
 }
 
 // Puts an accepted build into place, and reports it.
+#[tactic(auto, using(pie_build::proofs::OwnPaths::same_keeps))]
 fn finish<F: Files>(
     alloc: Global,
     files: &mut F,

@@ -20,7 +20,7 @@ use pie_vm::Runs;
 use std::alloc::Global;
 
 /// Settles the roots of a project from the records of a store. One of version 1 gets the digests of the functions where it is of this pipeline.
-#[tactic(auto, using(pie_files::proofs::Reading::reads))]
+#[tactic(auto, using(pie_files::proofs::Reading::reads, crate::proofs::Making::image_kept))]
 pub(crate) fn evaluate<F: Files>(
     alloc: Global,
     files: &mut F,
@@ -44,7 +44,7 @@ pub(crate) fn evaluate<F: Files>(
 }
 
 // The same with the code of the functions.
-#[tactic(auto, using(pie_files::proofs::Reading::reads))]
+#[tactic(auto, using(crate::proofs::Making::made))]
 fn settled<F: Files>(
     alloc: Global,
     files: &mut F,

@@ -69,7 +69,9 @@ pub(crate) const SITES: [Case; 8] = [
     Case {
         name: "another function",
         before: &SITE_FILES,
-        changes: &[("pie.pipeline", "func page(src: path) -> path {
+        changes: &[(
+            "pie.pipeline",
+            "func page(src: path) -> path {
   val body = get(read(src));
   val foot = require footer();
   val target = join(path(\"out\"), name(src));
@@ -78,7 +80,8 @@ pub(crate) const SITES: [Case; 8] = [
 }
 func footer() -> text { \"end\" }
 func site() -> int { len([require page(p) for p in list(path(\"src\"))]) }
-")],
+",
+        )],
         report: "accepted\nran footer()\nlive 5\noutput site() = 3\n",
     },
     Case {
@@ -117,9 +120,12 @@ pub(crate) const FILES: [Case; 6] = [
     Case {
         name: "a file of a task that isn't run is read by one that is",
         before: &[
-            ("pie.pipeline", "func w() -> unit { write(path(\"out/w\"), get(read(path(\"s\")))); }
+            (
+                "pie.pipeline",
+                "func w() -> unit { write(path(\"out/w\"), get(read(path(\"s\")))); }
 func r() -> text { run w(); get(read(path(\"out/w\"))) + get(read(path(\"t\"))) }
-"),
+",
+            ),
             ("pie.roots", "r()"),
             ("s", "1"),
             ("t", "2"),
@@ -130,9 +136,12 @@ func r() -> text { run w(); get(read(path(\"out/w\"))) + get(read(path(\"t\"))) 
     Case {
         name: "a file of another task that is seen",
         before: &[
-            ("pie.pipeline", "func w() -> unit { write(path(\"out/w\"), get(read(path(\"s\")))); }
+            (
+                "pie.pipeline",
+                "func w() -> unit { write(path(\"out/w\"), get(read(path(\"s\")))); }
 func r() -> text { run w(); get(read(path(\"out/w\"))) }
-"),
+",
+            ),
             ("pie.roots", "r()"),
             ("s", "1"),
         ],
@@ -145,9 +154,12 @@ pub(crate) const CYCLES: [Case; 3] = [
     Case {
         name: "requires that turn round",
         before: &[
-            ("pie.pipeline", "func a() -> int { if exists(path(\"flip\")) { 1 } else { require b() } }
+            (
+                "pie.pipeline",
+                "func a() -> int { if exists(path(\"flip\")) { 1 } else { require b() } }
 func b() -> int { if exists(path(\"flip\")) { require a() } else { 2 } }
-"),
+",
+            ),
             ("pie.roots", "a()\nb()"),
         ],
         changes: &[("flip", "")],
@@ -156,10 +168,13 @@ func b() -> int { if exists(path(\"flip\")) { require a() } else { 2 } }
     Case {
         name: "a cycle below records that stand",
         before: &[
-            ("pie.pipeline", "func p() -> int { require q() }
+            (
+                "pie.pipeline",
+                "func p() -> int { require q() }
 func q() -> int { require r() }
 func r() -> int { if exists(path(\"on\")) { require p() } else { 1 } }
-"),
+",
+            ),
             ("pie.roots", "p()"),
         ],
         changes: &[("on", "")],
@@ -168,9 +183,12 @@ func r() -> int { if exists(path(\"on\")) { require p() } else { 1 } }
     Case {
         name: "a cycle of new tasks",
         before: &[
-            ("pie.pipeline", "func p() -> int { if exists(path(\"on\")) { require q() } else { 1 } }
+            (
+                "pie.pipeline",
+                "func p() -> int { if exists(path(\"on\")) { require q() } else { 1 } }
 func q() -> int { require p() }
-"),
+",
+            ),
             ("pie.roots", "p()"),
         ],
         changes: &[("on", "")],
@@ -188,9 +206,12 @@ pub(crate) const FAULTS: [Case; 4] = [
     Case {
         name: "the last checks refuse",
         before: &[
-            ("pie.pipeline", "func w(n: int) -> unit { write(path(\"out/a\"), to_text(n)); }
+            (
+                "pie.pipeline",
+                "func w(n: int) -> unit { write(path(\"out/a\"), to_text(n)); }
 func main() -> unit { run w(1); if exists(path(\"on\")) { run w(2); } }
-"),
+",
+            ),
             ("pie.roots", "main()"),
         ],
         changes: &[("on", "")],
@@ -199,9 +220,12 @@ func main() -> unit { run w(1); if exists(path(\"on\")) { run w(2); } }
     Case {
         name: "an observation after one that differs isn't looked at",
         before: &[
-            ("pie.pipeline", "func comp(p: path) -> text { get(read(p)) }
+            (
+                "pie.pipeline",
+                "func comp(p: path) -> text { get(read(p)) }
 func all() -> int { len([require comp(p) for p in list(path(\"src\"))]) }
-"),
+",
+            ),
             ("pie.roots", "all()"),
             ("src/a", "a"),
             ("src/b", "b"),
@@ -212,9 +236,12 @@ func all() -> int { len([require comp(p) for p in list(path(\"src\"))]) }
     Case {
         name: "two writers are seen",
         before: &[
-            ("pie.pipeline", "func w(n: int) -> unit { write(path(\"out/a\"), to_text(n)); }
+            (
+                "pie.pipeline",
+                "func w(n: int) -> unit { write(path(\"out/a\"), to_text(n)); }
 func t() -> text? { run w(1); if exists(path(\"on\")) { run w(2); }; read(path(\"out/a\")) }
-"),
+",
+            ),
             ("pie.roots", "t()"),
         ],
         changes: &[("on", "")],
@@ -231,13 +258,19 @@ pub(crate) const LIMITS: [Case; 3] = [
     },
     Case {
         name: "no store",
-        before: &[("pie.pipeline", "func a() -> int { 1 }"), ("pie.roots", "a()")],
+        before: &[
+            ("pie.pipeline", "func a() -> int { 1 }"),
+            ("pie.roots", "a()"),
+        ],
         changes: &[(".pie/store", GONE)],
         report: "accepted\nfresh NoStore\nran a()\nlive 1\noutput a() = 1\n",
     },
     Case {
         name: "a store that can't be read",
-        before: &[("pie.pipeline", "func a() -> int { 1 }"), ("pie.roots", "a()")],
+        before: &[
+            ("pie.pipeline", "func a() -> int { 1 }"),
+            ("pie.roots", "a()"),
+        ],
         changes: &[(".pie/store", "PIES")],
         report: "accepted\nfresh Damaged Short\nran a()\nlive 1\noutput a() = 1\n",
     },

@@ -111,19 +111,44 @@ fn runs_case(rt: &impl Abort, alloc: Global, case: &Case) -> Result<(), Fail> {
     fill(alloc, &mut files, case.changes)?;
     let before = left(alloc, &mut files)?;
     let (text, accepted) = told(alloc, &mut files)?;
-    assert!(rt; text.as_str() == case.report, "{}: {}", case.name, text.as_str());
+    assert!(rt;
+        text.as_str() == case.report,
+        "{}: {}",
+        case.name,
+        text.as_str()
+    );
     let after = left(alloc, &mut files)?;
     let mut copy = SureFiles::new(alloc);
     fill_sources(alloc, &mut copy, case.before)?;
     fill_sources(alloc, &mut copy, case.changes)?;
     let (clean_text, clean_accepted) = clean(alloc, &mut copy)?;
-    assert!(rt; accepted == clean_accepted, "{}: {}", case.name, text.as_str());
-    assert!(rt; first_line(text.as_str()) == first_line(clean_text.as_str()), "{}: {}", case.name, text.as_str());
+    assert!(rt;
+        accepted == clean_accepted,
+        "{}: {}",
+        case.name,
+        text.as_str()
+    );
+    assert!(rt;
+        first_line(text.as_str()) == first_line(clean_text.as_str()),
+        "{}: {}",
+        case.name,
+        text.as_str()
+    );
     if accepted {
         let wanted = left(alloc, &mut copy)?;
-        assert!(rt; after.as_slice() == wanted.as_slice(), "{}: {}", case.name, text.as_str());
+        assert!(rt;
+            after.as_slice() == wanted.as_slice(),
+            "{}: {}",
+            case.name,
+            text.as_str()
+        );
     } else {
-        assert!(rt; after.as_slice() == before.as_slice(), "{}: {}", case.name, text.as_str());
+        assert!(rt;
+            after.as_slice() == before.as_slice(),
+            "{}: {}",
+            case.name,
+            text.as_str()
+        );
     }
     Ok(())
 }
@@ -158,4 +183,53 @@ fn a_task_above_one_that_fails_runs(rt: HostRuntime) -> Result<(), Fail> {
 #[test]
 fn what_can_be_read_otherwise_starts_afresh(rt: HostRuntime) -> Result<(), Fail> {
     run_all(&rt, rt.alloc(), &LIMITS)
+}
+
+// A project of one function and one root.
+fn project(alloc: Global, files: &mut SureFiles, text: &str, root: &str) -> Result<(), Fail> {
+    set(alloc, files, "pie.pipeline", text)?;
+    set(alloc, files, "pie.roots", root)
+}
+
+// How many tasks ran, and how many are live.
+fn counted(alloc: Global, files: &mut SureFiles) -> Result<(usize, u32), Fail> {
+    let mut runs = Runs::new(alloc);
+    match build_topdown(alloc, files, &mut runs) {
+        Ok(report) => Ok((report.ran.len(), report.live)),
+        Err(_) => Err(Fail::from("a build")),
+    }
+}
+
+// A chain of tasks is built, and checked without a run.
+fn chains(rt: &impl Abort, alloc: Global, files: &mut SureFiles) -> Result<(), Fail> {
+    let chain = "func f(n: int) -> int { if n == 0 { 0 } else { require f(n - 1) } }";
+    project(alloc, files, chain, "f(300)")?;
+    let first = counted(alloc, files)?;
+    assert!(rt; first == (301, 301));
+    let second = counted(alloc, files)?;
+    assert!(rt; second == (0, 301));
+    Ok(())
+}
+
+#[test]
+fn a_chain_of_tasks_needs_no_deep_stack(rt: HostRuntime) -> Result<(), Fail> {
+    chains(&rt, rt.alloc(), &mut SureFiles::new(rt.alloc()))
+}
+
+// A cycle through many tasks, whose records stand up to the one that differs.
+fn circles(rt: &impl Abort, alloc: Global, files: &mut SureFiles) -> Result<(), Fail> {
+    let chain = "func f(n: int) -> int { if n > 0 { require f(n - 1) } else { require g() } }
+func g() -> int { if exists(path(\"on\")) { require f(300) } else { 0 } }";
+    project(alloc, files, chain, "f(300)")?;
+    let first = counted(alloc, files)?;
+    assert!(rt; first == (302, 302));
+    set(alloc, files, "on", "")?;
+    let second = counted(alloc, files)?;
+    assert!(rt; second == (302, 0));
+    Ok(())
+}
+
+#[test]
+fn a_long_cycle_is_met(rt: HostRuntime) -> Result<(), Fail> {
+    circles(&rt, rt.alloc(), &mut SureFiles::new(rt.alloc()))
 }

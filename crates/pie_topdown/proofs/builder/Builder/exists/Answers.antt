@@ -1,0 +1,18 @@
+use Rattle.std.proofs.Common.{ap}
+use Rattle.pie_topdown.proofs.Twice.{reads_then}
+use Rattle.pie_topdown.proofs.Growing.{noted_below}
+use Rattle.pie_topdown.proofs.Stacking.{same_site}
+use Rattle.pie_topdown.proofs.builder.Builder.exists.Goals as goal
+
+pub fetch-requires : goal.fetch-requires
+fetch-requires g c = noted_below c.args.self.now.ledger c.args.waiting.notes c.requires.site.ledger c.requires.noted
+
+pub exists_there-requires-clause-site : goal.exists_there-requires-clause-site
+exists_there-requires-clause-site g c =
+    let e = c.fetch.ensures.same in
+    same_site c.args.self.now c.fetch.new.self (ap (λ b. b.plan) e) (ap (λ b. b.ledger) e) (ap (λ b. b.stack) e) c.requires.site
+
+pub returns-clause-reads : goal.returns-clause-reads
+returns-clause-reads g c =
+    reads_then g.F.Files.holds g.F.Files.moment g.F.Files.left_since g.F.Files.images g.F.Files.faults c.args.files.now c.fetch.new.files
+    c.exists_there.new.files _ c.exists_there.result c.in_ok-fetch.ensures.reads c.exists_there.ensures.reads

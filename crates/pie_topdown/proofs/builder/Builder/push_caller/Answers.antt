@@ -1,0 +1,26 @@
+use Rattle.std.proofs.Common.{[], ◌∷◌, ◌++◌, ◌+◌, ◌-◌, ◌*◌, length, refl, ap, ◌∙◌, arith}
+use Rattle.pie_topdown.specs.declared.hand.Frame.TheVariants as frames
+use Rattle.pie_topdown.proofs.Growing.{caller_grows}
+use Rattle.pie_topdown.proofs.Stacking.{pushed_site, pushed_nearer, pushed_room}
+use Rattle.pie_topdown.proofs.builder.Builder.push_caller.Goals as goal
+
+pub returns-clause-turns : goal.returns-clause-turns
+returns-clause-turns c = record {
+  site = pushed_site c.enter.new.self _ (frames.Waits c.args.caller) c.in_ok-no.ensures.site
+      (caller_grows c.args.self.now.ledger c.enter.new.self.ledger c.in_ok-no.ensures.kept.grows c.args.caller c.requires.caller) refl refl
+      c.in_ok-push.ensures.items;
+  hand = c.in_ok-no.ensures.starts;
+}
+
+pub returns-clause-nearer : goal.returns-clause-nearer
+returns-clause-nearer c =
+    pushed_nearer (length c.args.self.now.ledger.tables.names) (length c.enter.new.self.ledger.tables.names) c.args.self.now.stack.items
+    c.push.new.self.items (frames.Waits c.args.caller) (2 * c.args.caller.waiting.notes.left + 1) c.requires.may.few c.in_ok-no.ensures.one
+    (c.in_ok-push.ensures.items ∙ ap (λ v. v.items ++ frames.Waits c.args.caller ∷ []) c.in_ok-no.ensures.stack) (omega arith)
+
+pub returns-clause-fits : goal.returns-clause-fits
+returns-clause-fits c =
+    let r = pushed_room (length c.args.self.now.ledger.tables.names) (length c.enter.new.self.ledger.tables.names) c.args.self.now.stack.items
+    c.push.new.self.items (frames.Waits c.args.caller) c.requires.may.few c.in_ok-no.ensures.one
+    (c.in_ok-push.ensures.items ∙ ap (λ v. v.items ++ frames.Waits c.args.caller ∷ []) c.in_ok-no.ensures.stack) in
+    omega (arith, r)

@@ -1,0 +1,35 @@
+use Rattle.std.proofs.Common.{◌≡◌, ◌+◌, ◌*◌, ◌++◌, Some, ap, subst, ◌∙◌, arith}
+use Rattle.std.specs.Prelude.{IfOk}
+use Rattle.std.specs.Option.{option_to_list}
+use Rattle.pie_topdown.specs.declared.hand.Frame.TheVariants as frames
+use Rattle.pie_topdown.specs.inner.Turns.{Fits, Nearer, frame_mass, frame_room, stack_mass, stack_room}
+use Rattle.pie_topdown.proofs.Stacking.{popped_mass, popped_room}
+use Rattle.pie_topdown.proofs.builder.Builder.resume.Goals as goal
+
+pub returns-in-Some-Checks-clause-nearer : goal.returns-in-Some-Checks-clause-nearer
+returns-in-Some-Checks-clause-nearer c =
+    let e = frames.Checks c.in-Some-Checks.check in
+    let m = popped_mass c.args.self.now.stack.items c.pop.new.self.items e
+    (c.in-Some-Checks.ensures.items ∙ ap (λ x. c.pop.new.self.items ++ option_to_list (Some x)) c.in-Some-Checks.field-0-is) in
+    omega (arith, m)
+
+pub returns-in-Some-Checks-clause-fits : goal.returns-in-Some-Checks-clause-fits
+returns-in-Some-Checks-clause-fits c =
+    let e = frames.Checks c.in-Some-Checks.check in
+    let m = popped_room c.args.self.now.stack.items c.pop.new.self.items e
+    (c.in-Some-Checks.ensures.items ∙ ap (λ x. c.pop.new.self.items ++ option_to_list (Some x)) c.in-Some-Checks.field-0-is) in
+    omega (arith, m)
+
+pub returns-in-Some-Waits-clause-nearer : goal.returns-in-Some-Waits-clause-nearer
+returns-in-Some-Waits-clause-nearer c =
+    let e = frames.Waits c.in-Some-Waits.caller in
+    let m = popped_mass c.args.self.now.stack.items c.pop.new.self.items e
+    (c.in-Some-Waits.ensures.items ∙ ap (λ x. c.pop.new.self.items ++ option_to_list (Some x)) c.in-Some-Waits.field-0-is) in
+    subst (λ n. IfOk c.answer_again.result (Nearer n c.answer_again.new.self)) (omega (arith, m)) c.answer_again.ensures.nearer
+
+pub returns-in-Some-Waits-clause-fits : goal.returns-in-Some-Waits-clause-fits
+returns-in-Some-Waits-clause-fits c =
+    let e = frames.Waits c.in-Some-Waits.caller in
+    let m = popped_room c.args.self.now.stack.items c.pop.new.self.items e
+    (c.in-Some-Waits.ensures.items ∙ ap (λ x. c.pop.new.self.items ++ option_to_list (Some x)) c.in-Some-Waits.field-0-is) in
+    subst (λ n. IfOk c.answer_again.result (Fits n c.answer_again.new.self)) (omega (arith, m)) c.answer_again.ensures.fits

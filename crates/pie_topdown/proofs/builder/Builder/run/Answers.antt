@@ -1,0 +1,20 @@
+use Rattle.std.proofs.Common.{◌∙◌, ◌+◌, subst, arith}
+use Rattle.pie_files.proofs.Reading.{both_before}
+use Rattle.pie_topdown.specs.inner.Turns.{Spends, TurnsTo, hand_room, room}
+use Rattle.pie_topdown.proofs.Going.{keeps_then, started_more}
+use Rattle.pie_topdown.proofs.builder.Builder.run.Goals as goal
+
+pub steps-preserved : goal.steps-preserved
+steps-preserved g c =
+    let before = c.steps.invariant in
+    let spends = subst (Spends (room c.steps.self + hand_room c.steps.hand) c.steps.runs c.step.new.runs c.step.new.self) c.in-Goes.is
+    c.in_ok-next.ensures.spends in (
+      subst (TurnsTo c.step.new.self) c.in-Goes.is c.in_ok-next.ensures.turns,
+      keeps_then c.args.self.now c.steps.self c.step.new.self before.1 c.in_ok-next.ensures.kept,
+      started_more c.args.runs.now c.steps.runs c.step.new.runs before.2 c.step.ensures.starts,
+      omega (arith, spends, before.3),
+      c.step.ensures.reads.same ∙ before.4,
+      c.in_ok-next.ensures.reads.counted.steady ∙ before.5,
+      both_before g.F.Files.holds g.F.Files.moment g.F.Files.left_since g.F.Files.images c.args.files.now c.steps.files c.step.new.files before.4
+          before.6 c.step.ensures.reads.crash,
+    )

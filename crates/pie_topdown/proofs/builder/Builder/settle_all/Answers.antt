@@ -1,0 +1,23 @@
+use Rattle.std.proofs.Common.{◌∙◌}
+use Rattle.pie_files.proofs.Reading.{both_before}
+use Rattle.pie_topdown.proofs.Going.{continues_then, settled_all, settled_more, started_then}
+use Rattle.pie_topdown.proofs.builder.Builder.settle_all.Goals as goal
+
+pub loop-root-preserved : goal.loop-root-preserved
+loop-root-preserved g c =
+    let before = c.loop-root.invariant in
+    let continues = c.in_ok-refusal.ensures.continues c.in-None.is in (
+      c.in_ok-refusal.ensures.site c.in-None.is,
+      settled_more c.loop-root.self.ledger c.settle.new.self.ledger c.args.roots.now c.loop-root.root-index c.root-item.result continues.grows
+          c.loop-root-test.true c.root-item.is before.1 (c.in_ok-refusal.ensures.settled c.in-None.is),
+      continues_then c.args.self.now c.loop-root.self c.settle.new.self c.args.runs.now c.loop-root.runs c.settle.new.runs before.2 continues,
+      started_then c.args.runs.now c.loop-root.runs c.settle.new.runs before.3 c.settle.ensures.started,
+      c.settle.ensures.reads.same ∙ before.4,
+      c.in_ok-refusal.ensures.reads.counted.steady ∙ before.5,
+      both_before g.F.Files.holds g.F.Files.moment g.F.Files.left_since g.F.Files.images c.args.files.now c.loop-root.files c.settle.new.files before.4
+          before.6 c.settle.ensures.reads.crash,
+    )
+
+pub returns-clause-settled : goal.returns-clause-settled
+returns-clause-settled g c = λ _.
+    settled_all c.loop-root.self.ledger c.args.roots.now c.loop-root.root-index c.loop-root-test.false c.loop-root.invariant.1

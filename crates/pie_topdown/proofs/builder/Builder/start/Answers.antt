@@ -1,0 +1,15 @@
+use Rattle.std.proofs.Common.{◌∙◌, refl, ap}
+use Rattle.std.specs.Prelude.{slice_get}
+use Rattle.pie_topdown.proofs.Growing.{begun_noted}
+use Rattle.pie_topdown.proofs.Stacking.{grown_site}
+use Rattle.pie_topdown.proofs.builder.Builder.start.Goals as goal
+
+pub returns-clause-turns : goal.returns-clause-turns
+returns-clause-turns c = record {
+  site = grown_site c.args.self.now _ c.requires.site c.runs.ensures.ledger c.runs.ensures.grows c.runs.ensures.names refl refl;
+  hand = record {
+    ready = c.in_ok-task.ensures.started.ready;
+    noted = begun_noted c.runs.new.self c.task.result.now c.args.no.0 c.in_ok-task.task.notes
+        (ap (λ ts. slice_get ts c.args.no.0) c.runs.ensures.names ∙ c.task.ensures) c.in_ok-task.ensures.started.notes;
+  };
+}

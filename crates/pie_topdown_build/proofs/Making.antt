@@ -1,0 +1,48 @@
+-- What a build without a list stores.
+use Rattle.std.proofs.Common.{◌≡◌, ℕ, List, sym, subst}
+use Rattle.std.specs.Prelude.{All, Contains, Option}
+use Rattle.std.proofs.lemmas.List.Elements.{All-weaker}
+use Rattle.std.proofs.lemmas.List.Sorted.{Contains-permutation}
+use Rattle.pie_files.specs.Directory.{Directory}
+use Rattle.pie_checks.specs.declared.built.Built.{Built}
+use Rattle.pie_digest.specs.Digests.{function_names, HasNames}
+use Rattle.pie_incremental.specs.inner.Joined.{IsImage, IsMade, StandsIf}
+use Rattle.pie_parser.specs.FunctionTrees.{FunctionTree}
+use Rattle.pie_record.specs.Canonical.{IsStorable}
+use Rattle.pie_record.specs.declared.task_record.TaskRecord.{TaskRecord}
+use Rattle.pie_results.specs.inner.Made.{IsKept}
+use Rattle.pie_store.specs.Canonical.{names_of, AreFuncs, AreInOrder}
+use Rattle.pie_store.specs.declared.image.StoreImage.{StoreImage}
+use Rattle.pie_topdown.specs.inner.Ended.{StoredIf}
+use Rattle.pie_value.specs.Canonical.{IsEncodableTask}
+use Rattle.pie_value.specs.declared.task.Task.{Task}
+use Rattle.pie_value.specs.declared.verdict.Verdict.{Verdict}
+use Rattle.pie_value.specs.declared.verdict.Verdict.TheVariants.{Accepted, Refused}
+use Rattle.pie_topdown_build.specs.inner.Bases.{Quiet}
+
+-- a store whose records stay can be begun from
+pub image_kept : (s t : StoreImage) → t.rows ≡ s.rows → IsImage s → IsImage t
+image_kept s t same is = record { storable = subst (All IsStorable) (sym same) is.storable; order = subst AreInOrder (sym same) is.order }
+
+stands : (fs : List FunctionTree) (funcs : List (List ℕ × List ℕ)) (roots : List Task) (b : Built) → HasNames fs funcs → AreFuncs funcs
+    → All IsEncodableTask roots → IsKept b → (v : Verdict) → StoredIf v fs roots b → StandsIf v funcs roots b.rows.items
+stands fs funcs roots b names table small kept Accepted s = record {
+  funcs = table;
+  roots = small;
+  few = s.few;
+  rows = kept.rows;
+  order = s.order;
+  known = All-weaker (λ (r : TaskRecord). Contains (function_names fs) r.task.func) (λ (r : TaskRecord). Contains (names_of funcs) r.task.func)
+      (λ r h. Contains-permutation (function_names fs) (names_of funcs) r.task.func names h) b.rows.items s.known;
+  closed = s.closed;
+}
+stands fs funcs roots b names table small kept (Refused x) s = tt
+
+-- what is made of a project can be stored with its functions and roots
+pub made : (fs : List FunctionTree) (funcs : List (List ℕ × List ℕ)) (roots : List Task) (b : Built) → HasNames fs funcs → AreFuncs funcs
+    → All IsEncodableTask roots → IsKept b → StoredIf b.verdict fs roots b → IsMade funcs roots b
+made fs funcs roots b names table small kept s = record { kept = kept; stands = stands fs funcs roots b names table small kept b.verdict s }
+
+-- a build that changes nothing before its end
+pub quiet_then : (v : Verdict) (before mid after : Option Directory) → mid ≡ before → Quiet v mid after → Quiet v before after
+quiet_then v before mid after same h = subst (λ m. Quiet v m after) same h
