@@ -156,7 +156,8 @@ read_lost stamped.Mark path = refl
 read_lost stamped.Raw path = refl
 
 pub exists_told : (x : Site) (b : Build) (cs : List Caller) (w : Waiting) (path : List ℕ) (shown : Sighted → Type 0) (t : Told)
-    → Looks x b cs w (events.Exists path) → ((o : Sighted) → shown o → SeesOut x b w.notes path o) → IsToldPresence x.update.directory shown w path t → GoesAs x b cs t
+    → Looks x b cs w (events.Exists path) → ((o : Sighted) → shown o → SeesOut x b w.notes path o)
+    → IsToldPresence x.update.directory shown w path t → GoesAs x b cs t
 exists_told x b cs w path shown t L sees h =
     look_told x b cs w L.asking.runs L.left looks.Exists path L.asking.asks h.sees.sight
     (seen_visible x b cs w.code.now w.machine w.notes L.asking.runs L.sound L.outputs shown path h.sees.sight sees h.sees.sees)
@@ -175,7 +176,8 @@ read_told x b cs w path by shown sight t L sees p h =
     (absent_dep (read_kind by) path) (read_lost by path) t h
 
 pub reading_told : (x : Site) (b : Build) (cs : List Caller) (w : Waiting) (path : List ℕ) (by : By) (shown : Sighted → Type 0) (t : Told)
-    → Looks x b cs w (events.Read path by) → ((o : Sighted) → shown o → SeesOut x b w.notes path o) → (h : IsToldSight x.update.directory shown w path by t) → (h.sight ≡ Long → ⊥) → GoesAs x b cs t
+    → Looks x b cs w (events.Read path by) → ((o : Sighted) → shown o → SeesOut x b w.notes path o)
+    → (h : IsToldSight x.update.directory shown w path by t) → (h.sight ≡ Long → ⊥) → GoesAs x b cs t
 reading_told x b cs w path by shown t L sees h short = each h.sight h.sees h.told short
   where
     each : (s : Found) → SightSays s (Sees x.update.directory path shown) → IsToldReading w by path s t → (s ≡ Long → ⊥) → GoesAs x b cs t
@@ -184,7 +186,8 @@ reading_told x b cs w path by shown t L sees h short = each h.sight h.sees h.tol
     each Clashes p k d = read_told x b cs w path by shown None t L sees p k
 
 pub digest_told : (x : Site) (b : Build) (cs : List Caller) (w : Waiting) (path : List ℕ) (shown : Sighted → Type 0) (t : Told)
-    → Looks x b cs w (events.Digest path) → ((o : Sighted) → shown o → SeesOut x b w.notes path o) → IsToldDigest x.update.directory shown w path t → GoesAs x b cs t
+    → Looks x b cs w (events.Digest path) → ((o : Sighted) → shown o → SeesOut x b w.notes path o)
+    → IsToldDigest x.update.directory shown w path t → GoesAs x b cs t
 digest_told x b cs w path shown t L sees h =
     look_told x b cs w L.asking.runs L.left looks.Digest path L.asking.asks h.sees.sight
     (seen_visible x b cs w.code.now w.machine w.notes L.asking.runs L.sound L.outputs shown path h.sees.sight sees h.sees.sees)

@@ -1,5 +1,6 @@
 //! Steps beside the tasks that run.
-ghost use Rattle.pie_task_laws.specs.Steps.{RunningTasksStay, AskingTasksStay, WaitingTasksStay, BeginningsStay, CallersStay, OlderCallersStay, StagingsStep, TakenTasksPass};
+ghost use Rattle.pie_task_laws.specs.Steps.{RunningTasksStay, AskingTasksStay, WaitingTasksStay, BeginningsStay};
+ghost use Rattle.pie_task_laws.specs.Steps.{CallersStay, OlderCallersStay, StagingsStep, TakenTasksPass};
 ghost use Rattle.pie_task_laws.specs.Steps.{MovesStep, NewTasksStep, FinishesStep, KeptTasksStep};
 
 /// The tasks that run and wait go on where a build stays exact and they still run; where the one in hand or the newest that waits ends, the others
