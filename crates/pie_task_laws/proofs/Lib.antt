@@ -1,0 +1,13 @@
+pub mod Numbering
+pub mod Frames
+pub mod Keeping
+pub mod Stepping
+pub mod Ending
+pub mod Pausing
+pub mod Seeing
+pub mod Told
+pub mod Lengthy
+pub mod Writing
+pub mod Answered
+pub mod Begun
+pub mod Together

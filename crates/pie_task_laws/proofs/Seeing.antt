@@ -1,0 +1,71 @@
+-- What a running task sees is what is visible to it in the model.
+use Rattle.std.proofs.Common.{◌≡◌, ℕ, Bool, true, false, Option, Some, None, List, map, refl, sym, ap, ◌∙◌}
+use Rattle.pie_base.specs.Path.{is_out, is_source}
+use Rattle.pie_view.specs.Content.{Staged, content}
+use Rattle.pie_files.specs.Directory.{file_at}
+use Rattle.pie_code.specs.declared.code.Code.{Code}
+use Rattle.pie_vm.specs.Machines.{Standing}
+use Rattle.pie_view.specs.declared.seen.Seen.{Seen}
+use Rattle.pie_view.specs.declared.seen.Seen.TheVariants.{Absent, By, Clash}
+use Rattle.pie_model.specs.declared.words.Seen.{Seen as ModelSeen}
+use Rattle.pie_model.specs.declared.words.Seen.TheVariants.{Clashing}
+use Rattle.pie_model.specs.Seen.{first_write, provided, seen_file, visible_at}
+use Rattle.pie_model.specs.Evaluation.{evaluation}
+use Rattle.pie_model.specs.Records.{needs_of}
+use Rattle.pie_model_pipeline.specs.World.{world}
+use Rattle.pie_builder_laws.specs.Names.{called_in}
+use Rattle.pie_builder_laws.specs.Views.{found}
+use Rattle.pie_builder_laws.proofs.Tabled.{needs_called}
+use Rattle.pie_builder_laws.proofs.KindLemmas.{source_is_file, kept_is_empty, own_is_visible, others_are_visible}
+use Rattle.pie_running.specs.declared.frame.Caller.{Caller}
+use Rattle.pie_running.specs.inner.Noted.{Noted}
+use Rattle.pie_running.specs.inner.Sights.{Sighted, Sees}
+use Rattle.pie_core_laws.specs.Update.{present}
+use Rattle.pie_core_laws.proofs.Seen.{provides}
+use Rattle.pie_task_laws.specs.Sites.{Site, Build, IsSound, HaveOutputs}
+use Rattle.pie_task_laws.specs.Going.{Runs}
+use Rattle.pie_task_laws.specs.Sights.{sight_by, SeesOthers, OwnFirst, SeesOut}
+
+-- what is seen, in the words of the model
+abbrev pub seen_by : Sighted → ModelSeen
+seen_by None = Clashing
+seen_by (Some sight) = seen_file sight
+
+found_same : (staged : Staged) (path : List ℕ) (seen : Seen) → seen_by (sight_by (λ n. content staged n path) seen) ≡ found (content staged) path seen
+found_same staged path Absent = refl
+found_same staged path (By one) = refl
+found_same staged path Clash = refl
+
+module _ (x : Site) (b : Build) (cs : List Caller) (code : Code) (m : Standing) (n : Noted) (R : Runs x b cs code m n) (sound : IsSound x b)
+    (outputs : HaveOutputs b n.needs) where
+  others_see : (path : List ℕ) (sight : Sighted) → SeesOthers x b n.needs path sight → provided R.frame.progress.kids path ≡ seen_by sight
+  others_see path sight h =
+      ap (λ ks. provided ks path) (R.goes.goes.kids
+      ∙ ap (map (evaluation world (present x.update))) (ap needs_of (sym R.means.seen) ∙ needs_called n.deps))
+      ∙ provides x.update b.names b.records b.walk sound.exact sound.stands sound.apart n.needs (called_in n.deps) R.means.needs outputs path
+      (content b.stage) h.seen h.only h.staged
+      ∙ sym (found_same b.stage path h.seen) ∙ ap seen_by (sym h.is)
+
+  out_seen : (path : List ℕ) (sight : Sighted) → is_out path ≡ true → SeesOut x b n path sight
+      → visible_at (file_at x.update.directory) R.frame.progress.own R.frame.progress.kids path ≡ seen_by sight
+  out_seen path sight e h = by (content b.stage n.number path) (R.means.staged path) h
+    where
+      by : (o : Option (List ℕ)) → o ≡ first_write path R.frame.progress.own → OwnFirst o (SeesOthers x b n.needs path sight) sight
+          → visible_at (file_at x.update.directory) R.frame.progress.own R.frame.progress.kids path ≡ seen_by sight
+      by (Some bytes) f g =
+          own_is_visible (file_at x.update.directory) R.frame.progress.own R.frame.progress.kids path bytes e (sym f) ∙ ap seen_by (sym g)
+      by None f g = others_are_visible (file_at x.update.directory) R.frame.progress.own R.frame.progress.kids path e (sym f) ∙ others_see path sight g
+
+  -- a task sees what is visible to it
+  pub seen_visible : (shown : Sighted → Type 0) (path : List ℕ) (sight : Sighted) → ((o : Sighted) → shown o → SeesOut x b n path o)
+      → Sees x.update.directory path shown sight
+      → visible_at (file_at x.update.directory) R.frame.progress.own R.frame.progress.kids path ≡ seen_by sight
+  seen_visible shown path sight shows h = by (is_out path) refl (is_source path) refl
+    where
+      by : (o : Bool) → is_out path ≡ o → (f : Bool) → is_source path ≡ f
+          → visible_at (file_at x.update.directory) R.frame.progress.own R.frame.progress.kids path ≡ seen_by sight
+      by true e f g = out_seen path sight e (shows sight (h.out e))
+      by false e true g =
+          source_is_file (file_at x.update.directory) R.frame.progress.own R.frame.progress.kids path g ∙ ap seen_by (sym (h.source e g))
+      by false e false g =
+          kept_is_empty (file_at x.update.directory) R.frame.progress.own R.frame.progress.kids path e g ∙ ap seen_by (sym (h.kept e g))

@@ -1,0 +1,10 @@
+pub mod Sites
+pub mod Frames
+pub mod Going
+pub mod Steps
+pub mod Beginning
+pub mod Coming
+pub mod Sights
+pub mod Telling
+pub mod Answering
+pub mod Whole
