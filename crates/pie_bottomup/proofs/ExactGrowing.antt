@@ -180,9 +180,9 @@ parked_exact u c f task p e holds has number callee within begins free =
     let here : row_at f.walk.rows task.0 ≡ requiring row p.callee.0 =
     ap (λ (rs : List Row). row_at rs task.0) rows ∙ get_or-set_same s.rows task.0 (requiring row p.callee.0) no_edges inside in
     let own : BeginsAsOld c.tables f.walk.rows task.0 p.from = λ rec kept.
-        subst (λ (r : Row). AreNumbersOf c.tables.names (take p.from r.needs) (called_in rec.deps)) (sym here)
-        (subst (λ (ns : List ℕ). AreNumbersOf c.tables.names ns (called_in rec.deps)) (sym (take-append-le p.from row.needs (p.callee.0 ∷ []) within))
-        (begins rec kept)) in
+    subst (λ (r : Row). AreNumbersOf c.tables.names (take p.from r.needs) (called_in rec.deps)) (sym here)
+    (subst (λ (ns : List ℕ). AreNumbersOf c.tables.names ns (called_in rec.deps)) (sym (take-append-le p.from row.needs (p.callee.0 ∷ []) within))
+    (begins rec kept)) in
     record {
       tested = e.tested;
       are = are_moved u c.named c.plan.same.items c.tables s f.walk c.stage e.are w has.rests.stands

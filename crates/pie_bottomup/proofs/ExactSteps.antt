@@ -226,10 +226,13 @@ module _ (old new : Core) (task : TaskNo) (from : ℕ) (t : Task) (rec : TaskRec
       record {
         right = lost_right u t rec base canonical (no_function u old.plan t plan none) is;
         ran = λ path flag. absurd (no_flag (sym (ap (λ (fs : List Bool). slice_index_or fs task.0 false) ran ∙ taken.unstarted.rested) ∙ flag));
-        rested = λ rests. (subst (λ (z : TaskRecord). AreThere world u.directory z.writes) (sym is) tt, record {
-          rested = rests;
-          unstaged = λ path. ap (λ (z : Core). content z.stage task.0 path) same ∙ taken.unstarted.unstaged path;
-        });
+        rested = λ rests. (
+          subst (λ (z : TaskRecord). AreThere world u.directory z.writes) (sym is) tt,
+          record {
+            rested = rests;
+            unstaged = λ path. ap (λ (z : Core). content z.stage task.0 path) same ∙ taken.unstarted.unstaged path;
+          },
+        );
       }
     where
       apart : Runs ≡ Settled → ⊥

@@ -84,7 +84,9 @@ impl<'a> Core<'a> {
             how,
         } = caller;
         let NoteParts {
-            mut deps, writes, ..
+            mut deps,
+            writes,
+            ..
         } = waiting.into_notes().into_parts();
         deps.push(lost(how, required))?;
         let _names = self.tables.names.as_slice();

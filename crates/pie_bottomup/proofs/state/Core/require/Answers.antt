@@ -11,5 +11,8 @@ returns-then-not-is_small-clause-exact c =
 
 pub park-requires-clause-number : goal.park-requires-clause-number
 park-requires-clause-number c =
-    omega (arith, numbered_inside c.args.self.now.tables.names c.args.required c.in_ok-callee.field-0 c.in-Some.callee c.in-Some.is c.in_ok-callee.ensures,
-    c.requires.site.sized)
+    omega (
+      arith,
+      numbered_inside c.args.self.now.tables.names c.args.required c.in_ok-callee.field-0 c.in-Some.callee c.in-Some.is c.in_ok-callee.ensures,
+      c.requires.site.sized,
+    )
