@@ -190,7 +190,7 @@ caller_runs c new task from w r waits = if_ok_more (CallerExact c task from w ne
 -- ---- a task that is lost
 
 -- a task without code has no function
-no_function : (u : Update) (p : Plan) (t : Task) → IsPlanNow u p → IsCodeFor p.typed.now p.code.now t None → number_from 0 u.functions t ≡ None
+pub no_function : (u : Update) (p : Plan) (t : Task) → IsPlanNow u p → IsCodeFor p.typed.now p.code.now t None → number_from 0 u.functions t ≡ None
 no_function u p t plan none = by (number_from 0 u.functions t) refl
   where
     of_now : IsCodeFor u.functions p.code.now t None
@@ -203,14 +203,14 @@ no_function u p t plan none = by (number_from 0 u.functions t) refl
 module _ (old new : Core) (task : TaskNo) (from : ℕ) (t : Task) (rec : TaskRecord) (holds : Holds task old.frames)
     (named : slice_get old.tables.names task.0 ≡ Some t) (canonical : IsCanonicalTask t (enc_task t)) (is : rec ≡ lost_record t)
     (none : IsCodeFor old.plan.typed.now old.plan.code.now t None) (whole : from ≡ length (row_at old.frames.walk.rows task.0).needs) where
-  lost_row : RowIs old.tables.names (end_row old.frames.walk task.0 from rec) (Some rec)
+  pub lost_row : RowIs old.tables.names (end_row old.frames.walk task.0 from rec) (Some rec)
   lost_row = (
     ap (tasks_at old.tables.names) (drop_all from (row_at old.frames.walk.rows task.0).needs (omega (arith, whole)))
         ∙ ap (λ (z : TaskRecord). map Some (called_in z.deps)) (sym is),
     refl,
   )
 
-  lost_begins : (u : Update) → IsTakenExact u old task.0 → BeginsAsOld old.tables old.frames.walk.rows task.0 from
+  pub lost_begins : (u : Update) → IsTakenExact u old task.0 → BeginsAsOld old.tables old.frames.walk.rows task.0 from
   lost_begins u taken was kept =
       subst (λ (ns : List ℕ). AreNumbersOf old.tables.names ns (called_in was.deps))
       (sym (take_all from (row_at old.frames.walk.rows task.0).needs (omega (arith, whole)))) (taken.rests was kept).row.0

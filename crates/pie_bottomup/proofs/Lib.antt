@@ -15,6 +15,9 @@ pub mod ExactWalking
 pub mod Finishing
 pub mod FirstStep
 pub mod Going
+pub mod GoingEnds
+pub mod GoingOn
+pub mod GoingSteps
 pub mod Growing
 pub mod Holding
 pub mod Moving
