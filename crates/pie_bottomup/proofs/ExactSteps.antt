@@ -123,7 +123,7 @@ called_same (d ∷ ds) = by d.what (called_same ds)
     by (Called t) e = ap (λ xs. t ∷ xs) e
 
 -- the row of a task that ends with what it noted
-noted_row : (c : Core) (task : TaskNo) (from : ℕ) (n : Noted) (rec : TaskRecord) → IsOwn c task from n → rec.deps ≡ n.deps
+pub noted_row : (c : Core) (task : TaskNo) (from : ℕ) (n : Noted) (rec : TaskRecord) → IsOwn c task from n → rec.deps ≡ n.deps
     → RowIs c.tables.names (end_row c.frames.walk task.0 from rec) (Some rec)
 noted_row c task from n rec own deps = (
   ap (tasks_at c.tables.names) own.row.same ∙ own.noted.needs ∙ ap (map Some) (called_same n.deps) ∙ ap (λ ds. map Some (called_in ds)) (sym deps),
@@ -141,7 +141,7 @@ pub own_exact : {E : Type 0} (c new : Core) (task : TaskNo) (from : ℕ) (n : No
 own_exact c new task from n r own = if_ok_more (NotesExact c task from n new) (RunsExact c task.0 from new) (λ t notes. notes own) r
 
 -- the row of a task that ends as the one did for which it waited
-caller_row : (c : Core) (task : TaskNo) (from : ℕ) (w : Caller) (rec : TaskRecord) → IsWaitingFor c task from w
+pub caller_row : (c : Core) (task : TaskNo) (from : ℕ) (w : Caller) (rec : TaskRecord) → IsWaitingFor c task from w
     → rec.deps ≡ w.waiting.notes.deps ++ lost_task w.how w.required ∷ []
     → RowIs c.tables.names (end_row c.frames.walk task.0 from rec) (Some rec)
 caller_row c task from w rec waits deps = (

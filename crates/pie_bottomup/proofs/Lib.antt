@@ -15,8 +15,10 @@ pub mod ExactWalking
 pub mod Finishing
 pub mod FirstStep
 pub mod Going
+pub mod GoingAnswers
 pub mod GoingEnds
 pub mod GoingOn
+pub mod GoingRoots
 pub mod GoingSteps
 pub mod Growing
 pub mod Holding

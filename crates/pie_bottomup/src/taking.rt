@@ -5,7 +5,7 @@ ghost use Rattle.pie_frames.specs.inner.Standing.{Holds};
 ghost use Rattle.pie_compare.specs.inner.Standing.{RecordStands};
 ghost use Rattle.pie_graph.specs.Numbers.{IsMarked};
 ghost use Rattle.pie_running.specs.inner.Coded.{IsCodeFor};
-ghost use Rattle.pie_bottomup.specs.inner.Going.{StartsWhole, TakesWhole};
+ghost use Rattle.pie_bottomup.specs.inner.Going.{StartsWhole, TakesWhole, WalksWhole};
 ghost use Rattle.pie_bottomup.specs.inner.Exact.{WalksExact, TakesExact, StartsExact, lost_record};
 ghost use Rattle.pie_bottomup.specs.inner.Running.{IsKnown};
 ghost use Rattle.pie_bottomup.specs.inner.States.{StartsOne, IsAsRecorded, IsAtRest, IsSite, GoesTo, Keeps, Nearer, Spends, SpendsOne, rest, room};
@@ -35,6 +35,7 @@ impl<'a> Core<'a> {
         ensures starts { StartsOne runs.old runs.new }
         ensures few { length runs.new ≤ length runs.old + room self.old }
         ensures exact { IfOk result (WalksExact self.old self.new) }
+        ensures whole { IfOk result (WalksWhole self.old self.new) }
     {
         match self.frames.next()? {
             Next::Takes(no) => self.take(no, runs),

@@ -1,23 +1,29 @@
 -- The tasks of a build that run and wait, as the model of building knows them.
-use Rattle.std.specs.Prelude.{◌≡◌, ◌≢◌, ℕ, true, false, List, [], map, reverse, Option, None, Some, slice_get}
+use Rattle.std.specs.Prelude.{◌≡◌, ◌≢◌, ℕ, true, false, ◌<◌, List, [], ◌∷◌, ◌++◌, length, map, reverse, Option, None, Some, slice_get}
 use Rattle.pie_value.specs.declared.task.Task.{Task}
 use Rattle.pie_value.specs.Canonical.{enc_task}
+use Rattle.pie_graph.specs.declared.edges.TaskNo.{TaskNo}
 use Rattle.pie_graph.specs.Numbers.{IsMarked}
 use Rattle.pie_graph.specs.Rows.{row_at}
 use Rattle.pie_record.specs.declared.records.Records.{Records}
+use Rattle.pie_record.specs.declared.task_record.Outcome.{Outcome}
 use Rattle.pie_record.specs.declared.task_record.TaskRecord.{TaskRecord}
 use Rattle.pie_walk.specs.declared.marks.Mark.TheVariants.{New}
 use Rattle.pie_walk.specs.Marks.{mark_of}
-use Rattle.pie_walk.specs.States.{WalkState}
+use Rattle.pie_walk.specs.States.{WalkState, with_one_more}
 use Rattle.pie_code.specs.declared.code.Code.{Code}
 use Rattle.pie_running.specs.declared.frame.Caller.{Caller}
 use Rattle.pie_running.specs.declared.frame.RunningTask.{RunningTask}
 use Rattle.pie_running.specs.inner.Coded.{HasFunction}
+use Rattle.pie_running.specs.inner.Noted.{Noted, observed}
+use Rattle.pie_builder_laws.specs.Names.{AreTasks}
 use Rattle.pie_builder_laws.specs.Views.{RowIs}
 use Rattle.pie_frames.specs.declared.parked.Parked.{Parked}
 use Rattle.pie_core_laws.specs.Update.{Update}
-use Rattle.pie_core_laws.specs.Exact.{runs}
+use Rattle.pie_compare_laws.specs.Agreeing.{OutputsAreCanonical}
+use Rattle.pie_core_laws.specs.Exact.{runs, is_done}
 use Rattle.pie_task_laws.specs.Sites.{Site, Build}
+use Rattle.pie_task_laws.specs.Coming.{EndsRight}
 use Rattle.pie_core_laws.specs.Keeping.{Separates}
 use Rattle.pie_task_laws.specs.Whole.{IsNew, NoneIsNew, AreAtRest, IsAtWork, TakesOne, EndsOne, ended}
 use Rattle.pie_bottomup.specs.declared.plan.Plan.{Plan}
@@ -25,7 +31,7 @@ use Rattle.pie_bottomup.specs.declared.state.Core.{Core}
 use Rattle.pie_bottomup.specs.declared.state.InHand.{InHand}
 use Rattle.pie_bottomup.specs.declared.state.Turn.{Turn}
 use Rattle.pie_bottomup.specs.declared.state.Turn.TheVariants.{Went, Settled, StartAfresh}
-use Rattle.pie_bottomup.specs.inner.Exact.{IsPlanNow, IsTakenExact, IsExactCore, BeginsAsOld, EndedRight}
+use Rattle.pie_bottomup.specs.inner.Exact.{IsPlanNow, IsTakenExact, IsExactCore, BeginsAsOld, EndedRight, IsWaitingFor, lost_task}
 use Rattle.pie_bottomup.specs.inner.Finished.{end_row}
 
 -- what a build goes by, and its tasks, in the words of the laws
@@ -100,7 +106,9 @@ pub record IsBuildNow (u : Update) (p : Plan) : Type 0 where
 
 -- a build goes on whole where no task is in hand
 abbrev pub WalksWhole : Core → Core → Turn → Type 0
-WalksWhole old new t = (u : Update) → IsBuildNow u old.plan → IsExactCore u old → IsResting u old → TurnIsWhole u new t
+WalksWhole old new t =
+    (u : Update) → IsBuildNow u old.plan → ((s : WalkState) → OutputsAreCanonical old.tables.records (is_done s)) → IsExactCore u old → IsResting u old
+    → TurnIsWhole u new t
 
 -- where a root is next, and no task is new
 abbrev pub RootsWhole : Core → Core → Turn → Type 0
@@ -126,3 +134,40 @@ abbrev pub EndsWhole : Core → ℕ → ℕ → TaskRecord → Core → Turn →
 EndsWhole old n from rec new t =
     RowIs old.tables.names (end_row old.frames.walk n from rec) (Some rec) → (u : Update) → IsBuildNow u old.plan → IsExactCore u old
     → BeginsAsOld old.tables old.frames.walk.rows n from → EndedRight u old n rec → EndsAlone u old n → TurnIsWhole u new t
+
+-- one task more has come
+pub record HasGrown (old : Core) (t : Task) (new : Core) : Type 0 where
+  pub names : new.tables.names ≡ old.tables.names ++ t ∷ []
+  pub records : new.tables.records ≡ old.tables.records
+  pub walk : new.frames.walk ≡ with_one_more old.frames.walk
+  pub stage : new.stage ≡ old.stage
+  pub parked : new.frames.parked ≡ old.frames.parked
+  pub ran : new.tables.ran.items ≡ old.tables.ran.items ++ false ∷ []
+  pub tasks : AreTasks new.tables.names
+  pub few : length old.frames.walk.rows < 50000
+
+-- the newest that waits can go on, and none is new
+pub record IsAnsweredFrom (u : Update) (c : Core) (p : Parked) : Type 0 where
+  pub rest : AreAtRest (site_of u c) (build_of c) (p.caller ∷ callers_up c.frames.parked.items)
+  pub none : NoneIsNew (build_of c)
+  pub marked : (n : ℕ) → runs (mark_of c.frames.walk.marks n) ≡ true → IsMarked c.tables.ran.items n
+
+-- it runs on or ends, if the outputs of settled tasks are values of the program
+abbrev pub AnswersWhole : Core → ℕ → Parked → Core → Turn → Type 0
+AnswersWhole old n p new t =
+    (u : Update) → IsBuildNow u old.plan → OutputsAreCanonical old.tables.records (is_done old.frames.walk) → IsExactCore u old
+    → BeginsAsOld old.tables old.frames.walk.rows n p.from → IsAnsweredFrom u old p → TurnIsWhole u new t
+
+-- a task that has these notes may end so: with the record of its evaluation, and it ran
+pub record MayEndAs (u : Update) (c : Core) (k : ℕ) (n : Noted) (o : Outcome) : Type 0 where
+  pub number : n.number ≡ k
+  pub named : slice_get c.tables.names k ≡ Some n.task
+  pub right : EndsRight (site_of u c) (build_of c) n o
+  pub ran : IsMarked c.tables.ran.items k
+  pub alone : EndsAlone u c k
+
+-- it ends as the one did for which it waited
+abbrev pub CallersWhole : Core → TaskNo → ℕ → Caller → Outcome → Core → Turn → Type 0
+CallersWhole old task from w outcome new t =
+    (u : Update) → IsBuildNow u old.plan → IsExactCore u old → BeginsAsOld old.tables old.frames.walk.rows task.0 from → IsWaitingFor old task from w
+    → MayEndAs u old task.0 (observed (lost_task w.how w.required) w.waiting.notes) outcome → TurnIsWhole u new t
