@@ -17,6 +17,7 @@ pub mod FirstStep
 pub mod Going
 pub mod GoingAnswers
 pub mod GoingEnds
+pub mod GoingEvents
 pub mod GoingOn
 pub mod GoingRoots
 pub mod GoingSteps

@@ -8,7 +8,8 @@ ghost use Rattle.pie_tables.specs.Tabled.{IsKept};
 ghost use Rattle.pie_running.specs.inner.Noted.{IsSound};
 ghost use Rattle.pie_frames.specs.inner.Standing.{Holds};
 ghost use Rattle.pie_bottomup.specs.inner.Exact.{EndsExact, NotesExact, RunsExact};
-ghost use Rattle.pie_bottomup.specs.inner.Going.{EndsWhole};
+ghost use Rattle.pie_bottomup.specs.inner.Going.{EndsWhole, NotesWhole};
+ghost use Rattle.pie_task_laws.specs.Coming.{failed_by};
 ghost use Rattle.pie_bottomup.specs.inner.Finished.{HasFinished, HasSameEdges, HasSettledWith, HasSwept};
 ghost use Rattle.pie_bottomup.specs.inner.Running.{EndsSo};
 ghost use Rattle.pie_bottomup.specs.inner.States.{AreCalled, HasCalled, IsAtRest, IsOwn, IsSite, HasScheduled, MayEnd, GoesTo, Keeps, Nearer, rest};
@@ -61,6 +62,7 @@ impl<'a> Core<'a> {
         ensures nearer { IfOk result (Nearer (rest self.old + 1) self.new) }
         ensures kept { OnOk result (Keeps self.old self.new) }
         ensures exact { IfOk result (NotesExact self.old no from notes self.new) }
+        ensures whole { IfOk result (NotesWhole self.old no from notes (failed_by notes kind) self.new) }
     {
         let fault = Fault {
             task: self.tables.names.task(no).copy()?,
@@ -86,6 +88,7 @@ impl<'a> Core<'a> {
         ensures nearer { IfOk result (Nearer (rest self.old + 1) self.new) }
         ensures kept { OnOk result (Keeps self.old self.new) }
         ensures exact { IfOk result (NotesExact self.old no from notes self.new) }
+        ensures whole { IfOk result (NotesWhole self.old no from notes outcome self.new) }
     {
         let NoteParts { deps, writes, .. } = notes.into_parts();
         let _names = self.tables.names.as_slice();

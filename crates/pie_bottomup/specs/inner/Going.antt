@@ -1,6 +1,8 @@
 -- The tasks of a build that run and wait, as the model of building knows them.
 use Rattle.std.specs.Prelude.{◌≡◌, ◌≢◌, ℕ, true, false, ◌<◌, List, [], ◌∷◌, ◌++◌, length, map, reverse, Option, None, Some, slice_get}
 use Rattle.pie_value.specs.declared.task.Task.{Task}
+use Rattle.pie_value.specs.declared.event.Event.{Event}
+use Rattle.pie_value.specs.declared.event.Event.TheVariants as events
 use Rattle.pie_value.specs.Canonical.{enc_task}
 use Rattle.pie_graph.specs.declared.edges.TaskNo.{TaskNo}
 use Rattle.pie_graph.specs.Numbers.{IsMarked}
@@ -14,6 +16,7 @@ use Rattle.pie_walk.specs.States.{WalkState, with_one_more}
 use Rattle.pie_code.specs.declared.code.Code.{Code}
 use Rattle.pie_running.specs.declared.frame.Caller.{Caller}
 use Rattle.pie_running.specs.declared.frame.RunningTask.{RunningTask}
+use Rattle.pie_running.specs.declared.frame.Waiting.{Waiting}
 use Rattle.pie_running.specs.inner.Coded.{HasFunction}
 use Rattle.pie_running.specs.inner.Noted.{Noted, observed}
 use Rattle.pie_builder_laws.specs.Names.{AreTasks}
@@ -23,7 +26,7 @@ use Rattle.pie_core_laws.specs.Update.{Update}
 use Rattle.pie_compare_laws.specs.Agreeing.{OutputsAreCanonical}
 use Rattle.pie_core_laws.specs.Exact.{runs, is_done}
 use Rattle.pie_task_laws.specs.Sites.{Site, Build}
-use Rattle.pie_task_laws.specs.Coming.{EndsRight}
+use Rattle.pie_task_laws.specs.Coming.{IsAsking, EndsRight}
 use Rattle.pie_core_laws.specs.Keeping.{Separates}
 use Rattle.pie_task_laws.specs.Whole.{IsNew, NoneIsNew, AreAtRest, IsAtWork, TakesOne, EndsOne, ended}
 use Rattle.pie_bottomup.specs.declared.plan.Plan.{Plan}
@@ -33,6 +36,7 @@ use Rattle.pie_bottomup.specs.declared.state.Turn.{Turn}
 use Rattle.pie_bottomup.specs.declared.state.Turn.TheVariants.{Went, Settled, StartAfresh}
 use Rattle.pie_bottomup.specs.inner.Exact.{IsPlanNow, IsTakenExact, IsExactCore, BeginsAsOld, EndedRight, IsWaitingFor, lost_task}
 use Rattle.pie_bottomup.specs.inner.Finished.{end_row}
+use Rattle.pie_bottomup.specs.inner.States.{IsOwn}
 
 -- what a build goes by, and its tasks, in the words of the laws
 abbrev pub site_of : Update → Core → Site
@@ -171,3 +175,27 @@ abbrev pub CallersWhole : Core → TaskNo → ℕ → Caller → Outcome → Cor
 CallersWhole old task from w outcome new t =
     (u : Update) → IsBuildNow u old.plan → IsExactCore u old → BeginsAsOld old.tables old.frames.walk.rows task.0 from → IsWaitingFor old task from w
     → MayEndAs u old task.0 (observed (lost_task w.how w.required) w.waiting.notes) outcome → TurnIsWhole u new t
+
+-- a task ends with these notes, and so
+abbrev pub NotesWhole : Core → TaskNo → ℕ → Noted → Outcome → Core → Turn → Type 0
+NotesWhole old task from n o new t =
+    (u : Update) → IsBuildNow u old.plan → IsExactCore u old → BeginsAsOld old.tables old.frames.walk.rows task.0 from → IsOwn old task from n
+    → MayEndAs u old task.0 n o → TurnIsWhole u new t
+
+-- the task in hand waits for one that is met
+abbrev pub ParksWhole : Core → ℕ → ℕ → Caller → ℕ → Core → Turn → Type 0
+ParksWhole old n from w callee new t =
+    (u : Update) → IsBuildNow u old.plan → IsExactCore u old → BeginsAsOld old.tables old.frames.walk.rows n from
+    → MayMeet u old (w ∷ callers_up old.frames.parked.items) callee → TurnIsWhole u new t
+
+-- the task in hand asks this as in the model, and none is new
+pub record IsAskingNow (u : Update) (c : Core) (w : Waiting) (e : Event) : Type 0 where
+  pub asking : IsAsking (site_of u c) (build_of c) (callers_up c.frames.parked.items) w e
+  pub none : NoneIsNew (build_of c)
+  pub marked : (n : ℕ) → runs (mark_of c.frames.walk.marks n) ≡ true → IsMarked c.tables.ran.items n
+
+-- it requires a task, and waits or fails
+abbrev pub RequiresWhole : Core → TaskNo → ℕ → Caller → Core → Turn → Type 0
+RequiresWhole old task from w new t =
+    (u : Update) → IsBuildNow u old.plan → IsExactCore u old → BeginsAsOld old.tables old.frames.walk.rows task.0 from
+    → IsAskingNow u old w.waiting (events.Require w.required w.how) → TurnIsWhole u new t
