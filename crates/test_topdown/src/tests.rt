@@ -1,4 +1,7 @@
 //! Builds without a list, each beside a clean build of a copy.
+ghost use Rattle.std.specs.Prelude.{All};
+ghost use Rattle.pie_value.specs.Canonical.{IsEncodableTask};
+
 use crate::cases::{CYCLES, Case, FAULTS, FILES, LIMITS, SITES};
 use pie_base::Path;
 use pie_build::rebuild;
@@ -68,7 +71,9 @@ fn told(alloc: Global, files: &mut SureFiles) -> Result<(String, bool), Fail> {
     }
 }
 
-pub(crate) fn text_of(alloc: Global, report: &Report) -> Result<(String, bool), Fail> {
+pub(crate) fn text_of(alloc: Global, report: &Report) -> Result<(String, bool), Fail>
+    requires { All IsEncodableTask report.now.ran.items }
+{
     let text = print(alloc, report)?;
     Ok((text, matches!(report.verdict, Verdict::Accepted)))
 }
