@@ -96,6 +96,33 @@ listed_owns c task from w dir (Some paths) t told own = small (is_small (paths_l
 
 -- ---- what a task was told
 
+pub written_owns : (old : Core) (task : TaskNo) (from : ℕ) (later : Staged) (w : Waiting) (path bytes : List ℕ) (b : Bool) (t : Told)
+    → IsOwn old task from w.notes → IsToldWrite b w old.stage later path bytes t → OwnsTold (record old { stage = later }) task from t
+written_owns old task from later w path bytes true (Goes f) own h = tt
+written_owns old task from later w path bytes true (Fails n k) own h = absurd h
+written_owns old task from later w path bytes false (Goes f) own h = tt
+written_owns old task from later w path bytes false (Fails n k) own h =
+    let mine = same_own old task from w.notes n h.1.0 own in record { number = mine.number; row = mine.row; noted = mine.noted }
+
+-- what a task writes is beside what the others staged
+pub written_exact : (u : Update) (old : Core) (task : TaskNo) (from : ℕ) (later : Staged) (w : Waiting) (path bytes : List ℕ) (b : Bool) (t : Told)
+    → Holds task old.frames → IsOwn old task from w.notes → IsToldWrite b w old.stage later path bytes t → IsExactCore u old
+    → IsExactCore u (record old { stage = later })
+written_exact u old task from later w path bytes b t holds own is e =
+    staged_exact u old later task.0 (ap runs (top_runs old.frames.walk task holds.top holds.taken.stands.holds)) (beside b t is) e
+  where
+    all_same : later ≡ old.stage → SameBeside old.stage later task.0
+    all_same same k p apart = ap (λ s. content s k p) same
+
+    first : (o : Option (List ℕ)) → StagesFirst o old.stage later w.notes.number path bytes → SameBeside old.stage later task.0
+    first (Some before) h = all_same h
+    first None h = subst (SameBeside old.stage later) own.number (puts_beside old.stage later w.notes.number path bytes h)
+
+    beside : (z : Bool) (s : Told) → IsToldWrite z w old.stage later path bytes s → SameBeside old.stage later task.0
+    beside true (Goes f) h = first (content old.stage w.notes.number path) h.0
+    beside true (Fails n k) h = absurd h
+    beside false s h = all_same h.0
+
 module _ {E : Type 0} (held : Option Directory) (old new : Core) (task : TaskNo) (from : ℕ) (r : Result Turn E) where
   pub told_asks : (t : Told) → ((d : Directory) → held ≡ Some d → OwnsTold old task from t) → IfOk r (ToldExact old task from t new)
       → IfOk r (AsksExact held old task.0 from new)
@@ -131,28 +158,8 @@ module _ {E : Type 0} (held : Option Directory) (old new : Core) (task : TaskNo)
   written_asks later w path bytes t holds own is =
       if_ok_more (ToldExact (record old { stage = later }) task from t new) (AsksExact held old task.0 from new)
       (λ turn told u site plan e begins right.
-      told (owns (is_out path) t is) u plan
-      (staged_exact u old later task.0 (ap runs (top_runs old.frames.walk task holds.top holds.taken.stands.holds)) (beside (is_out path) t is) e) begins
-      right) r
-    where
-      owns : (b : Bool) (s : Told) → IsToldWrite b w old.stage later path bytes s → OwnsTold (record old { stage = later }) task from s
-      owns true (Goes f) h = tt
-      owns true (Fails n k) h = absurd h
-      owns false (Goes f) h = tt
-      owns false (Fails n k) h =
-          let mine = same_own old task from w.notes n h.1.0 own in record { number = mine.number; row = mine.row; noted = mine.noted }
-
-      all_same : later ≡ old.stage → SameBeside old.stage later task.0
-      all_same e k p apart = ap (λ s. content s k p) e
-
-      first : (o : Option (List ℕ)) → StagesFirst o old.stage later w.notes.number path bytes → SameBeside old.stage later task.0
-      first (Some before) h = all_same h
-      first None h = subst (SameBeside old.stage later) own.number (puts_beside old.stage later w.notes.number path bytes h)
-
-      beside : (b : Bool) (s : Told) → IsToldWrite b w old.stage later path bytes s → SameBeside old.stage later task.0
-      beside true (Goes f) h = first (content old.stage w.notes.number path) h.0
-      beside true (Fails n k) h = absurd h
-      beside false s h = all_same h.0
+      told (written_owns old task from later w path bytes (is_out path) t own is) u plan
+      (written_exact u old task from later w path bytes (is_out path) t holds own is e) begins right) r
 
 -- ---- steps
 

@@ -1,5 +1,5 @@
 -- The task in hand ends or waits, and the others wait on.
-use Rattle.std.proofs.Common.{◌≡◌, ◌≢◌, ◌⊎◌, ℕ, ◌<◌, ◌≤◌, ◌+◌, Bool, true, false, cond, List, [], ◌∷◌, ◌++◌, Option, None, Some, Result, length, refl, sym, ap, ◌∙◌, subst, arith}
+use Rattle.std.proofs.Common.{◌≡◌, ◌≢◌, ◌⊎◌, ℕ, ◌<◌, ◌≤◌, ◌+◌, Bool, true, false, cond, List, [], ◌∷◌, ◌++◌, Option, None, Some, Result, length, refl, sym, ap, ◌∙◌, subst, inl, inr, arith}
 use Rattle.std.specs.Prelude.{slice_get, slice_index_or, IfOk}
 use Rattle.std.proofs.lemmas.List.{get_or-set_other}
 use Rattle.pie_base.specs.declared.fault.FaultKind.{FaultKind}
@@ -8,12 +8,14 @@ use Rattle.pie_value.specs.declared.task.Task.{Task}
 use Rattle.pie_value.specs.declared.event.Event.{Event}
 use Rattle.pie_value.specs.declared.event.Event.TheVariants as events
 use Rattle.pie_value.specs.declared.event.How.{How}
-use Rattle.pie_value.specs.Limits.{is_small_task}
+use Rattle.pie_value.specs.declared.value.Value.{Value}
+use Rattle.pie_value.specs.Values.{tree_of}
+use Rattle.pie_value.specs.Limits.{is_small, is_small_task}
 use Rattle.pie_graph.specs.declared.edges.TaskNo.{TaskNo}
 use Rattle.pie_graph.specs.Numbers.{IsMarked}
 use Rattle.pie_graph.specs.Rows.{Row, row_at, no_edges}
 use Rattle.pie_record.specs.declared.task_record.Outcome.{Outcome}
-use Rattle.pie_record.specs.declared.task_record.Outcome.TheVariants.{Failed}
+use Rattle.pie_record.specs.declared.task_record.Outcome.TheVariants.{Done, Failed}
 use Rattle.pie_record.specs.declared.task_record.TaskRecord.{TaskRecord}
 use Rattle.pie_union.specs.Requiring.{requiring}
 use Rattle.pie_walk.specs.declared.marks.Mark.TheVariants.{New}
@@ -35,11 +37,25 @@ use Rattle.pie_compare_laws.proofs.Ways.{one_some}
 use Rattle.pie_core_laws.specs.Update.{Update}
 use Rattle.pie_core_laws.specs.Exact.{runs}
 use Rattle.pie_core_laws.specs.Moving.{Moves}
+use Rattle.pie_core_laws.proofs.Exactly.{same_or_not}
 use Rattle.pie_core_laws.proofs.Moved.{moves_stay}
 use Rattle.pie_core_laws.proofs.Visited.{requires_move}
 use Rattle.pie_task_laws.specs.Beginning.{calling}
-use Rattle.pie_task_laws.specs.Coming.{EndsRight, failed_by}
+use Rattle.pie_task_laws.specs.Coming.{EndsRight, failed_by, output_by}
+use Rattle.pie_running.specs.declared.frame.Told.{Told}
+use Rattle.pie_running.specs.declared.frame.Told.TheVariants.{Goes as GoesOnAs, Fails}
 use Rattle.pie_task_laws.specs.Whole.{IsNew, AreAtRest, IsAtWork, EndsOne}
+use Rattle.pie_base.specs.Path.{is_out}
+use Rattle.pie_files.specs.Directory.{Directory}
+use Rattle.pie_view.specs.Content.{Staged}
+use Rattle.pie_running.specs.inner.Sights.{listing_in}
+use Rattle.pie_running.specs.inner.Told.{IsToldList, IsToldWrite}
+use Rattle.pie_task_laws.specs.Sites.{IsSound}
+use Rattle.pie_task_laws.specs.Telling.{GoesAs}
+use Rattle.pie_task_laws.specs.Whole.{NoneIsNew}
+use Rattle.pie_task_laws.proofs.Told.{list_told}
+use Rattle.pie_task_laws.proofs.Writing.{write_told}
+use Rattle.pie_bottomup.proofs.ExactAsking.{listed_owns, written_owns, written_exact}
 use Rattle.pie_task_laws.proofs.Answered.{big_fails}
 use Rattle.pie_task_laws.proofs.Together.{moves_rest, ended_rest, requirers_rest, new_requirers_rest}
 use Rattle.pie_bottomup.specs.declared.plan.Plan.{Plan}
@@ -48,7 +64,7 @@ use Rattle.pie_bottomup.specs.declared.state.Turn.{Turn}
 use Rattle.pie_bottomup.specs.inner.States.{IsOwn, IsSite}
 use Rattle.pie_bottomup.specs.inner.Exact.{IsExactCore, BeginsAsOld, AddsExact, StillBegins}
 use Rattle.pie_bottomup.specs.inner.Going.{site_of, build_of, callers_up, EndsAlone, MayEndAs, MayMeet, Goes, IsWhole, IsBuildNow, HasGrown, IsAskingNow}
-use Rattle.pie_bottomup.specs.inner.Going.{EndsWhole, NotesWhole, ParksWhole, RequiresWhole}
+use Rattle.pie_bottomup.specs.inner.Going.{EndsWhole, NotesWhole, ParksWhole, RequiresWhole, GoesOn, ToldWhole, AsksWhole}
 use Rattle.pie_bottomup.proofs.ExactGrowing.{parked_exact}
 use Rattle.pie_bottomup.proofs.ExactSteps.{if_ok_more, noted_row}
 use Rattle.pie_bottomup.proofs.Going.{is_met}
@@ -176,3 +192,105 @@ grows_goes c mid new task from d callee r plan site w v grown last adds still le
   where
     few : (u : Update) → length c.frames.walk.rows < 50000 → length c.tables.names ≡ length c.frames.walk.rows → length c.tables.names < 50000
     few u l sized = omega (arith, l, sized)
+
+-- ---- it was told something
+
+pub done_goes : {E : Type 0} (c new : Core) (task : TaskNo) (from : ℕ) (n : Noted) (v : Value) (b : Bool) (o : Outcome) (r : Result Turn E)
+    → b ≡ is_small (tree_of v) → cond b (Done v) (failed_by n Big) ≡ o → IfOk r (NotesWhole c task from n o new)
+    → IfOk r (NotesWhole c task from n (output_by n v) new)
+done_goes c new task from n v b o r same is = subst (λ (x : Outcome). IfOk r (NotesWhole c task from n x new))
+    (sym is ∙ ap (λ (z : Bool). cond z (Done v) (failed_by n Big)) same)
+
+-- it goes on
+pub told_whole : (u : Update) (c : Core) (task : TaskNo) (from : ℕ) (f : RunningTask) → IsExactCore u c → BeginsAsOld c.tables c.frames.walk.rows task.0 from
+    → GoesOn u c task.0 (GoesOnAs f) → IsWhole u (record c { hand = Some (record { no = task; from = from; task = f }) })
+told_whole u c task from f e begins on = record {
+  exact = record { tested = e.tested; are = e.are; parked = e.parked; hand = begins };
+  going = record {
+    work = record { runs = on.goes; none = on.alone.none };
+    marked = λ n is. by n is (same_or_not task.0 n);
+  };
+}
+  where
+    by : (n : ℕ) → runs (mark_of c.frames.walk.marks n) ≡ true → (n ≡ task.0) ⊎ (n ≢ task.0) → IsMarked c.tables.ran.items n
+    by n is (inl same) = subst (IsMarked c.tables.ran.items) (sym same) on.ran
+    by n is (inr other) = on.alone.marked n is other
+
+-- or fails
+pub told_fails : {E : Type 0} (c new : Core) (task : TaskNo) (from : ℕ) (n : Noted) (k : FaultKind) (r : Result Turn E)
+    → IfOk r (NotesWhole c task from n (failed_by n k) new) → IfOk r (ToldWhole c task from (Fails n k) new)
+told_fails c new task from n k r =
+    if_ok_more (NotesWhole c task from n (failed_by n k) new) (ToldWhole c task from (Fails n k) new)
+    (λ turn notes u now e begins own on.
+    notes u now e begins own (record {
+      number = own.number;
+      named = subst (λ (m : ℕ). slice_get c.tables.names m ≡ Some n.task) own.number own.noted.task;
+      right = on.goes;
+      ran = on.ran;
+      alone = on.alone;
+    })) r
+
+-- what it is told is of the model
+pub told_on : (u : Update) (c : Core) (task : TaskNo) (w : Waiting) (e : Event) (t : Told) → Holds task c.frames → w.notes.number ≡ task.0
+    → IsAskingNow u c w e → GoesAs (site_of u c) (build_of c) (callers_up c.frames.parked.items) t → GoesOn u c task.0 t
+told_on u c task w e t holds number now goes = record {
+  goes = goes;
+  ran = now.marked task.0 (ap runs (top_runs c.frames.walk task holds.top holds.taken.stands.holds));
+  alone = asking_alone u c task w e number now;
+}
+
+pub list_goes : {E : Type 0} (held : Option Directory) (c new : Core) (task : TaskNo) (from : ℕ) (w : Waiting) (dir : List ℕ) (t : Told)
+    (r : Result Turn E) → Holds task c.frames → 0 < w.notes.left → IsOwn c task from w.notes
+    → ((d : Directory) → held ≡ Some d → IsToldList w dir (listing_in d dir) t) → IfOk r (ToldWhole c task from t new)
+    → IfOk r (AsksWhole held c task from w (events.List dir) new)
+list_goes held c new task from w dir t r holds left own tells =
+    if_ok_more (ToldWhole c task from t new) (AsksWhole held c task from w (events.List dir) new)
+    (λ turn told u now site e begins asks.
+    let is = tells u.directory site.holds in
+    told u now e begins (listed_owns c task from w dir (listing_in u.directory dir) t is own)
+    (told_on u c task w (events.List dir) t holds own.number asks
+    (list_told (site_of u c) (build_of c) (callers_up c.frames.parked.items) w dir t asks.asking left is))) r
+
+-- it wrote
+module _ (u : Update) (c : Core) (task : TaskNo) (from : ℕ) (w : Waiting) (path bytes : List ℕ) (later : Staged) (holds : Holds task c.frames)
+    (own : IsOwn c task from w.notes) (asks : IsAskingNow u c w (events.Write path bytes)) where
+  abbrev then : Core
+  then = record c { stage = later }
+
+  none_then : NoneIsNew (build_of then)
+  none_then n is = asks.none n (record { task = is.task; named = is.named; unrecorded = is.unrecorded; idle = is.idle })
+
+  written_alone : (b : Bool) (t : Told) → IsToldWrite b w c.stage later path bytes t
+      → GoesAs (site_of u then) (build_of then) (callers_up c.frames.parked.items) t → EndsAlone u then task.0
+  written_alone true (GoesOnAs f) is goes = record {
+    others = λ changed after ends.
+        ended_rest (site_of u then) (build_of then) (callers_up c.frames.parked.items) f changed after (record { runs = goes; none = none_then })
+        (subst (EndsOne (site_of u then) (build_of then) changed after) (sym (ap (λ (n : Noted). n.number) is.1.notes ∙ own.number)) ends);
+    none = none_then;
+    marked = λ n run d. asks.marked n run;
+  }
+  written_alone true (Fails n k) is goes = absurd is
+  written_alone false t is goes =
+      subst (λ (s : Staged). EndsAlone u (record c { stage = s }) task.0) (sym is.0) (asking_alone u c task w (events.Write path bytes) own.number asks)
+
+  pub written_on : (t : Told) → IsSound (site_of u c) (build_of c) → 0 < w.notes.left → IsToldWrite (is_out path) w c.stage later path bytes t
+      → GoesOn u then task.0 t
+  written_on t sound left is =
+      let goes = write_told (site_of u c) (build_of c) (callers_up c.frames.parked.items) w path bytes later t sound asks.asking left is in
+      record {
+        goes = goes;
+        ran = asks.marked task.0 (ap runs (top_runs c.frames.walk task holds.top holds.taken.stands.holds));
+        alone = written_alone (is_out path) t is goes;
+      }
+
+pub write_goes : {E : Type 0} (held : Option Directory) (c new : Core) (task : TaskNo) (from : ℕ) (w : Waiting) (path bytes : List ℕ) (later : Staged)
+    (t : Told) (r : Result Turn E) → Holds task c.frames → 0 < w.notes.left → IsOwn c task from w.notes
+    → IsToldWrite (is_out path) w c.stage later path bytes t → IfOk r (ToldWhole (record c { stage = later }) task from t new)
+    → IfOk r (AsksWhole held c task from w (events.Write path bytes) new)
+write_goes held c new task from w path bytes later t r holds left own is =
+    if_ok_more (ToldWhole (record c { stage = later }) task from t new) (AsksWhole held c task from w (events.Write path bytes) new)
+    (λ turn told u now site e begins asks.
+    told u now (written_exact u c task from later w path bytes (is_out path) t holds own is e) begins
+    (written_owns c task from later w path bytes (is_out path) t own is)
+    (written_on u c task from w path bytes later holds own asks t
+    (record { exact = e.are.tables; stands = holds.taken.stands; apart = now.apart }) left is)) r

@@ -9,7 +9,7 @@ ghost use Rattle.pie_running.specs.inner.Noted.{IsSound};
 ghost use Rattle.pie_frames.specs.inner.Standing.{Holds};
 ghost use Rattle.pie_bottomup.specs.inner.Exact.{EndsExact, NotesExact, RunsExact};
 ghost use Rattle.pie_bottomup.specs.inner.Going.{EndsWhole, NotesWhole};
-ghost use Rattle.pie_task_laws.specs.Coming.{failed_by};
+ghost use Rattle.pie_task_laws.specs.Coming.{failed_by, output_by};
 ghost use Rattle.pie_bottomup.specs.inner.Finished.{HasFinished, HasSameEdges, HasSettledWith, HasSwept};
 ghost use Rattle.pie_bottomup.specs.inner.Running.{EndsSo};
 ghost use Rattle.pie_bottomup.specs.inner.States.{AreCalled, HasCalled, IsAtRest, IsOwn, IsSite, HasScheduled, MayEnd, GoesTo, Keeps, Nearer, rest};
@@ -40,6 +40,7 @@ impl<'a> Core<'a> {
         ensures nearer { IfOk result (Nearer (rest self.old + 1) self.new) }
         ensures kept { OnOk result (Keeps self.old self.new) }
         ensures exact { IfOk result (RunsExact self.old no.0 from self.new) }
+        ensures whole { IfOk result (NotesWhole self.old no from notes (output_by notes output) self.new) }
     {
         if !output.is_small() {
             return self.fail(no, from, notes, FaultKind::Big);

@@ -4,6 +4,8 @@ ghost use Rattle.pie_files.specs.Reading.{ReadsOnly};
 ghost use Rattle.pie_running.specs.inner.Frames.{IsWaiting};
 ghost use Rattle.pie_frames.specs.inner.Standing.{Holds};
 ghost use Rattle.pie_bottomup.specs.inner.Exact.{AsksExact, ToldExact};
+ghost use Rattle.pie_bottomup.specs.inner.Going.{AsksWhole, GoesWhole, ToldWhole, TreatsWhole};
+ghost use Rattle.pie_value.specs.declared.event.Event.TheVariants as events;
 ghost use Rattle.pie_bottomup.specs.inner.States.{IsInHand, IsOwn, IsSite, MayGo, GoesTo, Keeps, Nearer, rest, told_mass};
 
 use crate::state::{Core, InHand, Turn};
@@ -29,6 +31,7 @@ impl<'a> Core<'a> {
         ensures kept { OnOk result (Keeps self.old self.new) }
         ensures reads { ReadsOnly F.holds F.moment F.left_since F.images F.faults files.old files.new result }
         ensures exact { IfOk result (AsksExact (F.holds files.old) self.old hand.entry.no.0 hand.entry.from self.new) }
+        ensures whole { IfOk result (GoesWhole (F.holds files.old) self.old hand.entry self.new) }
     {
         let InHand { no, from, task } = hand;
         match task.next()? {
@@ -58,6 +61,7 @@ impl<'a> Core<'a> {
         ensures kept { OnOk result (Keeps self.old self.new) }
         ensures reads { ReadsOnly F.holds F.moment F.left_since F.images F.faults files.old files.new result }
         ensures exact { IfOk result (AsksExact (F.holds files.old) self.old no.0 from self.new) }
+        ensures whole { IfOk result (TreatsWhole (F.holds files.old) self.old no from waiting.entry event self.new) }
     {
         match event {
             Event::Exists(path) => self.exists(no, from, waiting, path, files),
@@ -240,6 +244,7 @@ impl<'a> Core<'a> {
         ensures kept { OnOk result (Keeps self.old self.new) }
         ensures reads { ReadsOnly F.holds F.moment F.left_since F.images F.faults files.old files.new result }
         ensures exact { IfOk result (AsksExact (F.holds files.old) self.old no.0 from self.new) }
+        ensures whole { IfOk result (AsksWhole (F.holds files.old) self.old no from waiting.entry (events.List dir) self.new) }
     {
         let told = waiting.list(self.alloc, dir, files)?;
         Ok(self.told(no, from, told)?)
@@ -255,6 +260,7 @@ impl<'a> Core<'a> {
         ensures nearer { IfOk result (Nearer (rest self.old + told_mass told.entry) self.new) }
         ensures kept { OnOk result (Keeps self.old self.new) }
         ensures exact { IfOk result (ToldExact self.old no from told.entry self.new) }
+        ensures whole { IfOk result (ToldWhole self.old no from told.entry self.new) }
     {
         match told {
             Told::Goes(task) => {

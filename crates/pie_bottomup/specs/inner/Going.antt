@@ -27,6 +27,9 @@ use Rattle.pie_compare_laws.specs.Agreeing.{OutputsAreCanonical}
 use Rattle.pie_core_laws.specs.Exact.{runs, is_done}
 use Rattle.pie_task_laws.specs.Sites.{Site, Build}
 use Rattle.pie_task_laws.specs.Coming.{IsAsking, EndsRight}
+use Rattle.pie_task_laws.specs.Telling.{GoesAs}
+use Rattle.pie_running.specs.declared.frame.Told.{Told}
+use Rattle.pie_files.specs.Directory.{Directory}
 use Rattle.pie_core_laws.specs.Keeping.{Separates}
 use Rattle.pie_task_laws.specs.Whole.{IsNew, NoneIsNew, AreAtRest, IsAtWork, TakesOne, EndsOne, ended}
 use Rattle.pie_bottomup.specs.declared.plan.Plan.{Plan}
@@ -34,7 +37,7 @@ use Rattle.pie_bottomup.specs.declared.state.Core.{Core}
 use Rattle.pie_bottomup.specs.declared.state.InHand.{InHand}
 use Rattle.pie_bottomup.specs.declared.state.Turn.{Turn}
 use Rattle.pie_bottomup.specs.declared.state.Turn.TheVariants.{Went, Settled, StartAfresh}
-use Rattle.pie_bottomup.specs.inner.Exact.{IsPlanNow, IsTakenExact, IsExactCore, BeginsAsOld, EndedRight, IsWaitingFor, lost_task}
+use Rattle.pie_bottomup.specs.inner.Exact.{IsPlanNow, IsTakenExact, IsExactCore, BeginsAsOld, EndedRight, IsWaitingFor, OwnsTold, IsSiteNow, lost_task}
 use Rattle.pie_bottomup.specs.inner.Finished.{end_row}
 use Rattle.pie_bottomup.specs.inner.States.{IsOwn}
 
@@ -199,3 +202,43 @@ abbrev pub RequiresWhole : Core → TaskNo → ℕ → Caller → Core → Turn 
 RequiresWhole old task from w new t =
     (u : Update) → IsBuildNow u old.plan → IsExactCore u old → BeginsAsOld old.tables old.frames.walk.rows task.0 from
     → IsAskingNow u old w.waiting (events.Require w.required w.how) → TurnIsWhole u new t
+
+-- a task that was told something goes on as in the model, or ends right; it ran, and where it ends, the others wait on
+pub record GoesOn (u : Update) (c : Core) (k : ℕ) (t : Told) : Type 0 where
+  pub goes : GoesAs (site_of u c) (build_of c) (callers_up c.frames.parked.items) t
+  pub ran : IsMarked c.tables.ran.items k
+  pub alone : EndsAlone u c k
+
+abbrev pub ToldWhole : Core → TaskNo → ℕ → Told → Core → Turn → Type 0
+ToldWhole old task from told new t =
+    (u : Update) → IsBuildNow u old.plan → IsExactCore u old → BeginsAsOld old.tables old.frames.walk.rows task.0 from → OwnsTold old task from told
+    → GoesOn u old task.0 told → TurnIsWhole u new t
+
+-- the task in hand asks something, and nothing else is needed than the files that it is about
+abbrev pub AsksWhole : Option Directory → Core → TaskNo → ℕ → Waiting → Event → Core → Turn → Type 0
+AsksWhole held old task from w e new t =
+    (u : Update) → IsBuildNow u old.plan → IsSiteNow u held → IsExactCore u old → BeginsAsOld old.tables old.frames.walk.rows task.0 from
+    → IsAskingNow u old w e → TurnIsWhole u new t
+
+-- an event that lists a directory, writes or requires a task
+abbrev pub LooksAtNone : Event → Type 0
+LooksAtNone (events.Exists path) = ⊥
+LooksAtNone (events.Read path by) = ⊥
+LooksAtNone (events.Digest path) = ⊥
+LooksAtNone (events.List dir) = Unit {0}
+LooksAtNone (events.Write path bytes) = Unit {0}
+LooksAtNone (events.Require task how) = Unit {0}
+LooksAtNone (events.Done v) = ⊥
+LooksAtNone (events.Fail v) = ⊥
+
+abbrev pub TreatsWhole : Option Directory → Core → TaskNo → ℕ → Waiting → Event → Core → Turn → Type 0
+TreatsWhole held old task from w e new t = LooksAtNone e → AsksWhole held old task from w e new t
+
+-- what comes of the task in hand is no look at a path
+abbrev pub LooksAtNoneNext : Site → Build → List Caller → RunningTask → Type 0
+LooksAtNoneNext x b cs f = (w : Waiting) (e : Event) → IsAsking x b cs w e → LooksAtNone e
+
+abbrev pub GoesWhole : Option Directory → Core → InHand → Core → Turn → Type 0
+GoesWhole held old h new t =
+    (u : Update) → IsBuildNow u old.plan → IsSiteNow u held → IsExactCore u old → BeginsAsOld old.tables old.frames.walk.rows h.no.0 h.from
+    → IsWorking u old h.task → LooksAtNoneNext (site_of u old) (build_of old) (callers_up old.frames.parked.items) h.task → TurnIsWhole u new t
