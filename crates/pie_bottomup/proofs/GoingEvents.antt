@@ -53,6 +53,12 @@ use Rattle.pie_running.specs.inner.Told.{IsToldList, IsToldWrite}
 use Rattle.pie_task_laws.specs.Sites.{IsSound}
 use Rattle.pie_task_laws.specs.Telling.{GoesAs}
 use Rattle.pie_task_laws.specs.Whole.{NoneIsNew}
+use Rattle.pie_running.specs.declared.frame.Paused.{Paused}
+use Rattle.pie_running.specs.declared.frame.Paused.TheVariants.{Asks, Ends, Fails as Stops}
+use Rattle.pie_task_laws.specs.Coming.{IsAsking, Gives}
+use Rattle.pie_task_laws.proofs.Pausing.{pauses}
+use Rattle.pie_bottomup.specs.declared.state.InHand.{InHand}
+use Rattle.pie_bottomup.proofs.Owning.{same_own}
 use Rattle.pie_task_laws.proofs.Told.{list_told}
 use Rattle.pie_task_laws.proofs.Writing.{write_told}
 use Rattle.pie_bottomup.proofs.ExactAsking.{listed_owns, written_owns, written_exact}
@@ -64,7 +70,7 @@ use Rattle.pie_bottomup.specs.declared.state.Turn.{Turn}
 use Rattle.pie_bottomup.specs.inner.States.{IsOwn, IsSite}
 use Rattle.pie_bottomup.specs.inner.Exact.{IsExactCore, BeginsAsOld, AddsExact, StillBegins}
 use Rattle.pie_bottomup.specs.inner.Going.{site_of, build_of, callers_up, EndsAlone, MayEndAs, MayMeet, Goes, IsWhole, IsBuildNow, HasGrown, IsAskingNow}
-use Rattle.pie_bottomup.specs.inner.Going.{EndsWhole, NotesWhole, ParksWhole, RequiresWhole, GoesOn, ToldWhole, AsksWhole}
+use Rattle.pie_bottomup.specs.inner.Going.{EndsWhole, NotesWhole, ParksWhole, RequiresWhole, GoesOn, IsWorking, ToldWhole, AsksWhole, TreatsWhole, GoesWhole}
 use Rattle.pie_bottomup.proofs.ExactGrowing.{parked_exact}
 use Rattle.pie_bottomup.proofs.ExactSteps.{if_ok_more, noted_row}
 use Rattle.pie_bottomup.proofs.Going.{is_met}
@@ -294,3 +300,56 @@ write_goes held c new task from w path bytes later t r holds left own is =
     (written_owns c task from later w path bytes (is_out path) t own is)
     (written_on u c task from w path bytes later holds own asks t
     (record { exact = e.are.tables; stands = holds.taken.stands; apart = now.apart }) left is)) r
+
+-- ---- what comes of the task in hand
+
+pub asks_goes : {E : Type 0} (held : Option Directory) (c new : Core) (h : InHand) (p : Paused) (w : Waiting) (e : Event) (r : Result Turn E)
+    → p ≡ Asks w e → Gives h.task p → IfOk r (TreatsWhole held c h.no h.from w e new) → IfOk r (GoesWhole held c h new)
+asks_goes held c new h p w e r is gives =
+    if_ok_more (TreatsWhole held c h.no h.from w e new) (GoesWhole held c h new)
+    (λ turn treats u now site ex begins working looks.
+    let mine = subst (Gives h.task) is gives in
+    let asking : IsAsking (site_of u c) (build_of c) (callers_up c.frames.parked.items) w e =
+    pauses (site_of u c) (build_of c) (callers_up c.frames.parked.items) now.plan.compiled ex.are.tables h.task (Asks w e) working.work.runs mine in
+    treats (looks w e mine.comes.1 asking) u now site ex begins (record { asking = asking; none = working.work.none; marked = working.marked })) r
+
+-- it ends with these notes
+ends_may : (u : Update) (c : Core) (h : InHand) (n : Noted) (o : Outcome) → Holds h.no c.frames → IsOwn c h.no h.from h.task.notes → n ≡ h.task.notes
+    → IsWorking u c h.task → EndsRight (site_of u c) (build_of c) n o → MayEndAs u c h.no.0 n o
+ends_may u c h n o holds own same working right =
+    let mine = same_own c h.no h.from h.task.notes n same own in
+    record {
+      number = mine.number;
+      named = subst (λ (m : ℕ). slice_get c.tables.names m ≡ Some n.task) mine.number mine.noted.task;
+      right = right;
+      ran = working.marked h.no.0 (ap runs (top_runs c.frames.walk h.no holds.top holds.taken.stands.holds));
+      alone = record {
+        others = λ changed after ends.
+            ended_rest (site_of u c) (build_of c) (callers_up c.frames.parked.items) h.task changed after working.work
+            (subst (EndsOne (site_of u c) (build_of c) changed after) (sym own.number) ends);
+        none = working.work.none;
+        marked = λ k is d. working.marked k is;
+      };
+    }
+
+pub hand_done : {E : Type 0} (held : Option Directory) (c new : Core) (h : InHand) (p : Paused) (n : Noted) (v : Value) (r : Result Turn E)
+    → Holds h.no c.frames → IsOwn c h.no h.from h.task.notes → p ≡ Ends n v → Gives h.task p
+    → IfOk r (NotesWhole c h.no h.from n (output_by n v) new) → IfOk r (GoesWhole held c h new)
+hand_done held c new h p n v r holds own is gives =
+    if_ok_more (NotesWhole c h.no h.from n (output_by n v) new) (GoesWhole held c h new)
+    (λ turn notes u now site ex begins working looks.
+    let mine = subst (Gives h.task) is gives in
+    notes u now ex begins (same_own c h.no h.from h.task.notes n mine.comes own)
+    (ends_may u c h n (output_by n v) holds own mine.comes working
+    (pauses (site_of u c) (build_of c) (callers_up c.frames.parked.items) now.plan.compiled ex.are.tables h.task (Ends n v) working.work.runs mine))) r
+
+pub hand_fails : {E : Type 0} (held : Option Directory) (c new : Core) (h : InHand) (p : Paused) (n : Noted) (k : FaultKind) (r : Result Turn E)
+    → Holds h.no c.frames → IsOwn c h.no h.from h.task.notes → p ≡ Stops n k → Gives h.task p
+    → IfOk r (NotesWhole c h.no h.from n (failed_by n k) new) → IfOk r (GoesWhole held c h new)
+hand_fails held c new h p n k r holds own is gives =
+    if_ok_more (NotesWhole c h.no h.from n (failed_by n k) new) (GoesWhole held c h new)
+    (λ turn notes u now site ex begins working looks.
+    let mine = subst (Gives h.task) is gives in
+    notes u now ex begins (same_own c h.no h.from h.task.notes n mine.comes own)
+    (ends_may u c h n (failed_by n k) holds own mine.comes working
+    (pauses (site_of u c) (build_of c) (callers_up c.frames.parked.items) now.plan.compiled ex.are.tables h.task (Stops n k) working.work.runs mine))) r

@@ -236,7 +236,7 @@ TreatsWhole held old task from w e new t = LooksAtNone e → AsksWhole held old 
 
 -- what comes of the task in hand is no look at a path
 abbrev pub LooksAtNoneNext : Site → Build → List Caller → RunningTask → Type 0
-LooksAtNoneNext x b cs f = (w : Waiting) (e : Event) → IsAsking x b cs w e → LooksAtNone e
+LooksAtNoneNext x b cs f = (w : Waiting) (e : Event) → w.notes ≡ f.notes → IsAsking x b cs w e → LooksAtNone e
 
 abbrev pub GoesWhole : Option Directory → Core → InHand → Core → Turn → Type 0
 GoesWhole held old h new t =

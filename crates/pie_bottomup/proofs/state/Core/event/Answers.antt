@@ -1,0 +1,20 @@
+use Rattle.std.proofs.Common.{Ok}
+use Rattle.pie_bottomup.proofs.GoingEvents.{asks_goes, hand_done, hand_fails}
+use Rattle.pie_bottomup.proofs.state.Core.event.Goals as goal
+
+pub returns-in-Asks-clause-whole : goal.returns-in-Asks-clause-whole
+returns-in-Asks-clause-whole g c =
+    asks_goes (g.F.Files.holds c.args.files.now) c.args.self.now c.treat.new.self c.args.hand c.in_ok-waiting.field-0 c.in-Asks.waiting c.in-Asks.event
+    c.treat.result c.in-Asks.is (record { comes = c.in_ok-waiting.ensures.comes; means = c.in_ok-waiting.ensures.means }) c.treat.ensures.whole
+
+pub returns-in_ok-done-in-Ends-clause-whole : goal.returns-in_ok-done-in-Ends-clause-whole
+returns-in_ok-done-in-Ends-clause-whole g c =
+    hand_done {E = Unit {0}} (g.F.Files.holds c.args.files.now) c.args.self.now c.done.new.self c.args.hand c.in_ok-waiting.field-0 c.in-Ends.notes c.in-Ends.output
+    (Ok c.in_ok-done-in-Ends.field-0) c.requires.hand.holds c.requires.hand.own c.in-Ends.is
+    (record { comes = c.in_ok-waiting.ensures.comes; means = c.in_ok-waiting.ensures.means }) c.in_ok-done-in-Ends.ensures.whole
+
+pub returns-in_ok-fail-in-Fails-clause-whole : goal.returns-in_ok-fail-in-Fails-clause-whole
+returns-in_ok-fail-in-Fails-clause-whole g c =
+    hand_fails {E = Unit {0}} (g.F.Files.holds c.args.files.now) c.args.self.now c.fail.new.self c.args.hand c.in_ok-waiting.field-0 c.in-Fails.notes c.in-Fails.kind
+    (Ok c.in_ok-fail-in-Fails.field-0) c.requires.hand.holds c.requires.hand.own c.in-Fails.is
+    (record { comes = c.in_ok-waiting.ensures.comes; means = c.in_ok-waiting.ensures.means }) c.in_ok-fail-in-Fails.ensures.whole
