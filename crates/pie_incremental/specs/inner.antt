@@ -1,8 +1,10 @@
 -- Definitions that no clause of `pie_cli::run` rests on: invariants, and what crates say to each other.
+pub mod Awaits
 pub mod Bases
 pub mod Built
 pub mod Changes
 pub mod Cleaned
 pub mod Digested
+pub mod Evaluated
 pub mod Joined
 pub mod Plans
