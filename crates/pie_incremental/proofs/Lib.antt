@@ -11,3 +11,4 @@ pub mod Storing
 pub mod Treating
 pub mod Placing
 pub mod Leaving
+pub mod Updating

@@ -8,3 +8,4 @@ pub mod Digested
 pub mod Evaluated
 pub mod Joined
 pub mod Plans
+pub mod Updated

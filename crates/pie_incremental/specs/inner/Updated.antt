@@ -1,0 +1,53 @@
+-- What the parts of a build by what changed say of an update.
+use Rattle.std.specs.Prelude.{◌≡◌, ℕ, List, ◌++◌, Option, None}
+use Rattle.pie_bottomup.specs.inner.Loaded.{IsStoredIn}
+use Rattle.pie_core_laws.specs.Update.{Update}
+use Rattle.pie_files.specs.Directory.{Directory}
+use Rattle.pie_project.specs.declared.project.Project.{Project}
+use Rattle.pie_report.specs.declared.report.Report.{Report}
+use Rattle.pie_store.specs.declared.image.StoreImage.{StoreImage}
+use Rattle.pie_store.specs.inner.Pending.{in_order}
+use Rattle.pie_incremental.specs.declared.base.Base.{Base}
+use Rattle.pie_incremental.specs.declared.ending.Ending.{Ending}
+use Rattle.pie_incremental.specs.declared.run.Done.{Done}
+use Rattle.pie_incremental.specs.declared.run.Done.TheVariants.{Reported, Stopped}
+use Rattle.pie_incremental.specs.Clean.{BuildsClean, IsAsClean, IsUpdateOf}
+use Rattle.pie_incremental.specs.Starts.{IsBase}
+use Rattle.pie_incremental.specs.inner.Awaits.{Awaits}
+use Rattle.pie_incremental.specs.inner.Built.{IsKnown}
+use Rattle.pie_incremental.specs.inner.Digested.{digested}
+use Rattle.pie_incremental.specs.inner.Evaluated.{IsUpdateHere}
+
+-- a build from this store, with what its end needs, is that of each update to this project of which that is known
+pub record GoesClean (s : StoreImage) (e : Ending) (p : Project) (before after : Option Directory) (r : Report) : Type 0 where
+  pub each : (u : Update) → IsUpdateHere u before p.typed p.roots.items → IsStoredIn u s.funcs p.digests.items s.rows e.names.items
+      → IsKnown e.own e.held u.directory → Awaits u → BuildsClean u p.digests.items p.roots.items r after
+
+-- so it is unless it has to start afresh
+abbrev pub GoesOn : StoreImage → Ending → Project → Option Directory → Option Directory → Done → Type 0
+GoesOn s e p before after (Reported r) = GoesClean s e p before after r.value
+GoesOn s e p before after (Stopped stop) = Unit {0}
+
+-- an update to this project in what the files hold, where the store of this base is that of the earlier build, and what changed is in a list or pending
+pub record IsUpdateFrom (u : Update) (held : Option Directory) (b : Base) (p : Project) (list : List (List ℕ)) : Type 0 where
+  pub here : IsUpdateHere u held p.typed p.roots.items
+  pub base : IsBase u.directory b
+  pub stored : IsStoredIn u (digested u.directory p.digests.items b.image).funcs p.digests.items b.image.rows (in_order (list ++ b.names.items))
+  pub awaits : Awaits u
+
+-- a build of this project from this base is that of each such update
+pub record RunsClean (b : Base) (p : Project) (list : List (List ℕ)) (before after : Option Directory) (r : Report) : Type 0 where
+  pub each : (u : Update) → IsUpdateFrom u before b p list → BuildsClean u p.digests.items p.roots.items r after
+
+-- so it is unless it has to start afresh
+abbrev pub RunsOrStops : Base → Project → List (List ℕ) → Option Directory → Option Directory → Done → Type 0
+RunsOrStops b p list before after (Reported r) = RunsClean b p list before after r.value
+RunsOrStops b p list before after (Stopped stop) = Unit {0}
+
+-- the same of a report that tells no cause to start afresh
+pub record RunsCleanOnce (b : Base) (p : Project) (list : List (List ℕ)) (before after : Option Directory) (r : Report) : Type 0 where
+  pub once : r.fresh ≡ None → RunsClean b p list before after r
+
+-- a build from this base, of what the files hold, is that of each update to it
+pub record FromClean (b : Base) (list : List (List ℕ)) (before after : Option Directory) (r : Report) : Type 0 where
+  pub once : r.fresh ≡ None → (u : Update) → IsUpdateOf u list before → IsBase u.directory b → Awaits u → IsAsClean u r after
