@@ -18,7 +18,6 @@ use Rattle.pie_model.specs.Seen.{first_write}
 use Rattle.pie_model.specs.Evaluation.{World}
 use Rattle.pie_model.specs.Forest.{live_evaluations}
 use Rattle.pie_model.specs.Verdict.{verdict}
-use Rattle.pie_model.specs.declared.words.Verdict.TheVariants.{Accepted}
 use Rattle.pie_model.specs.Built.{bytes_at, store_rows, provided_at}
 use Rattle.pie_model.proofs.Basics.{same_bytes}
 use Rattle.pie_model_pipeline.specs.Rows.{verdict_of}
@@ -57,25 +56,21 @@ module _ (u : Update) (t : Tables) (s : WalkState) (e : IsExact u t.names t.reco
       let is = files_written u t.names t.records s e w apart k.number k.rec p f.0 k.hash k.settled k.kept writes k.first f.1 (met p f.0 out f.1) in
       f.1 ∙ ap Some (one_some f.0 b (sym is ∙ k.wrote))
 
-  -- a build with the verdict, the records and the files of a clean build, but for those of tasks that didn't run
-  pub accepted_of : (roots : List Task) (b : Built) → map enc_task roots ≡ u.roots → verdict world (present u) u.roots ≡ Accepted → HasClean u roots b
-      → HasProvided u t s roots b → IsAccepted u b.rows.items (contents_in b.files.items)
-  accepted_of roots b same accepted c f = record {
-    accepted = accepted;
-    rows = c.rows ∙ ap (store_rows world (present u)) same;
-    only = λ p c i. ap (λ rs. provided_at (live_evaluations world (present u) rs) p) (sym same) ∙ f.only p c i;
-    each = λ p c i. by p c (f.each p c (ap (λ rs. provided_at (live_evaluations world (present u) rs) p) same ∙ i));
-  }
-    where
-      by : (p c : List ℕ) → Contains (contents_in b.files.items) (p, c) ⊎ IsKeptAt u t s p c
-          → Contains (contents_in b.files.items) (p, c) ⊎ (bytes_at u.directory p ≡ Some c)
-      by p c (inl i) = inl i
-      by p c (inr k) = inr (kept_there p c k)
-
   pub is_accepted : (staged : Staged) (roots : List Task) (b : Built) → map enc_task roots ≡ u.roots → RootsSettle t.names t.records s roots
       → Makes t s.rows staged roots b → AreStagedNow u t staged → (HaveEnded t.names t.records s.rows roots → StoredWhere b.verdict t.names roots b)
       → b.verdict ≡ verdicts.Accepted → IsAccepted u b.rows.items (contents_in b.files.items)
   is_accepted staged roots b same settle makes st stored accepted =
-      accepted_of roots b same
-      (ap (verdict world (present u)) (sym same) ∙ sym (made_verdict u t s staged roots b e w apart settle makes) ∙ ap verdict_of accepted)
-      (accepted_clean u t s staged roots b e w apart settle makes stored accepted) (files_provided u t s staged roots b e w apart settle makes st accepted)
+      from (accepted_clean u t s staged roots b e w apart settle makes stored accepted) (files_provided u t s staged roots b e w apart settle makes st accepted)
+    where
+      from : HasClean u roots b → HasProvided u t s roots b → IsAccepted u b.rows.items (contents_in b.files.items)
+      from c f = record {
+        accepted = ap (verdict world (present u)) (sym same) ∙ sym (made_verdict u t s staged roots b e w apart settle makes) ∙ ap verdict_of accepted;
+        rows = c.rows ∙ ap (store_rows world (present u)) same;
+        only = λ p c i. ap (λ rs. provided_at (live_evaluations world (present u) rs) p) (sym same) ∙ f.only p c i;
+        each = λ p c i. by p c (f.each p c (ap (λ rs. provided_at (live_evaluations world (present u) rs) p) same ∙ i));
+      }
+        where
+          by : (p c : List ℕ) → Contains (contents_in b.files.items) (p, c) ⊎ IsKeptAt u t s p c
+              → Contains (contents_in b.files.items) (p, c) ⊎ (bytes_at u.directory p ≡ Some c)
+          by p c (inl i) = inl i
+          by p c (inr k) = inr (kept_there p c k)
