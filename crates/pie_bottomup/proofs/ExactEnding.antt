@@ -37,7 +37,7 @@ use Rattle.pie_earlier_laws.specs.Left.{AreThere}
 use Rattle.pie_compare_laws.proofs.Ways.{one_some}
 use Rattle.pie_core_laws.specs.Update.{Update}
 use Rattle.pie_core_laws.specs.Exact.{runs, is_busy, IsExact}
-use Rattle.pie_core_laws.specs.Finishing.{Finishes, TellsCallers, TellsOthers}
+use Rattle.pie_core_laws.specs.Finishing.{Finishes, StaysExact, TellsCallers, TellsOthers}
 use Rattle.pie_core_laws.specs.Seeing.{written_now}
 use Rattle.pie_core_laws.proofs.Exactly.{busy_is, scheduled_busy, runs_busy, runs_inside, same_or_not, settled_not_runs}
 use Rattle.pie_core_laws.proofs.Finished.{finish_stays}
@@ -170,6 +170,24 @@ settles_kept s n l = record {
 running_unsettled : (marks : List Mark) (n : ℕ) → mark_of marks n ≡ Runs → IsSettled marks n → ⊥
 running_unsettled marks n runs is = let clash : Runs ≡ Settled = sym runs ∙ is in cc
 
+-- it was settled in the model if it is in the walk
+pub kept_stay : (u : Update) (c : Core) (f : Frames) (task : TaskNo) → IsPlanNow u c.plan → IsTakenExact u c task.0 → Holds task c.frames
+    → IsMarked c.plan.same.items task.0 → (stands : RecordStands c.tables c.frames.walk.rows c.named task.0) → f.walk ≡ settled c.frames.walk task.0 → Rests f
+    → StaysExact u c.tables.names c.tables.records c.frames.walk c.tables.names c.tables.records (settled c.frames.walk task.0)
+    × AreThere world u.directory stands.0.writes
+kept_stay u c f task plan taken holds flag stands same rests =
+    let s = c.frames.walk in
+    let e = taken.exact in
+    let w = holds.taken.stands in
+    let on = taken.rests stands.0 stands.1 in
+    let run = top_runs s task holds.top w.holds in
+    kept_stays u c.tables s c.named task.0 stands.0 plan.update e.are.known.informed e.are.tables w (subst Stands same rests.stands) (record {
+      ran = ap runs run;
+      rests = on;
+      meaning = e.are.known.meaning.means task.0 stands.0.task flag on.named;
+      searched = e.are.known.searched task.0 stands.0 stands.1 (running_unsettled s.marks task.0 run) flag;
+    }) stands
+
 pub kept_exact : (u : Update) (c : Core) (f : Frames) (task : TaskNo) → IsPlanNow u c.plan → IsTakenExact u c task.0 → Holds task c.frames
     → IsMarked c.plan.same.items task.0 → RecordStands c.tables c.frames.walk.rows c.named task.0 → f.walk ≡ settled c.frames.walk task.0
     → f.parked ≡ c.frames.parked → Rests f → IsExactCore u (record c { frames = f })
@@ -178,16 +196,8 @@ kept_exact u c f task plan taken holds flag stands same parked rests =
     let t = c.tables in
     let e = taken.exact in
     let w = holds.taken.stands in
-    let v : Stands (settled s task.0) = subst Stands same rests.stands in
-    let on = taken.rests stands.0 stands.1 in
     let run = top_runs s task holds.top w.holds in
-    let stays =
-    kept_stays u t s c.named task.0 stands.0 plan.update e.are.known.informed e.are.tables w v (record {
-      ran = ap runs run;
-      rests = on;
-      meaning = e.are.known.meaning.means task.0 stands.0.task flag on.named;
-      searched = e.are.known.searched task.0 stands.0 stands.1 (running_unsettled s.marks task.0 run) flag;
-    }) stands in
+    let stays = kept_stay u c f task plan taken holds flag stands same rests in
     let one = settles_kept s task.0 (runs_inside s.marks task.0 (ap runs run)) in
     let rows : f.walk.rows ≡ s.rows = ap (λ (z : WalkState). z.rows) same in
     record {
@@ -232,13 +242,13 @@ module _ (u : Update) (c : Core) (f : Frames) (t : Tables) (task : TaskNo) (from
   run : mark_of c.frames.walk.marks task.0 ≡ Runs
   run = top_runs c.frames.walk task holds.top holds.taken.stands.holds
 
-  one : SettlesOne c.frames.walk f.walk task.0
+  pub one : SettlesOne c.frames.walk f.walk task.0
   one = settles_ended c.frames.walk f.walk task.0 from rec (runs_inside c.frames.walk.marks task.0 (ap runs run)) has.same has.kept
 
   put_here : kept_of t.records task.0 ≡ Some rec
   put_here = put_at c.tables.records t.records task.0 rec has.puts
 
-  put_there : (k : ℕ) → (k ≡ task.0 → ⊥) → kept_of t.records k ≡ kept_of c.tables.records k
+  pub put_there : (k : ℕ) → (k ≡ task.0 → ⊥) → kept_of t.records k ≡ kept_of c.tables.records k
   put_there = put_other c.tables.records t.records task.0 rec has.puts
 
   callers : (was : TaskRecord) → told.TellsCallers f.walk task.0 was rec → TellsCallers f.walk task.0 was rec
@@ -250,7 +260,7 @@ module _ (u : Update) (c : Core) (f : Frames) (t : Tables) (task : TaskNo) (from
   others was kept (inl same) = inl (edges_shape c.tables.names (row_at c.frames.walk.rows task.0) from was rec (begins was kept) row.0 same)
   others was kept (inr swept) = inr swept
 
-  finishes : Finishes c.tables.records c.frames.walk f.walk task.0 (end_row c.frames.walk task.0 from rec) rec
+  pub finishes : Finishes c.tables.records c.frames.walk f.walk task.0 (end_row c.frames.walk task.0 from rec) rec
   finishes = record {
     ran = ap runs run;
     same = has.same;
@@ -265,12 +275,16 @@ module _ (u : Update) (c : Core) (f : Frames) (t : Tables) (task : TaskNo) (from
       ap (λ (z : WalkState). row_at z.rows k) has.same
       ∙ get_or-set_other c.frames.walk.rows task.0 k (end_row c.frames.walk task.0 from rec) no_edges d
 
+  pub ended_stays : EndedRight u (record c { frames = f; tables = t }) task.0 rec
+      → StaysExact u c.tables.names c.tables.records c.frames.walk c.tables.names t.records f.walk
+  ended_stays right =
+      finish_stays u c.tables.names c.tables.records t.records c.frames.walk f.walk task.0 (end_row c.frames.walk task.0 from rec) rec plan.update
+      e.are.tables holds.taken.stands rests.stands has.puts named right.right row
+      (λ k h. top_ready c.frames.walk task holds.top holds.taken.stands.holds k (in_rest from (row_at c.frames.walk.rows task.0).needs k h)) finishes
+
   tables_after : EndedRight u (record c { frames = f; tables = t }) task.0 rec → IsExact u t.names t.records f.walk
   tables_after right =
-      subst (λ (ns : List Task). IsExact u ns t.records f.walk) (sym names)
-      (finish_stays u c.tables.names c.tables.records t.records c.frames.walk f.walk task.0 (end_row c.frames.walk task.0 from rec) rec plan.update
-      e.are.tables holds.taken.stands rests.stands has.puts named right.right row
-      (λ k h. top_ready c.frames.walk task holds.top holds.taken.stands.holds k (in_rest from (row_at c.frames.walk.rows task.0).needs k h)) finishes).exact
+      subst (λ (ns : List Task). IsExact u ns t.records f.walk) (sym names) (ended_stays right).exact
 
   pub ended_exact : EndedRight u (record c { frames = f; tables = t }) task.0 rec → IsExactCore u (record c { frames = f; tables = t })
   ended_exact right = record {

@@ -50,7 +50,7 @@ use Rattle.pie_bottomup.proofs.ExactEnding.{waits_apart}
 
 -- ---- one task more
 
-named_back : (names : List Task) (t x : Task) (n : ℕ) → n < length names → slice_get (names ++ t ∷ []) n ≡ Some x → slice_get names n ≡ Some x
+pub named_back : (names : List Task) (t x : Task) (n : ℕ) → n < length names → slice_get (names ++ t ∷ []) n ≡ Some x → slice_get names n ≡ Some x
 named_back [] t x n l e = absurd (omega (arith, l))
 named_back (y ∷ ys) t x zero l e = e
 named_back (y ∷ ys) t x (suc n) l e = named_back ys t x n (omega (arith, l)) e
@@ -66,7 +66,7 @@ flag_more (x ∷ xs) zero e = e
 flag_more (x ∷ xs) (suc n) e = flag_more xs n e
 
 -- the number after the last has no record
-none_after : (t : Tables) → IsTables t → kept_of t.records (length t.names) ≡ None
+pub none_after : (t : Tables) → IsTables t → kept_of t.records (length t.names) ≡ None
 none_after t is = by (kept_of t.records (length t.names)) refl
   where
     by : (o : Option TaskRecord) → kept_of t.records (length t.names) ≡ o → o ≡ None

@@ -123,7 +123,7 @@ called_same (d ∷ ds) = by d.what (called_same ds)
     by (Called t) e = ap (λ xs. t ∷ xs) e
 
 -- the row of a task that ends with what it noted
-noted_row : (c : Core) (task : TaskNo) (from : ℕ) (n : Noted) (rec : TaskRecord) → IsOwn c task from n → rec.deps ≡ n.deps
+pub noted_row : (c : Core) (task : TaskNo) (from : ℕ) (n : Noted) (rec : TaskRecord) → IsOwn c task from n → rec.deps ≡ n.deps
     → RowIs c.tables.names (end_row c.frames.walk task.0 from rec) (Some rec)
 noted_row c task from n rec own deps = (
   ap (tasks_at c.tables.names) own.row.same ∙ own.noted.needs ∙ ap (map Some) (called_same n.deps) ∙ ap (λ ds. map Some (called_in ds)) (sym deps),
@@ -141,7 +141,7 @@ pub own_exact : {E : Type 0} (c new : Core) (task : TaskNo) (from : ℕ) (n : No
 own_exact c new task from n r own = if_ok_more (NotesExact c task from n new) (RunsExact c task.0 from new) (λ t notes. notes own) r
 
 -- the row of a task that ends as the one did for which it waited
-caller_row : (c : Core) (task : TaskNo) (from : ℕ) (w : Caller) (rec : TaskRecord) → IsWaitingFor c task from w
+pub caller_row : (c : Core) (task : TaskNo) (from : ℕ) (w : Caller) (rec : TaskRecord) → IsWaitingFor c task from w
     → rec.deps ≡ w.waiting.notes.deps ++ lost_task w.how w.required ∷ []
     → RowIs c.tables.names (end_row c.frames.walk task.0 from rec) (Some rec)
 caller_row c task from w rec waits deps = (
@@ -190,7 +190,7 @@ caller_runs c new task from w r waits = if_ok_more (CallerExact c task from w ne
 -- ---- a task that is lost
 
 -- a task without code has no function
-no_function : (u : Update) (p : Plan) (t : Task) → IsPlanNow u p → IsCodeFor p.typed.now p.code.now t None → number_from 0 u.functions t ≡ None
+pub no_function : (u : Update) (p : Plan) (t : Task) → IsPlanNow u p → IsCodeFor p.typed.now p.code.now t None → number_from 0 u.functions t ≡ None
 no_function u p t plan none = by (number_from 0 u.functions t) refl
   where
     of_now : IsCodeFor u.functions p.code.now t None
@@ -203,14 +203,14 @@ no_function u p t plan none = by (number_from 0 u.functions t) refl
 module _ (old new : Core) (task : TaskNo) (from : ℕ) (t : Task) (rec : TaskRecord) (holds : Holds task old.frames)
     (named : slice_get old.tables.names task.0 ≡ Some t) (canonical : IsCanonicalTask t (enc_task t)) (is : rec ≡ lost_record t)
     (none : IsCodeFor old.plan.typed.now old.plan.code.now t None) (whole : from ≡ length (row_at old.frames.walk.rows task.0).needs) where
-  lost_row : RowIs old.tables.names (end_row old.frames.walk task.0 from rec) (Some rec)
+  pub lost_row : RowIs old.tables.names (end_row old.frames.walk task.0 from rec) (Some rec)
   lost_row = (
     ap (tasks_at old.tables.names) (drop_all from (row_at old.frames.walk.rows task.0).needs (omega (arith, whole)))
         ∙ ap (λ (z : TaskRecord). map Some (called_in z.deps)) (sym is),
     refl,
   )
 
-  lost_begins : (u : Update) → IsTakenExact u old task.0 → BeginsAsOld old.tables old.frames.walk.rows task.0 from
+  pub lost_begins : (u : Update) → IsTakenExact u old task.0 → BeginsAsOld old.tables old.frames.walk.rows task.0 from
   lost_begins u taken was kept =
       subst (λ (ns : List ℕ). AreNumbersOf old.tables.names ns (called_in was.deps))
       (sym (take_all from (row_at old.frames.walk.rows task.0).needs (omega (arith, whole)))) (taken.rests was kept).row.0

@@ -15,6 +15,12 @@ pub mod ExactWalking
 pub mod Finishing
 pub mod FirstStep
 pub mod Going
+pub mod GoingAnswers
+pub mod GoingEnds
+pub mod GoingEvents
+pub mod GoingOn
+pub mod GoingRoots
+pub mod GoingSteps
 pub mod Growing
 pub mod Holding
 pub mod Moving

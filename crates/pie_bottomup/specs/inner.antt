@@ -4,6 +4,7 @@ pub mod Exact
 pub mod Loaded
 pub mod Made
 pub mod Finished
+pub mod Going
 pub mod Recorded
 pub mod Running
 pub mod States

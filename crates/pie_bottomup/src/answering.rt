@@ -1,5 +1,5 @@
 //! Tasks that waited, and are answered.
-ghost use Rattle.std.specs.Prelude.{◌≡◌, ◌+◌, true, None, IfOk, OnOk};
+ghost use Rattle.std.specs.Prelude.{◌≡◌, ◌+◌, true, None, Some, IfOk, OnOk};
 ghost use Rattle.pie_tables.specs.Tabled.{HasFailed, IsTables, IsGiven};
 ghost use Rattle.pie_frames.specs.inner.Standing.{Holds, IsParked, number_of};
 ghost use Rattle.pie_frames.specs.inner.Weights.{left_of};
@@ -7,6 +7,9 @@ ghost use Rattle.pie_walk.specs.Marks.{IsSettled};
 ghost use Rattle.pie_base.specs.declared.fault.FaultKind.TheVariants.{Unknown};
 ghost use Rattle.pie_record.specs.declared.task_record.Outcome.TheVariants.{Failed};
 ghost use Rattle.pie_results.specs.inner.Failures.{is_done};
+ghost use Rattle.pie_record.specs.declared.task_record.TaskRecord.{TaskRecord};
+ghost use Rattle.pie_record.specs.inner.Records.{record_of};
+ghost use Rattle.pie_bottomup.specs.inner.Going.{AnswersWhole, CallersWhole};
 ghost use Rattle.pie_bottomup.specs.inner.Exact.{CallerExact, RunsExact, lost_task};
 ghost use Rattle.pie_bottomup.specs.inner.Recorded.{HasOutput};
 ghost use Rattle.pie_bottomup.specs.inner.Running.{IsCaller};
@@ -34,6 +37,7 @@ impl<'a> Core<'a> {
         ensures nearer { IfOk result (Nearer (rest self.old + left_of parked.entry) self.new) }
         ensures kept { OnOk result (Keeps self.old self.new) }
         ensures exact { IfOk result (RunsExact self.old no.0 parked.entry.from self.new) }
+        ensures whole { IfOk result (AnswersWhole self.old no.0 parked.entry self.new) }
     {
         let Parked {
             caller,
@@ -77,6 +81,8 @@ impl<'a> Core<'a> {
         ensures nearer { IfOk result (Nearer (rest self.old + 1) self.new) }
         ensures kept { OnOk result (Keeps self.old self.new) }
         ensures exact { IfOk result (CallerExact self.old no from caller.entry self.new) }
+        ensures failed { HasFailed outcome }
+        ensures whole { IfOk result (CallersWhole self.old no from caller.entry outcome self.new) }
     {
         let Caller {
             waiting,
@@ -104,6 +110,7 @@ impl<'a> Core<'a> {
         requires { IsTables self.now.tables }
         ensures given { IfOk result IsGiven }
         ensures output { IfOk result (λ o. is_done o ≡ true → HasOutput self.now.tables.records callee.0) }
+        ensures is { IfOk result (λ o. (rec : TaskRecord) → record_of self.now.tables.records callee.0 ≡ Some rec → o ≡ rec.outcome) }
     {
         if let Some(outcome) = self.tables.outcome(callee)? {
             return Ok(outcome);

@@ -8,6 +8,8 @@ ghost use Rattle.pie_tables.specs.Tabled.{IsKept};
 ghost use Rattle.pie_running.specs.inner.Noted.{IsSound};
 ghost use Rattle.pie_frames.specs.inner.Standing.{Holds};
 ghost use Rattle.pie_bottomup.specs.inner.Exact.{EndsExact, NotesExact, RunsExact};
+ghost use Rattle.pie_bottomup.specs.inner.Going.{EndsWhole, NotesWhole};
+ghost use Rattle.pie_task_laws.specs.Coming.{failed_by};
 ghost use Rattle.pie_bottomup.specs.inner.Finished.{HasFinished, HasSameEdges, HasSettledWith, HasSwept};
 ghost use Rattle.pie_bottomup.specs.inner.Running.{EndsSo};
 ghost use Rattle.pie_bottomup.specs.inner.States.{AreCalled, HasCalled, IsAtRest, IsOwn, IsSite, HasScheduled, MayEnd, GoesTo, Keeps, Nearer, rest};
@@ -60,6 +62,7 @@ impl<'a> Core<'a> {
         ensures nearer { IfOk result (Nearer (rest self.old + 1) self.new) }
         ensures kept { OnOk result (Keeps self.old self.new) }
         ensures exact { IfOk result (NotesExact self.old no from notes self.new) }
+        ensures whole { IfOk result (NotesWhole self.old no from notes (failed_by notes kind) self.new) }
     {
         let fault = Fault {
             task: self.tables.names.task(no).copy()?,
@@ -85,6 +88,7 @@ impl<'a> Core<'a> {
         ensures nearer { IfOk result (Nearer (rest self.old + 1) self.new) }
         ensures kept { OnOk result (Keeps self.old self.new) }
         ensures exact { IfOk result (NotesExact self.old no from notes self.new) }
+        ensures whole { IfOk result (NotesWhole self.old no from notes outcome self.new) }
     {
         let NoteParts { deps, writes, .. } = notes.into_parts();
         let _names = self.tables.names.as_slice();
@@ -117,6 +121,7 @@ impl<'a> Core<'a> {
         ensures same { OnOk result (self.new ≡ record self.old { frames = self.new.frames; tables = self.new.tables }) }
         ensures ran { OnOk result (self.new.tables.ran.items ≡ self.old.tables.ran.items) }
         ensures exact { IfOk result (EndsExact self.old no.0 from rec self.new) }
+        ensures whole { IfOk result (EndsWhole self.old no.0 from rec self.new) }
     {
         let old = self.tables.records.get(no);
         let output = has_other_output(old, &rec);

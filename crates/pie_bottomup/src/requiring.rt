@@ -1,11 +1,14 @@
 //! Tasks that the task that runs requires.
-ghost use Rattle.std.specs.Prelude.{◌≡◌, ◌<◌, ◌+◌, ◌*◌, length, None, Some, All, slice_get, IfOk, OnOk};
+ghost use Rattle.std.specs.Prelude.{◌≡◌, ◌<◌, ◌+◌, ◌*◌, true, length, None, Some, All, slice_get, IfOk, OnOk};
 ghost use Rattle.std.specs.List.{Contains};
 ghost use Rattle.pie_graph.specs.Numbers.{numbers, AllBelow};
 ghost use Rattle.pie_value.specs.Canonical.{IsEncodableTask};
 ghost use Rattle.pie_running.specs.inner.Frames.{IsWaiting};
 ghost use Rattle.pie_frames.specs.inner.Standing.{Holds};
 ghost use Rattle.pie_bottomup.specs.inner.Exact.{RunsExact};
+ghost use Rattle.pie_value.specs.Limits.{is_small_task};
+ghost use Rattle.pie_task_laws.specs.Beginning.{calling};
+ghost use Rattle.pie_bottomup.specs.inner.Going.{ParksWhole, RequiresWhole};
 ghost use Rattle.pie_bottomup.specs.inner.States.{IsOwn, IsSite, GoesTo, Keeps, Nearer, rest};
 
 use crate::cycle::turned;
@@ -35,6 +38,7 @@ impl<'a> Core<'a> {
         ensures nearer { IfOk result (Nearer (rest self.old + 2 * waiting.entry.notes.left + 1) self.new) }
         ensures kept { OnOk result (Keeps self.old self.new) }
         ensures exact { IfOk result (RunsExact self.old no.0 from self.new) }
+        ensures whole { IfOk result (RequiresWhole self.old no from (calling waiting.entry required how) self.new) }
     {
         if !required.is_small() {
             return self.fail(no, from, waiting.into_notes(), FaultKind::Big);
@@ -63,6 +67,7 @@ impl<'a> Core<'a> {
         ensures nearer { IfOk result (Nearer (rest self.old + 2 * caller.entry.waiting.notes.left + 1) self.new) }
         ensures kept { OnOk result (Keeps self.old self.new) }
         ensures exact { IfOk result (RunsExact self.old no.0 from self.new) }
+        ensures whole { is_small_task caller.entry.required ≡ true → IfOk result (RequiresWhole self.old no from caller.entry self.new) }
     {
         let required = caller.required.copy()?;
         if self.is_full() {
@@ -92,6 +97,7 @@ impl<'a> Core<'a> {
         ensures nearer { IfOk result (Nearer (rest self.old + 2 * caller.entry.waiting.notes.left + 1) self.new) }
         ensures kept { OnOk result (Keeps self.old self.new) }
         ensures exact { IfOk result (RunsExact self.old no.0 from self.new) }
+        ensures whole { IfOk result (ParksWhole self.old no.0 from caller.entry callee.0 self.new) }
     {
         match self.frames.park(no, caller, from, callee)? {
             Some(cycle) => {
@@ -132,6 +138,7 @@ impl<'a> Core<'a> {
 fn caller_of<'a>(waiting: Waiting<'a>, required: Task, how: How) -> Caller<'a>
     ensures waiting { result.waiting ≡ waiting.entry }
     ensures required { result.required ≡ required }
+    ensures is { result ≡ calling waiting.entry required how }
 {
     Caller {
         waiting,

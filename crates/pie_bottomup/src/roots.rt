@@ -9,6 +9,7 @@ ghost use Rattle.pie_value.specs.declared.task.Task.{Task};
 ghost use Rattle.pie_record.specs.inner.Records.{record_of};
 ghost use Rattle.pie_results.specs.inner.Failures.{refusal_by, refusal_in};
 ghost use Rattle.pie_running.specs.inner.Noted.{Noted};
+ghost use Rattle.pie_bottomup.specs.inner.Going.{HasGrown, MeetsWhole, RootsWhole};
 ghost use Rattle.pie_bottomup.specs.inner.Exact.{AddsExact, GoesExact, StillBegins};
 ghost use Rattle.pie_bottomup.specs.inner.States.{IsAtRest, IsNextRoot, IsOwn, IsSite, GoesTo, Keeps, Nearer, RootFailed, rest, room};
 
@@ -29,6 +30,7 @@ impl<'a> Core<'a> {
         ensures nearer { IfOk result (Nearer (rest self.old) self.new) }
         ensures kept { OnOk result (Keeps self.old self.new) }
         ensures exact { IfOk result (GoesExact self.old self.new) }
+        ensures whole { IfOk result (RootsWhole self.old self.new) }
     {
         if self.at >= self.plan.roots.len() || self.has_failed()? {
             return Ok(Turn::Settled);
@@ -51,6 +53,7 @@ impl<'a> Core<'a> {
         ensures nearer { IfOk result (Nearer (rest self.old) self.new) }
         ensures kept { OnOk result (Keeps self.old self.new) }
         ensures exact { IfOk result (GoesExact self.old self.new) }
+        ensures whole { IfOk result (MeetsWhole self.old no.0 self.new) }
     {
         self.frames.begin(no)?;
         self.at += 1;
@@ -95,6 +98,7 @@ impl<'a> Core<'a> {
         ensures nearer { IfOk result (Nearer (rest self.old) self.new) }
         ensures kept { OnOk result (Keeps self.old self.new) }
         ensures exact { IfOk result (GoesExact self.old self.new) }
+        ensures whole { IfOk result (RootsWhole self.old self.new) }
     {
         if self.is_full() {
             return Ok(Turn::StartAfresh(self.too_many(root)));
@@ -135,6 +139,8 @@ impl<'a> Core<'a> {
         ensures kept { OnOk result (Keeps self.old self.new) }
         ensures weight { OnOk result (rest self.new ≤ rest self.old) }
         ensures exact { OnOk result (AddsExact self.old self.new) }
+        ensures grown { OnOk result (HasGrown self.old task self.new) }
+        ensures number { IfOk result (λ no. no.0 ≡ length self.old.frames.walk.rows) }
         ensures begins { (n : ℕ) (from : ℕ) → OnOk result (StillBegins self.old self.new n from) }
     {
         let no = self.frames.add()?;

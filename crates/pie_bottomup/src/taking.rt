@@ -5,6 +5,7 @@ ghost use Rattle.pie_frames.specs.inner.Standing.{Holds};
 ghost use Rattle.pie_compare.specs.inner.Standing.{RecordStands};
 ghost use Rattle.pie_graph.specs.Numbers.{IsMarked};
 ghost use Rattle.pie_running.specs.inner.Coded.{IsCodeFor};
+ghost use Rattle.pie_bottomup.specs.inner.Going.{StartsWhole, TakesWhole, WalksWhole};
 ghost use Rattle.pie_bottomup.specs.inner.Exact.{WalksExact, TakesExact, StartsExact, lost_record};
 ghost use Rattle.pie_bottomup.specs.inner.Running.{IsKnown};
 ghost use Rattle.pie_bottomup.specs.inner.States.{StartsOne, IsAsRecorded, IsAtRest, IsSite, GoesTo, Keeps, Nearer, Spends, SpendsOne, rest, room};
@@ -34,6 +35,7 @@ impl<'a> Core<'a> {
         ensures starts { StartsOne runs.old runs.new }
         ensures few { length runs.new ≤ length runs.old + room self.old }
         ensures exact { IfOk result (WalksExact self.old self.new) }
+        ensures whole { IfOk result (WalksWhole self.old self.new) }
     {
         match self.frames.next()? {
             Next::Takes(no) => self.take(no, runs),
@@ -53,6 +55,7 @@ impl<'a> Core<'a> {
         ensures spends { OnOk result (SpendsOne self.old self.new runs.old runs.new) }
         ensures starts { StartsOne runs.old runs.new }
         ensures exact { IfOk result (TakesExact self.old no.0 self.new) }
+        ensures whole { IfOk result (TakesWhole self.old no.0 self.new) }
     {
         match code_of(self.plan.typed, self.plan.code, self.tables.names.task(no)) {
             Some(code) => self.take_known(no, code, runs),
@@ -78,6 +81,7 @@ impl<'a> Core<'a> {
         ensures spends { OnOk result (SpendsOne self.old self.new runs.old runs.new) }
         ensures starts { StartsOne runs.old runs.new }
         ensures exact { IfOk result (StartsExact self.old no.0 self.new) }
+        ensures whole { IfOk result (StartsWhole self.old no.0 code.now self.new) }
     {
         if self.stands(no)? {
             return Ok(self.keep(no));
@@ -98,6 +102,7 @@ impl<'a> Core<'a> {
         ensures nearer { Nearer (rest self.old + 1) self.new result }
         ensures kept { Keeps self.old self.new }
         ensures exact { StartsExact self.old no.0 self.new result }
+        ensures whole { TakesWhole self.old no.0 self.new result }
     {
         let _names = self.tables.names.as_slice();
         self.frames.keep(no);
@@ -132,6 +137,7 @@ impl<'a> Core<'a> {
         ensures spends { OnOk result (SpendsOne self.old self.new runs.old runs.new) }
         ensures starts { StartsOne runs.old runs.new }
         ensures exact { IfOk result (StartsExact self.old no.0 self.new) }
+        ensures whole { IfOk result (StartsWhole self.old no.0 code.now self.new) }
     {
         let _names = self.tables.names.as_slice();
         let from = self.frames.walk().rows().callees(no).len();
@@ -151,6 +157,7 @@ impl<'a> Core<'a> {
         ensures nearer { IfOk result (Nearer (rest self.old + 1) self.new) }
         ensures kept { OnOk result (Keeps self.old self.new) }
         ensures exact { IfOk result (TakesExact self.old no.0 self.new) }
+        ensures whole { IfOk result (TakesWhole self.old no.0 self.new) }
     {
         let _names = self.tables.names.as_slice();
         let rec = lost(self.alloc, self.tables.names.task(no))?;

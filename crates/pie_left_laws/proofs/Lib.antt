@@ -5,4 +5,3 @@ pub mod Holding
 pub mod Going
 pub mod Settling
 pub mod Resting
-pub mod Ended

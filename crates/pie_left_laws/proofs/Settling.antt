@@ -1,15 +1,11 @@
--- What an exact build makes of its tables, once its roots are settled, is an accepted build in the sense of the directory.
+-- What has the records and the files of a clean build, but for those of tasks that didn't run, is an accepted build.
 use Rattle.std.proofs.Common.{ℕ, ◌≡◌, Bool, true, false, cond, Some, List, [], ◌∷◌, map, ◌⊎◌, inl, inr, sym, ◌∙◌, ap, refl, bytes_eq}
 use Rattle.std.specs.Prelude.{Contains}
 use Rattle.pie_value.specs.declared.task.Task.{Task}
-use Rattle.pie_value.specs.declared.verdict.Verdict.TheVariants as verdicts
 use Rattle.pie_value.specs.Canonical.{enc_task}
 use Rattle.pie_tables.specs.declared.tables.Tables.{Tables}
-use Rattle.pie_view.specs.Content.{Staged}
 use Rattle.pie_checks.specs.declared.built.Built.{Built}
 use Rattle.pie_results.specs.inner.Files.{contents_in}
-use Rattle.pie_results.specs.inner.Made.{Makes}
-use Rattle.pie_results.specs.inner.Stored.{HaveEnded, StoredWhere}
 use Rattle.pie_walk.specs.States.{WalkState}
 use Rattle.pie_walk.specs.Standing.{Stands}
 use Rattle.pie_files.specs.Directory.{Directory}
@@ -18,9 +14,9 @@ use Rattle.pie_model.specs.Seen.{first_write}
 use Rattle.pie_model.specs.Evaluation.{World}
 use Rattle.pie_model.specs.Forest.{live_evaluations}
 use Rattle.pie_model.specs.Verdict.{verdict}
+use Rattle.pie_model.specs.declared.words.Verdict.TheVariants.{Accepted}
 use Rattle.pie_model.specs.Built.{bytes_at, store_rows, provided_at}
 use Rattle.pie_model.proofs.Basics.{same_bytes}
-use Rattle.pie_model_pipeline.specs.Rows.{verdict_of}
 use Rattle.pie_model_pipeline.specs.World.{world}
 use Rattle.pie_earlier_laws.specs.Left.{IsThere, AreThere}
 use Rattle.pie_earlier_laws.proofs.Pipelines.{kind_out, write_once}
@@ -28,11 +24,7 @@ use Rattle.pie_core_laws.specs.Update.{Update, present}
 use Rattle.pie_core_laws.specs.Exact.{IsExact}
 use Rattle.pie_core_laws.specs.Keeping.{Separates}
 use Rattle.pie_core_laws.proofs.Seen.{files_written}
-use Rattle.pie_result_laws.specs.Verdicts.{RootsSettle}
-use Rattle.pie_result_laws.specs.Accepted.{AreStagedNow, IsKeptAt, HasClean, HasProvided}
-use Rattle.pie_result_laws.proofs.Failing.{made_verdict}
-use Rattle.pie_result_laws.proofs.Storing.{accepted_clean}
-use Rattle.pie_result_laws.proofs.Filing.{files_provided}
+use Rattle.pie_result_laws.specs.Accepted.{IsKeptAt, HasClean, HasProvided}
 use Rattle.pie_left_laws.specs.Accepted.{OutIsMet, KeptAreThere, IsAccepted}
 use Rattle.pie_left_laws.proofs.Provides.{one_some, no_some, written_out}
 
@@ -56,21 +48,16 @@ module _ (u : Update) (t : Tables) (s : WalkState) (e : IsExact u t.names t.reco
       let is = files_written u t.names t.records s e w apart k.number k.rec p f.0 k.hash k.settled k.kept writes k.first f.1 (met p f.0 out f.1) in
       f.1 ∙ ap Some (one_some f.0 b (sym is ∙ k.wrote))
 
-  pub is_accepted : (staged : Staged) (roots : List Task) (b : Built) → map enc_task roots ≡ u.roots → RootsSettle t.names t.records s roots
-      → Makes t s.rows staged roots b → AreStagedNow u t staged → (HaveEnded t.names t.records s.rows roots → StoredWhere b.verdict t.names roots b)
-      → b.verdict ≡ verdicts.Accepted → IsAccepted u b.rows.items (contents_in b.files.items)
-  is_accepted staged roots b same settle makes st stored accepted =
-      from (accepted_clean u t s staged roots b e w apart settle makes stored accepted) (files_provided u t s staged roots b e w apart settle makes st accepted)
+  pub is_accepted : (roots : List Task) (b : Built) → map enc_task roots ≡ u.roots → verdict world (present u) u.roots ≡ Accepted → HasClean u roots b
+      → HasProvided u t s roots b → IsAccepted u b.rows.items (contents_in b.files.items)
+  is_accepted roots b same accepted c f = record {
+    accepted = accepted;
+    rows = c.rows ∙ ap (store_rows world (present u)) same;
+    only = λ p c i. ap (λ rs. provided_at (live_evaluations world (present u) rs) p) (sym same) ∙ f.only p c i;
+    each = λ p c i. by p c (f.each p c (ap (λ rs. provided_at (live_evaluations world (present u) rs) p) same ∙ i));
+  }
     where
-      from : HasClean u roots b → HasProvided u t s roots b → IsAccepted u b.rows.items (contents_in b.files.items)
-      from c f = record {
-        accepted = ap (verdict world (present u)) (sym same) ∙ sym (made_verdict u t s staged roots b e w apart settle makes) ∙ ap verdict_of accepted;
-        rows = c.rows ∙ ap (store_rows world (present u)) same;
-        only = λ p c i. ap (λ rs. provided_at (live_evaluations world (present u) rs) p) (sym same) ∙ f.only p c i;
-        each = λ p c i. by p c (f.each p c (ap (λ rs. provided_at (live_evaluations world (present u) rs) p) same ∙ i));
-      }
-        where
-          by : (p c : List ℕ) → Contains (contents_in b.files.items) (p, c) ⊎ IsKeptAt u t s p c
-              → Contains (contents_in b.files.items) (p, c) ⊎ (bytes_at u.directory p ≡ Some c)
-          by p c (inl i) = inl i
-          by p c (inr k) = inr (kept_there p c k)
+      by : (p c : List ℕ) → Contains (contents_in b.files.items) (p, c) ⊎ IsKeptAt u t s p c
+          → Contains (contents_in b.files.items) (p, c) ⊎ (bytes_at u.directory p ≡ Some c)
+      by p c (inl i) = inl i
+      by p c (inr k) = inr (kept_there p c k)

@@ -1,10 +1,9 @@
-//! What an exact build makes once its roots are settled.
-ghost use Rattle.pie_left_laws.specs.Accepted.{EndedBuildsAreAccepted, EndedWalksHaveWritten, SettledBuildsAreAccepted};
+//! What an exact build makes at its end.
+ghost use Rattle.pie_left_laws.specs.Accepted.{CleanResultsAreAccepted, IdleWritesAreKept};
 
-/// An accepted build by what changed has the records of a clean build, and each file that a clean build provides is among its files or there already.
-/// What tasks wrote while it went on is there or staged at its end, so what is made at the end of its walk is one. Rule: docs/MODEL.md.
-pub fn settled_builds_are_accepted()
-    ensures accepted { SettledBuildsAreAccepted }
-    ensures written { EndedWalksHaveWritten }
-    ensures ended { EndedBuildsAreAccepted }
+/// Where what an exact build makes has the records and the files of a clean build, but for files of tasks that didn't run, each file that a clean build
+/// provides is among its files or there already. Rule: docs/MODEL.md.
+pub fn clean_results_are_accepted()
+    ensures accepted { CleanResultsAreAccepted }
+    ensures kept { IdleWritesAreKept }
 {}

@@ -7,7 +7,7 @@ mod held;
 mod placed;
 mod reported;
 
-pub use accepted::settled_builds_are_accepted;
+pub use accepted::clean_results_are_accepted;
 pub use bases::builds_go_on;
 pub use held::old_records_hold_rightly;
 pub use placed::placed_builds_are_built;

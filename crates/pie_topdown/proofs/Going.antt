@@ -1,16 +1,15 @@
 -- Steps and roots, one after another.
-use Rattle.std.proofs.Common.{◌≡◌, ◌⊎◌, ℕ, ◌+◌, ◌<◌, ◌≤◌, List, [], ◌∷◌, ◌++◌, Some, length, take, get_or, refl, sym, ap, subst, ◌∙◌, inl, inr, arith}
+use Rattle.std.proofs.Common.{◌≡◌, ℕ, ◌+◌, ◌<◌, ◌≤◌, List, [], ◌∷◌, ◌++◌, Some, length, take, get_or, refl, sym, ap, subst, ◌∙◌, inl, inr, arith}
 use Rattle.std.specs.Prelude.{slice_get}
-use Rattle.std.specs.List.{All}
 use Rattle.std.proofs.lemmas.List.{append_assoc, append-nil, length-append, take_more, take_all}
 use Rattle.std.proofs.lemmas.List.Elements.{All-append, All-push, All-weaker}
 use Rattle.pie_value.specs.declared.task.Task.{Task}
 use Rattle.pie_value.specs.Canonical.{IsEncodableTask}
 use Rattle.pie_topdown.specs.declared.ledger.Ledger.{Ledger}
 use Rattle.pie_topdown.specs.declared.builder.Builder.{Builder}
-use Rattle.pie_topdown.specs.inner.Ledgers.{Grows, HasOutput}
+use Rattle.pie_topdown.specs.inner.Ledgers.{Grows}
 use Rattle.pie_topdown.specs.inner.Roots.{AreSettled, Continues, IsSettledRoot, Started}
-use Rattle.pie_topdown.specs.inner.Turns.{Keeps, StartsOne, room}
+use Rattle.pie_topdown.specs.inner.Turns.{Keeps, StartsOne}
 use Rattle.pie_topdown.proofs.Keeping.{named_more, same_grows}
 
 -- ---- the ledger

@@ -1,13 +1,12 @@
 -- What is in hand, and what waits, while tasks are entered and end.
-use Rattle.std.proofs.Common.{◌≡◌, ℕ, ◌+◌, ◌*◌, ◌<◌, ◌≤◌, List, [], ◌∷◌, ◌++◌, Option, Some, length, map, take, sym, ap, subst, ◌∙◌, refl, arith}
-use Rattle.std.specs.Prelude.{IfSome, slice_get}
+use Rattle.std.proofs.Common.{◌≡◌, ℕ, ◌+◌, ◌*◌, ◌≤◌, List, [], ◌∷◌, ◌++◌, Option, Some, length, map, take, sym, ap, subst, ◌∙◌, refl, arith}
+use Rattle.std.specs.Prelude.{slice_get}
 use Rattle.std.specs.List.{All}
 use Rattle.std.proofs.lemmas.List.Elements.{All-weaker, All-push}
 use Rattle.pie_value.specs.declared.task.Task.{Task}
 use Rattle.pie_graph.specs.Numbers.{AllBelow, numbers}
 use Rattle.pie_old.specs.inner.Rows.{needs_in, tasks_at}
 use Rattle.pie_record.specs.declared.dep.DepOn.TheVariants.{Called}
-use Rattle.pie_running.specs.declared.frame.RunningTask.{RunningTask}
 use Rattle.pie_running.specs.declared.frame.Caller.{Caller}
 use Rattle.pie_running.specs.declared.frame.Told.{Told}
 use Rattle.pie_running.specs.declared.frame.Told.TheVariants as tolds

@@ -1,7 +1,7 @@
 -- What a build makes whose roots have outputs.
-use Rattle.std.proofs.Common.{◌≡◌, ℕ, List, Some, length, get_or, sym, ap, subst, ◌∙◌, refl, inl, inr, ◌⊎◌, ◌<◌}
+use Rattle.std.proofs.Common.{◌≡◌, ℕ, List, Some, get_or, sym, subst, ◌∙◌, inl, inr, ◌⊎◌, ◌<◌}
 use Rattle.std.specs.Prelude.{slice_get}
-use Rattle.std.specs.List.{All, Contains}
+use Rattle.std.specs.List.{Contains}
 use Rattle.std.proofs.lemmas.Bool.{cases_order}
 use Rattle.std.proofs.lemmas.List.Elements.{All-contains, All-weaker, Contains-get_or}
 use Rattle.std.proofs.lemmas.Option.{slice_get_within, get_or_from_slice_get}
@@ -15,7 +15,6 @@ use Rattle.pie_record.specs.declared.task_record.TaskRecord.{TaskRecord}
 use Rattle.pie_record.specs.inner.Names.{AreDistinct}
 use Rattle.pie_settle_laws.proofs.Ordering.{acyclic}
 use Rattle.pie_checks.specs.declared.built.Built.{Built}
-use Rattle.pie_results.specs.inner.Live.{AreLive}
 use Rattle.pie_results.specs.inner.Stored.{HaveEnded, StoredWhere}
 use Rattle.pie_topdown.specs.declared.builder.Builder.{Builder}
 use Rattle.pie_topdown.specs.declared.ledger.Ledger.{Ledger}

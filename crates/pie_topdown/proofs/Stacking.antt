@@ -1,5 +1,5 @@
 -- What waits comes and goes.
-use Rattle.std.proofs.Common.{◌≡◌, ℕ, ◌+◌, ◌-◌, ◌*◌, ◌<◌, ◌≤◌, List, [], ◌∷◌, ◌++◌, Option, Some, None, length, sym, ap, subst, ◌∙◌, refl, arith}
+use Rattle.std.proofs.Common.{◌≡◌, ℕ, ◌+◌, ◌-◌, ◌*◌, ◌<◌, ◌≤◌, List, [], ◌∷◌, ◌++◌, Option, Some, None, length, sym, ap, subst, ◌∙◌, arith}
 use Rattle.std.specs.Prelude.{IfSome, slice_get}
 use Rattle.std.specs.List.{All, Contains}
 use Rattle.std.specs.Option.{option_to_list}
@@ -15,7 +15,7 @@ use Rattle.pie_topdown.specs.declared.ledger.Ledger.{Ledger}
 use Rattle.pie_topdown.specs.declared.hand.Frame.{Frame}
 use Rattle.pie_topdown.specs.inner.Ledgers.{IsLedger, Grows}
 use Rattle.pie_topdown.specs.inner.Frames.{AreKnown, IsFrame, IsSite, MayStart}
-use Rattle.pie_topdown.specs.inner.Turns.{Keeps, below, frame_mass, frame_room, room, stack_mass, stack_room, still}
+use Rattle.pie_topdown.specs.inner.Turns.{Keeps, frame_mass, frame_room, stack_mass, stack_room, still}
 use Rattle.pie_topdown.proofs.Growing.{frames_grow}
 use Rattle.pie_topdown.proofs.Keeping.{same_grows}
 

@@ -3,6 +3,7 @@ ghost use Rattle.std.specs.Prelude.{◌≡◌, true, IfOk};
 ghost use Rattle.pie_build.specs.Left.{KeepsRest};
 ghost use Rattle.pie_build.specs.Stored.{MayStand};
 ghost use Rattle.pie_commit.specs.inner.Plans.{is_sound};
+ghost use Rattle.pie_files.specs.Reading.{ReadsOnly};
 ghost use Rattle.pie_files.specs.Streams.{Counted};
 ghost use Rattle.pie_incremental.specs.inner.Joined.{ChangesOut, IsDrafted};
 ghost use Rattle.pie_results.specs.inner.Files.{InPathOrder};

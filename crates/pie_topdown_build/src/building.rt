@@ -7,6 +7,7 @@ ghost use Rattle.pie_files.specs.Streams.{Counted};
 ghost use Rattle.pie_incremental.specs.inner.Joined.{IsImage, IsMade};
 ghost use Rattle.pie_store.specs.Canonical.{AreFuncs};
 ghost use Rattle.pie_value.specs.Canonical.{IsEncodableTask};
+ghost use Rattle.pie_topdown_build.specs.Refusals.{KeepsRefused};
 ghost use Rattle.pie_topdown_build.specs.inner.Bases.{Quiet};
 
 use crate::accepting::{Made, accept};
@@ -36,6 +37,7 @@ pub fn build_topdown<F: Files>(
 ) -> Result<Report, BuildError>
     ensures rest { KeepsRest (F.holds files.old) (F.holds files.new) }
     ensures refused { IsRefusal result → F.holds files.new ≡ F.holds files.old }
+    ensures kept { IfSome (F.holds files.old) (λ d. IfOk result (λ r. KeepsRefused r.verdict d (F.holds files.new))) }
     ensures ran { IfOk result (λ r. runs.new ≡ runs.old ++ r.ran.items) }
     ensures few { length runs.new ≤ length runs.old + 50000 }
     ensures encodable { IfOk result (λ r. All IsEncodableTask r.ran.items) }
@@ -58,6 +60,7 @@ fn afresh<F: Files>(
 ) -> Result<Report, BuildError>
     ensures rest { KeepsRest (F.holds files.old) (F.holds files.new) }
     ensures refused { IsRefusal result → F.holds files.new ≡ F.holds files.old }
+    ensures kept { IfSome (F.holds files.old) (λ d. IfOk result (λ r. KeepsRefused r.verdict d (F.holds files.new))) }
     ensures fresh { IfOk result (λ r. r.fresh ≡ Some cause) }
     ensures ran { IfOk result (λ r. runs.new ≡ runs.old ++ r.ran.items) }
     ensures few { length runs.new ≤ length runs.old + 50000 }
@@ -84,6 +87,7 @@ fn from<F: Files>(
     requires { IsImage base.value.image }
     ensures rest { KeepsRest (F.holds files.old) (F.holds files.new) }
     ensures refused { IsRefusal result → F.holds files.new ≡ F.holds files.old }
+    ensures kept { IfSome (F.holds files.old) (λ d. IfOk result (λ r. KeepsRefused r.verdict d (F.holds files.new))) }
     ensures ran { IfOk result (λ r. runs.new ≡ runs.old ++ r.ran.items) }
     ensures few { length runs.new ≤ length runs.old + 50000 }
     ensures encodable { IfOk result (λ r. All IsEncodableTask r.ran.items) }
@@ -109,6 +113,7 @@ fn with_project<F: Files>(
     requires funcs { AreFuncs project.now.digests.items }
     ensures rest { KeepsRest (F.holds files.old) (F.holds files.new) }
     ensures refused { IsRefusal result → F.holds files.new ≡ F.holds files.old }
+    ensures kept { IfSome (F.holds files.old) (λ d. IfOk result (λ r. KeepsRefused r.verdict d (F.holds files.new))) }
     ensures ran { IfOk result (λ r. runs.new ≡ runs.old ++ r.ran.items) }
     ensures few { length runs.new ≤ length runs.old + 50000 }
     ensures encodable { IfOk result (λ r. All IsEncodableTask r.ran.items) }

@@ -44,7 +44,7 @@ pub(crate) fn evaluate<F: Files>(
 }
 
 // The same with the code of the functions.
-#[tactic(auto, using(crate::proofs::Making::made))]
+#[tactic(auto, using(pie_files::proofs::Reading::reads))]
 fn settled<F: Files>(
     alloc: Global,
     files: &mut F,

@@ -20,7 +20,7 @@ func footer() -> text { trim(get(read(path(\"inc/foot\")))) }
 func site() -> int { len([require page(p) for p in list(path(\"src\"))]) }
 ";
 
-const SITE_FILES: [(&str, &str); 6] = [
+pub(crate) const SITE_FILES: [(&str, &str); 6] = [
     ("pie.pipeline", SITE),
     ("pie.roots", "site()\n"),
     ("src/a", "A\n"),

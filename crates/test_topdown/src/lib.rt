@@ -1,6 +1,8 @@
-//! Tests of `pie_topdown` and `pie_topdown_build`: builds that need no list of changes, beside clean builds of copies.
+//! Tests of `pie_topdown`, `pie_topdown_build` and `pie_auto`: builds that are given no list of changes, beside clean builds of copies.
 #![tactic(auto)]
 
+#[cfg(test)]
+mod auto_tests;
 #[cfg(test)]
 mod cases;
 #[cfg(test)]

@@ -14,19 +14,28 @@ use std::test::Fail;
 /// The content that stands for no file.
 pub(crate) const GONE: &str = "\u{1}";
 
-fn path(alloc: Global, text: &str) -> Result<Path, Fail> {
+pub(crate) fn path(alloc: Global, text: &str) -> Result<Path, Fail> {
     Ok(Path::read(alloc, text).map_err(|_| "path")?)
 }
 
 // Puts files, or removes them.
-fn fill(alloc: Global, files: &mut SureFiles, held: &[(&str, &str)]) -> Result<(), Fail> {
+pub(crate) fn fill(
+    alloc: Global,
+    files: &mut SureFiles,
+    held: &[(&str, &str)],
+) -> Result<(), Fail> {
     for (name, text) in held {
         set(alloc, files, *name, *text)?;
     }
     Ok(())
 }
 
-fn set(alloc: Global, files: &mut SureFiles, name: &str, text: &str) -> Result<(), Fail> {
+pub(crate) fn set(
+    alloc: Global,
+    files: &mut SureFiles,
+    name: &str,
+    text: &str,
+) -> Result<(), Fail> {
     let path = path(alloc, name)?;
     if text == GONE {
         files.remove(&path)?;
@@ -37,7 +46,11 @@ fn set(alloc: Global, files: &mut SureFiles, name: &str, text: &str) -> Result<(
 }
 
 // The same but for what a build leaves.
-fn fill_sources(alloc: Global, files: &mut SureFiles, held: &[(&str, &str)]) -> Result<(), Fail> {
+pub(crate) fn fill_sources(
+    alloc: Global,
+    files: &mut SureFiles,
+    held: &[(&str, &str)],
+) -> Result<(), Fail> {
     for (name, text) in held {
         if !name.starts_with("out/") && !name.starts_with(".pie/") {
             set(alloc, files, *name, *text)?;
@@ -55,12 +68,12 @@ fn told(alloc: Global, files: &mut SureFiles) -> Result<(String, bool), Fail> {
     }
 }
 
-fn text_of(alloc: Global, report: &Report) -> Result<(String, bool), Fail> {
+pub(crate) fn text_of(alloc: Global, report: &Report) -> Result<(String, bool), Fail> {
     let text = print(alloc, report)?;
     Ok((text, matches!(report.verdict, Verdict::Accepted)))
 }
 
-fn clean(alloc: Global, files: &mut SureFiles) -> Result<(String, bool), Fail> {
+pub(crate) fn clean(alloc: Global, files: &mut SureFiles) -> Result<(String, bool), Fail> {
     let mut runs = Runs::new(alloc);
     match rebuild(alloc, files, &mut runs) {
         Ok(report) => text_of(alloc, &report),
@@ -69,7 +82,7 @@ fn clean(alloc: Global, files: &mut SureFiles) -> Result<(String, bool), Fail> {
 }
 
 // All files below a directory, as one text.
-fn below(alloc: Global, files: &mut SureFiles, dir: &str) -> Result<Vec<u8>, Fail> {
+pub(crate) fn below(alloc: Global, files: &mut SureFiles, dir: &str) -> Result<Vec<u8>, Fail> {
     let dir = path(alloc, dir)?;
     let mut all = Vec::new(alloc);
     for at in files.all_under(&dir)? {
@@ -89,7 +102,7 @@ fn add_file(files: &mut SureFiles, at: &Path, all: &mut Vec<u8>) -> Result<(), F
 }
 
 // What stands under `out/`, and the builder's own files.
-fn left(alloc: Global, files: &mut SureFiles) -> Result<Vec<u8>, Fail> {
+pub(crate) fn left(alloc: Global, files: &mut SureFiles) -> Result<Vec<u8>, Fail> {
     let mut all = below(alloc, files, "out")?;
     let own = below(alloc, files, ".pie")?;
     all.extend_from_slice(own.as_slice())?;

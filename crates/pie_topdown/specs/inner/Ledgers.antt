@@ -1,5 +1,5 @@
 -- The tasks that were entered, by their numbers.
-use Rattle.std.specs.Prelude.{◌≡◌, ℕ, ◌<◌, true, List, [], ◌++◌, length, map, Some, slice_get, slice_index}
+use Rattle.std.specs.Prelude.{◌≡◌, ℕ, ◌<◌, true, List, [], ◌++◌, length, map, Some, slice_index}
 use Rattle.pie_value.specs.declared.task.Task.{Task}
 use Rattle.pie_graph.specs.Rows.{Row, row_at, Calls}
 use Rattle.pie_order.specs.Places.{StandsBefore}

@@ -3,6 +3,7 @@ use Rattle.std.specs.Prelude.{slice_get}
 use Rattle.pie_value.specs.declared.task.Task.{Task}
 use Rattle.pie_bottomup.proofs.Sites.{site_grown, own_grown, last_named}
 use Rattle.pie_bottomup.proofs.ExactGrowing.{grown_exact, begins_still}
+use Rattle.std.proofs.Common.{refl}
 use Rattle.pie_bottomup.proofs.state.Core.add.Goals as goal
 
 pub returns-clause-site : goal.returns-clause-site
@@ -29,3 +30,15 @@ returns-clause-exact c = λ stands u e.
 pub returns-clause-begins : goal.returns-clause-begins
 returns-clause-begins c = λ n from.
     begins_still c.args.self.now c.add.new.self c.add-2.new.self c.args.task c.in_ok-no.ensures.added c.in_ok-_same.ensures.added c.add-2.ensures.records n from
+
+pub returns-clause-grown : goal.returns-clause-grown
+returns-clause-grown c = record {
+  names = c.in_ok-_same.ensures.added;
+  records = c.add-2.ensures.records;
+  walk = c.in_ok-no.ensures.added;
+  stage = refl;
+  parked = c.add.ensures.parked;
+  ran = c.in_ok-_same.ensures.ran;
+  tasks = record { distinct = c.as_slice-names.ensures.distinct; canonical = c.as_slice-names.ensures.canonical };
+  few = c.requires.few;
+}

@@ -2,6 +2,8 @@ use Rattle.std.proofs.Common.{ap, refl}
 use Rattle.pie_results.specs.inner.Failures.{is_done}
 use Rattle.pie_bottomup.proofs.Owning.{given_own}
 use Rattle.pie_bottomup.proofs.ExactSteps.{caller_runs, waiting_for}
+use Rattle.std.proofs.Common.{◌∙◌, sym}
+use Rattle.pie_bottomup.proofs.GoingAnswers.{answer_fails, caller_works}
 use Rattle.pie_bottomup.proofs.state.Core.answer.Goals as goal
 
 pub returns-in_ok-task-in-Done-clause-turns : goal.returns-in_ok-task-in-Done-clause-turns
@@ -23,3 +25,15 @@ pub returns-in_default-clause-exact : goal.returns-in_default-clause-exact
 returns-in_default-clause-exact c =
     caller_runs c.args.self.now c.end_below.new.self c.args.no c.args.parked.from c.args.parked.caller c.end_below.result
     (waiting_for c.args.self.now c.args.no c.args.parked c.requires.number c.requires.parked c.requires.caller) c.end_below.ensures.exact
+
+pub returns-in_default-clause-whole : goal.returns-in_default-clause-whole
+returns-in_default-clause-whole c =
+    answer_fails c.args.self.now c.end_below.new.self c.args.no c.args.parked c.in_ok-failed.failed c.end_below.result c.requires.holds c.requires.number
+    c.requires.caller c.requires.settled (waiting_for c.args.self.now c.args.no c.args.parked c.requires.number c.requires.parked c.requires.caller)
+    c.end_below.ensures.failed c.in_ok-failed.ensures.is c.end_below.ensures.whole
+
+pub returns-in_ok-task-in-Done-clause-whole : goal.returns-in_ok-task-in-Done-clause-whole
+returns-in_ok-task-in-Done-clause-whole c = λ u now canonical e begins from.
+    caller_works u c.args.self.now c.args.no c.args.parked now e c.requires.holds c.requires.number c.requires.caller c.requires.settled from
+    c.in-Done.output c.in_ok-task-in-Done.task canonical (λ q kept. sym c.in-Done.is ∙ c.in_ok-failed.ensures.is q kept)
+    c.in_ok-task-in-Done.ensures.told begins

@@ -3,6 +3,7 @@ use Rattle.std.proofs.lemmas.Option.{slice_get_within}
 use Rattle.pie_bottomup.specs.inner.States.{RunsOrRests}
 use Rattle.pie_bottomup.proofs.Sites.{site_begun}
 use Rattle.pie_bottomup.proofs.ExactWalking.{begun_exact}
+use Rattle.pie_bottomup.proofs.GoingRoots.{begun_whole}
 use Rattle.pie_bottomup.proofs.state.Core.begin.Goals as goal
 
 pub returns-clause-turns : goal.returns-clause-turns
@@ -17,3 +18,9 @@ returns-clause-exact c = λ u plan e.
     begun_exact u c.args.self.now c.begin.new.self c.args.no e c.requires.rests.rests c.in_ok-begin.ensures.rests
     (omega (arith, slice_get_within c.args.self.now.tables.names c.args.no.0 c.requires.root.root c.requires.root.named, c.requires.rests.site.sized)) c.in_ok-begin.ensures.began
     c.begin.ensures.parked
+
+pub returns-clause-whole : goal.returns-clause-whole
+returns-clause-whole c = λ u now e may.
+    begun_whole u c.args.self.now c.begin.new.self c.args.no e c.requires.rests.rests c.in_ok-begin.ensures.rests
+    (omega (arith, slice_get_within c.args.self.now.tables.names c.args.no.0 c.requires.root.root c.requires.root.named, c.requires.rests.site.sized))
+    c.in_ok-begin.ensures.began c.begin.ensures.parked c.requires.free may

@@ -3,6 +3,8 @@ use Rattle.pie_running.specs.inner.Noted.{Noted}
 use Rattle.pie_bottomup.specs.inner.States.{MayEnd}
 use Rattle.pie_bottomup.proofs.Owning.{ends_so}
 use Rattle.pie_bottomup.proofs.ExactSteps.{noted_exact}
+use Rattle.std.proofs.Common.{refl}
+use Rattle.pie_bottomup.proofs.GoingEvents.{notes_goes}
 use Rattle.pie_bottomup.proofs.state.Core.end_as.Goals as goal
 
 pub end_with-requires-clause-ends : goal.end_with-requires-clause-ends
@@ -17,3 +19,10 @@ returns-clause-exact c =
     noted_exact c.args.self.now c.end_with.new.self c.args.no c.args.from c.args.notes
     (record { task = c.in_ok-copy.field-0; deps = c.new.result; writes = c.new-2.result; outcome = c.args.outcome }) c.end_with.result
     (c.new.ensures ∙ sym (ap (λ (n : Noted). n.deps) c.into_parts-deps.ensures)) c.end_with.ensures.exact
+
+pub returns-clause-whole : goal.returns-clause-whole
+returns-clause-whole c =
+    notes_goes c.args.self.now c.end_with.new.self c.args.no c.args.from c.args.notes c.args.outcome
+    (record { task = c.in_ok-copy.field-0; deps = c.new.result; writes = c.new-2.result; outcome = c.args.outcome }) c.end_with.result
+    (c.task.ensures ∙ ap Some (sym c.in_ok-copy.ensures)) (c.new.ensures ∙ sym (ap (λ (n : Noted). n.deps) c.into_parts-deps.ensures))
+    (c.new-2.ensures ∙ sym (ap (λ (n : Noted). n.writes) c.into_parts-deps.ensures)) refl c.end_with.ensures.whole

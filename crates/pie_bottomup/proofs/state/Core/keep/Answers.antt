@@ -2,6 +2,7 @@ use Rattle.std.proofs.Common.{sym, subst}
 use Rattle.pie_bottomup.specs.inner.States.{RunsOrRests}
 use Rattle.pie_bottomup.proofs.Settling.{site_kept}
 use Rattle.pie_bottomup.proofs.ExactEnding.{kept_exact}
+use Rattle.pie_bottomup.proofs.GoingEnds.{kept_whole}
 use Rattle.pie_bottomup.proofs.state.Core.keep.Goals as goal
 
 pub returns-clause-turns : goal.returns-clause-turns
@@ -15,3 +16,8 @@ pub returns-clause-exact : goal.returns-clause-exact
 returns-clause-exact c = λ u plan taken.
     kept_exact u c.args.self.now c.keep.new.self c.args.no plan taken c.requires.holds c.requires.same c.requires.stands c.keep.ensures.kept c.keep.ensures.parked
     c.keep.ensures.rests
+
+pub returns-clause-whole : goal.returns-clause-whole
+returns-clause-whole c = λ u before now from.
+    kept_whole u c.args.self.now c.keep.new.self c.args.no before now.plan from c.requires.holds c.requires.same c.requires.stands c.keep.ensures.kept
+    c.keep.ensures.parked c.keep.ensures.rests c.requires.free

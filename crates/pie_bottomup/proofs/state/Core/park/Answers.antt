@@ -7,6 +7,7 @@ use Rattle.pie_bottomup.specs.inner.States.{RunsOrRests}
 use Rattle.pie_bottomup.proofs.Sites.{site_parked}
 use Rattle.pie_bottomup.proofs.Cycles.{cycle_in_hand, there_is}
 use Rattle.pie_bottomup.proofs.ExactGrowing.{parked_exact}
+use Rattle.pie_bottomup.proofs.GoingEvents.{parked_whole}
 use Rattle.pie_bottomup.proofs.state.Core.park.Goals as goal
 
 pub tasks_of-requires : goal.tasks_of-requires
@@ -33,3 +34,10 @@ returns-in-None-clause-exact c = λ u plan e begins right.
     let has : HasParked c.args.self.now.frames c.park.new.self c.args.no p = rw c.in-None.is at c.in_ok-cycle.ensures.parked in
     parked_exact u c.args.self.now c.park.new.self c.args.no p e c.requires.holds has c.requires.own.number c.requires.number c.requires.own.row.within
     begins c.requires.free
+
+pub returns-in-None-clause-whole : goal.returns-in-None-clause-whole
+returns-in-None-clause-whole c = λ u now e begins may.
+    let p : Parked = record { caller = c.args.caller; from = c.args.from; callee = c.args.callee } in
+    let has : HasParked c.args.self.now.frames c.park.new.self c.args.no p = rw c.in-None.is at c.in_ok-cycle.ensures.parked in
+    parked_whole u c.args.self.now c.park.new.self c.args.no p e c.requires.holds has c.requires.own.number c.requires.number c.requires.own.row.within
+    begins c.requires.free may

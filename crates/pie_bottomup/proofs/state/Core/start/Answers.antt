@@ -10,6 +10,14 @@ use Rattle.pie_bottomup.specs.inner.Running.{IsKnown}
 use Rattle.pie_bottomup.proofs.Owning.{started_own, own_tables}
 use Rattle.pie_bottomup.proofs.Sites.{site_tables}
 use Rattle.pie_bottomup.proofs.ExactGrowing.{started_exact}
+use Rattle.std.proofs.lemmas.Option.{slice_get_within}
+use Rattle.pie_parser.specs.FunctionTrees.{FunctionTree}
+use Rattle.pie_value.specs.declared.task.Task.{Task}
+use Rattle.pie_code.specs.declared.code.Code.{Code}
+use Rattle.pie_running.specs.inner.Coded.{HasFunction}
+use Rattle.pie_running.specs.inner.Frames.{IsStarted}
+use Rattle.pie_compare_laws.proofs.Ways.{one_some}
+use Rattle.pie_bottomup.proofs.GoingEnds.{started_whole}
 use Rattle.pie_bottomup.proofs.state.Core.start.Goals as goal
 
 pub returns-clause-turns : goal.returns-clause-turns
@@ -49,3 +57,20 @@ returns-clause-exact c = λ u plan taken.
     let hand : InHand = record { no = c.args.no; from = length c.callees-from.result.now; task = c.in_ok-task.task } in
     started_exact u self c.runs.new.self c.args.no hand taken c.requires.holds c.runs.ensures.names c.runs.ensures.records c.runs.ensures.ran refl
     (sym (length-map c.callees-from.result.now (λ (t : TaskNo). t.0)) ∙ ap length needs)
+
+pub returns-clause-whole : goal.returns-clause-whole
+returns-clause-whole c = λ code_is u before now from.
+    let self = c.args.self.now in
+    let task = c.in_ok-task.task in
+    let started = c.in_ok-task.ensures.started in
+    let its : from.task ≡ c.task.result.now = one_some from.task c.task.result.now (sym from.takes.named ∙ c.task.ensures) in
+    let needs : numbers c.callees-from.result.now ≡ (row_at self.frames.walk.rows c.args.no.0).needs =
+    c.callees-from.ensures.callees ∙ ap (λ (rows : List Row). (row_at rows c.args.no.0).needs) (c.rows.ensures ∙ ap (λ w. w.rows) c.walk.ensures) in
+    let hand : InHand = record { no = c.args.no; from = length c.callees-from.result.now; task = task } in
+    started_whole u self c.runs.new.self c.args.no hand before from c.requires.holds c.runs.ensures.names c.runs.ensures.records c.runs.ensures.ran
+    (omega (arith, slice_get_within self.tables.names c.args.no.0 from.task from.takes.named, c.requires.site.tables.flags)) refl
+    (sym (length-map c.callees-from.result.now (λ (t : TaskNo). t.0)) ∙ ap length needs)
+    (subst (HasFunction u.functions self.plan.code.now from.task) (sym started.coded)
+    (subst (λ (fs : List FunctionTree). HasFunction fs self.plan.code.now from.task c.args.code.now) now.plan.functions (code_is from.task from.takes.named)))
+    (subst (λ (code : Code). IsStarted code from.task c.args.no.0 task) (sym started.coded)
+    (subst (λ (x : Task). IsStarted c.args.code.now x c.args.no.0 task) (sym its) started))

@@ -3,6 +3,7 @@ use Rattle.std.specs.Prelude.{IfSome}
 use Rattle.pie_value.specs.declared.task.Task.{Task}
 use Rattle.pie_running.specs.inner.Coded.{IsCodeFor}
 use Rattle.pie_bottomup.proofs.ExactSteps.{take_starts}
+use Rattle.pie_bottomup.proofs.GoingSteps.{known_goes}
 use Rattle.pie_bottomup.proofs.state.Core.take.Goals as goal
 
 pub lose-requires-clause-none : goal.lose-requires-clause-none
@@ -12,3 +13,8 @@ lose-requires-clause-none c =
 
 pub returns-in-Some-clause-exact : goal.returns-in-Some-clause-exact
 returns-in-Some-clause-exact c = take_starts c.args.self.now c.take_known.new.self c.args.no.0 c.take_known.result c.take_known.ensures.exact
+
+pub returns-in-Some-clause-whole : goal.returns-in-Some-clause-whole
+returns-in-Some-clause-whole c =
+    known_goes c.args.self.now c.take_known.new.self c.args.no.0 c.in-Some.code.now c.task.result.now c.take_known.result c.task.ensures
+    (rw c.in-Some.is at c.code_of.ensures.found) c.take_known.ensures.whole

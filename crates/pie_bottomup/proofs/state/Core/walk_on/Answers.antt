@@ -1,6 +1,7 @@
 use Rattle.pie_frames.specs.inner.Turns.{HasTaken, HasAnswered, IsOver}
 use Rattle.pie_bottomup.proofs.Sites.{site_taken, taken_recorded, site_answered, callee_settled, rests_over}
 use Rattle.pie_bottomup.proofs.ExactSteps.{walk_takes, walk_answers, walk_idles}
+use Rattle.pie_bottomup.proofs.GoingAnswers.{takes_goes, answers_goes, idles_goes}
 use Rattle.pie_bottomup.proofs.state.Core.walk_on.Goals as goal
 
 pub take-requires-clause-site : goal.take-requires-clause-site
@@ -49,3 +50,20 @@ returns-in-Idle-clause-exact c =
     let over : IsOver c.args.self.now.frames c.next.new.self = rw c.in-Idle.is at c.in_ok-no.ensures in
     walk_idles c.args.self.now c.next.new.self c.next_root.new.self c.next_root.result c.requires.rests.rests over
     c.next_root.ensures.exact
+
+pub returns-in-Takes-clause-whole : goal.returns-in-Takes-clause-whole
+returns-in-Takes-clause-whole c =
+    let has : HasTaken c.args.self.now.frames c.next.new.self c.in-Takes.no = rw c.in-Takes.is at c.in_ok-no.ensures in
+    takes_goes c.args.self.now c.next.new.self c.take.new.self c.take.result c.requires.rests.rests c.in-Takes.no has c.requires.rests.site.sized
+    c.take.ensures.whole
+
+pub returns-in-Answers-clause-whole : goal.returns-in-Answers-clause-whole
+returns-in-Answers-clause-whole c =
+    let has : HasAnswered c.args.self.now.frames c.next.new.self c.in-Answers.no c.in-Answers.parked = rw c.in-Answers.is at c.in_ok-no.ensures in
+    answers_goes c.args.self.now c.next.new.self c.answer.new.self c.answer.result c.requires.rests.rests c.in-Answers.no c.in-Answers.parked has
+    c.answer.ensures.whole
+
+pub returns-in-Idle-clause-whole : goal.returns-in-Idle-clause-whole
+returns-in-Idle-clause-whole c =
+    let over : IsOver c.args.self.now.frames c.next.new.self = rw c.in-Idle.is at c.in_ok-no.ensures in
+    idles_goes c.args.self.now c.next.new.self c.next_root.new.self c.next_root.result c.requires.rests.rests over c.next_root.ensures.whole

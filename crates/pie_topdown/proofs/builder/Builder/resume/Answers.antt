@@ -1,8 +1,8 @@
-use Rattle.std.proofs.Common.{◌≡◌, ◌+◌, ◌*◌, ◌++◌, Some, ap, subst, ◌∙◌, arith}
+use Rattle.std.proofs.Common.{◌++◌, Some, ap, subst, ◌∙◌, arith}
 use Rattle.std.specs.Prelude.{IfOk}
 use Rattle.std.specs.Option.{option_to_list}
 use Rattle.pie_topdown.specs.declared.hand.Frame.TheVariants as frames
-use Rattle.pie_topdown.specs.inner.Turns.{Fits, Nearer, frame_mass, frame_room, stack_mass, stack_room}
+use Rattle.pie_topdown.specs.inner.Turns.{Fits, Nearer}
 use Rattle.pie_topdown.proofs.Stacking.{popped_mass, popped_room}
 use Rattle.pie_topdown.proofs.builder.Builder.resume.Goals as goal
 

@@ -18,3 +18,19 @@ steps-preserved g c =
       both_before g.F.Files.holds g.F.Files.moment g.F.Files.left_since g.F.Files.images c.args.files.now c.steps.files c.step.new.files before.4
           before.6 c.step.ensures.reads.crash,
     )
+
+pub returns-in_err-next-clause-started : goal.returns-in_err-next-clause-started
+returns-in_err-next-clause-started g c =
+    started_more c.args.runs.now c.steps.runs c.step.new.runs c.steps.invariant.2 c.step.ensures.starts
+
+pub returns-in-Rests-clause-kept : goal.returns-in-Rests-clause-kept
+returns-in-Rests-clause-kept g c = keeps_then c.args.self.now c.steps.self c.step.new.self c.steps.invariant.1 c.in_ok-next.ensures.kept
+
+pub returns-in-Rests-clause-started : goal.returns-in-Rests-clause-started
+returns-in-Rests-clause-started g c = started_more c.args.runs.now c.steps.runs c.step.new.runs c.steps.invariant.2 c.step.ensures.starts
+
+pub returns-in-Many-clause-kept : goal.returns-in-Many-clause-kept
+returns-in-Many-clause-kept g c = keeps_then c.args.self.now c.steps.self c.step.new.self c.steps.invariant.1 c.in_ok-next.ensures.kept
+
+pub returns-in-Many-clause-started : goal.returns-in-Many-clause-started
+returns-in-Many-clause-started g c = started_more c.args.runs.now c.steps.runs c.step.new.runs c.steps.invariant.2 c.step.ensures.starts

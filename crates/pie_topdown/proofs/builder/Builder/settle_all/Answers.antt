@@ -21,3 +21,11 @@ loop-root-preserved g c =
 pub returns-clause-settled : goal.returns-clause-settled
 returns-clause-settled g c = λ _.
     settled_all c.loop-root.self.ledger c.args.roots.now c.loop-root.root-index c.loop-root-test.false c.loop-root.invariant.1
+
+pub returns-in_err-refusal-clause-started : goal.returns-in_err-refusal-clause-started
+returns-in_err-refusal-clause-started g c =
+    started_then c.args.runs.now c.loop-root.runs c.settle.new.runs c.loop-root.invariant.3 c.settle.ensures.started
+
+pub returns-in-Some-clause-started : goal.returns-in-Some-clause-started
+returns-in-Some-clause-started g c =
+    started_then c.args.runs.now c.loop-root.runs c.settle.new.runs c.loop-root.invariant.3 c.settle.ensures.started
