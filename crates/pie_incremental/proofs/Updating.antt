@@ -37,13 +37,13 @@ use Rattle.pie_incremental.specs.declared.ending.Ending.{Ending}
 use Rattle.pie_incremental.specs.declared.run.Done.{Done}
 use Rattle.pie_incremental.specs.declared.run.Done.TheVariants.{Reported, Stopped}
 use Rattle.pie_incremental.specs.Clean.{BuildsClean, LeavesAsClean}
-use Rattle.pie_incremental.specs.inner.Awaits.{Awaits}
 use Rattle.pie_incremental.specs.inner.Built.{IsKnown}
 use Rattle.pie_incremental.specs.inner.Cleaned.{IsExactBuild, KnowsWhere, LeavesBy}
 use Rattle.pie_incremental.specs.inner.Digested.{digested, with_digests}
 use Rattle.pie_incremental.specs.inner.Evaluated.{IsResultOf, IsUpdateHere, MakesExact}
 use Rattle.pie_incremental.specs.inner.Joined.{IsEndingOf}
 use Rattle.pie_incremental.specs.inner.Updated.{FromClean, GoesClean, GoesOn, IsUpdateFrom, RunsClean, RunsCleanOnce, RunsOrStops}
+use Rattle.pie_incremental.specs.inner.Walks.{GoesRight, IsWalk}
 
 -- ---- the end
 
@@ -51,9 +51,9 @@ module _ (s : StoreImage) (e : Ending) (p : Project) (before mid after : Option 
     (makes : MakesExact before p.typed p.digests.items p.roots.items s e.names.items b)
     (leaves : IfSome mid (λ d. LeavesBy b.verdict e.own e.held p.digests.items p.roots.items b d r after)) (is : r.verdict ≡ b.verdict) (u : Update)
     (here : IsUpdateHere u before p.typed p.roots.items) (stored : IsStoredIn u s.funcs p.digests.items s.rows e.names.items)
-    (known : IsKnown e.own e.held u.directory) (awaits : Awaits u) where
+    (known : IsKnown e.own e.held u.directory) (right : GoesRight u makes.walk) where
   made : IsResultOf u b
-  made = makes.each u here stored awaits
+  made = makes.each u here stored right
 
   left : LeavesBy b.verdict e.own e.held p.digests.items p.roots.items b u.directory r after
   left = subst (λ m. IfSome m (λ d. LeavesBy b.verdict e.own e.held p.digests.items p.roots.items b d r after)) (same ∙ here.holds) leaves
@@ -76,7 +76,9 @@ pub goes_clean : (s : StoreImage) (e : Ending) (p : Project) (before mid after :
     → IfSome mid (λ d. LeavesBy b.verdict e.own e.held p.digests.items p.roots.items b d r after) → r.verdict ≡ b.verdict
     → GoesClean s e p before after r
 goes_clean s e p before mid after b r same makes leaves is = record {
-  each = λ u here stored known awaits. builds_clean s e p before mid after b r same makes leaves is u here stored known awaits;
+  walk = makes.walk;
+  is = makes.is;
+  each = λ u here stored known right. builds_clean s e p before mid after b r same makes leaves is u here stored known right;
 }
 
 -- ---- the beginning
@@ -99,7 +101,9 @@ runs_clean : (b : Base) (e : Ending) (p : Project) (list : List (List ℕ)) (s :
     → IsEndingOf b list e → IfSome before (λ d. KnowsWhere b d e) → IfSome before (λ d. s ≡ digested d p.digests.items b.image)
     → GoesClean s e p mid after r → RunsClean b p list before after r
 runs_clean b e p list s before mid after r same ending knows image goes = record {
-  each = λ u from.
+  walk = goes.walk;
+  is = subst (λ m. IsWalk m p.typed goes.walk) same goes.is;
+  each = λ u from right.
       let d = u.directory in
       let digests = p.digests.items in
       let is : s ≡ digested d digests b.image = subst (λ o. IfSome o (λ x. s ≡ digested x digests b.image)) from.here.holds image in
@@ -112,7 +116,7 @@ runs_clean b e p list s before mid after r same ending knows image goes = record
       } in
       let known : IsKnown e.own e.held d =
       (subst (λ o. IfSome o (λ x. KnowsWhere b x e)) from.here.holds knows) u from.here.update refl stored.names from.stored.rows from.base in
-      goes.each u (subst (λ m. IsUpdateHere u m p.typed p.roots.items) (sym same) from.here) stored known from.awaits;
+      goes.each u (subst (λ m. IsUpdateHere u m p.typed p.roots.items) (sym same) from.here) stored known right;
 }
 
 runs_then : (b : Base) (e : Ending) (p : Project) (list : List (List ℕ)) (s : StoreImage) (before mid after : Option Directory) (done : Done)
@@ -135,17 +139,15 @@ pub large_runs : (b : Base) (p : Project) (list : List (List ℕ)) (before after
     → IfOk result (RunsCleanOnce b p list before after)
 large_runs b p list before after (Err e) ready large = tt
 large_runs b p list before after (Ok r) ready large = record {
-  once = λ none. record {
-    each = λ u from.
-        let is : IsReady p.typed p.roots.items = subst (λ o. IfSome o (λ d. IsReady p.typed p.roots.items)) from.here.holds ready in
-        absurd (large (All-weaker (IsRootOf p.typed) (λ t. is_small_task t ≡ true) (λ t root. root.small) p.roots.items is.roots));
-  };
+  once = λ d told none.
+      let is : IsReady p.typed p.roots.items = subst (λ o. IfSome o (λ x. IsReady p.typed p.roots.items)) told ready in
+      absurd (large (All-weaker (IsRootOf p.typed) (λ t. is_small_task t ≡ true) (λ t root. root.small) p.roots.items is.roots));
 }
 
 pub reported_runs : (b : Base) (p : Project) (list : List (List ℕ)) (before after : Option Directory) (done : Done) (report : Box Report Global) (r : Report)
     → done ≡ Reported report → r ≡ report.value → RunsOrStops b p list before after done → RunsCleanOnce b p list before after r
 reported_runs b p list before after done report r is same h = record {
-  once = λ none. subst (RunsClean b p list before after) (sym same) (subst (RunsOrStops b p list before after) is h);
+  once = λ d told none. subst (RunsClean b p list before after) (sym same) (subst (RunsOrStops b p list before after) is h);
 }
 
 no_cause : (o : Option Cause) → IsSome o → o ≡ None → ⊥
@@ -156,7 +158,7 @@ no_cause (Some c) some is = cc
 pub again_runs : (b : Base) (p : Project) (list : List (List ℕ)) (before after : Option Directory) (result : Result Report BuildError)
     → IfOk result (λ r. IsSome r.fresh) → IfOk result (RunsCleanOnce b p list before after)
 again_runs b p list before after (Err e) why = tt
-again_runs b p list before after (Ok r) why = record { once = λ none. absurd (no_cause r.fresh why none) }
+again_runs b p list before after (Ok r) why = record { once = λ d told none. absurd (no_cause r.fresh why none) }
 
 -- ---- the project that is there
 
@@ -164,23 +166,30 @@ from_clean : (b : Base) (p : Project) (list : List (List ℕ)) (before mid after
     → IfSome before (λ d. ProjectSays d (Ok (front_of p))) → IfSome before (λ d. HasDigests d p.digests.items) → RunsCleanOnce b p list mid after r
     → FromClean b list before after r
 from_clean b p list before mid after r same says has runs = record {
-  once = λ none u of base awaits.
-      let d = u.directory in
-      let project : ProjectSays d (Ok (front_of p)) = subst (λ o. IfSome o (λ x. ProjectSays x (Ok (front_of p)))) of.holds says in
-      let digests : HasDigests d p.digests.items = subst (λ o. IfSome o (λ x. HasDigests x p.digests.items)) of.holds has in
-      let now = of.project p.typed p.roots.items project in
-      let before = of.stored b base in
+  once = λ d told none.
+      let run : RunsClean b p list mid after r = runs.once d (same ∙ told) none in
       record {
-        funcs = p.digests.items;
-        roots = p.roots.items;
-        digests = digests;
-        roots_are = now.1;
-        builds = (runs.once none).each u (record {
-          here = record { update = of.update; holds = same ∙ of.holds; functions = now.0; roots_are = now.1; separates = of.separates; met = of.met };
-          base = base;
-          stored = record { rows = before.0; names = before.1; meaning = of.meaning b p.digests.items base digests };
-          awaits = awaits;
-        });
+        functions = p.typed;
+        walk = run.walk;
+        is = subst (λ m. IsWalk m p.typed run.walk) same run.is;
+        each = λ u of base right.
+            let project : ProjectSays u.directory (Ok (front_of p)) = subst (λ o. IfSome o (λ x. ProjectSays x (Ok (front_of p)))) of.holds says in
+            let digests : HasDigests u.directory p.digests.items = subst (λ o. IfSome o (λ x. HasDigests x p.digests.items)) of.holds has in
+            let now = of.project p.typed p.roots.items project in
+            let store = of.stored b base in (
+              now.0,
+              record {
+                funcs = p.digests.items;
+                roots = p.roots.items;
+                digests = digests;
+                roots_are = now.1;
+                builds = run.each u (record {
+                  here = record { update = of.update; holds = same ∙ of.holds; functions = now.0; roots_are = now.1; separates = of.separates; met = of.met };
+                  base = base;
+                  stored = record { rows = store.0; names = store.1; meaning = of.meaning b p.digests.items base digests };
+                }) right;
+              },
+            );
       };
 }
 

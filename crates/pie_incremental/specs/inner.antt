@@ -1,5 +1,4 @@
 -- Definitions that no clause of `pie_cli::run` rests on: invariants, and what crates say to each other.
-pub mod Awaits
 pub mod Bases
 pub mod Built
 pub mod Changes
@@ -9,3 +8,4 @@ pub mod Evaluated
 pub mod Joined
 pub mod Plans
 pub mod Updated
+pub mod Walks
