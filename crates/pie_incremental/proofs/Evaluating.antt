@@ -1,19 +1,18 @@
 -- An evaluation of the roots, as the model of building knows it.
-use Rattle.std.proofs.Common.{◌≡◌, ◌⊎◌, inl, inr, ℕ, List, [], ◌∷◌, map, Option, None, Some, refl, sym, ap, subst, ◌∙◌}
+use Rattle.std.proofs.Common.{◌≡◌, inl, inr, ℕ, List, [], ◌∷◌, map, Option, refl, sym, ap, subst, ◌∙◌}
 use Rattle.pie_bottomup.specs.declared.plan.Plan.{Plan}
 use Rattle.pie_bottomup.specs.declared.state.Core.{Core}
-use Rattle.pie_bottomup.specs.declared.state.First.TheVariants.{Tests}
 use Rattle.pie_bottomup.specs.declared.state.Turn.{Turn}
 use Rattle.pie_bottomup.specs.declared.state.Turn.TheVariants.{Went, Settled}
 use Rattle.pie_bottomup.specs.inner.Exact.{IsExactCore, IsPlanNow, IsSiteNow, StandsExact, StepsExact, TurnIsExact}
-use Rattle.pie_bottomup.specs.inner.Loaded.{BeginsExact, IsStoredIn}
+use Rattle.pie_bottomup.specs.inner.Loaded.{BeginsExact}
 use Rattle.pie_bottomup.specs.inner.Made.{MadeExact, MakesClean}
 use Rattle.pie_bottomup.specs.inner.States.{HasSettled, IsPlanOf}
 use Rattle.pie_builder_laws.specs.Events.{AreCompiled}
 use Rattle.pie_checks.specs.declared.built.Built.{Built as Result}
 use Rattle.pie_code.specs.declared.code.Code.{Code}
 use Rattle.pie_core_laws.specs.Keeping.{Separates}
-use Rattle.pie_core_laws.specs.Update.{Update, IsUpdate, present}
+use Rattle.pie_core_laws.specs.Update.{Update, present}
 use Rattle.pie_files.specs.Directory.{Directory}
 use Rattle.pie_left_laws.specs.Accepted.{OutIsMet, KeptAreThere}
 use Rattle.pie_left_laws.proofs.Resting.{kept_are_there}
@@ -24,12 +23,10 @@ use Rattle.pie_model_pipeline.specs.Rows.{verdict_of}
 use Rattle.pie_model_pipeline.specs.World.{world}
 use Rattle.pie_parser.specs.FunctionTrees.{FunctionTree}
 use Rattle.pie_record.specs.declared.task_record.TaskRecord.{TaskRecord}
-use Rattle.pie_store.specs.declared.cause.Cause.{Cause}
 use Rattle.pie_store.specs.declared.image.StoreImage.{StoreImage}
 use Rattle.pie_value.specs.Canonical.{enc_task}
 use Rattle.pie_value.specs.declared.task.Task.{Task}
-use Rattle.pie_value.specs.declared.verdict.Verdict.TheVariants.{Accepted}
-use Rattle.pie_incremental.specs.inner.Evaluated.{BeginsNow, EndsStanding, IsResultOf, IsUpdateHere, MakesExact, ResultsExact, StaysStanding}
+use Rattle.pie_incremental.specs.inner.Evaluated.{BeginsNow, EndsStanding, IsResultOf, MakesExact, ResultsExact, StaysStanding}
 use Rattle.pie_incremental.specs.inner.Walks.{AreSteps, EndRightAlong}
 
 -- ---- how it begins

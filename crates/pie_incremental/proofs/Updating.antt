@@ -1,11 +1,11 @@
 -- A build by what changed, as a clean build: its beginning, its evaluation and its end.
-use Rattle.std.proofs.Common.{◌≡◌, ℕ, Bool, true, false, cond, List, ◌++◌, map, length, Option, None, Some, Box, Global, Result, Ok, Err, refl, sym, ap, subst, ◌∙◌, codes}
+use Rattle.std.proofs.Common.{◌≡◌, ℕ, Bool, true, false, cond, List, map, Option, None, Some, Box, Global, Result, Ok, Err, refl, sym, ap, subst, ◌∙◌, codes}
 use Rattle.std.proofs.lemmas.List.Elements.{All-weaker}
 use Rattle.std.specs.Prelude.{All, IfOk, IfSome, IsSome}
 use Rattle.pie_bottomup.specs.inner.Loaded.{IsStoredIn}
 use Rattle.pie_build.specs.inner.Projects.{IsReady}
 use Rattle.pie_checks.specs.declared.built.Built.{Built}
-use Rattle.pie_core_laws.specs.Update.{Update, earlier, present}
+use Rattle.pie_core_laws.specs.Update.{Update, earlier}
 use Rattle.pie_diff.specs.Hashes.{hash_in, is_hash}
 use Rattle.pie_files.specs.Directory.{Directory}
 use Rattle.pie_files.specs.declared.files.FilesError.{FilesError}
@@ -13,10 +13,8 @@ use Rattle.pie_fresh.specs.Cleans.{IsRootOf}
 use Rattle.pie_earlier_laws.specs.Functions.{digest_under}
 use Rattle.pie_model.specs.Built.{store_rows}
 use Rattle.pie_model.specs.inner.Reasons.{SameCode}
-use Rattle.pie_model.specs.Verdict.{verdict}
 use Rattle.pie_model_pipeline.specs.Rows.{record_of, verdict_of}
 use Rattle.pie_model_pipeline.specs.World.{world, next}
-use Rattle.pie_parser.specs.FunctionTrees.{FunctionTree}
 use Rattle.pie_project.specs.Digested.{HasDigests}
 use Rattle.pie_project.specs.Fronts.{ProjectSays}
 use Rattle.pie_project.specs.declared.fault.BuildError.{BuildError}
@@ -26,7 +24,6 @@ use Rattle.pie_record.specs.declared.task_record.TaskRecord.{TaskRecord}
 use Rattle.pie_report.specs.declared.report.Report.{Report}
 use Rattle.pie_store.specs.declared.cause.Cause.{Cause}
 use Rattle.pie_store.specs.declared.image.StoreImage.{StoreImage}
-use Rattle.pie_store.specs.inner.Pending.{in_order}
 use Rattle.pie_value.specs.Canonical.{enc_task, IsCanonicalTask}
 use Rattle.pie_value.specs.Limits.{is_small_task}
 use Rattle.pie_value.specs.declared.task.Task.{Task}
@@ -38,11 +35,11 @@ use Rattle.pie_incremental.specs.declared.run.Done.{Done}
 use Rattle.pie_incremental.specs.declared.run.Done.TheVariants.{Reported, Stopped}
 use Rattle.pie_incremental.specs.Clean.{BuildsClean, LeavesAsClean}
 use Rattle.pie_incremental.specs.inner.Built.{IsKnown}
-use Rattle.pie_incremental.specs.inner.Cleaned.{IsExactBuild, KnowsWhere, LeavesBy}
+use Rattle.pie_incremental.specs.inner.Cleaned.{KnowsWhere, LeavesBy}
 use Rattle.pie_incremental.specs.inner.Digested.{digested, with_digests}
 use Rattle.pie_incremental.specs.inner.Evaluated.{IsResultOf, IsUpdateHere, MakesExact}
 use Rattle.pie_incremental.specs.inner.Joined.{IsEndingOf}
-use Rattle.pie_incremental.specs.inner.Updated.{FromClean, GoesClean, GoesOn, IsUpdateFrom, RunsClean, RunsCleanOnce, RunsOrStops}
+use Rattle.pie_incremental.specs.inner.Updated.{FromClean, GoesClean, GoesOn, RunsClean, RunsCleanOnce, RunsOrStops}
 use Rattle.pie_incremental.specs.inner.Walks.{GoesRight, IsWalk}
 
 -- ---- the end

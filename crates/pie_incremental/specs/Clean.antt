@@ -1,5 +1,5 @@
 -- What a build by what changed reports and leaves, as a clean build does.
-use Rattle.std.specs.Prelude.{◌≡◌, ℕ, List, ◌++◌, map, Option, Some, None, Ok}
+use Rattle.std.specs.Prelude.{◌≡◌, ℕ, List, ◌++◌, map, Option, Some, Ok}
 use Rattle.pie_core_laws.specs.Keeping.{Separates}
 use Rattle.pie_core_laws.specs.Update.{Update, IsUpdate, earlier, present}
 use Rattle.pie_earlier_laws.specs.Functions.{digest_under}

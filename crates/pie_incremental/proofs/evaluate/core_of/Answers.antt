@@ -1,5 +1,4 @@
-use Rattle.std.proofs.Common.{rules, ◌≡◌, List, sym, subst}
-use Rattle.pie_bottomup.specs.declared.state.Core.{Core}
+use Rattle.std.proofs.Common.{◌≡◌, sym, subst}
 use Rattle.pie_bottomup.specs.inner.Loaded.{BeginsExact}
 use Rattle.pie_bottomup.specs.inner.States.{IsPlanOf}
 use Rattle.pie_store.specs.declared.image.StoreImage.{StoreImage}

@@ -1,4 +1,4 @@
-use Rattle.std.proofs.Common.{◌≡◌, subst, ◌∙◌}
+use Rattle.std.proofs.Common.{subst, ◌∙◌}
 use Rattle.pie_bottomup.specs.inner.States.{TurnsTo}
 use Rattle.pie_files.proofs.Reading.{both_before}
 use Rattle.pie_incremental.proofs.Evaluating.{stands_end, stands_on}
