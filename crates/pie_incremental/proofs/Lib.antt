@@ -6,7 +6,9 @@ pub mod Putting
 pub mod Starting
 pub mod Stopping
 pub mod Joining
+pub mod Evaluating
 pub mod Storing
 pub mod Treating
 pub mod Placing
 pub mod Leaving
+pub mod Updating

@@ -4,4 +4,5 @@ pub mod Names
 pub mod Kept
 pub mod Treated
 pub mod Runs
+pub mod Clean
 pub mod inner

@@ -4,5 +4,8 @@ pub mod Built
 pub mod Changes
 pub mod Cleaned
 pub mod Digested
+pub mod Evaluated
 pub mod Joined
 pub mod Plans
+pub mod Updated
+pub mod Walks

@@ -11,6 +11,7 @@ ghost use Rattle.pie_store.specs.inner.Pending.{in_order};
 ghost use Rattle.pie_incremental.specs.Runs.{TellsFew};
 ghost use Rattle.pie_incremental.specs.Treated.{AfreshBy, TreatsNames};
 ghost use Rattle.pie_incremental.specs.inner.Joined.{IsBase, Treats};
+ghost use Rattle.pie_incremental.specs.inner.Updated.{FromClean, RunsCleanOnce};
 
 use crate::again::again;
 use crate::cause::put_cause;
@@ -92,6 +93,7 @@ fn from<F: Files>(
     requires { IsBase base.value }
     ensures rest { KeepsRest (F.holds files.old) (F.holds files.new) }
     ensures refused { IsRefusal result → F.holds files.new ≡ F.holds files.old }
+    ensures clean { IfOk result (FromClean base.value changes.now (F.holds files.old) (F.holds files.new)) }
     ensures names { IfOk result (λ r. Treats base.value.own (in_order (changes.now ++ base.value.names.items)) r.verdict (F.holds files.old) (F.holds files.new)) }
     ensures ran { IfOk result (λ r. runs.new ≡ runs.old ++ r.ran.items) }
     ensures few { length runs.new ≤ length runs.old + 100000 }
@@ -121,6 +123,7 @@ fn with_project<F: Files>(
     requires funcs { AreFuncs project.now.digests.items }
     ensures rest { KeepsRest (F.holds files.old) (F.holds files.new) }
     ensures refused { IsRefusal result → F.holds files.new ≡ F.holds files.old }
+    ensures clean { IfOk result (RunsCleanOnce base.value project.now changes.now (F.holds files.old) (F.holds files.new)) }
     ensures names { IfOk result (λ r. Treats base.value.own (in_order (changes.now ++ base.value.names.items)) r.verdict (F.holds files.old) (F.holds files.new)) }
     ensures ran { IfOk result (λ r. runs.new ≡ runs.old ++ r.ran.items) }
     ensures few { length runs.new ≤ length runs.old + 100000 }

@@ -5,6 +5,7 @@ ghost use Rattle.pie_files.specs.Reading.{ReadsOnly};
 ghost use Rattle.pie_store.specs.Canonical.{AreFuncs};
 ghost use Rattle.pie_value.specs.Canonical.{IsEncodableTask};
 ghost use Rattle.pie_bottomup.specs.inner.States.{HasSettled, IsCore, IsPlanOf, Spends, room};
+ghost use Rattle.pie_incremental.specs.inner.Evaluated.{BeginsNow, EvaluatesExact, ResultsExact, SettlesExact};
 ghost use Rattle.pie_incremental.specs.inner.Joined.{IsImage, IsEnded, IsMade, Settles, Started};
 
 use pie_base::{MAX_TASKS, OutOfMemory, Path};
@@ -40,6 +41,7 @@ pub(crate) fn evaluate<F: Files>(
     requires names { HasNames project.now.typed project.now.digests.items }
     requires funcs { AreFuncs project.now.digests.items }
     requires roots { All IsEncodableTask project.now.roots.items }
+    ensures exact { IfOk result (EvaluatesExact (F.holds files.old) project.now.typed project.now.digests.items project.now.roots.items image.value names.now) }
     ensures ended { IfOk result (IsEnded project.now.digests.items project.now.roots.items) }
     ensures started { Started runs.old runs.new }
     ensures few { length runs.new ≤ length runs.old + 50000 }
@@ -69,6 +71,7 @@ fn core_of<'a>(
     ensures core { IfOk result (λ c. IsCore c.value) }
     ensures plan { IfOk result (λ c. IsPlanOf project.now.typed project.now.digests.items project.now.roots.items c.value.plan) }
     ensures room { IfOk result (λ c. room c.value ≤ MAX_TASKS) }
+    ensures exact { IfOk result (λ c. BeginsNow project.now.typed code.now image.value.funcs project.now.digests.items image.value.rows names.now c.value) }
 {
     let core = Core::new(
         alloc,
@@ -84,7 +87,7 @@ fn core_of<'a>(
 }
 
 // Goes on until the roots are settled, or the build has to start afresh: for this cause.
-#[tactic(auto, using(pie_files::proofs::Reading::reads, crate::proofs::Joining::started_none, crate::proofs::Joining::started_more, crate::proofs::Joining::spends))]
+#[tactic(auto, using(pie_files::proofs::Reading::reads, crate::proofs::Joining::started_none, crate::proofs::Joining::started_more, crate::proofs::Joining::spends, crate::proofs::Evaluating::stands_first))]
 fn settle<'a, F: Files>(
     core: &mut Core<'a>,
     files: &mut F,
@@ -93,6 +96,7 @@ fn settle<'a, F: Files>(
     requires { IsCore core.old }
     ensures settled { IfOk result (Settles core.new) }
     ensures plan { OnOk result (core.new.plan ≡ core.old.plan) }
+    ensures exact { IfOk result (SettlesExact (F.holds files.old) core.old core.new) }
     ensures started { Started runs.old runs.new }
     ensures few { length runs.new ≤ length runs.old + room core.old }
     ensures reads { ReadsOnly F.holds F.moment F.left_since F.images F.faults files.old files.new result }
@@ -118,7 +122,8 @@ fn built_of<'a>(
     requires names { HasNames project.now.typed project.now.digests.items }
     requires funcs { AreFuncs project.now.digests.items }
     requires roots { All IsEncodableTask project.now.roots.items }
-    ensures { IfOk result (λ b. IsMade project.now.digests.items project.now.roots.items b.value) }
+    ensures made { IfOk result (λ b. IsMade project.now.digests.items project.now.roots.items b.value) }
+    ensures exact { IfOk result (λ b. ResultsExact core.entry.value project.now.roots.items b.value) }
 {
     let built = Box::into_inner(core).end()?;
     let built = Box::new(alloc, built)?;

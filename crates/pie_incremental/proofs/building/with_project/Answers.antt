@@ -5,6 +5,7 @@ use Rattle.pie_value.specs.Limits.{is_small_task}
 use Rattle.pie_value.specs.declared.task.Task.{Task}
 use Rattle.pie_incremental.proofs.Joining.{few_again, few_once}
 use Rattle.pie_incremental.proofs.Treating.{large_treats, treats_again, treats_reported}
+use Rattle.pie_incremental.proofs.Updating.{again_runs, large_runs, reported_runs}
 use Rattle.pie_incremental.proofs.building.with_project.Goals as goal
 
 pub returns-then-not-are_small-clause-names : goal.returns-then-not-are_small-clause-names
@@ -37,3 +38,21 @@ returns-in-Ok-Stopped-clause-names g c =
 pub returns-in-Ok-Stopped-clause-once : goal.returns-in-Ok-Stopped-clause-once
 returns-in-Ok-Stopped-clause-once g c =
     few_again c.args.runs.now c.run.new.runs c.again.new.runs c.again.result c.run.ensures.few c.again.ensures.few c.again.ensures.fresh
+
+pub returns-then-not-are_small-clause-clean : goal.returns-then-not-are_small-clause-clean
+returns-then-not-are_small-clause-clean g c =
+    large_runs c.args.base.value c.args.project.now c.args.changes.now (g.F.Files.holds c.args.files.now) (g.F.Files.holds c.rebuild.new.files)
+    c.rebuild.result c.requires.ready
+    (subst (λ (roots : List Task). ¬ (All (λ (t : Task). is_small_task t ≡ true) roots)) c.as_slice.ensures.value
+    (c.are_small.ensures.large c.if-not-are_small.true))
+
+pub returns-in-Ok-Reported-clause-clean : goal.returns-in-Ok-Reported-clause-clean
+returns-in-Ok-Reported-clause-clean g c =
+    let e = c.in-Ok-Reported in
+    reported_runs c.args.base.value c.args.project.now c.args.changes.now (g.F.Files.holds c.args.files.now) (g.F.Files.holds c.run.new.files) e.field-0
+    e.report c.into_inner.result e.field-0-is c.into_inner.ensures e.ensures.clean
+
+pub returns-in-Ok-Stopped-clause-clean : goal.returns-in-Ok-Stopped-clause-clean
+returns-in-Ok-Stopped-clause-clean g c =
+    again_runs c.args.base.value c.args.project.now c.args.changes.now (g.F.Files.holds c.args.files.now) (g.F.Files.holds c.again.new.files) c.again.result
+    c.again.ensures.fresh

@@ -1,0 +1,122 @@
+-- An evaluation of the roots, as the model of building knows it.
+use Rattle.std.proofs.Common.{◌≡◌, inl, inr, ℕ, List, [], ◌∷◌, map, Option, refl, sym, ap, subst, ◌∙◌}
+use Rattle.pie_bottomup.specs.declared.plan.Plan.{Plan}
+use Rattle.pie_bottomup.specs.declared.state.Core.{Core}
+use Rattle.pie_bottomup.specs.declared.state.Turn.{Turn}
+use Rattle.pie_bottomup.specs.declared.state.Turn.TheVariants.{Went, Settled}
+use Rattle.pie_bottomup.specs.inner.Exact.{IsExactCore, IsPlanNow, IsSiteNow, StandsExact, StepsExact, TurnIsExact}
+use Rattle.pie_bottomup.specs.inner.Loaded.{BeginsExact}
+use Rattle.pie_bottomup.specs.inner.Made.{MadeExact, MakesClean}
+use Rattle.pie_bottomup.specs.inner.States.{HasSettled, IsPlanOf}
+use Rattle.pie_builder_laws.specs.Events.{AreCompiled}
+use Rattle.pie_checks.specs.declared.built.Built.{Built as Result}
+use Rattle.pie_code.specs.declared.code.Code.{Code}
+use Rattle.pie_core_laws.specs.Keeping.{Separates}
+use Rattle.pie_core_laws.specs.Update.{Update, present}
+use Rattle.pie_files.specs.Directory.{Directory}
+use Rattle.pie_left_laws.specs.Accepted.{OutIsMet, KeptAreThere}
+use Rattle.pie_left_laws.proofs.Resting.{kept_are_there}
+use Rattle.pie_left_laws.proofs.Settling.{is_accepted}
+use Rattle.pie_model.specs.Verdict.{verdict}
+use Rattle.pie_model_pipeline.specs.Clean.{with_output}
+use Rattle.pie_model_pipeline.specs.Rows.{verdict_of}
+use Rattle.pie_model_pipeline.specs.World.{world}
+use Rattle.pie_parser.specs.FunctionTrees.{FunctionTree}
+use Rattle.pie_record.specs.declared.task_record.TaskRecord.{TaskRecord}
+use Rattle.pie_store.specs.declared.image.StoreImage.{StoreImage}
+use Rattle.pie_value.specs.Canonical.{enc_task}
+use Rattle.pie_value.specs.declared.task.Task.{Task}
+use Rattle.pie_incremental.specs.inner.Evaluated.{BeginsNow, EndsStanding, IsResultOf, MakesExact, ResultsExact, StaysStanding}
+use Rattle.pie_incremental.specs.inner.Walks.{AreSteps, EndRightAlong}
+
+-- ---- how it begins
+
+pub begins_now : (fs : List FunctionTree) (codes : List Code) (funcs digests : List (List ℕ × List ℕ)) (rows : List TaskRecord) (names : List (List ℕ))
+    (roots : List Task) (c : Core) → IsPlanOf fs digests roots c.plan → BeginsExact funcs digests rows names c
+    → BeginsNow fs codes funcs digests rows names c
+begins_now fs codes funcs digests rows names roots c plan begins = record {
+  each = λ u update same compiled stored tests code. (
+    record {
+      update = update;
+      functions = plan.typed ∙ same;
+      compiled = subst (AreCompiled u.functions) (sym code) (subst (λ (gs : List FunctionTree). AreCompiled gs codes) same compiled);
+    },
+    inl (tests, begins u stored tests),
+  );
+}
+
+-- ---- its steps
+
+pub stands_first : (held : Option Directory) (c : Core) → StaysStanding held c c
+stands_first held c = record { steps = []; are = refl; each = λ u site now stands ends. stands }
+
+module _ (held mid : Option Directory) (a b c : Core) (turn : Turn) (same : mid ≡ held) (plan : b.plan ≡ a.plan) (keeps : c.plan ≡ b.plan)
+    (before : StaysStanding held a b) (step : StepsExact mid b c turn) where
+  step_now : StepsExact held b c turn
+  step_now = subst (λ m. StepsExact m b c turn) same step
+
+  abbrev one_more : List (Core × Core)
+  one_more = (b, c) ∷ before.steps
+
+  they_are : AreSteps held a one_more c
+  they_are = (refl, record { turn = turn; plan = keeps; exact = step_now }, before.are)
+
+  turned : (u : Update) → IsSiteNow u held → IsPlanNow u a.plan → StandsExact u a → EndRightAlong u one_more → TurnIsExact u c turn
+  turned u site now stands ends =
+      step_now u site (subst (λ (p : Plan). IsPlanNow u p) (sym plan) now) (before.each u site now stands ends.1) ends.0
+
+  pub stands_on : turn ≡ Went → StaysStanding held a c
+  stands_on went = record {
+    steps = one_more;
+    are = they_are;
+    each = λ u site now stands ends. inr (subst (TurnIsExact u c) went (turned u site now stands ends));
+  }
+
+  pub stands_end : turn ≡ Settled → EndsStanding held a c
+  stands_end settled = record {
+    steps = one_more;
+    are = they_are;
+    each = λ u site now stands ends. subst (TurnIsExact u c) settled (turned u site now stands ends);
+  }
+
+-- ---- what it makes
+
+module _ (c : Core) (roots : List Task) (b : Result) (settled : HasSettled c) (are : c.plan.roots.items ≡ roots) (makes : MadeExact c b) (u : Update)
+    (e : IsExactCore u c) (apart : Separates u) (met : OutIsMet u) (same : map enc_task roots ≡ u.roots) where
+  made_clean : MakesClean u c b
+  made_clean = makes u e apart
+
+  all_roots : map enc_task c.plan.roots.items ≡ u.roots
+  all_roots = ap (λ (ts : List Task). map enc_task ts) are ∙ same
+
+  now_verdict : verdict_of b.verdict ≡ verdict world (present u) u.roots
+  now_verdict = made_clean.verdict ∙ ap (verdict world (present u)) all_roots
+
+  there : KeptAreThere u c.tables c.frames.walk
+  there = kept_are_there u c.tables c.frames.walk settled.rests.stands e.are.written.there
+
+  results : IsResultOf u b
+  results = record {
+    verdict = now_verdict;
+    made = λ accepted.
+        is_accepted u c.tables c.frames.walk e.are.tables settled.rests.stands apart met there c.plan.roots.items b all_roots
+        (sym now_verdict ∙ ap verdict_of accepted) (made_clean.clean accepted) (made_clean.files accepted);
+    outputs = λ accepted. (made_clean.clean accepted).outputs ∙ ap (map (with_output u.functions u.directory)) all_roots;
+  }
+
+pub results_exact : (c : Core) (roots : List Task) (b : Result) → HasSettled c → c.plan.roots.items ≡ roots → MadeExact c b → ResultsExact c roots b
+results_exact c roots b settled are makes = record { each = λ u e apart met same. results c roots b settled are makes u e apart met same }
+
+-- ---- all of it
+
+pub evaluated : (held : Option Directory) (fs : List FunctionTree) (codes : List Code) (digests : List (List ℕ × List ℕ)) (roots : List Task) (s : StoreImage)
+    (names : List (List ℕ)) (old new : Core) (b : Result) → AreCompiled fs codes → BeginsNow fs codes s.funcs digests s.rows names old
+    → EndsStanding held old new → ResultsExact new roots b → MakesExact held fs digests roots s names b
+evaluated held fs codes digests roots s names old new b compiled begins settles makes = record {
+  walk = record { codes = codes; first = old; steps = settles.steps; last = new };
+  is = record { compiled = compiled; steps = settles.are };
+  each = λ u here stored right.
+      let begun = begins.each u here.update here.functions compiled stored right.tests right.code in
+      let site : IsSiteNow u held = record { holds = here.holds; apart = here.separates; besides = here.met } in
+      makes.each u (settles.each u site begun.0 begun.1 right.ends) here.separates here.met here.roots_are;
+}

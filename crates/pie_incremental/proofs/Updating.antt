@@ -1,0 +1,197 @@
+-- A build by what changed, as a clean build: its beginning, its evaluation and its end.
+use Rattle.std.proofs.Common.{◌≡◌, ℕ, Bool, true, false, cond, List, map, Option, None, Some, Box, Global, Result, Ok, Err, refl, sym, ap, subst, ◌∙◌, codes}
+use Rattle.std.proofs.lemmas.List.Elements.{All-weaker}
+use Rattle.std.specs.Prelude.{All, IfOk, IfSome, IsSome}
+use Rattle.pie_bottomup.specs.inner.Loaded.{IsStoredIn}
+use Rattle.pie_build.specs.inner.Projects.{IsReady}
+use Rattle.pie_checks.specs.declared.built.Built.{Built}
+use Rattle.pie_core_laws.specs.Update.{Update, earlier}
+use Rattle.pie_diff.specs.Hashes.{hash_in, is_hash}
+use Rattle.pie_files.specs.Directory.{Directory}
+use Rattle.pie_files.specs.declared.files.FilesError.{FilesError}
+use Rattle.pie_fresh.specs.Cleans.{IsRootOf}
+use Rattle.pie_earlier_laws.specs.Functions.{digest_under}
+use Rattle.pie_model.specs.Built.{store_rows}
+use Rattle.pie_model.specs.inner.Reasons.{SameCode}
+use Rattle.pie_model_pipeline.specs.Rows.{record_of, verdict_of}
+use Rattle.pie_model_pipeline.specs.World.{world, next}
+use Rattle.pie_project.specs.Digested.{HasDigests}
+use Rattle.pie_project.specs.Fronts.{ProjectSays}
+use Rattle.pie_project.specs.declared.fault.BuildError.{BuildError}
+use Rattle.pie_project.specs.declared.project.Project.{Project}
+use Rattle.pie_project.specs.inner.Projects.{front_of}
+use Rattle.pie_record.specs.declared.task_record.TaskRecord.{TaskRecord}
+use Rattle.pie_report.specs.declared.report.Report.{Report}
+use Rattle.pie_store.specs.declared.cause.Cause.{Cause}
+use Rattle.pie_store.specs.declared.image.StoreImage.{StoreImage}
+use Rattle.pie_value.specs.Canonical.{enc_task, IsCanonicalTask}
+use Rattle.pie_value.specs.Limits.{is_small_task}
+use Rattle.pie_value.specs.declared.task.Task.{Task}
+use Rattle.pie_value.specs.declared.verdict.Verdict.{Verdict}
+use Rattle.pie_value.specs.declared.verdict.Verdict.TheVariants.{Accepted}
+use Rattle.pie_incremental.specs.declared.base.Base.{Base}
+use Rattle.pie_incremental.specs.declared.ending.Ending.{Ending}
+use Rattle.pie_incremental.specs.declared.run.Done.{Done}
+use Rattle.pie_incremental.specs.declared.run.Done.TheVariants.{Reported, Stopped}
+use Rattle.pie_incremental.specs.Clean.{BuildsClean, LeavesAsClean}
+use Rattle.pie_incremental.specs.inner.Built.{IsKnown}
+use Rattle.pie_incremental.specs.inner.Cleaned.{KnowsWhere, LeavesBy}
+use Rattle.pie_incremental.specs.inner.Digested.{digested, with_digests}
+use Rattle.pie_incremental.specs.inner.Evaluated.{IsResultOf, IsUpdateHere, MakesExact}
+use Rattle.pie_incremental.specs.inner.Joined.{IsEndingOf}
+use Rattle.pie_incremental.specs.inner.Updated.{FromClean, GoesClean, GoesOn, RunsClean, RunsCleanOnce, RunsOrStops}
+use Rattle.pie_incremental.specs.inner.Walks.{GoesRight, IsWalk}
+
+-- ---- the end
+
+module _ (s : StoreImage) (e : Ending) (p : Project) (before mid after : Option Directory) (b : Built) (r : Report) (same : mid ≡ before)
+    (makes : MakesExact before p.typed p.digests.items p.roots.items s e.names.items b)
+    (leaves : IfSome mid (λ d. LeavesBy b.verdict e.own e.held p.digests.items p.roots.items b d r after)) (is : r.verdict ≡ b.verdict) (u : Update)
+    (here : IsUpdateHere u before p.typed p.roots.items) (stored : IsStoredIn u s.funcs p.digests.items s.rows e.names.items)
+    (known : IsKnown e.own e.held u.directory) (right : GoesRight u makes.walk) where
+  made : IsResultOf u b
+  made = makes.each u here stored right
+
+  left : LeavesBy b.verdict e.own e.held p.digests.items p.roots.items b u.directory r after
+  left = subst (λ m. IfSome m (λ d. LeavesBy b.verdict e.own e.held p.digests.items p.roots.items b d r after)) (same ∙ here.holds) leaves
+
+  leaves_clean : b.verdict ≡ Accepted → LeavesAsClean u p.digests.items p.roots.items r after
+  leaves_clean accepted = record {
+    rows = b.rows.items;
+    outputs = b.outputs.items;
+    rows_are = (made.made accepted).rows;
+    outputs_are = made.outputs accepted;
+    left = (subst (λ (v : Verdict). LeavesBy v e.own e.held p.digests.items p.roots.items b u.directory r after) accepted left) u
+        (record { directory = refl; separates = here.separates; met = here.met; made = made.made accepted; known = known });
+  }
+
+  builds_clean : BuildsClean u p.digests.items p.roots.items r after
+  builds_clean = record { verdict = ap verdict_of is ∙ made.verdict; left = λ accepted. leaves_clean (sym is ∙ accepted) }
+
+pub goes_clean : (s : StoreImage) (e : Ending) (p : Project) (before mid after : Option Directory) (b : Built) (r : Report) → mid ≡ before
+    → MakesExact before p.typed p.digests.items p.roots.items s e.names.items b
+    → IfSome mid (λ d. LeavesBy b.verdict e.own e.held p.digests.items p.roots.items b d r after) → r.verdict ≡ b.verdict
+    → GoesClean s e p before after r
+goes_clean s e p before mid after b r same makes leaves is = record {
+  walk = makes.walk;
+  is = makes.is;
+  each = λ u here stored known right. builds_clean s e p before mid after b r same makes leaves is u here stored known right;
+}
+
+-- ---- the beginning
+
+digested_rows : (d : Directory) (ds : List (List ℕ × List ℕ)) (s : StoreImage) (o : Option (List ℕ)) → (with_digests d ds s o).rows ≡ s.rows
+digested_rows d ds s None = refl
+digested_rows d ds s (Some hash) = by (is_hash (hash_in d (codes "pie.pipeline")) hash)
+  where
+    by : (t : Bool) → (cond t (record s { funcs = ds }) s).rows ≡ s.rows
+    by true = refl
+    by false = refl
+
+pub begun_digested : (before mid : Option Directory) (digests ds : List (List ℕ × List ℕ)) (s t image : StoreImage) → mid ≡ before → ds ≡ digests → s ≡ t
+    → IfSome mid (λ d. image ≡ digested d ds s) → IfSome before (λ d. image ≡ digested d digests t)
+begun_digested before mid digests ds s t image same are is h =
+    subst (λ m. IfSome m (λ d. image ≡ digested d digests t)) same
+    (subst (λ (x : StoreImage). IfSome mid (λ d. image ≡ digested d digests x)) is (subst (λ x. IfSome mid (λ d. image ≡ digested d x s)) are h))
+
+runs_clean : (b : Base) (e : Ending) (p : Project) (list : List (List ℕ)) (s : StoreImage) (before mid after : Option Directory) (r : Report) → mid ≡ before
+    → IsEndingOf b list e → IfSome before (λ d. KnowsWhere b d e) → IfSome before (λ d. s ≡ digested d p.digests.items b.image)
+    → GoesClean s e p mid after r → RunsClean b p list before after r
+runs_clean b e p list s before mid after r same ending knows image goes = record {
+  walk = goes.walk;
+  is = subst (λ m. IsWalk m p.typed goes.walk) same goes.is;
+  each = λ u from right.
+      let d = u.directory in
+      let digests = p.digests.items in
+      let is : s ≡ digested d digests b.image = subst (λ o. IfSome o (λ x. s ≡ digested x digests b.image)) from.here.holds image in
+      let rows : s.rows ≡ b.image.rows = ap (λ (x : StoreImage). x.rows) is ∙ digested_rows d digests b.image b.image.pipeline in
+      let stored : IsStoredIn u s.funcs digests s.rows e.names.items = record {
+        rows = subst (λ (x : List TaskRecord). map record_of x ≡ store_rows world (earlier u) u.old_roots) (sym rows) from.stored.rows;
+        names = from.stored.names ∙ sym ending.names;
+        meaning = subst (λ (x : StoreImage). (t : Task) → IsCanonicalTask t (enc_task t) → SameCode (digest_under x.funcs t.func) (digest_under digests t.func)
+            → next u.old_functions (enc_task t) ≡ next u.functions (enc_task t)) (sym is) from.stored.meaning;
+      } in
+      let known : IsKnown e.own e.held d =
+      (subst (λ o. IfSome o (λ x. KnowsWhere b x e)) from.here.holds knows) u from.here.update refl stored.names from.stored.rows from.base in
+      goes.each u (subst (λ m. IsUpdateHere u m p.typed p.roots.items) (sym same) from.here) stored known right;
+}
+
+runs_then : (b : Base) (e : Ending) (p : Project) (list : List (List ℕ)) (s : StoreImage) (before mid after : Option Directory) (done : Done)
+    → mid ≡ before → IsEndingOf b list e → IfSome before (λ d. KnowsWhere b d e) → IfSome before (λ d. s ≡ digested d p.digests.items b.image)
+    → GoesOn s e p mid after done → RunsOrStops b p list before after done
+runs_then b e p list s before mid after (Reported r) same ending knows image goes = runs_clean b e p list s before mid after r.value same ending knows image goes
+runs_then b e p list s before mid after (Stopped stop) same ending knows image goes = tt
+
+pub runs_ok : (b : Base) (e : Ending) (p : Project) (list : List (List ℕ)) (s : StoreImage) (before mid after : Option Directory) (result : Result Done FilesError)
+    → mid ≡ before → IsEndingOf b list e → IfSome before (λ d. KnowsWhere b d e) → IfSome before (λ d. s ≡ digested d p.digests.items b.image)
+    → IfOk result (GoesOn s e p mid after) → IfOk result (RunsOrStops b p list before after)
+runs_ok b e p list s before mid after (Ok done) same ending knows image goes = runs_then b e p list s before mid after done same ending knows image goes
+runs_ok b e p list s before mid after (Err x) same ending knows image goes = tt
+
+-- ---- the whole build of a project
+
+-- roots of a project that is observable are within the limits of values
+pub large_runs : (b : Base) (p : Project) (list : List (List ℕ)) (before after : Option Directory) (result : Result Report BuildError)
+    → IfSome before (λ d. IsReady p.typed p.roots.items) → ¬ (All (λ t. is_small_task t ≡ true) p.roots.items)
+    → IfOk result (RunsCleanOnce b p list before after)
+large_runs b p list before after (Err e) ready large = tt
+large_runs b p list before after (Ok r) ready large = record {
+  once = λ d told none.
+      let is : IsReady p.typed p.roots.items = subst (λ o. IfSome o (λ x. IsReady p.typed p.roots.items)) told ready in
+      absurd (large (All-weaker (IsRootOf p.typed) (λ t. is_small_task t ≡ true) (λ t root. root.small) p.roots.items is.roots));
+}
+
+pub reported_runs : (b : Base) (p : Project) (list : List (List ℕ)) (before after : Option Directory) (done : Done) (report : Box Report Global) (r : Report)
+    → done ≡ Reported report → r ≡ report.value → RunsOrStops b p list before after done → RunsCleanOnce b p list before after r
+reported_runs b p list before after done report r is same h = record {
+  once = λ d told none. subst (RunsClean b p list before after) (sym same) (subst (RunsOrStops b p list before after) is h);
+}
+
+no_cause : (o : Option Cause) → IsSome o → o ≡ None → ⊥
+no_cause None some is = cc
+no_cause (Some c) some is = cc
+
+-- one that tells why it started afresh
+pub again_runs : (b : Base) (p : Project) (list : List (List ℕ)) (before after : Option Directory) (result : Result Report BuildError)
+    → IfOk result (λ r. IsSome r.fresh) → IfOk result (RunsCleanOnce b p list before after)
+again_runs b p list before after (Err e) why = tt
+again_runs b p list before after (Ok r) why = record { once = λ d told none. absurd (no_cause r.fresh why none) }
+
+-- ---- the project that is there
+
+from_clean : (b : Base) (p : Project) (list : List (List ℕ)) (before mid after : Option Directory) (r : Report) → mid ≡ before
+    → IfSome before (λ d. ProjectSays d (Ok (front_of p))) → IfSome before (λ d. HasDigests d p.digests.items) → RunsCleanOnce b p list mid after r
+    → FromClean b list before after r
+from_clean b p list before mid after r same says has runs = record {
+  once = λ d told none.
+      let run : RunsClean b p list mid after r = runs.once d (same ∙ told) none in
+      record {
+        functions = p.typed;
+        walk = run.walk;
+        is = subst (λ m. IsWalk m p.typed run.walk) same run.is;
+        each = λ u of base right.
+            let project : ProjectSays u.directory (Ok (front_of p)) = subst (λ o. IfSome o (λ x. ProjectSays x (Ok (front_of p)))) of.holds says in
+            let digests : HasDigests u.directory p.digests.items = subst (λ o. IfSome o (λ x. HasDigests x p.digests.items)) of.holds has in
+            let now = of.project p.typed p.roots.items project in
+            let store = of.stored b base in (
+              now.0,
+              record {
+                funcs = p.digests.items;
+                roots = p.roots.items;
+                digests = digests;
+                roots_are = now.1;
+                builds = run.each u (record {
+                  here = record { update = of.update; holds = same ∙ of.holds; functions = now.0; roots_are = now.1; separates = of.separates; met = of.met };
+                  base = base;
+                  stored = record { rows = store.0; names = store.1; meaning = of.meaning b p.digests.items base digests };
+                }) right;
+              },
+            );
+      };
+}
+
+pub from_project : (b : Base) (p : Project) (list : List (List ℕ)) (before mid after : Option Directory) (result : Result Report BuildError) → mid ≡ before
+    → IfSome before (λ d. ProjectSays d (Ok (front_of p))) → IfSome before (λ d. HasDigests d p.digests.items)
+    → IfOk result (RunsCleanOnce b p list mid after) → IfOk result (FromClean b list before after)
+from_project b p list before mid after (Err e) same says has runs = tt
+from_project b p list before mid after (Ok r) same says has runs = from_clean b p list before mid after r same says has runs

@@ -1,0 +1,20 @@
+use Rattle.std.proofs.Common.{◌≡◌, sym, subst}
+use Rattle.pie_bottomup.specs.inner.Loaded.{BeginsExact}
+use Rattle.pie_bottomup.specs.inner.States.{IsPlanOf}
+use Rattle.pie_store.specs.declared.image.StoreImage.{StoreImage}
+use Rattle.pie_incremental.specs.inner.Evaluated.{BeginsNow}
+use Rattle.pie_incremental.proofs.Evaluating.{begins_now}
+use Rattle.pie_incremental.proofs.evaluate.core_of.Goals as goal
+
+pub returns-clause-exact : goal.returns-clause-exact
+returns-clause-exact c =
+    let p = c.args.project.now in
+    let core = c.in_ok-core.core in
+    let digests : c.as_slice.result.now ≡ p.digests.items = c.as_slice.ensures.value in
+    let begins : BeginsExact c.args.image.value.funcs p.digests.items c.args.image.value.rows c.args.names.now core =
+    subst (λ ds. BeginsExact c.args.image.value.funcs ds c.args.image.value.rows c.args.names.now core) digests
+    (subst (λ (s : StoreImage). BeginsExact s.funcs c.as_slice.result.now s.rows c.args.names.now core) c.into_inner.ensures c.in_ok-core.ensures.exact) in
+    subst (BeginsNow p.typed c.args.code.now c.args.image.value.funcs p.digests.items c.args.image.value.rows c.args.names.now)
+    (sym c.in_ok-core-2.ensures.ok)
+    (begins_now p.typed c.args.code.now c.args.image.value.funcs p.digests.items c.args.image.value.rows c.args.names.now c.as_slice-2.result.now core
+    (subst (λ ds. IsPlanOf p.typed ds c.as_slice-2.result.now core.plan) digests c.in_ok-core.ensures.plan) begins)
