@@ -1,7 +1,7 @@
 -- What a task was told, and how a step keeps a build exact.
-use Rattle.std.proofs.Common.{◌≡◌, ◌⊎◌, ℕ, ◌<◌, ◌+◌, Bool, true, false, List, [], ◌∷◌, ◌++◌, map, Option, None, Some, Result, Ok, Err, length, refl, sym, ap, ◌∙◌, subst, inl, inr, arith}
-use Rattle.std.specs.Prelude.{slice_get, drop, IfOk, OnOk}
-use Rattle.std.specs.List.{All, Contains, flat_map}
+use Rattle.std.proofs.Common.{◌≡◌, ℕ, Bool, true, false, List, [], ◌∷◌, ◌++◌, map, Option, None, Some, Result, Ok, Err, refl, sym, ap, ◌∙◌, subst, inl, inr}
+use Rattle.std.specs.Prelude.{IfOk, OnOk}
+use Rattle.std.specs.List.{Contains}
 use Rattle.std.proofs.lemmas.List.Elements.{All-contains}
 use Rattle.pie_base.specs.Path.{is_out}
 use Rattle.pie_base.specs.declared.fault.FaultKind.{FaultKind}
@@ -11,13 +11,13 @@ use Rattle.pie_value.specs.declared.event.By.{By}
 use Rattle.pie_value.specs.declared.event.Answer.{Answer}
 use Rattle.pie_files.specs.Directory.{Directory}
 use Rattle.pie_graph.specs.declared.edges.TaskNo.{TaskNo}
-use Rattle.pie_graph.specs.Rows.{Row, row_at}
+use Rattle.pie_graph.specs.Rows.{Row}
 use Rattle.pie_record.specs.declared.dep.Dep.{Dep}
 use Rattle.pie_record.specs.declared.dep.DepKind.{DepKind}
 use Rattle.pie_record.specs.declared.dep.DepKind.TheVariants as kinds
 use Rattle.pie_store.specs.Canonical.{required_on}
 use Rattle.pie_view.specs.Content.{Staged, content}
-use Rattle.pie_walk.specs.Marks.{mark_of, IsSettled}
+use Rattle.pie_walk.specs.Marks.{IsSettled}
 use Rattle.pie_walk.proofs.StateSteps.{top_runs}
 use Rattle.pie_running.specs.declared.frame.Told.{Told}
 use Rattle.pie_running.specs.declared.frame.Told.TheVariants.{Goes, Fails}
@@ -25,7 +25,7 @@ use Rattle.pie_running.specs.declared.frame.Waiting.{Waiting}
 use Rattle.pie_running.specs.declared.looking.Sight.{Sight}
 use Rattle.pie_running.specs.declared.looking.Sight.TheVariants.{File, Long, Clash}
 use Rattle.pie_running.specs.inner.Noted.{Noted, tasks_on, file_dep, absent_dep, observed, read_kind}
-use Rattle.pie_running.specs.inner.Told.{HasFailed, IsToldOrFails, IsToldReading, told_reading, IsToldSmall, IsToldEntries, IsToldList, paths_list, StagesFirst, KeepsFirst, IsToldWrite}
+use Rattle.pie_running.specs.inner.Told.{HasFailed, IsToldOrFails, IsToldReading, told_reading, IsToldSmall, IsToldList, paths_list, StagesFirst, IsToldWrite}
 use Rattle.pie_running.specs.inner.Sights.{found_in}
 use Rattle.pie_frames.specs.inner.Standing.{Holds}
 use Rattle.pie_core_laws.specs.Update.{Update}
@@ -36,10 +36,10 @@ use Rattle.pie_bottomup.specs.declared.state.First.TheVariants.{Tests, Done}
 use Rattle.pie_bottomup.specs.declared.state.InHand.{InHand}
 use Rattle.pie_bottomup.specs.declared.state.Turn.{Turn}
 use Rattle.pie_bottomup.specs.inner.Recorded.{HasEnded}
-use Rattle.pie_bottomup.specs.inner.States.{IsOwn, IsCore, IsGoing, IsInHand, RunsOrRests}
+use Rattle.pie_bottomup.specs.inner.States.{IsOwn, IsCore, IsInHand, RunsOrRests}
 use Rattle.pie_bottomup.specs.inner.Loaded.{TestsExact}
-use Rattle.pie_bottomup.specs.inner.Exact.{IsPlanNow, BeginsAsOld, HoldsAsOld, IsExactCore, EndsRight, EndRight, TurnIsExact, StandsExact}
-use Rattle.pie_bottomup.specs.inner.Exact.{WalksExact, RunsExact, IsSiteNow, AsksExact, StepsExact, OwnsTold, ToldExact, FetchesExact, FilesExact, Lacks}
+use Rattle.pie_bottomup.specs.inner.Exact.{IsPlanNow, BeginsAsOld, HoldsAsOld, IsExactCore, EndRight, TurnIsExact, StandsExact}
+use Rattle.pie_bottomup.specs.inner.Exact.{WalksExact, RunsExact, AsksExact, StepsExact, OwnsTold, ToldExact, FetchesExact, FilesExact, Lacks}
 use Rattle.pie_bottomup.proofs.Owning.{same_own}
 use Rattle.pie_bottomup.proofs.ExactEvents.{SameBeside, staged_exact, puts_beside, lacking_may}
 use Rattle.pie_bottomup.proofs.ExactSteps.{if_ok_more, turn_exact}

@@ -1,5 +1,5 @@
 -- A build begins with the old tasks of an update, and is exact once these were tested.
-use Rattle.std.proofs.Common.{◌≡◌, ◌⊎◌, ℕ, ◌<◌, ◌≤◌, ◌+◌, ◌||◌, Bool, true, false, cond, List, [], ◌∷◌, ◌++◌, Option, None, Some, length, map, replicate, get_or, refl, sym, ap, ◌∙◌, subst, inl, inr, arith}
+use Rattle.std.proofs.Common.{◌≡◌, ◌⊎◌, ℕ, ◌<◌, ◌≤◌, ◌+◌, ◌||◌, Bool, true, false, cond, List, [], ◌∷◌, ◌++◌, None, Some, length, map, replicate, get_or, refl, sym, ap, ◌∙◌, subst, inl, inr, arith}
 use Rattle.std.specs.Prelude.{slice_get, slice_index_or, take}
 use Rattle.std.specs.Ordering.{nat_cmp, is_eq}
 use Rattle.std.specs.Cmp.Lexicographic.{slice_cmp}
@@ -12,7 +12,6 @@ use Rattle.pie_base.specs.Path.{is_below}
 use Rattle.pie_value.specs.declared.task.Task.{Task}
 use Rattle.pie_value.specs.declared.stamp.Stamp.{Stamp}
 use Rattle.pie_value.specs.Canonical.{enc_task}
-use Rattle.pie_files.specs.Directory.{Directory}
 use Rattle.pie_graph.specs.Numbers.{IsMarked}
 use Rattle.pie_graph.specs.Rows.{row_at}
 use Rattle.pie_record.specs.Canonical.{IsStorable}
@@ -53,10 +52,10 @@ use Rattle.pie_core_laws.proofs.Joined.{loaded_begin, names_grow, same_codes}
 use Rattle.pie_bottomup.specs.declared.plan.Plan.{Plan}
 use Rattle.pie_bottomup.specs.declared.state.Core.{Core}
 use Rattle.pie_bottomup.specs.declared.state.First.TheVariants.{Tests, Done}
-use Rattle.pie_bottomup.specs.inner.Tested.{HasTested, AreHeld, AreAsBefore, Learns}
-use Rattle.pie_bottomup.specs.inner.Exact.{IsPlanNow, KnowsTouched, AreWritten, IsUnstarted, WaitsAsOld, HoldsAsOld, AreExact}
+use Rattle.pie_bottomup.specs.inner.Tested.{AreHeld, AreAsBefore, Learns}
+use Rattle.pie_bottomup.specs.inner.Exact.{IsPlanNow, KnowsTouched, AreWritten, WaitsAsOld, HoldsAsOld, AreExact}
 use Rattle.pie_bottomup.specs.inner.Exact.{IsExactCore, IsLoadedCore}
-use Rattle.pie_bottomup.specs.inner.Loaded.{IsLoadedFrom, IsUnmet, IsInformedOf, IsStoredIn, BeginsExact}
+use Rattle.pie_bottomup.specs.inner.Loaded.{IsLoadedFrom, IsUnmet, IsInformedOf, BeginsExact}
 
 -- ---- what was loaded
 

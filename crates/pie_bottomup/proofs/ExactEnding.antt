@@ -1,29 +1,24 @@
 -- A build stays exact where a task that was taken is settled.
-use Rattle.std.proofs.Common.{◌≡◌, ◌⊎◌, ℕ, ◌<◌, ◌≤◌, ◌+◌, get_or, Bool, true, false, List, [], ◌∷◌, ◌++◌, Option, None, Some, length, refl, sym, ap, ◌∙◌, subst, inl, inr, arith}
-use Rattle.std.specs.Prelude.{slice_get, slice_index_or, take, drop, cond}
-use Rattle.std.specs.List.{All, Contains}
-use Rattle.std.specs.Ordering.{nat_cmp, is_eq}
+use Rattle.std.proofs.Common.{◌≡◌, ◌⊎◌, ℕ, ◌<◌, ◌≤◌, get_or, Bool, true, false, List, None, Some, length, refl, sym, ap, ◌∙◌, subst, inl, inr}
+use Rattle.std.specs.Prelude.{slice_get, slice_index_or, take, drop}
+use Rattle.std.specs.List.{All}
 use Rattle.std.proofs.lemmas.List.{get_or-set_same, get_or-set_other}
 use Rattle.pie_value.specs.declared.task.Task.{Task}
-use Rattle.pie_value.specs.Canonical.{enc_task}
 use Rattle.pie_graph.specs.declared.edges.TaskNo.{TaskNo}
 use Rattle.pie_graph.specs.Numbers.{IsMarked}
 use Rattle.pie_graph.specs.Rows.{Row, row_at, no_edges}
-use Rattle.pie_record.specs.declared.records.Records.{Records}
 use Rattle.pie_record.specs.declared.task_record.TaskRecord.{TaskRecord}
-use Rattle.pie_record.specs.inner.Records.{record_of as kept_of, Puts}
+use Rattle.pie_record.specs.inner.Records.{record_of as kept_of}
 use Rattle.pie_tables.specs.declared.tables.Tables.{Tables}
 use Rattle.pie_named.specs.declared.named.Named.{Named}
 use Rattle.pie_view.specs.Content.{Staged, content}
 use Rattle.pie_compare.specs.inner.Standing.{RecordStands}
 use Rattle.pie_walk.specs.declared.marks.Mark.{Mark}
-use Rattle.pie_walk.specs.declared.marks.Mark.TheVariants.{New, Visited, Runs, Settled}
-use Rattle.pie_walk.specs.declared.stack.Entry.TheVariants.{Waits}
+use Rattle.pie_walk.specs.declared.marks.Mark.TheVariants.{New, Runs, Settled}
 use Rattle.pie_walk.specs.Marks.{mark_of, IsSettled}
 use Rattle.pie_walk.specs.States.{WalkState, settled}
 use Rattle.pie_walk.specs.Standing.{Stands}
-use Rattle.pie_walk.proofs.StateSteps.{top_runs, top_inside, top_ready}
-use Rattle.pie_frames.specs.declared.parked.Parked.{Parked}
+use Rattle.pie_walk.proofs.StateSteps.{top_runs, top_ready}
 use Rattle.pie_frames.specs.declared.frames.Frames.{Frames}
 use Rattle.pie_frames.specs.inner.Standing.{Rests, Holds, number_of}
 use Rattle.pie_frames.proofs.Tying.{up_in, in_hand_alone}
@@ -39,14 +34,14 @@ use Rattle.pie_core_laws.specs.Update.{Update}
 use Rattle.pie_core_laws.specs.Exact.{runs, is_busy, IsExact}
 use Rattle.pie_core_laws.specs.Finishing.{Finishes, StaysExact, TellsCallers, TellsOthers}
 use Rattle.pie_core_laws.specs.Seeing.{written_now}
-use Rattle.pie_core_laws.proofs.Exactly.{busy_is, scheduled_busy, runs_busy, runs_inside, same_or_not, settled_not_runs}
+use Rattle.pie_core_laws.proofs.Exactly.{busy_is, scheduled_busy, runs_busy, runs_inside, same_or_not}
 use Rattle.pie_core_laws.proofs.Finished.{finish_stays}
 use Rattle.pie_core_laws.proofs.Joined.{one_shape}
 use Rattle.pie_core_laws.proofs.Kept.{kept_stays}
 use Rattle.pie_bottomup.specs.declared.state.Core.{Core}
 use Rattle.pie_bottomup.specs.inner.Finished.{HasFinished, HasSameEdges, end_row}
 use Rattle.pie_bottomup.specs.inner.Finished as told
-use Rattle.pie_bottomup.specs.inner.Exact.{IsPlanNow, KnowsTouched, AreWritten, IsUnstarted, BeginsAsOld, WaitsAsOld, HoldsAsOld, AreExact}
+use Rattle.pie_bottomup.specs.inner.Exact.{IsPlanNow, KnowsTouched, AreWritten, BeginsAsOld, WaitsAsOld, HoldsAsOld, AreExact}
 use Rattle.pie_bottomup.specs.inner.Exact.{IsExactCore, IsTakenExact, EndedRight, EndsRight}
 use Rattle.pie_bottomup.proofs.Exactly.{nothing_staged, marked_apart}
 use Rattle.pie_bottomup.proofs.Settling.{put_at, put_other}

@@ -1,7 +1,7 @@
 -- A build stays exact where contents are staged, and what a task noted that fails.
-use Rattle.std.proofs.Common.{◌≡◌, ◌⊎◌, ℕ, ◌<◌, ◌≤◌, ◌+◌, ◌-◌, ◌&&◌, Bool, true, false, cond, List, [], ◌∷◌, ◌++◌, map, Option, None, Some, length, refl, sym, ap, ◌∙◌, subst, inl, inr, arith, bytes_eq}
-use Rattle.std.specs.Prelude.{slice_get, slice_index_or, option_map, take, drop, min, IfSome}
-use Rattle.std.specs.List.{All, Contains}
+use Rattle.std.proofs.Common.{◌≡◌, ◌⊎◌, ℕ, ◌<◌, ◌≤◌, ◌-◌, ◌&&◌, Bool, true, false, cond, List, [], ◌∷◌, map, Option, None, Some, length, refl, sym, ap, ◌∙◌, subst, inl, inr, arith, bytes_eq}
+use Rattle.std.specs.Prelude.{slice_index_or, option_map, take, drop, min, IfSome}
+use Rattle.std.specs.List.{Contains}
 use Rattle.std.specs.declared.cmp.Ordering.TheVariants.{Less, Equal, Greater}
 use Rattle.std.specs.Ordering.{nat_cmp, is_eq, MatchOrdering}
 use Rattle.std.specs.Cmp.{ranks}
@@ -9,9 +9,6 @@ use Rattle.std.specs.Cmp.Lexicographic.{slice_cmp}
 use Rattle.std.proofs.lemmas.Bool.{cases_lt}
 use Rattle.std.proofs.lemmas.List.{take_all, drop_all, length-drop, length-map, drop-map}
 use Rattle.std.proofs.lemmas.Map.Text.{is_eq-slice_cmp}
-use Rattle.std.proofs.lemmas.List.Elements.{All-contains}
-use Rattle.pie_base.specs.Path.{is_out}
-use Rattle.pie_value.specs.declared.task.Task.{Task}
 use Rattle.pie_value.specs.Canonical.{enc_task}
 use Rattle.pie_graph.specs.declared.edges.TaskNo.{TaskNo}
 use Rattle.pie_files.specs.Directory.{Directory, file_at}
@@ -20,13 +17,12 @@ use Rattle.pie_files.specs.declared.files.Within.TheVariants.{Whole}
 use Rattle.pie_files.specs.declared.files.Found.{Found}
 use Rattle.pie_files.specs.inner.Within.{IsWithin}
 use Rattle.pie_graph.specs.Numbers.{IsMarked, numbers}
-use Rattle.pie_graph.specs.Rows.{Row, row_at, Writes}
+use Rattle.pie_graph.specs.Rows.{row_at}
 use Rattle.pie_graph.proofs.Among.{contains_cases}
 use Rattle.pie_record.specs.declared.task_record.TaskRecord.{TaskRecord}
 use Rattle.pie_record.specs.inner.Records.{record_of as kept_of}
 use Rattle.pie_view.specs.Content.{Staged, content, is_pair, Puts}
-use Rattle.pie_view.specs.Seen.{Visible, IsOwn}
-use Rattle.pie_walk.specs.declared.marks.Mark.TheVariants.{Settled}
+use Rattle.pie_view.specs.Seen.{IsOwn}
 use Rattle.pie_walk.specs.Marks.{mark_of, IsSettled}
 use Rattle.pie_walk.specs.States.{WalkState}
 use Rattle.pie_walk.specs.Standing.{Stands}
@@ -44,10 +40,10 @@ use Rattle.pie_core_laws.specs.Update.{Update, present}
 use Rattle.pie_core_laws.specs.Exact.{runs, is_busy}
 use Rattle.pie_core_laws.specs.Keeping.{Separates}
 use Rattle.pie_core_laws.specs.Seeing.{written_now}
-use Rattle.pie_core_laws.proofs.Exactly.{settled_not_runs, same_or_not, settled_not_busy}
+use Rattle.pie_core_laws.proofs.Exactly.{settled_not_runs, settled_not_busy}
 use Rattle.pie_core_laws.proofs.Seen.{record_now, files_written}
 use Rattle.pie_bottomup.specs.declared.state.Core.{Core}
-use Rattle.pie_bottomup.specs.inner.Exact.{AreWritten, IsExactCore, IsSiteNow, MayStage, Lacks}
+use Rattle.pie_bottomup.specs.inner.Exact.{AreWritten, IsExactCore, MayStage, Lacks}
 use Rattle.pie_bottomup.proofs.Exactly.{nothing_staged}
 
 -- ---- what is staged for the task in hand

@@ -1,5 +1,5 @@
 -- A build stays exact where a task begins to run or waits, and where one more comes.
-use Rattle.std.proofs.Common.{◌≡◌, ◌⊎◌, ℕ, zero, suc, ◌<◌, ◌≤◌, ◌+◌, Bool, true, false, List, [], ◌∷◌, ◌++◌, Option, None, Some, length, refl, sym, ap, ◌∙◌, subst, inl, inr, arith}
+use Rattle.std.proofs.Common.{◌≡◌, ◌⊎◌, ℕ, zero, suc, ◌<◌, ◌≤◌, Bool, true, false, List, [], ◌∷◌, ◌++◌, Option, None, Some, length, refl, sym, ap, ◌∙◌, subst, inl, inr, arith}
 use Rattle.std.specs.Prelude.{slice_get, slice_index_or, slice_set, take, IfSome}
 use Rattle.std.specs.List.{All}
 use Rattle.std.proofs.lemmas.List.{get_or-set_same, get_or-set_other, length_push, take-append-le, take_all}
@@ -14,20 +14,17 @@ use Rattle.pie_record.specs.declared.task_record.TaskRecord.{TaskRecord}
 use Rattle.pie_record.specs.inner.Records.{record_of as kept_of}
 use Rattle.pie_tables.specs.declared.tables.Tables.{Tables}
 use Rattle.pie_tables.specs.Tabled.{IsTables, IsRecordAt}
-use Rattle.pie_named.specs.declared.named.Named.{Named}
-use Rattle.pie_view.specs.Content.{Staged, content}
 use Rattle.pie_union.specs.Requiring.{requiring}
-use Rattle.pie_walk.specs.declared.marks.Mark.{Mark}
 use Rattle.pie_walk.specs.declared.marks.Mark.TheVariants.{New, Runs, Settled}
 use Rattle.pie_walk.specs.Marks.{mark_of, IsSettled}
-use Rattle.pie_walk.specs.States.{WalkState, with_one_more, with_need, met}
+use Rattle.pie_walk.specs.States.{WalkState, with_one_more}
 use Rattle.pie_walk.specs.Standing.{Stands}
 use Rattle.pie_walk.proofs.HoldSteps.{default_more}
 use Rattle.pie_walk.proofs.StateSteps.{top_runs, top_inside}
 use Rattle.pie_walk.specs.declared.stack.Entry.TheVariants.{Waits}
 use Rattle.pie_frames.specs.declared.parked.Parked.{Parked}
 use Rattle.pie_frames.specs.declared.frames.Frames.{Frames}
-use Rattle.pie_frames.specs.inner.Standing.{Rests, Holds, number_of}
+use Rattle.pie_frames.specs.inner.Standing.{Holds, number_of}
 use Rattle.pie_frames.specs.inner.Turns.{HasParked}
 use Rattle.pie_frames.proofs.Handing.{required_rows}
 use Rattle.pie_frames.proofs.Tying.{grown_rows}
@@ -37,13 +34,12 @@ use Rattle.pie_builder_laws.proofs.Provided.{numbers_stay}
 use Rattle.pie_core_laws.specs.Update.{Update}
 use Rattle.pie_core_laws.specs.Exact.{runs, is_busy, IsExact}
 use Rattle.pie_core_laws.specs.Moving.{Moves}
-use Rattle.pie_core_laws.specs.Seeing.{written_now}
-use Rattle.pie_core_laws.proofs.Exactly.{busy_is, scheduled_busy, runs_busy, same_or_not}
+use Rattle.pie_core_laws.proofs.Exactly.{busy_is, scheduled_busy, runs_busy}
 use Rattle.pie_core_laws.proofs.Grown.{new_stays}
 use Rattle.pie_core_laws.proofs.Visited.{requires_move}
 use Rattle.pie_bottomup.specs.declared.state.Core.{Core}
 use Rattle.pie_bottomup.specs.declared.state.InHand.{InHand}
-use Rattle.pie_bottomup.specs.inner.Exact.{KnowsTouched, AreWritten, IsUnstarted, BeginsAsOld, WaitsAsOld, HoldsAsOld, AreExact}
+use Rattle.pie_bottomup.specs.inner.Exact.{KnowsTouched, AreWritten, BeginsAsOld, WaitsAsOld, HoldsAsOld}
 use Rattle.pie_bottomup.specs.inner.Exact.{IsExactCore, IsTakenExact}
 use Rattle.pie_bottomup.proofs.Exactly.{are_moved}
 use Rattle.pie_bottomup.proofs.ExactEnding.{waits_apart}

@@ -1,21 +1,17 @@
 -- What an exact build makes once its roots are settled is what a clean build makes.
-use Rattle.std.proofs.Common.{◌≡◌, ◌⊎◌, ℕ, zero, suc, ◌<◌, ◌≤◌, ◌+◌, ◌-◌, get_or, Bool, true, false, List, [], ◌∷◌, ◌++◌, Option, None, Some, length, refl, sym, ap, ◌∙◌, subst, inl, inr, arith}
-use Rattle.std.specs.Prelude.{slice_get, slice_index_or, take, map, IsSome}
-use Rattle.std.specs.List.{All, Contains}
+use Rattle.std.proofs.Common.{◌≡◌, ◌⊎◌, ℕ, zero, suc, ◌<◌, ◌≤◌, ◌+◌, ◌-◌, get_or, Bool, true, false, List, [], ◌∷◌, ◌++◌, Some, length, refl, sym, ap, ◌∙◌, subst, inl, inr, arith}
+use Rattle.std.specs.Prelude.{slice_index_or, take, IsSome}
+use Rattle.std.specs.List.{Contains}
 use Rattle.std.proofs.lemmas.List.{take_more}
 use Rattle.std.proofs.lemmas.List.Elements.{All-contains}
 use Rattle.pie_value.specs.declared.task.Task.{Task}
-use Rattle.pie_value.specs.declared.verdict.Verdict.TheVariants.{Accepted}
-use Rattle.pie_value.specs.Canonical.{enc_task}
 use Rattle.pie_graph.proofs.Among.{contains_here, contains_later, contains_cases}
 use Rattle.pie_graph.specs.Numbers.{IsMarked}
 use Rattle.pie_graph.specs.Rows.{Row}
 use Rattle.pie_record.specs.declared.records.Records.{Records}
 use Rattle.pie_record.specs.declared.task_record.Outcome.{Outcome}
 use Rattle.pie_record.specs.declared.task_record.Outcome.TheVariants as ends
-use Rattle.pie_record.specs.declared.task_record.TaskRecord.{TaskRecord}
 use Rattle.pie_record.specs.inner.Records.{record_of as kept_of}
-use Rattle.pie_view.specs.Content.{Staged}
 use Rattle.pie_checks.specs.declared.built.Built.{Built}
 use Rattle.pie_results.specs.inner.Failures.{refusal_in, refusal_by}
 use Rattle.pie_results.specs.inner.Made.{Makes}
@@ -27,10 +23,8 @@ use Rattle.pie_walk.specs.Marks.{mark_of, IsSettled}
 use Rattle.pie_walk.specs.States.{WalkState}
 use Rattle.pie_model.specs.Trees.{is_done as ends_well}
 use Rattle.pie_model_pipeline.specs.Rows.{outcome_of, record_of as model_record}
-use Rattle.pie_compare_laws.proofs.Ways.{one_some}
 use Rattle.pie_core_laws.specs.Update.{Update}
 use Rattle.pie_core_laws.specs.Exact.{runs}
-use Rattle.pie_core_laws.specs.Keeping.{Separates}
 use Rattle.pie_result_laws.specs.Verdicts.{IsSettledRoot, RootsSettle}
 use Rattle.pie_result_laws.specs.Accepted.{AreStagedNow}
 use Rattle.pie_result_laws.proofs.Failing.{made_verdict}
@@ -40,7 +34,7 @@ use Rattle.pie_bottomup.specs.declared.state.Core.{Core}
 use Rattle.pie_bottomup.specs.inner.Recorded.{IsMet}
 use Rattle.pie_bottomup.specs.inner.States.{HasSettled, RootFailed}
 use Rattle.pie_bottomup.specs.inner.Exact.{IsExactCore}
-use Rattle.pie_bottomup.specs.inner.Made.{MakesClean, MadeExact}
+use Rattle.pie_bottomup.specs.inner.Made.{MadeExact}
 use Rattle.pie_bottomup.proofs.Exactly.{settled_or_not, marked_apart}
 use Rattle.pie_bottomup.proofs.Settling.{one_number}
 

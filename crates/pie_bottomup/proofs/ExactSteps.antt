@@ -1,30 +1,25 @@
 -- How functions that end a step leave a build exact, by those that they end with.
-use Rattle.std.proofs.Common.{◌≡◌, ◌⊎◌, ℕ, ◌<◌, ◌≤◌, ◌+◌, Bool, true, false, List, [], ◌∷◌, ◌++◌, map, Option, None, Some, Result, Ok, Err, length, refl, sym, ap, ◌∙◌, subst, inl, inr, arith}
-use Rattle.std.specs.Prelude.{slice_get, slice_index_or, take, drop, IfOk, OnOk}
-use Rattle.std.specs.List.{All, Contains, flat_map}
+use Rattle.std.proofs.Common.{◌≡◌, ℕ, ◌<◌, Bool, true, false, List, [], ◌∷◌, ◌++◌, map, Option, None, Some, Result, Ok, Err, length, refl, sym, ap, ◌∙◌, subst, inl, inr, arith}
+use Rattle.std.specs.Prelude.{slice_get, slice_index_or, drop, IfOk, OnOk}
+use Rattle.std.specs.List.{flat_map}
 use Rattle.std.proofs.lemmas.List.{take_all, drop_all, map-append}
 use Rattle.std.proofs.lemmas.Option.{slice_get_within}
 use Rattle.pie_value.specs.declared.task.Task.{Task}
-use Rattle.pie_value.specs.declared.event.How.{How}
 use Rattle.pie_value.specs.Canonical.{enc_task, IsCanonicalTask}
 use Rattle.pie_types.specs.Whole.{number_from}
 use Rattle.pie_graph.specs.declared.edges.TaskNo.{TaskNo}
-use Rattle.pie_graph.specs.Numbers.{IsMarked}
-use Rattle.pie_graph.specs.Rows.{Row, row_at}
+use Rattle.pie_graph.specs.Rows.{row_at}
 use Rattle.pie_record.specs.declared.dep.Dep.{Dep}
 use Rattle.pie_record.specs.declared.dep.DepOn.{DepOn}
 use Rattle.pie_record.specs.declared.dep.DepOn.TheVariants.{File, Called}
-use Rattle.pie_record.specs.declared.task_record.Outcome.{Outcome}
 use Rattle.pie_record.specs.declared.task_record.TaskRecord.{TaskRecord}
 use Rattle.pie_record.specs.inner.Names.{Numbers}
 use Rattle.pie_record.specs.inner.Records.{record_of as kept_of}
 use Rattle.pie_store.specs.Canonical.{required_on}
-use Rattle.pie_tables.specs.declared.tables.Tables.{Tables}
 use Rattle.pie_walk.specs.declared.marks.Mark.TheVariants.{Runs, Settled}
-use Rattle.pie_walk.specs.Marks.{mark_of, IsSettled}
-use Rattle.pie_walk.specs.States.{WalkState}
+use Rattle.pie_walk.specs.Marks.{IsSettled}
 use Rattle.pie_walk.proofs.StateSteps.{top_runs}
-use Rattle.pie_old.specs.inner.Rows.{tasks_at, paths_in}
+use Rattle.pie_old.specs.inner.Rows.{tasks_at}
 use Rattle.pie_running.specs.declared.frame.Caller.{Caller}
 use Rattle.pie_running.specs.inner.Noted.{Noted, tasks_on}
 use Rattle.pie_running.specs.inner.Coded.{IsCodeFor}
@@ -32,17 +27,14 @@ use Rattle.pie_frames.specs.declared.parked.Parked.{Parked}
 use Rattle.pie_frames.specs.declared.frames.Frames.{Frames}
 use Rattle.pie_frames.specs.inner.Standing.{Rests, Holds, IsParked, number_of}
 use Rattle.pie_frames.specs.inner.Turns.{HasTaken, HasAnswered, IsOver}
-use Rattle.pie_frames.specs.inner.Ended.{row_from}
 use Rattle.pie_view.specs.Content.{content}
 use Rattle.pie_model_pipeline.specs.World.{world}
 use Rattle.pie_earlier_laws.specs.Left.{AreThere}
-use Rattle.pie_builder_laws.specs.Events.{AreCompiled}
-use Rattle.pie_builder_laws.specs.Names.{AreTasks, called_on, called_in}
+use Rattle.pie_builder_laws.specs.Names.{called_on, called_in}
 use Rattle.pie_builder_laws.specs.Views.{AreNumbersOf, RowIs}
 use Rattle.pie_builder_laws.proofs.Numbered.{code_found}
 use Rattle.pie_compare_laws.proofs.Ways.{one_some}
 use Rattle.pie_core_laws.specs.Update.{Update}
-use Rattle.pie_core_laws.specs.Exact.{runs}
 use Rattle.pie_core_laws.specs.Running.{IsBaseOf}
 use Rattle.pie_core_laws.proofs.Runs.{old_base, lost_right}
 use Rattle.pie_bottomup.specs.declared.plan.Plan.{Plan}
@@ -52,7 +44,7 @@ use Rattle.pie_bottomup.specs.declared.state.Turn.TheVariants.{Went, Settled as 
 use Rattle.pie_bottomup.specs.inner.Finished.{HasFinished, end_row}
 use Rattle.pie_bottomup.specs.inner.Running.{IsCaller}
 use Rattle.pie_bottomup.specs.inner.States.{IsOwn}
-use Rattle.pie_bottomup.specs.inner.Exact.{IsPlanNow, IsUnstarted, BeginsAsOld, WaitsAsOld, IsExactCore, EndedRight, EndsRight, EndRight, TurnIsExact}
+use Rattle.pie_bottomup.specs.inner.Exact.{IsPlanNow, BeginsAsOld, IsExactCore, EndedRight, EndsRight, TurnIsExact}
 use Rattle.pie_bottomup.specs.inner.Exact.{GoesExact, WalksExact, IsTakenExact, TakesExact, StartsExact, RunsExact, EndsExact, NotesExact, CallerExact}
 use Rattle.pie_bottomup.specs.inner.Exact.{IsWaitingFor, StaysExact, StillBegins, lost_record, lost_task}
 use Rattle.pie_bottomup.proofs.Settling.{put_at}

@@ -1,19 +1,14 @@
 -- A build stays exact where a task is taken or answered, and where a root is begun.
-use Rattle.std.proofs.Common.{◌≡◌, ◌⊎◌, ℕ, ◌<◌, ◌+◌, Bool, true, false, List, [], ◌∷◌, ◌++◌, Option, None, Some, length, refl, sym, ap, ◌∙◌, subst, inl, inr, arith}
+use Rattle.std.proofs.Common.{◌≡◌, ℕ, ◌<◌, ◌+◌, true, List, ◌∷◌, length, sym, ap, ◌∙◌, subst}
 use Rattle.std.specs.List.{All, Contains}
 use Rattle.std.proofs.lemmas.List.Elements.{All-nil}
 use Rattle.pie_graph.specs.declared.edges.TaskNo.{TaskNo}
-use Rattle.pie_graph.specs.Rows.{Row, row_at}
 use Rattle.pie_graph.proofs.Among.{contains_here}
-use Rattle.pie_record.specs.declared.task_record.TaskRecord.{TaskRecord}
-use Rattle.pie_record.specs.inner.Records.{record_of as kept_of}
-use Rattle.pie_walk.specs.declared.marks.Mark.TheVariants.{Runs}
-use Rattle.pie_walk.specs.Marks.{mark_of, IsSettled, IsIdle}
+use Rattle.pie_walk.specs.Marks.{mark_of, IsIdle}
 use Rattle.pie_walk.specs.States.{WalkState, met}
-use Rattle.pie_walk.specs.Standing.{Stands}
 use Rattle.pie_frames.specs.declared.parked.Parked.{Parked}
 use Rattle.pie_frames.specs.declared.frames.Frames.{Frames}
-use Rattle.pie_frames.specs.inner.Standing.{Rests, Holds, number_of, numbers_up}
+use Rattle.pie_frames.specs.inner.Standing.{Rests, number_of, numbers_up}
 use Rattle.pie_frames.specs.inner.Turns.{HasTaken, HasAnswered, IsOver}
 use Rattle.pie_frames.proofs.Handing.{met_rows}
 use Rattle.pie_frames.proofs.Tying.{up_push}

@@ -1,11 +1,10 @@
 -- A build stays exact where its walk goes on.
-use Rattle.std.proofs.Common.{◌≡◌, ◌⊎◌, ℕ, ◌<◌, ◌≤◌, ◌+◌, Bool, true, false, List, [], ◌∷◌, ◌++◌, Option, None, Some, length, refl, sym, ap, ◌∙◌, subst, inl, inr, arith}
-use Rattle.std.specs.Prelude.{slice_get, slice_index_or, take}
+use Rattle.std.proofs.Common.{◌≡◌, ◌⊎◌, ℕ, Bool, true, false, List, [], ◌∷◌, ◌++◌, Option, None, Some, refl, sym, ap, ◌∙◌, subst, inl, inr}
+use Rattle.std.specs.Prelude.{slice_index_or}
 use Rattle.std.specs.List.{All}
-use Rattle.std.proofs.lemmas.List.Elements.{All-weaker, All-pop, All-push}
-use Rattle.pie_graph.specs.declared.edges.TaskNo.{TaskNo}
+use Rattle.std.proofs.lemmas.List.Elements.{All-pop}
 use Rattle.pie_graph.specs.Numbers.{IsMarked}
-use Rattle.pie_graph.specs.Rows.{Row, row_at}
+use Rattle.pie_graph.specs.Rows.{Row}
 use Rattle.pie_record.specs.declared.task_record.TaskRecord.{TaskRecord}
 use Rattle.pie_record.specs.inner.Records.{record_of as kept_of}
 use Rattle.pie_tables.specs.declared.tables.Tables.{Tables}
@@ -20,14 +19,14 @@ use Rattle.pie_walk.specs.Turns.{Walks}
 use Rattle.pie_frames.specs.declared.parked.Parked.{Parked}
 use Rattle.pie_frames.specs.declared.frames.Frames.{Frames}
 use Rattle.pie_core_laws.specs.Update.{Update}
-use Rattle.pie_core_laws.specs.Exact.{runs, is_busy}
+use Rattle.pie_core_laws.specs.Exact.{is_busy}
 use Rattle.pie_core_laws.specs.Moving.{Moves}
 use Rattle.pie_core_laws.specs.Seeing.{written_now}
 use Rattle.pie_core_laws.proofs.Exactly.{not_busy_runs}
-use Rattle.pie_core_laws.proofs.Moved.{moves_stay, walks_move}
+use Rattle.pie_core_laws.proofs.Moved.{moves_stay}
 use Rattle.pie_bottomup.specs.declared.state.Core.{Core}
 use Rattle.pie_bottomup.specs.declared.state.InHand.{InHand}
-use Rattle.pie_bottomup.specs.inner.Exact.{KnowsTouched, AreWritten, IsUnstarted, BeginsAsOld, WaitsAsOld, HoldsAsOld, AreExact, IsExactCore}
+use Rattle.pie_bottomup.specs.inner.Exact.{KnowsTouched, AreWritten, WaitsAsOld, HoldsAsOld, AreExact, IsExactCore}
 
 pub settled_or_not : (m : Mark) → (m ≡ Settled) ⊎ (m ≡ Settled → ⊥)
 settled_or_not New = inr (λ e. cc)

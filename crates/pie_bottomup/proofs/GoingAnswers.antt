@@ -1,10 +1,9 @@
 -- A task that waited is answered, or ends as the one did for which it waited; and how the walk leaves the tasks of a build.
-use Rattle.std.proofs.Common.{◌≡◌, ◌≢◌, ◌⊎◌, ℕ, zero, suc, ◌<◌, ◌+◌, Bool, true, false, List, [], ◌∷◌, ◌++◌, Option, None, Some, Result, length, refl, sym, ap, ◌∙◌, subst, arith}
+use Rattle.std.proofs.Common.{◌≡◌, ℕ, zero, suc, ◌<◌, true, false, List, [], ◌∷◌, ◌++◌, Some, Result, length, refl, sym, ap, ◌∙◌, subst, arith}
 use Rattle.std.specs.Prelude.{slice_get, slice_index_or, IfOk}
 use Rattle.pie_value.specs.declared.task.Task.{Task}
 use Rattle.pie_value.specs.declared.value.Value.{Value}
 use Rattle.pie_graph.specs.declared.edges.TaskNo.{TaskNo}
-use Rattle.pie_graph.specs.Numbers.{IsMarked}
 use Rattle.pie_record.specs.declared.task_record.Outcome.{Outcome}
 use Rattle.pie_record.specs.declared.task_record.Outcome.TheVariants as ends
 use Rattle.pie_record.specs.declared.task_record.TaskRecord.{TaskRecord}
@@ -24,7 +23,7 @@ use Rattle.pie_frames.specs.inner.Standing.{Rests, Holds, number_of}
 use Rattle.pie_frames.specs.inner.Turns.{HasTaken, HasAnswered, IsOver}
 use Rattle.pie_model.specs.Trees.{is_done as ends_well}
 use Rattle.pie_model.proofs.Basics.{clash}
-use Rattle.pie_model_pipeline.specs.Rows.{outcome_of, record_of as model_record}
+use Rattle.pie_model_pipeline.specs.Rows.{outcome_of}
 use Rattle.pie_builder_laws.specs.Requiring.{of_task, requiring_answer}
 use Rattle.pie_compare_laws.specs.Agreeing.{OutputsAreCanonical}
 use Rattle.pie_compare_laws.proofs.Ways.{one_some}
@@ -33,17 +32,16 @@ use Rattle.pie_core_laws.specs.Exact.{runs, is_done}
 use Rattle.pie_core_laws.specs.Finishing.{IsRight}
 use Rattle.pie_core_laws.specs.Seeing.{written_now}
 use Rattle.pie_core_laws.proofs.Kept.{settled_done}
-use Rattle.pie_task_laws.specs.Answering.{HasSettled, HasGiven}
+use Rattle.pie_task_laws.specs.Answering.{HasSettled}
 use Rattle.pie_task_laws.specs.Coming.{EndsRight, left_as}
-use Rattle.pie_task_laws.specs.Whole.{IsAtWork, EndsOne}
+use Rattle.pie_task_laws.specs.Whole.{EndsOne}
 use Rattle.pie_task_laws.proofs.Answered.{callers_end}
 use Rattle.pie_task_laws.proofs.Together.{callers_rest, answered_work}
 use Rattle.pie_bottomup.specs.declared.state.Core.{Core}
-use Rattle.pie_bottomup.specs.declared.state.InHand.{InHand}
 use Rattle.pie_bottomup.specs.declared.state.Turn.{Turn}
 use Rattle.pie_bottomup.specs.inner.Running.{IsCaller}
 use Rattle.pie_bottomup.specs.inner.Exact.{IsExactCore, BeginsAsOld, EndedRight, IsWaitingFor, lost_task}
-use Rattle.pie_bottomup.specs.inner.Going.{site_of, build_of, callers_up, IsResting, EndsAlone, MayEndAs, IsAnsweredFrom, IsWhole, IsBuildNow}
+use Rattle.pie_bottomup.specs.inner.Going.{site_of, build_of, callers_up, EndsAlone, MayEndAs, IsAnsweredFrom, IsWhole, IsBuildNow}
 use Rattle.pie_bottomup.specs.inner.Going.{WalksWhole, TakesWhole, AnswersWhole, RootsWhole, EndsWhole, CallersWhole}
 use Rattle.pie_bottomup.proofs.ExactSteps.{if_ok_more, caller_row}
 use Rattle.pie_bottomup.proofs.ExactWalking.{answered_exact, over_exact}

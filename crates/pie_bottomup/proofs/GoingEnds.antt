@@ -1,22 +1,20 @@
 -- The tasks that run and wait go on where one that was taken is kept, begins to run or ends.
-use Rattle.std.proofs.Common.{◌≡◌, ◌≢◌, ◌⊎◌, ℕ, ◌<◌, ◌+◌, Bool, true, false, List, [], ◌∷◌, ◌++◌, map, Option, None, Some, length, refl, sym, ap, ◌∙◌, subst, inl, inr, arith}
+use Rattle.std.proofs.Common.{◌≡◌, ◌⊎◌, ℕ, ◌<◌, Bool, true, false, List, Option, None, Some, length, refl, sym, ap, ◌∙◌, subst, inl, inr}
 use Rattle.std.specs.Prelude.{slice_get, slice_index_or, slice_set}
-use Rattle.std.specs.List.{Contains}
 use Rattle.std.proofs.lemmas.List.{get_or-set_same, get_or-set_other}
 use Rattle.pie_value.specs.declared.task.Task.{Task}
 use Rattle.pie_value.specs.Canonical.{enc_task, IsCanonicalTask}
 use Rattle.pie_types.specs.Whole.{number_from}
 use Rattle.pie_graph.specs.declared.edges.TaskNo.{TaskNo}
 use Rattle.pie_graph.specs.Numbers.{IsMarked}
-use Rattle.pie_graph.specs.Rows.{Row, row_at}
+use Rattle.pie_graph.specs.Rows.{row_at}
 use Rattle.pie_record.specs.declared.records.Records.{Records}
 use Rattle.pie_record.specs.declared.task_record.TaskRecord.{TaskRecord}
 use Rattle.pie_record.specs.inner.Records.{record_of as kept_of}
 use Rattle.pie_tables.specs.declared.tables.Tables.{Tables}
 use Rattle.pie_compare.specs.inner.Standing.{RecordStands}
-use Rattle.pie_walk.specs.declared.marks.Mark.{Mark}
-use Rattle.pie_walk.specs.declared.marks.Mark.TheVariants.{New, Visited, Runs, Settled}
-use Rattle.pie_walk.specs.Marks.{mark_of, IsSettled}
+use Rattle.pie_walk.specs.declared.marks.Mark.TheVariants.{New, Settled}
+use Rattle.pie_walk.specs.Marks.{mark_of}
 use Rattle.pie_walk.specs.States.{WalkState, settled}
 use Rattle.pie_walk.proofs.StateSteps.{top_runs}
 use Rattle.pie_frames.specs.declared.frames.Frames.{Frames}
@@ -36,15 +34,15 @@ use Rattle.pie_core_laws.proofs.Runs.{lost_right}
 use Rattle.pie_task_laws.specs.Going.{MayBegin}
 use Rattle.pie_task_laws.proofs.Begun.{lost_end}
 use Rattle.pie_core_laws.proofs.Exactly.{settled_not_runs, runs_inside, same_or_not}
-use Rattle.pie_task_laws.specs.Whole.{IsNew, NoneIsNew, AreAtRest, IsAtWork, EndsOne, ended}
+use Rattle.pie_task_laws.specs.Whole.{IsNew, AreAtRest, IsAtWork, EndsOne}
 use Rattle.pie_task_laws.proofs.Together.{kept_rest, taken_work, lost_rest}
 use Rattle.pie_bottomup.specs.declared.state.Core.{Core}
 use Rattle.pie_bottomup.specs.declared.state.InHand.{InHand}
 use Rattle.pie_bottomup.specs.inner.Finished.{HasFinished, end_row}
-use Rattle.pie_bottomup.specs.inner.Exact.{IsPlanNow, IsExactCore, BeginsAsOld, EndedRight, EndsRight, lost_record}
-use Rattle.pie_bottomup.specs.inner.Going.{site_of, build_of, callers_up, IsResting, IsWorking, IsTakenFrom, EndsAlone, Goes, IsWhole, IsBuildNow}
+use Rattle.pie_bottomup.specs.inner.Exact.{IsPlanNow, IsExactCore, BeginsAsOld, EndedRight, lost_record}
+use Rattle.pie_bottomup.specs.inner.Going.{site_of, build_of, callers_up, IsResting, IsTakenFrom, EndsAlone, Goes, IsWhole}
 use Rattle.pie_bottomup.proofs.Settling.{put_at, put_other}
-use Rattle.pie_bottomup.proofs.ExactEnding.{SettlesOne, kept_stay, kept_exact, ended_stays, finishes, one, ends_exact, ended_exact}
+use Rattle.pie_bottomup.proofs.ExactEnding.{SettlesOne, kept_stay, kept_exact, ended_stays, finishes, one, ended_exact}
 use Rattle.pie_bottomup.proofs.ExactGrowing.{started_exact}
 
 none_some : {A : Type 0} (o : Option A) (x : A) → o ≡ None → o ≡ Some x → ⊥

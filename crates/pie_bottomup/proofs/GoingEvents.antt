@@ -1,6 +1,6 @@
 -- The task in hand ends or waits, and the others wait on.
-use Rattle.std.proofs.Common.{◌≡◌, ◌≢◌, ◌⊎◌, ℕ, ◌<◌, ◌≤◌, ◌+◌, Bool, true, false, cond, List, [], ◌∷◌, ◌++◌, Option, None, Some, Result, length, refl, sym, ap, ◌∙◌, subst, inl, inr, arith}
-use Rattle.std.specs.Prelude.{slice_get, slice_index_or, IfOk}
+use Rattle.std.proofs.Common.{◌≡◌, ◌≢◌, ◌⊎◌, ℕ, ◌<◌, ◌≤◌, Bool, true, false, cond, List, ◌∷◌, Option, None, Some, Result, length, sym, ap, ◌∙◌, subst, inl, inr, arith}
+use Rattle.std.specs.Prelude.{slice_get, IfOk}
 use Rattle.std.proofs.lemmas.List.{get_or-set_other}
 use Rattle.pie_base.specs.declared.fault.FaultKind.{FaultKind}
 use Rattle.pie_base.specs.declared.fault.FaultKind.TheVariants.{Big}
@@ -29,7 +29,7 @@ use Rattle.pie_running.specs.declared.frame.Waiting.{Waiting}
 use Rattle.pie_running.specs.inner.Noted.{Noted}
 use Rattle.pie_frames.specs.declared.parked.Parked.{Parked}
 use Rattle.pie_frames.specs.declared.frames.Frames.{Frames}
-use Rattle.pie_frames.specs.inner.Standing.{Rests, Holds, number_of}
+use Rattle.pie_frames.specs.inner.Standing.{Holds, number_of}
 use Rattle.pie_frames.specs.inner.Turns.{HasParked}
 use Rattle.pie_frames.proofs.Handing.{required_rows}
 use Rattle.pie_model.proofs.Basics.{clash}
@@ -44,7 +44,7 @@ use Rattle.pie_task_laws.specs.Beginning.{calling}
 use Rattle.pie_task_laws.specs.Coming.{EndsRight, failed_by, output_by}
 use Rattle.pie_running.specs.declared.frame.Told.{Told}
 use Rattle.pie_running.specs.declared.frame.Told.TheVariants.{Goes as GoesOnAs, Fails}
-use Rattle.pie_task_laws.specs.Whole.{IsNew, AreAtRest, IsAtWork, EndsOne}
+use Rattle.pie_task_laws.specs.Whole.{AreAtRest, EndsOne}
 use Rattle.pie_base.specs.Path.{is_out}
 use Rattle.pie_files.specs.Directory.{Directory}
 use Rattle.pie_view.specs.Content.{Staged}

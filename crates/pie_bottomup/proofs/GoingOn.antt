@@ -1,44 +1,40 @@
 -- The tasks that run and wait go on where the walk does, where a task is kept, and where one begins to run.
-use Rattle.std.proofs.Common.{◌≡◌, ◌≢◌, ◌⊎◌, ℕ, ◌<◌, ◌+◌, Bool, true, false, List, [], ◌∷◌, ◌++◌, map, reverse, Option, None, Some, length, refl, sym, ap, ◌∙◌, subst, inl, inr, arith}
-use Rattle.std.specs.Prelude.{slice_get, slice_index_or, slice_set}
+use Rattle.std.proofs.Common.{◌≡◌, ◌≢◌, ◌⊎◌, ℕ, true, false, List, [], ◌∷◌, ◌++◌, map, reverse, None, Some, length, refl, sym, ap, ◌∙◌, subst, inl, inr, arith}
+use Rattle.std.specs.Prelude.{slice_get}
 use Rattle.std.specs.List.{Contains}
-use Rattle.std.proofs.lemmas.List.{get_or-set_same, get_or-set_other, map-append, reverse-append}
+use Rattle.std.proofs.lemmas.List.{map-append, reverse-append}
 use Rattle.pie_value.specs.declared.task.Task.{Task}
 use Rattle.pie_value.specs.Canonical.{enc_task}
 use Rattle.pie_graph.specs.declared.edges.TaskNo.{TaskNo}
 use Rattle.pie_graph.specs.Numbers.{IsMarked}
 use Rattle.pie_graph.specs.Rows.{Row, row_at}
 use Rattle.pie_graph.proofs.Among.{contains_cases}
-use Rattle.pie_record.specs.declared.records.Records.{Records}
 use Rattle.pie_record.specs.declared.task_record.TaskRecord.{TaskRecord}
 use Rattle.pie_record.specs.inner.Records.{record_of as kept_of}
-use Rattle.pie_tables.specs.declared.tables.Tables.{Tables}
-use Rattle.pie_view.specs.Content.{content}
 use Rattle.pie_walk.specs.declared.marks.Mark.{Mark}
-use Rattle.pie_walk.specs.declared.marks.Mark.TheVariants.{New, Visited, Runs, Settled}
+use Rattle.pie_walk.specs.declared.marks.Mark.TheVariants.{New, Runs}
 use Rattle.pie_walk.specs.declared.stack.Entry.{Entry}
 use Rattle.pie_walk.specs.declared.stack.Entry.TheVariants.{Visit, Waits}
 use Rattle.pie_walk.specs.Marks.{mark_of, IsSettled, IsIdle}
-use Rattle.pie_walk.specs.States.{WalkState, OnTop, no_of, waiting, settled}
+use Rattle.pie_walk.specs.States.{WalkState, OnTop, no_of, waiting}
 use Rattle.pie_walk.specs.Standing.{Stands, AreEntries, HasCome, needs_at}
-use Rattle.pie_walk.specs.Turns.{IsTaken, Walks}
+use Rattle.pie_walk.specs.Turns.{Walks}
 use Rattle.pie_walk.proofs.MarkSteps.{met_stays}
 use Rattle.pie_walk.proofs.StateSteps.{top_runs}
 use Rattle.pie_compare_laws.proofs.Ways.{one_some}
 use Rattle.pie_frames.specs.declared.parked.Parked.{Parked}
 use Rattle.pie_frames.specs.declared.frames.Frames.{Frames}
-use Rattle.pie_frames.specs.inner.Standing.{Rests, Holds, number_of, numbers_up}
+use Rattle.pie_frames.specs.inner.Standing.{Rests, number_of, numbers_up}
 use Rattle.pie_frames.proofs.Tying.{up_in}
 use Rattle.pie_frames.specs.inner.Turns.{HasTaken, HasAnswered, IsOver}
-use Rattle.pie_core_laws.specs.Update.{Update, IsUpdate}
+use Rattle.pie_core_laws.specs.Update.{Update}
 use Rattle.pie_core_laws.specs.Exact.{runs, IsExact}
 use Rattle.pie_core_laws.specs.Moving.{Moves}
 use Rattle.pie_core_laws.specs.Running.{IsBaseOf}
-use Rattle.pie_core_laws.proofs.Exactly.{idle_not_runs, idle_not_settled, same_or_not}
+use Rattle.pie_core_laws.proofs.Exactly.{idle_not_runs, idle_not_settled}
 use Rattle.pie_core_laws.proofs.Moved.{moves_stay, walks_move, takes_move, runs_waits, waits_runs}
 use Rattle.pie_core_laws.proofs.Runs.{old_base}
-use Rattle.pie_task_laws.specs.Sites.{Build}
-use Rattle.pie_task_laws.specs.Whole.{IsNew, OnlyIsNew, NoneIsNew, AreAtRest, Moved, TakesOne}
+use Rattle.pie_task_laws.specs.Whole.{IsNew, OnlyIsNew, NoneIsNew, AreAtRest, Moved}
 use Rattle.pie_task_laws.proofs.Together.{moves_rest}
 use Rattle.pie_bottomup.specs.declared.state.Core.{Core}
 use Rattle.pie_bottomup.specs.inner.Exact.{IsPlanNow, IsExactCore}

@@ -1,13 +1,10 @@
 -- The tasks that wait go on where a task is met, and where one more comes.
-use Rattle.std.proofs.Common.{◌≡◌, ◌≢◌, ◌⊎◌, ℕ, zero, suc, ◌<◌, ◌≤◌, ◌+◌, Bool, true, false, List, [], ◌∷◌, ◌++◌, map, Option, None, Some, length, get_or, refl, sym, ap, ◌∙◌, subst, inl, inr, arith}
+use Rattle.std.proofs.Common.{◌≡◌, ◌≢◌, ◌⊎◌, ℕ, ◌<◌, ◌≤◌, ◌+◌, Bool, true, false, List, [], ◌∷◌, ◌++◌, None, length, sym, ap, ◌∙◌, subst, inl, inr, arith}
 use Rattle.std.specs.Prelude.{slice_get, slice_index_or}
-use Rattle.std.specs.List.{Contains}
 use Rattle.std.proofs.lemmas.Bool.{cases_lt}
 use Rattle.std.proofs.lemmas.List.{get_or-set_same, get_or-set_other, get_or_past, length_push}
-use Rattle.std.proofs.lemmas.List.Elements.{Contains-get_or}
 use Rattle.std.proofs.lemmas.Option.{slice_get_within}
 use Rattle.pie_value.specs.declared.task.Task.{Task}
-use Rattle.pie_value.specs.Canonical.{enc_task}
 use Rattle.pie_graph.specs.declared.edges.TaskNo.{TaskNo}
 use Rattle.pie_graph.specs.Numbers.{IsMarked}
 use Rattle.pie_graph.specs.Rows.{Row, row_at, no_edges}
@@ -17,11 +14,10 @@ use Rattle.pie_tables.specs.Tabled.{IsTables}
 use Rattle.pie_walk.specs.declared.marks.Mark.{Mark}
 use Rattle.pie_walk.specs.declared.marks.Mark.TheVariants.{New, Visited, Runs, Settled}
 use Rattle.pie_walk.specs.Marks.{mark_of}
-use Rattle.pie_walk.specs.States.{WalkState, met, visiting, if_new, with_one_more}
+use Rattle.pie_walk.specs.States.{WalkState, met, visiting, if_new}
 use Rattle.pie_walk.specs.Standing.{Stands}
 use Rattle.pie_walk.proofs.HoldSteps.{default_more}
 use Rattle.pie_running.specs.declared.frame.Caller.{Caller}
-use Rattle.pie_frames.specs.declared.parked.Parked.{Parked}
 use Rattle.pie_frames.specs.declared.frames.Frames.{Frames}
 use Rattle.pie_frames.specs.inner.Standing.{Rests}
 use Rattle.pie_frames.proofs.Handing.{met_rows}
@@ -31,17 +27,16 @@ use Rattle.pie_builder_laws.specs.Names.{AreTasks}
 use Rattle.pie_core_laws.specs.Update.{Update}
 use Rattle.pie_core_laws.specs.Exact.{runs}
 use Rattle.pie_core_laws.specs.Moving.{Moves}
-use Rattle.pie_core_laws.specs.Running.{IsBaseOf}
 use Rattle.pie_core_laws.proofs.Exactly.{same_or_not}
 use Rattle.pie_core_laws.proofs.Grown.{new_stays}
 use Rattle.pie_core_laws.proofs.Moved.{moves_stay}
 use Rattle.pie_core_laws.proofs.Visited.{begins_move}
 use Rattle.pie_task_laws.specs.Sites.{Build}
-use Rattle.pie_task_laws.specs.Whole.{IsNew, NoneIsNew, AreAtRest, Moved, Comes, with_new}
-use Rattle.pie_task_laws.proofs.Together.{moves_rest, roots_rest}
+use Rattle.pie_task_laws.specs.Whole.{IsNew, NoneIsNew, AreAtRest, Comes, with_new}
+use Rattle.pie_task_laws.proofs.Together.{moves_rest}
 use Rattle.pie_bottomup.specs.declared.state.Core.{Core}
 use Rattle.pie_bottomup.specs.inner.Exact.{IsExactCore}
-use Rattle.pie_bottomup.specs.inner.Going.{site_of, build_of, callers_up, IsResting, MayMeet, Goes, IsWhole, HasGrown}
+use Rattle.pie_bottomup.specs.inner.Going.{site_of, build_of, callers_up, MayMeet, Goes, IsWhole, HasGrown}
 use Rattle.pie_bottomup.proofs.ExactWalking.{begun_exact}
 use Rattle.pie_bottomup.proofs.ExactGrowing.{none_after, named_back}
 use Rattle.pie_bottomup.proofs.Going.{is_met}

@@ -1,5 +1,5 @@
 -- How functions that end a step leave the tasks of a build, by those that they end with.
-use Rattle.std.proofs.Common.{◌≡◌, ◌⊎◌, ℕ, zero, suc, ◌<◌, ◌+◌, Bool, true, false, cond, List, [], ◌∷◌, ◌++◌, map, get_or, Option, None, Some, Result, Ok, Err, length, refl, sym, ap, ◌∙◌, subst, inl, inr, arith, bytes_eq}
+use Rattle.std.proofs.Common.{◌≡◌, ℕ, ◌<◌, Bool, true, false, cond, List, [], ◌∷◌, map, get_or, None, Some, Result, length, refl, sym, ap, ◌∙◌, subst, inl, inr, arith, bytes_eq}
 use Rattle.std.specs.Prelude.{slice_get, IfOk}
 use Rattle.std.specs.List.{Contains}
 use Rattle.std.proofs.lemmas.List.Elements.{Contains-get_or}
@@ -12,7 +12,7 @@ use Rattle.pie_graph.proofs.Among.{contains_cases}
 use Rattle.pie_record.specs.declared.task_record.TaskRecord.{TaskRecord}
 use Rattle.pie_running.specs.inner.Coded.{IsCodeFor, HasFunction}
 use Rattle.pie_walk.specs.Standing.{Stands}
-use Rattle.pie_frames.specs.inner.Standing.{Rests, Holds}
+use Rattle.pie_frames.specs.inner.Standing.{Holds}
 use Rattle.pie_model.specs.Paths.{among}
 use Rattle.pie_model.proofs.Basics.{bytes_same, clash}
 use Rattle.pie_core_laws.specs.Update.{Update}

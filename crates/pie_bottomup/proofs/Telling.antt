@@ -5,9 +5,8 @@ use Rattle.std.proofs.lemmas.List.{get_or-set_same, get_or-set_other}
 use Rattle.pie_graph.specs.declared.edges.TaskNo.{TaskNo}
 use Rattle.pie_graph.specs.Numbers.{IsMarked}
 use Rattle.pie_graph.specs.Rows.{Row, row_at, no_edges, Calls}
-use Rattle.pie_reach.specs.inner.Reaches.{Reaches, Leads}
+use Rattle.pie_reach.specs.inner.Reaches.{Reaches}
 use Rattle.pie_reach.specs.inner.Reaches.Leads.{itself, step}
-use Rattle.pie_record.specs.declared.records.Records.{Records}
 use Rattle.pie_record.specs.declared.task_record.TaskRecord.{TaskRecord}
 use Rattle.pie_record.specs.inner.Records.{record_of, Puts}
 use Rattle.pie_tables.specs.declared.tables.Tables.{Tables}

@@ -1,5 +1,5 @@
 -- A task that ended, and those that it is told to.
-use Rattle.std.specs.Prelude.{◌≡◌, ◌⊎◌, ℕ, Bool, true, List, take, drop, Some}
+use Rattle.std.specs.Prelude.{◌≡◌, ◌⊎◌, ℕ, Bool, true, take, drop, Some}
 use Rattle.pie_graph.specs.Numbers.{IsMarked}
 use Rattle.pie_graph.specs.Rows.{Row, row_at, Calls}
 use Rattle.pie_reach.specs.inner.Reaches.{Reaches}

@@ -1,6 +1,5 @@
 -- How a build by what changed begins, as the model of building knows it.
 use Rattle.std.specs.Prelude.{◌≡◌, ℕ, List, [], map, Option, Some}
-use Rattle.std.specs.List.{All}
 use Rattle.pie_value.specs.declared.task.Task.{Task}
 use Rattle.pie_value.specs.Canonical.{enc_task, IsCanonicalTask}
 use Rattle.pie_files.specs.Directory.{Directory}

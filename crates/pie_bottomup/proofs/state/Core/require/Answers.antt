@@ -1,9 +1,8 @@
-use Rattle.std.proofs.Common.{length, sym, ◌∙◌, subst, arith}
+use Rattle.std.proofs.Common.{sym, ◌∙◌, subst, arith}
 use Rattle.std.specs.Prelude.{IfOk}
 use Rattle.pie_base.specs.declared.fault.FaultKind.TheVariants.{Big}
 use Rattle.pie_task_laws.specs.Coming.{failed_by}
 use Rattle.pie_bottomup.specs.inner.Going.{NotesWhole}
-use Rattle.std.proofs.lemmas.Option.{slice_get_within}
 use Rattle.pie_bottomup.proofs.Owning.{same_own}
 use Rattle.pie_bottomup.proofs.ExactSteps.{own_exact, numbered_inside}
 use Rattle.pie_running.specs.inner.Noted.{Noted}

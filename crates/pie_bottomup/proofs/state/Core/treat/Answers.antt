@@ -1,5 +1,4 @@
 use Rattle.std.proofs.Common.{Ok, sym, subst}
-use Rattle.std.specs.Prelude.{IfOk}
 use Rattle.pie_value.specs.declared.event.Event.{Event}
 use Rattle.pie_bottomup.specs.inner.Going.{TreatsWhole}
 use Rattle.pie_bottomup.proofs.ExactAsking.{written_asks}
