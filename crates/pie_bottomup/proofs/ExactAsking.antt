@@ -163,7 +163,7 @@ module _ {E : Type 0} (held : Option Directory) (old new : Core) (task : TaskNo)
 
 -- ---- steps
 
-apart_firsts : (f : First) → f ≡ Tests → f ≡ Done → ⊥
+pub apart_firsts : (f : First) → f ≡ Tests → f ≡ Done → ⊥
 apart_firsts f tests done = let clash : Tests ≡ Done = sym tests ∙ done in cc
 
 module _ {E : Type 0} (held : Option Directory) (old new : Core) (r : Result Turn E) where

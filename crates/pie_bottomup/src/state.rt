@@ -5,6 +5,7 @@ ghost use Rattle.pie_results.specs.inner.Made.{IsEmptyWhereRefused, IsKept};
 ghost use Rattle.pie_bottomup.specs.inner.States.{StartsOne, IsCore, HasSettled, TurnsTo, Nearer, Spends, mass, room};
 ghost use Rattle.pie_bottomup.specs.inner.Ended.{StoredIf};
 ghost use Rattle.pie_bottomup.specs.inner.Tested.{HasTested};
+ghost use Rattle.pie_bottomup.specs.inner.Going.{StepsWhole};
 ghost use Rattle.pie_bottomup.specs.inner.Exact.{StepsExact};
 ghost use Rattle.pie_bottomup.specs.inner.Made.{MadeExact};
 ghost use Rattle.pie_bottomup.specs.declared.state.First.TheVariants.{Tests};
@@ -88,6 +89,7 @@ impl<'a> Core<'a> {
         ensures few { length runs.new ≤ length runs.old + room self.old }
         ensures tested { self.old.first ≡ Tests → OnOk result (HasTested (F.holds files.old) self.old self.new) }
         ensures exact { IfOk result (StepsExact (F.holds files.old) self.old self.new) }
+        ensures whole { IfOk result (StepsWhole (F.holds files.old) self.old self.new) }
         ensures reads { ReadsOnly F.holds F.moment F.left_since F.images F.faults files.old files.new result }
     {
         match self.hand.take() {

@@ -242,3 +242,14 @@ abbrev pub GoesWhole : Option Directory → Core → InHand → Core → Turn �
 GoesWhole held old h new t =
     (u : Update) → IsBuildNow u old.plan → IsSiteNow u held → IsExactCore u old → BeginsAsOld old.tables old.frames.walk.rows h.no.0 h.from
     → IsWorking u old h.task → LooksAtNoneNext (site_of u old) (build_of old) (callers_up old.frames.parked.items) h.task → TurnIsWhole u new t
+
+-- the task in hand, if there is one, looks at no path next
+abbrev pub NoLook : Update → Core → Option InHand → Type 0
+NoLook u c None = Unit {0}
+NoLook u c (Some h) = LooksAtNoneNext (site_of u c) (build_of c) (callers_up c.frames.parked.items) h.task
+
+-- a step after the first over these files that is no look leaves a build whole, if the outputs of settled tasks are values of the program
+abbrev pub StepsWhole : Option Directory → Core → Core → Turn → Type 0
+StepsWhole held old new t =
+    (u : Update) → IsBuildNow u old.plan → IsSiteNow u held → ((s : WalkState) → OutputsAreCanonical old.tables.records (is_done s)) → IsWhole u old
+    → NoLook u old old.hand → TurnIsWhole u new t
