@@ -119,13 +119,15 @@ runs_clean b e p list s before mid after r same ending knows image goes = record
 runs_then : (b : Base) (e : Ending) (p : Project) (list : List (List ℕ)) (s : StoreImage) (before mid after : Option Directory) (done : Done)
     → mid ≡ before → IsEndingOf b list e → IfSome before (λ d. KnowsWhere b d e) → IfSome before (λ d. s ≡ digested d p.digests.items b.image)
     → GoesOn s e p mid after done → RunsOrStops b p list before after done
-runs_then b e p list s before mid after (Reported r) same ending knows image goes = runs_clean b e p list s before mid after r.value same ending knows image goes
+runs_then b e p list s before mid after (Reported r) same ending knows image goes =
+    runs_clean b e p list s before mid after r.value same ending knows image goes
 runs_then b e p list s before mid after (Stopped stop) same ending knows image goes = tt
 
-pub runs_ok : (b : Base) (e : Ending) (p : Project) (list : List (List ℕ)) (s : StoreImage) (before mid after : Option Directory) (result : Result Done FilesError)
-    → mid ≡ before → IsEndingOf b list e → IfSome before (λ d. KnowsWhere b d e) → IfSome before (λ d. s ≡ digested d p.digests.items b.image)
-    → IfOk result (GoesOn s e p mid after) → IfOk result (RunsOrStops b p list before after)
-runs_ok b e p list s before mid after (Ok done) same ending knows image goes = runs_then b e p list s before mid after done same ending knows image goes
+pub runs_ok : (b : Base) (e : Ending) (p : Project) (list : List (List ℕ)) (s : StoreImage) (before mid after : Option Directory)
+    (result : Result Done FilesError) → mid ≡ before → IsEndingOf b list e → IfSome before (λ d. KnowsWhere b d e)
+    → IfSome before (λ d. s ≡ digested d p.digests.items b.image) → IfOk result (GoesOn s e p mid after) → IfOk result (RunsOrStops b p list before after)
+runs_ok b e p list s before mid after (Ok done) same ending knows image goes =
+    runs_then b e p list s before mid after done same ending knows image goes
 runs_ok b e p list s before mid after (Err x) same ending knows image goes = tt
 
 -- ---- the whole build of a project
