@@ -33,7 +33,7 @@ use Rattle.pie_incremental.specs.declared.base.Base.{Base}
 use Rattle.pie_incremental.specs.declared.ending.Ending.{Ending}
 use Rattle.pie_incremental.specs.declared.run.Done.{Done}
 use Rattle.pie_incremental.specs.declared.run.Done.TheVariants.{Reported, Stopped}
-use Rattle.pie_incremental.specs.Clean.{BuildsClean, LeavesAsClean}
+use Rattle.pie_incremental.specs.inner.Clean.{BuildsClean, LeavesAsClean}
 use Rattle.pie_incremental.specs.inner.Built.{IsKnown}
 use Rattle.pie_incremental.specs.inner.Cleaned.{KnowsWhere, LeavesBy}
 use Rattle.pie_incremental.specs.inner.Digested.{digested, with_digests}

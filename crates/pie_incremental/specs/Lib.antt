@@ -4,5 +4,4 @@ pub mod Names
 pub mod Kept
 pub mod Treated
 pub mod Runs
-pub mod Clean
 pub mod inner

@@ -2,6 +2,7 @@
 pub mod Bases
 pub mod Built
 pub mod Changes
+pub mod Clean
 pub mod Cleaned
 pub mod Digested
 pub mod Evaluated
