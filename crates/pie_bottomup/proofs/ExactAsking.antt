@@ -172,14 +172,14 @@ module _ {E : Type 0} (held : Option Directory) (old new : Core) (r : Result Tur
       if_ok_more (WalksExact old new) (StepsExact held old new) (λ turn walks u site plan stands right. by turn u plan right walks stands) r
     where
       by : (t : Turn) (u : Update) → IsPlanNow u old.plan → EndRight u old new → WalksExact old new t → StandsExact u old → TurnIsExact u new t
-      by t u plan right walks (inl loaded) = absurd (apart_firsts old.first loaded.0 done)
+      by t u plan right walks (inl loaded) = absurd (loaded.0 done)
       by t u plan right walks (inr e) = walks u plan e right
 
   pub test_steps : old.first ≡ Tests → OnOk r (TestsExact held old new) → IfOk r (StepsExact held old new)
   test_steps first tests = all r tests
     where
       by : (t : Turn) (u : Update) → IsPlanNow u old.plan → held ≡ Some u.directory → TestsExact held old new → StandsExact u old → TurnIsExact u new t
-      by t u plan holds tests (inl loaded) = turn_exact u new t (tests u plan holds loaded.1)
+      by t u plan holds tests (inl loaded) = turn_exact u new t (tests u plan holds (loaded.1 first))
       by t u plan holds tests (inr e) = absurd (apart_firsts old.first first e.tested)
 
       all : (s : Result Turn E) → OnOk s (TestsExact held old new) → IfOk s (StepsExact held old new)
@@ -202,7 +202,7 @@ module _ {E : Type 0} (held : Option Directory) (old new : Core) (r : Result Tur
 
       exact : (u : Update) → IsCore old → StandsExact u old → IsExactCore u old
       exact u (inl untested) (inl loaded) = absurd (none_some (sym untested.start.hand ∙ some))
-      exact u (inr going) (inl loaded) = absurd (apart_firsts old.first loaded.0 going.site.tested)
+      exact u (inr going) (inl loaded) = absurd (loaded.0 going.site.tested)
       exact u c (inr e) = e
 
 -- the task in hand was taken

@@ -46,6 +46,8 @@ impl<'a> Core<'a> {
         ensures core { IfOk result IsCore }
         ensures plan { IfOk result (λ c. IsPlanOf typed.now digests.now roots.now c.plan) }
         ensures room { IfOk result (λ c. room c ≤ MAX_TASKS) }
+        ensures first { IfOk result (λ c. c.first ≡ Done → ⊥) }
+        ensures code { IfOk result (λ c. c.plan.code.now ≡ code.now) }
         ensures exact { IfOk result (BeginsExact image.funcs digests.now image.rows changes.now) }
     {
         let named = names_of(alloc, changes)?;

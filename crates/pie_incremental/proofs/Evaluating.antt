@@ -2,6 +2,7 @@
 use Rattle.std.proofs.Common.{◌≡◌, inl, inr, ℕ, List, [], ◌∷◌, map, Option, refl, sym, ap, subst, ◌∙◌}
 use Rattle.pie_bottomup.specs.declared.plan.Plan.{Plan}
 use Rattle.pie_bottomup.specs.declared.state.Core.{Core}
+use Rattle.pie_bottomup.specs.declared.state.First.TheVariants.{Done}
 use Rattle.pie_bottomup.specs.declared.state.Turn.{Turn}
 use Rattle.pie_bottomup.specs.declared.state.Turn.TheVariants.{Went, Settled}
 use Rattle.pie_bottomup.specs.inner.Exact.{IsExactCore, IsPlanNow, IsSiteNow, StandsExact, StepsExact, TurnIsExact}
@@ -32,16 +33,16 @@ use Rattle.pie_incremental.specs.inner.Walks.{AreSteps, EndRightAlong}
 -- ---- how it begins
 
 pub begins_now : (fs : List FunctionTree) (codes : List Code) (funcs digests : List (List ℕ × List ℕ)) (rows : List TaskRecord) (names : List (List ℕ))
-    (roots : List Task) (c : Core) → IsPlanOf fs digests roots c.plan → BeginsExact funcs digests rows names c
+    (roots : List Task) (c : Core) → IsPlanOf fs digests roots c.plan → (c.first ≡ Done → ⊥) → c.plan.code.now ≡ codes → BeginsExact funcs digests rows names c
     → BeginsNow fs codes funcs digests rows names c
-begins_now fs codes funcs digests rows names roots c plan begins = record {
-  each = λ u update same compiled stored tests code. (
+begins_now fs codes funcs digests rows names roots c plan fresh code begins = record {
+  each = λ u update same compiled stored. (
     record {
       update = update;
       functions = plan.typed ∙ same;
       compiled = subst (AreCompiled u.functions) (sym code) (subst (λ (gs : List FunctionTree). AreCompiled gs codes) same compiled);
     },
-    inl (tests, begins u stored tests),
+    inl (fresh, λ tests. begins u stored tests),
   );
 }
 
@@ -116,7 +117,7 @@ evaluated held fs codes digests roots s names old new b compiled begins settles 
   walk = record { codes = codes; first = old; steps = settles.steps; last = new };
   is = record { compiled = compiled; steps = settles.are };
   each = λ u here stored right.
-      let begun = begins.each u here.update here.functions compiled stored right.tests right.code in
+      let begun = begins.each u here.update here.functions compiled stored in
       let site : IsSiteNow u held = record { holds = here.holds; apart = here.separates; besides = here.met } in
       makes.each u (settles.each u site begun.0 begun.1 right.ends) here.separates here.met here.roots_are;
 }

@@ -134,9 +134,9 @@ pub record IsLoadedCore (u : Update) (c : Core) : Type 0 where
   pub meaning : KeepsMeaning u c.plan.same.items c.tables.names
   pub unstarted : (n : ℕ) → IsUnstarted c.tables c.stage n
 
--- what holds of a build between two steps
+-- what holds of a build between two steps: before the first one, unless it has too many old tasks and starts afresh, these are loaded
 abbrev pub StandsExact : Update → Core → Type 0
-StandsExact u c = ((c.first ≡ Tests) × IsLoadedCore u c) ⊎ IsExactCore u c
+StandsExact u c = ((c.first ≡ Done → ⊥) × (c.first ≡ Tests → IsLoadedCore u c)) ⊎ IsExactCore u c
 
 -- ---- steps
 

@@ -1,7 +1,6 @@
 -- What an evaluation of the roots by what changed makes, as the model of building knows it.
 use Rattle.std.specs.Prelude.{◌≡◌, ℕ, List, map, Option, Some, None}
 use Rattle.pie_bottomup.specs.declared.state.Core.{Core}
-use Rattle.pie_bottomup.specs.declared.state.First.TheVariants.{Tests}
 use Rattle.pie_bottomup.specs.inner.Exact.{IsExactCore, IsPlanNow, IsSiteNow, StandsExact}
 use Rattle.pie_bottomup.specs.inner.Loaded.{IsStoredIn}
 use Rattle.pie_builder_laws.specs.Events.{AreCompiled}
@@ -33,11 +32,11 @@ pub record IsResultOf (u : Update) (b : Result) : Type 0 where
   pub made : b.verdict ≡ Accepted → IsAccepted u b.rows.items (contents_in b.files.items)
   pub outputs : b.verdict ≡ Accepted → map output_bytes b.outputs.items ≡ map (with_output u.functions u.directory) u.roots
 
--- a core begins as that of each update to these functions, with this code, whose store has these rows and digests, if it begins with tests and has this code
+-- a core begins as that of each update to these functions, with this code, whose store has these rows and digests
 pub record BeginsNow (fs : List FunctionTree) (codes : List Code) (funcs digests : List (List ℕ × List ℕ)) (rows : List TaskRecord) (names : List (List ℕ))
     (c : Core) : Type 0 where
-  pub each : (u : Update) → IsUpdate u → fs ≡ u.functions → AreCompiled fs codes → IsStoredIn u funcs digests rows names → c.first ≡ Tests
-      → c.plan.code.now ≡ codes → IsPlanNow u c.plan × StandsExact u c
+  pub each : (u : Update) → IsUpdate u → fs ≡ u.functions → AreCompiled fs codes → IsStoredIn u funcs digests rows names
+      → IsPlanNow u c.plan × StandsExact u c
 
 -- by steps over files that hold this directory, in which tasks end right, a core that stands still does
 pub record StaysStanding (held : Option Directory) (old new : Core) : Type 0 where

@@ -1,7 +1,6 @@
 -- The steps that an evaluation took, and what is asked of them.
 use Rattle.std.specs.Prelude.{◌≡◌, List, [], ◌∷◌, Option}
 use Rattle.pie_bottomup.specs.declared.state.Core.{Core}
-use Rattle.pie_bottomup.specs.declared.state.First.TheVariants.{Tests}
 use Rattle.pie_bottomup.specs.declared.state.Turn.{Turn}
 use Rattle.pie_bottomup.specs.inner.Exact.{EndRight, StepsExact}
 use Rattle.pie_builder_laws.specs.Events.{AreCompiled}
@@ -38,8 +37,6 @@ pub record IsWalk (held : Option Directory) (fs : List FunctionTree) (w : Walk) 
   pub compiled : AreCompiled fs w.codes
   pub steps : AreSteps held w.first w.steps w.last
 
--- it began with tests, by that code; and tasks end right in each step
+-- tasks end right in each step
 pub record GoesRight (u : Update) (w : Walk) : Type 0 where
-  pub tests : w.first.first ≡ Tests
-  pub code : w.first.plan.code.now ≡ w.codes
   pub ends : EndRightAlong u w.steps

@@ -17,4 +17,4 @@ returns-clause-exact c =
     subst (BeginsNow p.typed c.args.code.now c.args.image.value.funcs p.digests.items c.args.image.value.rows c.args.names.now)
     (sym c.in_ok-core-2.ensures.ok)
     (begins_now p.typed c.args.code.now c.args.image.value.funcs p.digests.items c.args.image.value.rows c.args.names.now c.as_slice-2.result.now core
-    (subst (λ ds. IsPlanOf p.typed ds c.as_slice-2.result.now core.plan) digests c.in_ok-core.ensures.plan) begins)
+    (subst (λ ds. IsPlanOf p.typed ds c.as_slice-2.result.now core.plan) digests c.in_ok-core.ensures.plan) c.in_ok-core.ensures.first c.in_ok-core.ensures.code begins)
