@@ -1,4 +1,4 @@
-//! Calls that ask for a file: its bytes, its digest, or whether it is there.
+//! Calls that ask for a file: its bytes, its digest, its mark, or whether it is there.
 ghost use Rattle.std.specs.Prelude.{◌≤◌, length, IfOk};
 
 use crate::disk::{Disk, MOST, is_absent};
@@ -54,6 +54,14 @@ impl Disk {
         match hashed(&mut file, piece.as_mut_slice()) {
             Ok(digest) => Ok(Some(digest)),
             Err(e) => Err(self.fault("read", place.as_str(), &e)),
+        }
+    }
+
+    /// The mark of the file at a path. It isn't opened.
+    pub(crate) fn mark(&self, path: &Path) -> Result<Option<u64>, FilesError> {
+        match self.file_at(path)? {
+            Some(seen) => Ok(Some(seen.mark)),
+            None => Ok(None),
         }
     }
 

@@ -138,6 +138,12 @@ impl Files for DirFiles {
         self.counted(answer)
     }
 
+    fn mark(&mut self, path: &Path) -> Result<Option<u64>, FilesError> {
+        self.enter()?;
+        let answer = self.disk.mark(path);
+        self.counted(answer)
+    }
+
     fn names(&mut self, dir: &Path) -> Result<Vec<Path>, FilesError> {
         self.enter()?;
         let answer = self.disk.names(dir);

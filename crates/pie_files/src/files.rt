@@ -70,7 +70,7 @@ pub enum Within {
 /// A call on the files, as the objects in memory list it.
 #[derive(Drop)]
 pub enum Call {
-    /// A look at one file: `read`, `read_within`, `exists` or `digest`.
+    /// A look at one file: `read`, `read_within`, `exists`, `digest` or `mark`.
     Read(Path),
     Names(Path),
     AllUnder(Path),
@@ -125,6 +125,13 @@ pub trait Files {
     /// The SHA-256 of the file at a path, or `None` where there is none. Its bytes needn't fit into memory.
     fn digest(&mut self, path: &Path) -> Result<Option<[u8; 32]>, FilesError>
         ensures found { IfSome (holds self.old) (λ d. IfOk result (λ digest. digest ≡ option_map (λ f. sha256 f.0) (file_at d path.now))) }
+        ensures same { holds self.new ≡ holds self.old }
+        ensures crash { MayLeave holds moment left_since images Stays self.old self.new }
+        ensures called { Called asked faults (λ c. c ≡ Call.Read path.now) self.old self.new result };
+
+    /// The mark of the file at a path, or `None` where there is none. Its bytes aren't asked for.
+    fn mark(&mut self, path: &Path) -> Result<Option<u64>, FilesError>
+        ensures found { IfSome (holds self.old) (λ d. IfOk result (λ mark. mark ≡ option_map (λ f. f.1) (file_at d path.now))) }
         ensures same { holds self.new ≡ holds self.old }
         ensures crash { MayLeave holds moment left_since images Stays self.old self.new }
         ensures called { Called asked faults (λ c. c ≡ Call.Read path.now) self.old self.new result };

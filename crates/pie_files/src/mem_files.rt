@@ -140,6 +140,15 @@ impl Files for MemFiles {
         self.files.digest(path)
     }
 
+    fn mark(&mut self, path: &Path) -> Result<Option<u64>, FilesError> {
+        let call = Call::Read(path.copy()?);
+        if self.failures.next_fails() {
+            self.files.note_asked(call)?;
+            return Err(FilesError::Failed);
+        }
+        self.files.mark(path)
+    }
+
     fn names(&mut self, dir: &Path) -> Result<Vec<Path>, FilesError> {
         let call = Call::Names(dir.copy()?);
         if self.failures.next_fails() {

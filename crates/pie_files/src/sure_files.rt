@@ -189,6 +189,16 @@ impl SureFiles {
         }
     }
 
+    // The mark of the file at a path.
+    fn mark_of(&self, path: &Path) -> Option<u64>
+        ensures { result ≡ option_map (λ f. f.1) (file_at (held_by self.now) path.now) }
+    {
+        match self.held.get(path) {
+            Some(found) => Some(found.mark),
+            None => None,
+        }
+    }
+
     // A copy of the file at a path.
     fn copy_of(&self, path: &Path) -> Result<Option<Found>, OutOfMemory>
         ensures { IfOk result (λ found. option_map content_of found ≡ file_at (held_by self.now) path.now) }
@@ -294,6 +304,13 @@ impl Files for SureFiles {
         let digest = self.digest_of(path);
         self.note_asked(call)?;
         Ok(digest)
+    }
+
+    fn mark(&mut self, path: &Path) -> Result<Option<u64>, FilesError> {
+        let call = Call::Read(path.copy()?);
+        let mark = self.mark_of(path);
+        self.note_asked(call)?;
+        Ok(mark)
     }
 
     fn names(&mut self, dir: &Path) -> Result<Vec<Path>, FilesError> {
