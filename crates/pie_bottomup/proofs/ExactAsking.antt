@@ -80,7 +80,8 @@ looked_owns c task from w kind path None (Fails n k) told own =
 pub read_owns : (c : Core) (task : TaskNo) (from : ℕ) (w : Waiting) (by : By) (path : List ℕ) (sight : Sight) (t : Told)
     → IsToldReading w by path sight t → IsOwn c task from w.notes → OwnsTold c task from t
 read_owns c task from w by path (File found) t told own = looked_owns c task from w (read_kind by) path (Some (told_reading by path (found_in found))) t told own
-read_owns c task from w by path Long t told own = failed_owns c task from w.notes _ t told own
+read_owns c task from w by path (Long stamp) t told own =
+    failed_owns c task from (observed (file_dep (read_kind by) path stamp) w.notes) _ t told (observed_own c task from w.notes (read_kind by) path stamp own)
 read_owns c task from w by path Clash t told own = looked_owns c task from w (read_kind by) path None t told own
 
 pub listed_owns : (c : Core) (task : TaskNo) (from : ℕ) (w : Waiting) (dir : List ℕ) (paths : Option (List (List ℕ))) (t : Told)

@@ -29,6 +29,7 @@ use Rattle.pie_running.specs.declared.looking.Sight.{Sight}
 use Rattle.pie_running.specs.declared.looking.Sight.TheVariants.{File, Long, Clash as Clashes}
 use Rattle.pie_running.specs.inner.Sights.{found_in, most_content, Sees, SightSays}
 use Rattle.pie_running.specs.inner.Looks.{IsToldSight}
+use Rattle.pie_running.specs.inner.Noted.{Noted, file_dep, observed, read_kind}
 use Rattle.pie_running.specs.inner.Told.{HasFailed, IsToldReading, too_much}
 use Rattle.pie_fresh.specs.inner.Means.{Site, project_of, table_of, names_of, IsAsking, TurnMeans}
 use Rattle.pie_fresh.proofs.Seeing.{seen_visible}
@@ -84,9 +85,10 @@ module _ (s : Site) (b : Builder) (w : Waiting) (path : List ℕ) (by : By) (A :
       (saw_contents world A.means.running (w.notes.left - 1) (look_by by) path f.0 f.1) under (w.notes.left - 2) model_faults.Big
       (some_left w.notes.left left e) fails_next
 
-  pub long_turn : (t : Told) → HasFailed w.notes (too_much w.notes.left) t → TurnMeans s b (turned t)
-  long_turn t h =
-      failed_turn s b w A.means left w.notes (too_much w.notes.left) refl
+  -- it fails, whatever it noted
+  pub long_turn : (n : Noted) → n.task ≡ w.notes.task → (t : Told) → HasFailed n (too_much w.notes.left) t → TurnMeans s b (turned t)
+  long_turn n same t h =
+      failed_turn s b w A.means left n (too_much w.notes.left) same
       (subst (λ x. HasEnded world (project_of s) s.root s.base (names_of b.ledger) (Failed x (fault_of (too_much w.notes.left)))) A.means.top.task
       (ended (w.notes.left == 1) refl)) t h
 
@@ -94,8 +96,9 @@ pub reading_turn : (s : Site) (b : Builder) (w : Waiting) (path : List ℕ) (by 
     → IsToldSight s.directory (SeesOut b.ledger.stage b.ledger.rows w.notes path) w path by t → TurnMeans s b (turned t)
 reading_turn s b w path by t A left h = at h.sight h.sees h.told
   where
-    at : (sight : Sight) → SightSays sight (Sees s.directory path (SeesOut b.ledger.stage b.ledger.rows w.notes path)) → IsToldReading w by path sight t
+    at : (sight : Sight) → SightSays by path sight (Sees s.directory path (SeesOut b.ledger.stage b.ledger.rows w.notes path)) → IsToldReading w by path sight t
         → TurnMeans s b (turned t)
     at (File found) p k = read_turn s b w path by (Some (found_in found)) t A left p k
-    at Long p k = long_turn s b w path by A left p.0 p.1 p.2 t k
+    at (Long stamp) p k =
+        long_turn s b w path by A left p.0 p.1 p.2.long (observed (file_dep (read_kind by) path stamp) w.notes) refl t k
     at Clashes p k = read_turn s b w path by None t A left p k

@@ -1,17 +1,19 @@
 //! What a task sees at a path.
-ghost use Rattle.std.specs.Prelude.{◌≡◌, ℕ, List, IfOk, is_some};
+ghost use Rattle.std.specs.Prelude.{◌≡◌, ℕ, List, IfOk, false, is_some, true};
 ghost use Rattle.std.specs.Option.{option_map};
-ghost use Rattle.pie_base.specs.Path.{is_source};
+ghost use Rattle.pie_base.specs.Path.{is_out, is_source};
 ghost use Rattle.pie_files.specs.Reading.{ReadsOnly};
 ghost use Rattle.pie_files.specs.declared.files.Call.TheVariants as calls;
-ghost use Rattle.pie_running.specs.inner.Asking.{AsksOnly};
+ghost use Rattle.pie_running.specs.inner.Asking.{AsksOnly, AsksTwice};
 ghost use Rattle.pie_running.specs.inner.Noted.{Noted};
-ghost use Rattle.pie_running.specs.inner.Sights.{SeesHeldDigest, SeesHeldPresence, SeesHeldReading, SightSays, Sighted, hash_in, provided_sight, sight_within};
+ghost use Rattle.pie_running.specs.inner.Sights.{SeesHeldDigest, SeesHeldPresence, SeesHeldReading, SeesHeldSource, SightSays, Sighted, StampsHeld, hash_in, mark_stamp, provided_sight};
+ghost use Rattle.pie_running.specs.inner.Told.{hash_stamp};
 
 use crate::notes::Notes;
 use pie_base::{OutOfMemory, Path};
 use pie_files::{Files, FilesError, Found, Within};
 use pie_stamp::hash_of;
+use pie_value::{By, Stamp};
 use std::alloc::Global;
 
 /// What a task sees at a path under `out/`.
@@ -43,36 +45,90 @@ pub trait Shows {
 #[derive(Drop)]
 pub enum Sight {
     File(Option<Found>),
-    /// A source of more bytes than a value may hold. None of them is read.
-    Long,
+    /// A source of more bytes than a value may hold, by its stamp. None of them is handed out.
+    Long(Stamp),
     Clash,
 }
 
 /// The most bytes that a value may hold: its canonical bytes are five more.
 const MAX_CONTENT_BYTES: usize = 1_048_571;
 
-/// What a task sees that reads a path. Only a source path is asked of the files.
-#[tactic(auto, using(pie_files::proofs::Reading::reads, crate::proofs::Asking::asks))]
+/// What a task sees that reads a path so. Only a source path is asked of the files: once, and once more for its stamp where it is too long.
+#[tactic(auto, using(pie_files::proofs::Reading::reads, crate::proofs::Asking::asks, crate::proofs::Asking::asks_few, crate::proofs::Asking::asks_as))]
 pub(crate) fn reading<S: Shows, F: Files>(
     alloc: Global,
     shows: &S,
     notes: &Notes,
     path: &Path,
+    by: By,
     files: &mut F,
 ) -> Result<Sight, FilesError>
     requires { S.knows shows.now notes.now }
-    ensures asks { AsksOnly F.asked (is_source path.now) (calls.Read path.now) files.old files.new }
+    ensures asks { AsksTwice F.asked (is_source path.now) (calls.Read path.now) files.old files.new }
     ensures reads { ReadsOnly F.holds F.moment F.left_since F.images F.faults files.old files.new result }
-    ensures sees { IfOk result (λ s. SeesHeldReading (F.holds files.old) path.now (S.sees shows.now notes.now path.now) s) }
+    ensures sees { IfOk result (λ s. SeesHeldReading (F.holds files.old) by path.now (S.sees shows.now notes.now path.now) s) }
 {
     if path.under_out() {
-        return Ok(copied(alloc, shows, notes, path)?);
+        return Ok(copied(alloc, shows, notes, path, by)?);
     }
     if path.is_source() {
-        let found = files.read_within(path, MAX_CONTENT_BYTES)?;
-        return Ok(source(found));
+        return source(path, by, files);
     }
     Ok(Sight::File(None))
+}
+
+// A source, as a task sees it that reads it so.
+#[tactic(auto, using(pie_files::proofs::Reading::reads, crate::proofs::Asking::asks, crate::proofs::Asking::asks_few, crate::proofs::Asking::asks_more))]
+fn source<F: Files>(path: &Path, by: By, files: &mut F) -> Result<Sight, FilesError>
+    requires { is_out path.now ≡ false }
+    ensures asks { AsksTwice F.asked true (calls.Read path.now) files.old files.new }
+    ensures reads { ReadsOnly F.holds F.moment F.left_since F.images F.faults files.old files.new result }
+    ensures sees { IfOk result (SeesHeldSource (F.holds files.old) by path.now) }
+{
+    match files.read_within(path, MAX_CONTENT_BYTES)? {
+        Within::Absent => Ok(Sight::File(None)),
+        Within::Whole(found) => Ok(Sight::File(Some(found))),
+        Within::Long => Ok(Sight::Long(stamp_there(path, by, files)?)),
+    }
+}
+
+// The stamp of a source that a task reads so. By mark its bytes aren't asked for, by hash they needn't fit into memory.
+#[tactic(auto, using(pie_files::proofs::Reading::reads, crate::proofs::Asking::asks))]
+fn stamp_there<F: Files>(path: &Path, by: By, files: &mut F) -> Result<Stamp, FilesError>
+    requires { is_out path.now ≡ false }
+    ensures asks { AsksOnly F.asked true (calls.Read path.now) files.old files.new }
+    ensures reads { ReadsOnly F.holds F.moment F.left_since F.images F.faults files.old files.new result }
+    ensures stamp { IfOk result (StampsHeld (F.holds files.old) by path.now) }
+{
+    match by {
+        By::Mark => {
+            let mark = files.mark(path)?;
+            Ok(stamp_by_mark(mark))
+        }
+        By::Hash | By::Raw => {
+            let hash = files.digest(path)?;
+            Ok(stamp_by_hash(hash))
+        }
+    }
+}
+
+fn stamp_by_mark(mark: Option<u64>) -> Stamp
+    ensures { result ≡ mark_stamp mark }
+{
+    match mark {
+        Some(mark) => Stamp::Mark(mark),
+        None => Stamp::Absent,
+    }
+}
+
+/// The stamp of a file with this SHA-256, or of none.
+pub(crate) fn stamp_by_hash(hash: Option<[u8; 32]>) -> Stamp
+    ensures { result ≡ hash_stamp hash }
+{
+    match hash {
+        Some(hash) => Stamp::Hash(hash),
+        None => Stamp::Absent,
+    }
 }
 
 // What a task sees at a path under `out/`, in memory of its own.
@@ -81,9 +137,10 @@ fn copied<S: Shows>(
     shows: &S,
     notes: &Notes,
     path: &Path,
+    _by: By,
 ) -> Result<Sight, OutOfMemory>
     requires { S.knows shows.now notes.now }
-    ensures sees { IfOk result (λ s. SightSays s (S.sees shows.now notes.now path.now)) }
+    ensures sees { IfOk result (λ s. SightSays _by path.now s (S.sees shows.now notes.now path.now)) }
 {
     match shows.shown(notes, path)? {
         Provided::Nothing => Ok(Sight::File(None)),
@@ -139,17 +196,6 @@ pub(crate) fn digest<S: Shows, F: Files>(
     }
     let hash = files.digest(path)?;
     Ok(Some(hash))
-}
-
-// A source, as a task sees it that reads.
-fn source(found: Within) -> Sight
-    ensures { result ≡ sight_within found }
-{
-    match found {
-        Within::Absent => Sight::File(None),
-        Within::Long => Sight::Long,
-        Within::Whole(found) => Sight::File(Some(found)),
-    }
 }
 
 fn provided_digest(provided: Provided) -> Option<Option<[u8; 32]>>

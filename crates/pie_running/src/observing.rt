@@ -7,7 +7,7 @@ ghost use Rattle.pie_files.specs.Reading.{ReadsOnly};
 ghost use Rattle.pie_files.specs.declared.files.Call.TheVariants as calls;
 ghost use Rattle.pie_record.specs.Canonical.{IsStorableDep};
 ghost use Rattle.pie_running.specs.declared.frame.Told.TheVariants.{Fails};
-ghost use Rattle.pie_running.specs.inner.Asking.{AsksOnly};
+ghost use Rattle.pie_running.specs.inner.Asking.{AsksOnly, AsksTwice};
 ghost use Rattle.pie_running.specs.inner.Noted.{absent_dep, file_dep, observed as with_dep, read_kind};
 ghost use Rattle.pie_running.specs.inner.Frames.{IsReady, IsWaiting};
 ghost use Rattle.pie_running.specs.inner.Steps.{Advanced, Answered};
@@ -46,7 +46,7 @@ impl<'a> Waiting<'a> {
         Ok(told)
     }
 
-    /// Tells the task the bytes of a file.
+    /// Tells the task the bytes of a file. Of one that is too long its stamp is noted, and the task fails.
     #[tactic(auto, using(pie_files::proofs::Reading::reads))]
     pub fn read<S: Shows, F: Files>(
         self,
@@ -59,11 +59,11 @@ impl<'a> Waiting<'a> {
         requires waits { IsWaiting self }
         requires knows { S.knows shows.now self.notes }
         ensures answered { IfOk result (λ t. Answered self.entry.notes t) }
-        ensures asks { AsksOnly F.asked (is_source path) (calls.Read path) files.old files.new }
+        ensures asks { AsksTwice F.asked (is_source path) (calls.Read path) files.old files.new }
         ensures reads { ReadsOnly F.holds F.moment F.left_since F.images F.faults files.old files.new result }
         ensures tells { IfOk result (λ t. TellsReading (F.holds files.old) (S.sees shows.now self.entry.notes path) self.entry path by t) }
     {
-        let seen = reading(alloc, shows, &self.notes, &path, files)?;
+        let seen = reading(alloc, shows, &self.notes, &path, by, files)?;
         let told = told_contents(alloc, self, path, by, seen)?;
         Ok(told)
     }
@@ -188,19 +188,29 @@ fn told_contents<'a>(
             let frame = told(waiting, kind_of(by), path, noted)?;
             Ok(Told::Goes(frame))
         }
-        Sight::Long => Ok(told_too_much(waiting)),
+        Sight::Long(stamp) => told_too_much(waiting, kind_of(by), path, stamp),
         Sight::Clash => clashed(waiting, kind_of(by), path),
     }
 }
 
 // A task that was told more bytes than a value may hold: it fails for them, or for having no answer left.
-fn told_too_much<'a>(waiting: Waiting<'a>) -> Told<'a>
-    ensures { result ≡ Fails waiting.entry.notes (too_much waiting.entry.notes.left) }
+fn told_too_much<'a>(
+    waiting: Waiting<'a>,
+    kind: DepKind,
+    path: Path,
+    stamp: Stamp,
+) -> Result<Told<'a>, OutOfMemory>
+    requires { 0 < waiting.notes.left }
+    ensures { IfOk result (λ t. t ≡ Fails (with_dep (file_dep kind path stamp) waiting.entry.notes) (too_much waiting.entry.notes.left)) }
 {
-    if waiting.notes.left() == 1 {
-        return Told::Fails(waiting.into_notes(), FaultKind::Budget);
-    }
-    Told::Fails(waiting.into_notes(), FaultKind::Big)
+    let fault = if waiting.notes.left() == 1 {
+        FaultKind::Budget
+    } else {
+        FaultKind::Big
+    };
+    let mut notes = waiting.into_notes();
+    notes.saw(kind, path, stamp)?;
+    Ok(Told::Fails(notes, fault))
 }
 
 fn contents(alloc: Global, by: By, path: &Path, seen: Option<Found>) -> Result<Noted, OutOfMemory>

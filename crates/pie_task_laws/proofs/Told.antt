@@ -10,6 +10,7 @@ use Rattle.pie_value.specs.declared.event.Answer.TheVariants as answers
 use Rattle.pie_value.specs.declared.event.By.{By}
 use Rattle.pie_value.specs.declared.event.By.TheVariants as stamped
 use Rattle.pie_value.specs.declared.event.Event.TheVariants as events
+use Rattle.pie_value.specs.declared.stamp.Stamp.{Stamp}
 use Rattle.pie_value.specs.Tree.{TPath}
 use Rattle.pie_value.specs.Limits.{is_small}
 use Rattle.pie_files.specs.Directory.{file_at, entries_of}
@@ -41,17 +42,17 @@ use Rattle.pie_running.specs.declared.frame.Waiting.{Waiting}
 use Rattle.pie_running.specs.declared.frame.Caller.{Caller}
 use Rattle.pie_running.specs.declared.frame.Told.{Told}
 use Rattle.pie_running.specs.declared.frame.Told.TheVariants as told
-use Rattle.pie_running.specs.inner.Noted.{Noted, absent_dep, observed, read_kind}
-use Rattle.pie_running.specs.inner.Sights.{Sighted, found_in, hash_in, Sees, SightSays, listing_in}
+use Rattle.pie_running.specs.inner.Noted.{Noted, absent_dep, file_dep, observed, read_kind}
+use Rattle.pie_running.specs.inner.Sights.{Sighted, found_in, hash_in, IsLong, Sees, SightSays, listing_in}
 use Rattle.pie_running.specs.inner.Told.{HasFailed, IsTold, IsToldOrFails, IsToldReading, IsToldSmall, IsToldList, listed_dep, paths_list}
-use Rattle.pie_running.specs.inner.Told.{told_flag, told_reading, told_hash}
+use Rattle.pie_running.specs.inner.Told.{told_flag, told_reading, told_hash, too_much}
 use Rattle.pie_running.specs.declared.looking.Sight.{Sight as Found}
 use Rattle.pie_running.specs.declared.looking.Sight.TheVariants.{File, Long, Clash as Clashes}
 use Rattle.pie_running.specs.inner.Looks.{IsToldPresence, IsToldSight, IsToldDigest}
 use Rattle.pie_running.proofs.Sighting.{map_twice, flag_is, reading_as, hash_is, same_sight}
 use Rattle.pie_core_laws.specs.Update.{present}
 use Rattle.pie_core_laws.specs.Exact.{busy_by}
-use Rattle.pie_task_laws.specs.Sites.{Site, Build}
+use Rattle.pie_task_laws.specs.Sites.{Site, Build, IsThere}
 use Rattle.pie_task_laws.specs.Going.{GoesAbove, Runs}
 use Rattle.pie_task_laws.specs.Coming.{IsAsking, EndsRight, failed_by}
 use Rattle.pie_task_laws.specs.Sights.{SeesOut}
@@ -59,6 +60,7 @@ use Rattle.pie_task_laws.specs.Telling.{GoesAs, Looks}
 use Rattle.pie_task_laws.proofs.Frames.{told_frame}
 use Rattle.pie_task_laws.proofs.Ending.{adds_one, fails_right, some_left, fails_own}
 use Rattle.pie_task_laws.proofs.Seeing.{seen_by, seen_visible}
+use Rattle.pie_task_laws.proofs.Lengthy.{long_ends}
 
 module _ (x : Site) (b : Build) (cs : List Caller) (w : Waiting) (R : Runs x b cs w.code.now w.machine w.notes)
     (left : 0 < w.notes.left) where
@@ -175,15 +177,25 @@ read_told x b cs w path by shown sight t L sees p h =
     (told_reading by path) (λ seen e. reading_as by path seen (λ f g. same_sight sight seen e (p.kept f g))) (λ seen. refl)
     (absent_dep (read_kind by) path) (read_lost by path) t h
 
-pub reading_told : (x : Site) (b : Build) (cs : List Caller) (w : Waiting) (path : List ℕ) (by : By) (shown : Sighted → Type 0) (t : Told)
+-- too many bytes: the task fails, and what it noted is the stamp of the file
+long_told : (x : Site) (b : Build) (cs : List Caller) (w : Waiting) (path : List ℕ) (by : By) (shown : Sighted → Type 0) (f : List ℕ × ℕ) (stamp : Stamp)
+    (t : Told) → IsThere x → Looks x b cs w (events.Read path by) → ((o : Sighted) → shown o → SeesOut x b w.notes path o)
+    → Sees x.update.directory path shown (Some (Some f)) → IsLong by path stamp f → IsToldReading w by path (Long stamp) t → GoesAs x b cs t
+long_told x b cs w path by shown f stamp t there L sees p long d =
+    failed_as x b cs w L.asking.runs L.left (observed (file_dep (read_kind by) path stamp) w.notes) (too_much w.notes.left)
+    (subst (λ s. EndsRight x b (observed (file_dep (read_kind by) path s) w.notes) (failed_by w.notes (too_much w.notes.left))) (sym long.stamp_is)
+    (long_ends x b cs w path by f there L (record { out = λ o. sees (Some (Some f)) (p.out o); source = p.source; kept = p.kept }) long.long))
+    t d
+
+pub reading_told : (x : Site) (b : Build) (cs : List Caller) (w : Waiting) (path : List ℕ) (by : By) (shown : Sighted → Type 0) (t : Told) → IsThere x
     → Looks x b cs w (events.Read path by) → ((o : Sighted) → shown o → SeesOut x b w.notes path o)
-    → (h : IsToldSight x.update.directory shown w path by t) → (h.sight ≡ Long → ⊥) → GoesAs x b cs t
-reading_told x b cs w path by shown t L sees h short = each h.sight h.sees h.told short
+    → IsToldSight x.update.directory shown w path by t → GoesAs x b cs t
+reading_told x b cs w path by shown t there L sees h = each h.sight h.sees h.told
   where
-    each : (s : Found) → SightSays s (Sees x.update.directory path shown) → IsToldReading w by path s t → (s ≡ Long → ⊥) → GoesAs x b cs t
-    each (File found) p k d = read_told x b cs w path by shown (Some (found_in found)) t L sees p k
-    each Long p k d = absurd (d refl)
-    each Clashes p k d = read_told x b cs w path by shown None t L sees p k
+    each : (s : Found) → SightSays by path s (Sees x.update.directory path shown) → IsToldReading w by path s t → GoesAs x b cs t
+    each (File found) p d = read_told x b cs w path by shown (Some (found_in found)) t L sees p d
+    each (Long stamp) p d = long_told x b cs w path by shown p.0 stamp t there L sees p.1 p.2 d
+    each Clashes p d = read_told x b cs w path by shown None t L sees p d
 
 pub digest_told : (x : Site) (b : Build) (cs : List Caller) (w : Waiting) (path : List ℕ) (shown : Sighted → Type 0) (t : Told)
     → Looks x b cs w (events.Digest path) → ((o : Sighted) → shown o → SeesOut x b w.notes path o)

@@ -9,7 +9,6 @@ use Rattle.pie_running.specs.declared.frame.Waiting.{Waiting}
 use Rattle.pie_running.specs.declared.frame.Caller.{Caller}
 use Rattle.pie_running.specs.declared.frame.Told.{Told}
 use Rattle.pie_running.specs.declared.frame.Told.TheVariants.{Goes, Fails}
-use Rattle.pie_running.specs.declared.looking.Sight.TheVariants.{Long}
 use Rattle.pie_running.specs.inner.Sights.{Sees, most_content, listing_in}
 use Rattle.pie_running.specs.inner.Looks.{IsToldPresence, IsToldSight, IsToldDigest}
 use Rattle.pie_running.specs.inner.Told.{IsToldList, IsToldWrite, told_reading, too_much}
@@ -37,13 +36,13 @@ PresencesAreTold =
     (x : Site) (b : Build) (cs : List Caller) (w : Waiting) (path : List ℕ) (t : Told) → Looks x b cs w (events.Exists path)
     → IsToldPresence x.update.directory (SeesOut x b w.notes path) w path t → GoesAs x b cs t
 
--- where a file is too long to be a value, what is noted lacks its stamp
+-- where the codes are those of the functions
 abbrev pub ReadingsAreTold : Type 0
 ReadingsAreTold =
-    (x : Site) (b : Build) (cs : List Caller) (w : Waiting) (path : List ℕ) (by : By) (t : Told) → Looks x b cs w (events.Read path by)
-    → (h : IsToldSight x.update.directory (SeesOut x b w.notes path) w path by t) → (h.sight ≡ Long → ⊥) → GoesAs x b cs t
+    (x : Site) (b : Build) (cs : List Caller) (w : Waiting) (path : List ℕ) (by : By) (t : Told) → IsThere x → Looks x b cs w (events.Read path by)
+    → IsToldSight x.update.directory (SeesOut x b w.notes path) w path by t → GoesAs x b cs t
 
--- with it the task ends right: it fails for too many bytes, or for having no event left
+-- where the file is too long to be a value, the task ends right: it fails for too many bytes, or for having no event left
 abbrev pub LongReadingsEnd : Type 0
 LongReadingsEnd =
     (x : Site) (b : Build) (cs : List Caller) (w : Waiting) (path : List ℕ) (by : By) (file : List ℕ × ℕ) → IsThere x

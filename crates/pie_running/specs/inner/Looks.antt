@@ -20,7 +20,7 @@ pub record IsToldPresence (d : Directory) (shown : Sighted → Type 0) (w : Wait
 -- its bytes
 pub record IsToldSight (d : Directory) (shown : Sighted → Type 0) (w : Waiting) (path : List ℕ) (by : By) (t : Told) : Type 0 where
   pub sight : Sight
-  pub sees : SightSays sight (Sees d path shown)
+  pub sees : SightSays by path sight (Sees d path shown)
   pub told : IsToldReading w by path sight t
 
 -- their hash

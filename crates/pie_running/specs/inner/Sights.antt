@@ -5,8 +5,10 @@ use Rattle.sha2.specs.Sha256.{sha256}
 use Rattle.pie_base.specs.Path.{is_out, is_source}
 use Rattle.pie_files.specs.Directory.{Directory, file_at, entries_of}
 use Rattle.pie_files.specs.declared.files.Found.{Found}
-use Rattle.pie_files.specs.declared.files.Within.{Within}
-use Rattle.pie_files.specs.declared.files.Within.TheVariants as within
+use Rattle.pie_value.specs.declared.event.By.{By}
+use Rattle.pie_value.specs.declared.stamp.Stamp.{Stamp}
+use Rattle.pie_value.specs.declared.stamp.Stamp.TheVariants as stamps
+use Rattle.pie_builder_laws.specs.Looks.{reading_stamp}
 use Rattle.pie_running.specs.declared.looking.Sight.{Sight}
 use Rattle.pie_running.specs.declared.looking.Sight.TheVariants.{File, Long, Clash as Clashes}
 use Rattle.pie_running.specs.declared.looking.Provided.{Provided}
@@ -28,17 +30,21 @@ hash_in seen = option_map (λ (f : List ℕ × ℕ). sha256 f.0) seen
 abbrev pub most_content : ℕ
 most_content = 1048571
 
--- this holds of what is seen by a task that reads: of a file that is too long to be read it holds with some bytes, which are too many
-abbrev pub SightSays : Sight → (Sighted → Type 0) → Type 0
-SightSays (File found) P = P (Some (found_in found))
-SightSays Long P = (f : List ℕ × ℕ) × P (Some (Some f)) × (most_content < length f.0)
-SightSays Clashes P = P None
+-- the stamp by the mark
+abbrev pub mark_stamp : Option ℕ → Stamp
+mark_stamp None = stamps.Absent
+mark_stamp (Some mark) = stamps.Mark mark
 
--- a source, as a task sees it that reads
-abbrev pub sight_within : Within → Sight
-sight_within within.Absent = File None
-sight_within within.Long = Long
-sight_within (within.Whole found) = File (Some found)
+-- a file that is too long to be read so has some bytes, which are too many, and this stamp
+pub record IsLong (by : By) (path : List ℕ) (stamp : Stamp) (f : List ℕ × ℕ) : Type 0 where
+  pub long : most_content < length f.0
+  pub stamp_is : stamp ≡ reading_stamp by path (Some f)
+
+-- this holds of what is seen by a task that reads so
+abbrev pub SightSays : By → List ℕ → Sight → (Sighted → Type 0) → Type 0
+SightSays by path (File found) P = P (Some (found_in found))
+SightSays by path (Long stamp) P = (f : List ℕ × ℕ) × P (Some (Some f)) × IsLong by path stamp f
+SightSays by path Clashes P = P None
 
 abbrev pub provided_sight : Provided → Sighted
 provided_sight Nothing = Some None
@@ -64,8 +70,16 @@ pub record SeesDigest (d : Directory) (path : List ℕ) (shown : Sighted → Typ
   pub is : hash ≡ option_map hash_in sight
 
 -- so it is of the directory that the files hold
-abbrev pub SeesHeldReading : Option Directory → List ℕ → (Sighted → Type 0) → Sight → Type 0
-SeesHeldReading held path shown sight = (d : Directory) → held ≡ Some d → SightSays sight (Sees d path shown)
+abbrev pub SeesHeldReading : Option Directory → By → List ℕ → (Sighted → Type 0) → Sight → Type 0
+SeesHeldReading held by path shown sight = (d : Directory) → held ≡ Some d → SightSays by path sight (Sees d path shown)
+
+-- so it is where a source was looked for in them
+abbrev pub SeesHeldSource : Option Directory → By → List ℕ → Sight → Type 0
+SeesHeldSource held by path sight = (d : Directory) → held ≡ Some d → SightSays by path sight (λ o. o ≡ Some (file_at d path))
+
+-- the stamp of a long file is that of the file that is held
+abbrev pub StampsHeld : Option Directory → By → List ℕ → Stamp → Type 0
+StampsHeld held by path stamp = (d : Directory) → held ≡ Some d → stamp ≡ reading_stamp by path (file_at d path)
 
 abbrev pub SeesHeldDigest : Option Directory → List ℕ → (Sighted → Type 0) → Option (Option (List ℕ)) → Type 0
 SeesHeldDigest held path shown hash = (d : Directory) → held ≡ Some d → SeesDigest d path shown hash

@@ -91,10 +91,10 @@ told_hash path hash = (file_dep kinds.Digest path (hash_stamp hash), answers.Dig
 abbrev pub too_much : ℕ → FaultKind
 too_much left = cond (left == 1) faults.Budget faults.Big
 
--- a task is told the bytes of a file, or fails for a clash or for too many bytes; these are of no stamp, so they aren't noted
+-- a task is told the bytes of a file, or fails for a clash or for too many bytes, of which it noted the stamp
 abbrev pub IsToldReading : Waiting → By → List ℕ → Sight → Told → Type 0
 IsToldReading w by path (File found) t = IsToldOrFails w (absent_dep (read_kind by) path) (Some (told_reading by path (found_in found))) t
-IsToldReading w by path Long t = HasFailed w.notes (too_much w.notes.left) t
+IsToldReading w by path (Long stamp) t = HasFailed (observed (file_dep (read_kind by) path stamp) w.notes) (too_much w.notes.left) t
 IsToldReading w by path Clashes t = IsToldOrFails w (absent_dep (read_kind by) path) None t
 
 -- the list of the paths of a listing

@@ -8,7 +8,7 @@ pub returns-clause-presences : goal.returns-clause-presences
 returns-clause-presences c = λ x b cs w path t l h. exists_told x b cs w path (SeesOut x b w.notes path) t l (λ o i. i) h
 
 pub returns-clause-readings : goal.returns-clause-readings
-returns-clause-readings c = λ x b cs w path by t l h short. reading_told x b cs w path by (SeesOut x b w.notes path) t l (λ o i. i) h short
+returns-clause-readings c = λ x b cs w path by t there l h. reading_told x b cs w path by (SeesOut x b w.notes path) t there l (λ o i. i) h
 
 pub returns-clause-long : goal.returns-clause-long
 returns-clause-long c = λ x b cs w path by file there l sees much. long_ends x b cs w path by file there l sees much
