@@ -15,7 +15,7 @@ use Rattle.pie_running.specs.inner.Noted.{Noted, tasks_on}
 use Rattle.pie_frames.specs.declared.parked.Parked.{Parked}
 use Rattle.pie_results.specs.inner.Failures.{is_done}
 use Rattle.pie_bottomup.specs.declared.plan.Plan.{Plan}
-use Rattle.pie_bottomup.specs.inner.Recorded.{HasOutput, HasEnded, IsMet, GoesOn, Ends, SameBut}
+use Rattle.pie_bottomup.specs.inner.Recorded.{HasOutput, HasEnded, HasValue, IsMet, GoesOn, Ends, SameBut}
 use Rattle.pie_bottomup.specs.inner.Running.{IsKnown, IsNoted, IsCaller, Agree}
 use Rattle.pie_bottomup.proofs.Going.{recorded_on, known_on, ended_on, met_on}
 use Rattle.pie_bottomup.proofs.Growing.{named_more, all_named_more, recorded_more, known_more, met_more, ended_more}
@@ -127,12 +127,11 @@ caller_ended p names records now old new task ends same unsettled c is = record 
 -- with a record of its own, or with the one that it had
 pub agree_ended : (p : Plan) (names : List Task) (records now : Records) (old new : WalkState) (parked : List Parked) (at task : ℕ) (r : TaskRecord)
     → Ends old new task → SameBut records now task → (IsSettled old.marks task → ⊥) → record_of now task ≡ Some r → slice_get names task ≡ Some r.task
-    → (is_done r.outcome ≡ true → IsEnd names now new task r) → (is_done r.outcome ≡ true → IsKnown p r.task)
+    → HasValue r → (is_done r.outcome ≡ true → IsEnd names now new task r) → (is_done r.outcome ≡ true → IsKnown p r.task)
     → (is_done r.outcome ≡ false → HasOutput records task → (n : ℕ) → IsStillCaller old n task → ⊥)
     → Agree p names records old parked at → Agree p names now new parked at
-agree_ended p names records now old new parked at task r ends same unsettled kept named end known callers agree = record {
-  recorded = recorded_ended names records now old new task r ends same kept end
-      callers agree.recorded;
+agree_ended p names records now old new parked at task r ends same unsettled kept named value end known callers agree = record {
+  recorded = recorded_ended names records now old new task r ends same kept value end callers agree.recorded;
   callers = All-weaker (IsCaller p names records old.marks) (IsCaller p names now new.marks)
       (caller_ended p names records now old new task ends same unsettled) parked agree.callers;
   met = All-weaker (IsMet names old.marks) (IsMet names new.marks) (met_on names old.marks new.marks ends.rise) (take at p.roots.items) agree.met;

@@ -9,7 +9,7 @@ use Rattle.pie_graph.proofs.Among.{contains_here, contains_later}
 use Rattle.pie_graph.specs.Numbers.{IsMarked}
 use Rattle.pie_graph.specs.Rows.{row_at, Calls}
 use Rattle.pie_value.specs.declared.task.Task.{Task}
-use Rattle.pie_record.specs.Canonical.{IsStorable, IsStorableOutcome}
+use Rattle.pie_record.specs.Canonical.{IsStorable, IsStorableOutcome, IsTrueRecord}
 use Rattle.pie_record.specs.declared.records.Records.{Records}
 use Rattle.pie_record.specs.declared.task_record.Outcome.{Outcome}
 use Rattle.pie_record.specs.declared.task_record.Outcome.TheVariants as ends
@@ -27,8 +27,9 @@ use Rattle.pie_old.specs.inner.Loaded.{IsOld}
 use Rattle.pie_old.specs.inner.Looking.{looks_out}
 use Rattle.pie_old.specs.inner.Rows.{IsRowOf}
 use Rattle.pie_results.specs.inner.Failures.{is_done}
+use Rattle.pie_compare_laws.proofs.Ways.{one_some}
 use Rattle.pie_bottomup.specs.declared.plan.Plan.{Plan}
-use Rattle.pie_bottomup.specs.inner.Recorded.{AreRecorded}
+use Rattle.pie_bottomup.specs.inner.Recorded.{AreRecorded, HasValue, OutputsAreValues}
 use Rattle.pie_bottomup.specs.inner.States.{HaveDigests, IsOldTask, MayBegin}
 
 -- ---- old tasks
@@ -51,13 +52,20 @@ old_task records o storable is n l =
       row = subst (λ (names : List Task). IsRowOf names r.0 (row_at o.rows n)) (sym is.tables.names) (is.rows.each n r.0 r.1);
     }
 
-pub old_begins : (records : List TaskRecord) (o : Old) → All IsStorable records → IsOld records o → MayBegin o
-old_begins records o storable is = record {
+old_values : (records : List TaskRecord) (o : Old) → All IsTrueRecord records → IsOld records o → OutputsAreValues o.tables.records
+old_values records o parts is n r kept =
+    let at : slice_get records n ≡ Some r = sym (is.tables.records n) ∙ kept in
+    let here = element records IsTrueRecord n parts (slice_get_within records n r at) in
+    subst HasValue (one_some here.0 r (sym here.1 ∙ at)) here.2.outcome
+
+pub old_begins : (records : List TaskRecord) (o : Old) → All IsStorable records → All IsTrueRecord records → IsOld records o → MayBegin o
+old_begins records o storable parts is = record {
   tables = is.tables.tables;
   sized = ap length is.tables.names ∙ length-map records (λ (r : TaskRecord). r.task) ∙ sym is.rows.as_many;
   looks = ap length is.looks_out ∙ length-map records looks_out ∙ sym is.rows.as_many;
   earlier = is.earlier;
   each = old_task records o storable is;
+  outputs = old_values records o parts is;
 }
 
 -- no old task
@@ -68,6 +76,9 @@ none_begins o tables names rows looks = record {
   looks = ap length looks ∙ sym (ap length rows);
   earlier = λ caller callee calls. absurd (let none = subst (λ rs. Calls rs caller callee) rows calls in omega (arith, none.1));
   each = λ n l. absurd (omega (arith, l, ap length rows));
+  outputs = λ n r kept.
+      let at : IsRecordAt o.tables.names n r = subst (λ x. IfSome x (IsRecordAt o.tables.names n)) kept (tables.records n) in
+      absurd (omega (arith, slice_get_within o.tables.names n r.task at.named, ap length names));
 }
 
 -- ---- the beginning
@@ -101,6 +112,7 @@ start_recorded o begins = record {
   done = λ n k output still calls.
       let less : k < n = begins.earlier n k calls in
       (begins.each k (omega (arith, less, inside n output.rec output.kept))).output;
+  outputs = begins.outputs;
 }
   where
     inside : (n : ℕ) (r : TaskRecord) → record_of o.tables.records n ≡ Some r → n < length o.rows

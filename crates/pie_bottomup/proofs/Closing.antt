@@ -18,7 +18,7 @@ use Rattle.pie_walk.proofs.MarkSteps.{settled_stays, rises_set}
 use Rattle.pie_old.specs.inner.Rows.{IsRowOf}
 use Rattle.pie_results.specs.inner.Failures.{is_done}
 use Rattle.pie_bottomup.proofs.Going.{marked_by}
-use Rattle.pie_bottomup.specs.inner.Recorded.{HasOutput, HasEnded, WasTaken, IsStill, AreRecorded, AreKnown, Ends, SameBut}
+use Rattle.pie_bottomup.specs.inner.Recorded.{HasOutput, HasEnded, HasValue, WasTaken, IsStill, AreRecorded, AreKnown, Ends, SameBut}
 use Rattle.std.proofs.lemmas.List.{length-set}
 use Rattle.std.proofs.Common.{None}
 
@@ -80,13 +80,14 @@ done_by : (now : Records) (n : ℕ) (r : TaskRecord) → record_of now n ≡ Som
 done_by now n r kept output = ap (λ (s : TaskRecord). is_done s.outcome) (same_record now n r output.rec kept output.kept) ∙ output.done
 
 pub recorded_ended : (names : List Task) (records now : Records) (old new : WalkState) (task : ℕ) (r : TaskRecord) → Ends old new task
-    → SameBut records now task → record_of now task ≡ Some r → (is_done r.outcome ≡ true → IsEnd names now new task r)
+    → SameBut records now task → record_of now task ≡ Some r → HasValue r → (is_done r.outcome ≡ true → IsEnd names now new task r)
     → (is_done r.outcome ≡ false → HasOutput records task → (n : ℕ) → IsStillCaller old n task → ⊥)
     → AreRecorded names records old → AreRecorded names now new
-recorded_ended names records now old new task r ends same kept end callers are = record {
+recorded_ended names records now old new task r ends same kept value end callers are = record {
   each = λ n l still. each n l still (eqb_tells n task);
   rows = λ n s is done free. rows n s is done free (eqb_tells n task);
   done = λ n k output still calls. done n k output still calls (eqb_tells n task);
+  outputs = λ n s is. output n s is (eqb_tells n task);
 }
   where
     each : (n : ℕ) → n < length new.rows → IsStill new n → ((eqb n task ≡ true) × (n ≡ task)) ⊎ ((eqb n task ≡ false) × (n ≢ task))
@@ -110,6 +111,12 @@ recorded_ended names records now old new task r ends same kept end callers are =
               | inl same_one ↦ apart (sym same_one)
               | inr later ↦ none later
             ]
+
+    output : (n : ℕ) (s : TaskRecord) → record_of now n ≡ Some s → ((eqb n task ≡ true) × (n ≡ task)) ⊎ ((eqb n task ≡ false) × (n ≢ task))
+        → HasValue s
+    output n s is (inl e) =
+        subst HasValue (same_record now task r s kept (subst (λ (m : ℕ). record_of now m ≡ Some s) e.1 is)) value
+    output n s is (inr e) = are.outputs n s (sym (same n e.1) ∙ is)
 
     reached : (k : ℕ) → HasOutput records k → (k ≡ task → is_done r.outcome ≡ false → HasOutput records task → ⊥)
         → ((eqb k task ≡ true) × (k ≡ task)) ⊎ ((eqb k task ≡ false) × (k ≢ task)) → HasOutput now k

@@ -168,6 +168,7 @@ recorded_on names records old new on are = record {
   rows = λ n r kept done free. subst (IsRowOf names r) (sym (on.rows n free)) (are.rows n r kept done (λ taken. free (on.taken n taken)));
   done = λ n k output still calls. are.done n k output (still_before old new on n still)
       (subst (λ (row : Row). Contains row.needs k) (on.rows n still.free) calls);
+  outputs = are.outputs;
 }
 
 pub known_on : (known : Task → Type 0) (names : List Task) (records : Records) (old new : WalkState) → GoesOn old new → AreKnown known names records old

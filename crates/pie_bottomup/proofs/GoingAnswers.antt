@@ -1,14 +1,17 @@
 -- A task that waited is answered, or ends as the one did for which it waited; and how the walk leaves the tasks of a build.
-use Rattle.std.proofs.Common.{◌≡◌, ℕ, zero, suc, ◌<◌, true, false, List, [], ◌∷◌, ◌++◌, Some, Result, length, refl, sym, ap, ◌∙◌, subst, arith}
-use Rattle.std.specs.Prelude.{slice_get, slice_index_or, IfOk}
+use Rattle.std.proofs.Common.{◌≡◌, ℕ, zero, suc, ◌<◌, true, false, List, [], ◌∷◌, ◌++◌, Some, Result, length, refl, sym, ap, ◌∙◌, subst, inl, inr, arith}
+use Rattle.std.specs.Prelude.{slice_get, slice_index_or, IfOk, IfSome}
 use Rattle.pie_value.specs.declared.task.Task.{Task}
 use Rattle.pie_value.specs.declared.value.Value.{Value}
+use Rattle.pie_value.specs.Values.{tree_of}
+use Rattle.pie_value.specs.Canonical.{enc, IsCanonical, IsEncodable}
 use Rattle.pie_graph.specs.declared.edges.TaskNo.{TaskNo}
+use Rattle.pie_record.specs.Canonical.{IsStorableOutcome, IsTrueOutcome}
 use Rattle.pie_record.specs.declared.task_record.Outcome.{Outcome}
 use Rattle.pie_record.specs.declared.task_record.Outcome.TheVariants as ends
 use Rattle.pie_record.specs.declared.task_record.TaskRecord.{TaskRecord}
 use Rattle.pie_record.specs.inner.Records.{record_of as kept_of}
-use Rattle.pie_tables.specs.Tabled.{HasFailed}
+use Rattle.pie_tables.specs.Tabled.{HasFailed, IsKept, IsRecordAt}
 use Rattle.pie_view.specs.Content.{content}
 use Rattle.pie_walk.specs.Marks.{mark_of, IsSettled}
 use Rattle.pie_walk.specs.States.{WalkState}
@@ -25,13 +28,11 @@ use Rattle.pie_model.specs.Trees.{is_done as ends_well}
 use Rattle.pie_model.proofs.Basics.{clash}
 use Rattle.pie_model_pipeline.specs.Rows.{outcome_of}
 use Rattle.pie_builder_laws.specs.Requiring.{of_task, requiring_answer}
-use Rattle.pie_compare_laws.specs.Agreeing.{OutputsAreCanonical}
 use Rattle.pie_compare_laws.proofs.Ways.{one_some}
 use Rattle.pie_core_laws.specs.Update.{Update}
-use Rattle.pie_core_laws.specs.Exact.{runs, is_done}
+use Rattle.pie_core_laws.specs.Exact.{runs}
 use Rattle.pie_core_laws.specs.Finishing.{IsRight}
 use Rattle.pie_core_laws.specs.Seeing.{written_now}
-use Rattle.pie_core_laws.proofs.Kept.{settled_done}
 use Rattle.pie_task_laws.specs.Answering.{HasSettled}
 use Rattle.pie_task_laws.specs.Coming.{EndsRight, left_as}
 use Rattle.pie_task_laws.specs.Whole.{EndsOne}
@@ -40,6 +41,7 @@ use Rattle.pie_task_laws.proofs.Together.{callers_rest, answered_work}
 use Rattle.pie_bottomup.specs.declared.state.Core.{Core}
 use Rattle.pie_bottomup.specs.declared.state.Turn.{Turn}
 use Rattle.pie_bottomup.specs.inner.Running.{IsCaller}
+use Rattle.pie_bottomup.specs.inner.States.{IsSite}
 use Rattle.pie_bottomup.specs.inner.Exact.{IsExactCore, BeginsAsOld, EndedRight, IsWaitingFor, lost_task}
 use Rattle.pie_bottomup.specs.inner.Going.{site_of, build_of, callers_up, EndsAlone, MayEndAs, IsAnsweredFrom, IsWhole, IsBuildNow}
 use Rattle.pie_bottomup.specs.inner.Going.{WalksWhole, TakesWhole, AnswersWhole, RootsWhole, EndsWhole, CallersWhole}
@@ -74,6 +76,21 @@ callers_goes c new task from w outcome rec r named deps writes same =
     (may_end u c task.0 (observed (lost_task w.how w.required) w.waiting.notes) outcome rec may named deps writes same) may.alone) r
 
 -- ---- it is answered
+
+-- the output of a task has canonical bytes
+output_canonical : (c : Core) (n : ℕ) (rec : TaskRecord) (v : Value) → IsSite c → kept_of c.tables.records n ≡ Some rec → rec.outcome ≡ ends.Done v
+    → IsCanonical (tree_of v) (enc (tree_of v))
+output_canonical c n rec v site kept done =
+    let at : IsRecordAt c.tables.names n rec = subst (λ o. IfSome o (IsRecordAt c.tables.names n)) kept (site.tables.records n) in
+    record {
+      encodable = encodable at.kept;
+      leaves = subst IsTrueOutcome done (site.agree.recorded.outputs n rec kept);
+      bytes = refl;
+    }
+  where
+    encodable : IsKept rec → IsEncodable (tree_of v)
+    encodable (inl storable) = subst IsStorableOutcome done storable.outcome
+    encodable (inr failed) = absurd (subst HasFailed done failed)
 
 failed_well : (o : Outcome) → HasFailed o → ends_well (outcome_of o) ≡ false
 failed_well (ends.Done v) failed = absurd failed
@@ -122,18 +139,17 @@ module _ (u : Update) (c : Core) (task : TaskNo) (p : Parked) (now : IsBuildNow 
     alone = alone;
   }
 
-  pub caller_works : (v : Value) (f : RunningTask) → OutputsAreCanonical c.tables.records (is_done c.frames.walk)
-      → ((q : TaskRecord) → kept_of c.tables.records p.callee.0 ≡ Some q → ends.Done v ≡ q.outcome)
+  pub caller_works : (v : Value) (f : RunningTask) → IsSite c → ((q : TaskRecord) → kept_of c.tables.records p.callee.0 ≡ Some q → ends.Done v ≡ q.outcome)
       → IsTold p.caller.waiting f (required (of_task p.caller.how p.caller.required v) p.callee.0 0 p.caller.waiting.notes) (requiring_answer p.caller.how v)
       → BeginsAsOld c.tables c.frames.walk.rows task.0 p.from
       → IsWhole u (record c { hand = Some (record { no = task; from = p.from; task = f }) })
-  caller_works v f canonical is told begins = record {
+  caller_works v f site is told begins = record {
     exact = record { tested = e.tested; are = e.are; parked = e.parked; hand = begins };
     going = record {
       work = answered_work (site_of u c) (build_of c) p.caller (callers_up c.frames.parked.items) p.callee.0 rec v 0 f from.none has_settled
           (record {
             outcome = sym (is rec kept);
-            canonical = canonical p.callee.0 rec v (settled_done c.frames.walk p.callee.0 settled) kept (sym (is rec kept));
+            canonical = output_canonical c p.callee.0 rec v site kept (sym (is rec kept));
           }) told;
       marked = from.marked;
     };
@@ -146,7 +162,7 @@ pub answer_fails : {E : Type 0} (c new : Core) (task : TaskNo) (p : Parked) (o :
     → IfOk r (CallersWhole c task p.from p.caller o new) → IfOk r (AnswersWhole c task.0 p new)
 answer_fails c new task p o r holds number caller settled waits failed is =
     if_ok_more (CallersWhole c task p.from p.caller o new) (AnswersWhole c task.0 p new)
-    (λ turn callers u now canonical e begins from.
+    (λ turn callers u now e begins from.
     callers u now e begins waits (caller_ends u c task p now e holds number caller settled from o failed is)) r
 
 -- ---- the walk
@@ -163,15 +179,15 @@ module _ {E : Type 0} (old : Core) (f : Frames) (new : Core) (r : Result Turn E)
       let rows : length f.walk.rows ≡ length old.frames.walk.rows = ap (λ (z : WalkState). length z.rows) has.taken.same in
       let t = named_at old.tables.names task.0 (omega (arith, has.inside, rows, sized)) in
       if_ok_more (TakesWhole (record old { frames = f }) task.0 new) (WalksWhole old new)
-      (λ turn takes u now canonical e going. takes u old.frames.walk now (taken_from u old f now.plan e rests going task has t.0 t.1)) r
+      (λ turn takes u now e going. takes u old.frames.walk now (taken_from u old f now.plan e rests going task has t.0 t.1)) r
 
   pub answers_goes : (task : TaskNo) (p : Parked) → HasAnswered old.frames f task p → IfOk r (AnswersWhole (record old { frames = f }) task.0 p new)
       → IfOk r (WalksWhole old new)
   answers_goes task p has =
       if_ok_more (AnswersWhole (record old { frames = f }) task.0 p new) (WalksWhole old new)
-      (λ turn answers u now canonical e going.
+      (λ turn answers u now e going.
       let x = answered_exact u old f task p e rests has in
-      answers u now (canonical f.walk) x.0 (subst (λ (n : ℕ). BeginsAsOld old.tables f.walk.rows n p.from) has.number x.1) (record {
+      answers u now x.0 (subst (λ (n : ℕ). BeginsAsOld old.tables f.walk.rows n p.from) has.number x.1) (record {
         rest = answered_rest u old f now.plan e rests going task p has;
         none = answered_alone u old f now.plan e rests going task p has;
         marked = walks_marked u old f now.plan e rests going has.answered.walks has.holds.taken.stands;
@@ -180,5 +196,5 @@ module _ {E : Type 0} (old : Core) (f : Frames) (new : Core) (r : Result Turn E)
   pub idles_goes : IsOver old.frames f → IfOk r (RootsWhole (record old { frames = f }) new) → IfOk r (WalksWhole old new)
   idles_goes over =
       if_ok_more (RootsWhole (record old { frames = f }) new) (WalksWhole old new)
-      (λ turn roots u now canonical e going.
+      (λ turn roots u now e going.
       roots u now (over_exact u old f e rests over) (over_rest u old f now.plan e rests going over) (over_alone u old f now.plan e rests going over)) r

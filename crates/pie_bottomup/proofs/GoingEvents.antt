@@ -1,5 +1,5 @@
 -- The task in hand ends or waits, and the others wait on.
-use Rattle.std.proofs.Common.{◌≡◌, ◌≢◌, ◌⊎◌, ℕ, ◌<◌, ◌≤◌, Bool, true, false, cond, List, ◌∷◌, Option, None, Some, Result, Err, Ok, length, sym, ap, ◌∙◌, subst, inl, inr, arith}
+use Rattle.std.proofs.Common.{◌≡◌, ◌≢◌, ◌⊎◌, ℕ, ◌<◌, ◌≤◌, Bool, true, false, cond, List, ◌∷◌, Option, None, Some, Result, length, sym, ap, ◌∙◌, subst, inl, inr, arith}
 use Rattle.std.specs.Prelude.{slice_get, IfOk}
 use Rattle.std.proofs.lemmas.List.{get_or-set_other}
 use Rattle.pie_base.specs.declared.fault.FaultKind.{FaultKind}
@@ -61,18 +61,17 @@ use Rattle.pie_bottomup.specs.declared.state.InHand.{InHand}
 use Rattle.pie_bottomup.proofs.Owning.{same_own}
 use Rattle.pie_task_laws.proofs.Told.{list_told}
 use Rattle.pie_task_laws.proofs.Writing.{write_told}
-use Rattle.pie_bottomup.specs.declared.state.First.TheVariants.{Tests}
 use Rattle.pie_bottomup.specs.inner.Exact.{HoldsAsOld}
-use Rattle.pie_bottomup.proofs.ExactAsking.{apart_firsts, listed_owns, written_owns, written_exact}
+use Rattle.pie_bottomup.proofs.ExactAsking.{listed_owns, written_owns, written_exact}
 use Rattle.pie_task_laws.proofs.Answered.{big_fails}
 use Rattle.pie_task_laws.proofs.Together.{moves_rest, ended_rest, requirers_rest, new_requirers_rest}
 use Rattle.pie_bottomup.specs.declared.plan.Plan.{Plan}
 use Rattle.pie_bottomup.specs.declared.state.Core.{Core}
 use Rattle.pie_bottomup.specs.declared.state.Turn.{Turn}
-use Rattle.pie_bottomup.specs.inner.States.{IsOwn, IsSite}
+use Rattle.pie_bottomup.specs.inner.States.{IsCore, IsOwn, IsSite}
 use Rattle.pie_bottomup.specs.inner.Exact.{IsExactCore, BeginsAsOld, AddsExact, StillBegins}
 use Rattle.pie_bottomup.specs.inner.Going.{site_of, build_of, callers_up, EndsAlone, MayEndAs, MayMeet, Goes, IsWhole, IsBuildNow, HasGrown, IsAskingNow}
-use Rattle.pie_bottomup.specs.inner.Going.{EndsWhole, NotesWhole, ParksWhole, RequiresWhole, GoesOn, IsWorking, ToldWhole, AsksWhole, TreatsWhole, GoesWhole, NoLook, StepsWhole, WalksWhole}
+use Rattle.pie_bottomup.specs.inner.Going.{EndsWhole, NotesWhole, ParksWhole, RequiresWhole, GoesOn, IsWorking, ToldWhole, AsksWhole, TreatsWhole, GoesWhole, NoLook, StandsWhole, StepsWhole}
 use Rattle.pie_bottomup.proofs.ExactGrowing.{parked_exact}
 use Rattle.pie_bottomup.proofs.ExactSteps.{if_ok_more, noted_row}
 use Rattle.pie_bottomup.proofs.Going.{is_met}
@@ -358,26 +357,22 @@ hand_fails held c new h p n k r holds own is gives =
 
 -- ---- a step
 
-pub event_whole : {E : Type 0} (held : Option Directory) (old new : Core) (h : InHand) (r : Result Turn E) → old.hand ≡ Some h
+none_some : (h : InHand) → None ≡ Some h → ⊥
+none_some h e = cc
+
+-- where a task is in hand, the first step is done
+in_hand_whole : (u : Update) (c : Core) (h : InHand) → c.hand ≡ Some h → IsCore c → StandsWhole u c → IsWhole u c
+in_hand_whole u c h some (inl untested) (inl loaded) = absurd (none_some h (sym untested.start.hand ∙ some))
+in_hand_whole u c h some (inr going) (inl loaded) = absurd (loaded.0 going.site.tested)
+in_hand_whole u c h some core (inr whole) = whole
+
+pub event_whole : {E : Type 0} (held : Option Directory) (old new : Core) (h : InHand) (r : Result Turn E) → IsCore old → old.hand ≡ Some h
     → IfOk r (GoesWhole held (record old { hand = None }) h new) → IfOk r (StepsWhole held old new)
-event_whole held old new h r some =
+event_whole held old new h r core some =
     if_ok_more (GoesWhole held (record old { hand = None }) h new) (StepsWhole held old new)
-    (λ turn goes u now site canonical whole looks.
+    (λ turn goes u now site stands looks.
+    let whole = in_hand_whole u old h some core stands in
     let working = subst (Goes u old) some whole.going in
     goes u now site (record { tested = whole.exact.tested; are = whole.exact.are; parked = whole.exact.parked; hand = tt })
     (subst (HoldsAsOld old.tables old.frames.walk.rows) some whole.exact.hand) (record { work = working.work; marked = working.marked })
     (subst (NoLook u old) some looks)) r
-
-pub walk_whole : {E : Type 0} (held : Option Directory) (old new : Core) (r : Result Turn E) → old.hand ≡ None
-    → IfOk r (WalksWhole (record old { hand = None }) new) → IfOk r (StepsWhole held old new)
-walk_whole held old new r none =
-    if_ok_more (WalksWhole (record old { hand = None }) new) (StepsWhole held old new)
-    (λ turn walks u now site canonical whole looks.
-    let resting = subst (Goes u old) none whole.going in
-    walks u now canonical (record { tested = whole.exact.tested; are = whole.exact.are; parked = whole.exact.parked; hand = tt })
-    (record { rest = resting.rest; bare = resting.bare; marked = resting.marked })) r
-
--- the first step is another
-pub first_whole : {E : Type 0} (old new : Core) (r : Result Turn E) → old.first ≡ Tests → IfOk r (WalksWhole old new)
-first_whole old new (Err e) tests = tt
-first_whole old new (Ok turn) tests = λ u now canonical e resting. absurd (apart_firsts old.first tests e.tested)

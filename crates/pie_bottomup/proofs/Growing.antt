@@ -80,6 +80,7 @@ recorded_more names t records s sized are = record {
   each = λ n l still. each n l still (eqb_tells n (length s.rows));
   rows = λ n r kept done free. subst (IsRowOf (names ++ t ∷ []) r) (sym (grown_rows s.rows n)) (row_more names t r (row_at s.rows n) (are.rows n r kept done free));
   done = λ n k output still calls. are.done n k output (more_still s n still) (subst (λ (row : Row). Contains row.needs k) (grown_rows s.rows n) calls);
+  outputs = are.outputs;
 }
   where
     each : (n : ℕ) → n < length (with_one_more s).rows → IsStill (with_one_more s) n

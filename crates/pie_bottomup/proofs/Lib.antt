@@ -18,6 +18,7 @@ pub mod Going
 pub mod GoingAnswers
 pub mod GoingEnds
 pub mod GoingEvents
+pub mod GoingFirst
 pub mod GoingOn
 pub mod GoingRoots
 pub mod GoingSteps

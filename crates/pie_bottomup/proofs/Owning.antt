@@ -108,6 +108,7 @@ ends_so c task from left p r (inr full) named deps =
       needs = ap (tasks_at c.tables.names) own.row.same ∙ own.noted.needs ∙ ap (λ ds. map Some (tasks_on ds)) (sym deps);
       ended = subst (All (HasEnded c.tables.records c.frames.walk.marks)) (sym own.row.same) own.noted.ended;
       known = subst (IsKnown c.plan) same own.noted.known;
+      output = full.output;
     })
   where
     the_task : Task → Option Task → Task

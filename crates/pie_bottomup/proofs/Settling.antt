@@ -24,6 +24,7 @@ use Rattle.pie_record.specs.declared.records.Records.{Records}
 use Rattle.pie_record.specs.declared.task_record.Outcome.{Outcome}
 use Rattle.pie_record.specs.declared.task_record.Outcome.TheVariants as ends
 use Rattle.pie_record.specs.declared.task_record.TaskRecord.{TaskRecord}
+use Rattle.pie_record.specs.Canonical.{IsTrueOutcome}
 use Rattle.pie_record.specs.inner.Names.{AreDistinct}
 use Rattle.pie_record.specs.inner.Records.{record_of, Puts}
 use Rattle.pie_store.specs.Canonical.{needs, required_on}
@@ -47,7 +48,7 @@ use Rattle.pie_frames.specs.declared.frames.Frames.{Frames}
 use Rattle.pie_frames.specs.inner.Standing.{Holds}
 use Rattle.pie_frames.specs.inner.Ended.{row_from}
 use Rattle.pie_bottomup.specs.declared.state.Core.{Core}
-use Rattle.pie_bottomup.specs.inner.Recorded.{HasOutput, HasEnded, WasTaken, Ends, SameBut}
+use Rattle.pie_bottomup.specs.inner.Recorded.{HasOutput, HasEnded, HasValue, WasTaken, Ends, SameBut}
 use Rattle.pie_bottomup.specs.inner.Running.{IsKnown, Agree, EndsWell, EndsSo}
 use Rattle.pie_bottomup.specs.inner.States.{IsSite, IsAsRecorded, AreCalled}
 use Rattle.pie_bottomup.proofs.Agreeing.{agree_ended}
@@ -170,7 +171,7 @@ site_kept c f task distinct site holds recorded known stands e same =
       tested = site.tested;
       agree = subst (λ v. Agree c.plan c.tables.names c.tables.records f.walk v.items c.at) (sym same)
           (agree_ended c.plan c.tables.names c.tables.records c.tables.records old f.walk c.frames.parked.items c.at task.0 r end (λ n apart. refl)
-          (running_is_open (mark_of old.marks task.0) runs) stands.1 at.named
+          (running_is_open (mark_of old.marks task.0) runs) stands.1 at.named (site.agree.recorded.outputs task.0 r stands.1)
           (λ is. record { row = subst (IsRowOf c.tables.names r) (sym rows) row; done = λ k calls. output k row (subst (λ (x : Row). Contains x.needs k) rows calls) })
           (λ is. subst (λ o. IfSome o (IsKnown c.plan)) at.named known)
           (λ failed. absurd (let clash : true ≡ false = sym done ∙ failed in cc)) site.agree);
@@ -211,6 +212,14 @@ well_ended : (c : Core) (n from : ℕ) (r : TaskRecord) → EndsSo c.plan c.tabl
     → EndsWell c.plan c.tables.names c.tables.records c.frames.walk n from r
 well_ended c n from r so done = elim so [ inl failed ↦ absurd (not_failed r.outcome failed done) | inr well ↦ well ]
 
+value_ended : (c : Core) (n from : ℕ) (r : TaskRecord) → EndsSo c.plan c.tables.names c.tables.records c.frames.walk n from r → HasValue r
+value_ended c n from r so = elim so [ inl failed ↦ no_output r.outcome failed | inr well ↦ well.output ]
+  where
+    no_output : (o : Outcome) → HasFailed o → IsTrueOutcome o
+    no_output (ends.Done v) failed = absurd failed
+    no_output (ends.Failed fault) failed = tt
+    no_output (ends.Cycled tasks) failed = tt
+
 -- where it is called for, another task that requires it was scheduled
 none_calls : (c : Core) (task : TaskNo) (r : TaskRecord) → Holds task c.frames → AreCalled c task.0 r → is_done r.outcome ≡ false → HasOutput c.tables.records task.0
     → (n : ℕ) → IsStillCaller c.frames.walk n task.0 → ⊥
@@ -248,7 +257,7 @@ site_ended c t f task from r writes site holds tables names puts named so called
       agree = subst (λ (ns : List Task). Agree c.plan ns t.records f.walk f.parked.items c.at) (sym names)
           (subst (λ v. Agree c.plan c.tables.names t.records f.walk v.items c.at) (sym same)
           (agree_ended c.plan c.tables.names c.tables.records t.records old f.walk c.frames.parked.items c.at task.0 r end others open_yet
-          (put_at c.tables.records t.records task.0 r puts) named
+          (put_at c.tables.records t.records task.0 r puts) named (value_ended c task.0 from r so)
           (λ done. let well = well_ended c task.0 from r so done in record {
             row = subst (IsRowOf c.tables.names r) (sym now) (record { needs = well.needs; reads = refl; lists = refl; writes = paths });
             done = λ k calls.

@@ -20,7 +20,7 @@ use pie_base::{FaultKind, OutOfMemory};
 use pie_graph::{TaskNo, TaskRows};
 use pie_record::{Deps, Outcome, TaskRecord, Writes};
 use pie_running::{NoteParts, Notes};
-use pie_value::{Fault, Value};
+use pie_value::{Fault, Value, encode};
 
 impl<'a> Core<'a> {
     /// The task that runs is done with this output.
@@ -45,6 +45,7 @@ impl<'a> Core<'a> {
         if !output.is_small() {
             return self.fail(no, from, notes, FaultKind::Big);
         }
+        let _bytes = encode(self.alloc, &output)?;
         self.end_as(no, from, notes, Outcome::Done(output))
     }
 

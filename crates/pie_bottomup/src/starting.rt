@@ -1,7 +1,7 @@
 //! How a build by what changed begins.
 ghost use Rattle.std.specs.Prelude.{◌≡◌, ◌≤◌, All, IfOk};
 ghost use Rattle.pie_value.specs.Canonical.{IsEncodableTask};
-ghost use Rattle.pie_record.specs.Canonical.{IsStorable};
+ghost use Rattle.pie_record.specs.Canonical.{IsStorable, IsTrueRecord};
 ghost use Rattle.pie_store.specs.Canonical.{AreInOrder};
 ghost use Rattle.pie_files.specs.Directory.{Directory};
 ghost use Rattle.pie_named.specs.inner.Known.{IsTrueOf};
@@ -41,6 +41,7 @@ impl<'a> Core<'a> {
         changes: &[Path],
     ) -> Result<Core<'a>, OutOfMemory>
         requires storable { All IsStorable image.rows }
+        requires parts { All IsTrueRecord image.rows }
         requires order { AreInOrder image.rows }
         requires roots { All IsEncodableTask roots.now }
         ensures core { IfOk result IsCore }
@@ -92,6 +93,7 @@ impl<'a> Core<'a> {
 #[tactic(auto, using(crate::proofs::Beginning::old_begins))]
 fn loaded(alloc: Global, rows: Rows) -> Result<(Old, First), OutOfMemory>
     requires storable { All IsStorable rows }
+    requires parts { All IsTrueRecord rows }
     requires order { AreInOrder rows }
     ensures begins { IfOk result (λ o. MayBegin o.0) }
     ensures first { IfOk result (λ o. o.1 ≡ Done → ⊥) }

@@ -5,7 +5,7 @@ ghost use Rattle.pie_files.specs.Reading.{ReadsOnly};
 ghost use Rattle.pie_bottomup.specs.inner.States.{StartsOne, IsAtRest, IsDue, IsTested, IsUntested, Keeps, TurnsTo, Nearer, Spends, rest, room};
 ghost use Rattle.pie_bottomup.specs.inner.Tested.{AreHeld, HasTested, HoldsBy, IsHeld, Learns, OnlySchedules, TaskWasHeld};
 ghost use Rattle.pie_bottomup.specs.inner.Loaded.{TestsExact};
-ghost use Rattle.pie_bottomup.specs.inner.Going.{WalksWhole};
+ghost use Rattle.pie_bottomup.specs.inner.Going.{StepsWhole, TestsWhole};
 ghost use Rattle.pie_bottomup.specs.inner.Exact.{StepsExact};
 
 use crate::flags::flag_of;
@@ -36,7 +36,7 @@ impl<'a> Core<'a> {
         ensures few { length runs.new ≤ length runs.old + room self.old }
         ensures tested { self.old.first ≡ Tests → OnOk result (HasTested (F.holds files.old) self.old self.new) }
         ensures exact { IfOk result (StepsExact (F.holds files.old) self.old self.new) }
-        ensures whole { IfOk result (WalksWhole self.old self.new) }
+        ensures whole { IfOk result (StepsWhole (F.holds files.old) self.old self.new) }
         ensures reads { ReadsOnly F.holds F.moment F.left_since F.images F.faults files.old files.new result }
     {
         match &self.first {
@@ -62,6 +62,7 @@ impl<'a> Core<'a> {
         ensures only { OnOk result (OnlySchedules self.old self.new) }
         ensures tested { OnOk result (HasTested (F.holds files.old) self.old self.new) }
         ensures exact { OnOk result (TestsExact (F.holds files.old) self.old self.new) }
+        ensures whole { OnOk result (TestsWhole (F.holds files.old) self.old self.new) }
         ensures reads { ReadsOnly F.holds F.moment F.left_since F.images F.faults files.old files.new result }
     {
         self.test_all(files)?;

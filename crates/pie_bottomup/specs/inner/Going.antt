@@ -1,5 +1,5 @@
 -- The tasks of a build that run and wait, as the model of building knows them.
-use Rattle.std.specs.Prelude.{◌≡◌, ◌≢◌, ℕ, true, false, ◌<◌, List, [], ◌∷◌, ◌++◌, length, map, reverse, Option, None, Some, slice_get}
+use Rattle.std.specs.Prelude.{◌≡◌, ◌≢◌, ◌⊎◌, ℕ, true, false, ◌<◌, List, [], ◌∷◌, ◌++◌, length, map, reverse, Option, None, Some, slice_get}
 use Rattle.pie_value.specs.declared.task.Task.{Task}
 use Rattle.pie_value.specs.declared.event.Event.{Event}
 use Rattle.pie_value.specs.declared.event.Event.TheVariants as events
@@ -23,8 +23,7 @@ use Rattle.pie_builder_laws.specs.Names.{AreTasks}
 use Rattle.pie_builder_laws.specs.Views.{RowIs}
 use Rattle.pie_frames.specs.declared.parked.Parked.{Parked}
 use Rattle.pie_core_laws.specs.Update.{Update}
-use Rattle.pie_compare_laws.specs.Agreeing.{OutputsAreCanonical}
-use Rattle.pie_core_laws.specs.Exact.{runs, is_done}
+use Rattle.pie_core_laws.specs.Exact.{runs}
 use Rattle.pie_task_laws.specs.Sites.{Site, Build}
 use Rattle.pie_task_laws.specs.Coming.{IsAsking, EndsRight}
 use Rattle.pie_task_laws.specs.Telling.{GoesAs}
@@ -34,10 +33,11 @@ use Rattle.pie_core_laws.specs.Keeping.{Separates}
 use Rattle.pie_task_laws.specs.Whole.{IsNew, NoneIsNew, AreAtRest, IsAtWork, TakesOne, EndsOne, ended}
 use Rattle.pie_bottomup.specs.declared.plan.Plan.{Plan}
 use Rattle.pie_bottomup.specs.declared.state.Core.{Core}
+use Rattle.pie_bottomup.specs.declared.state.First.TheVariants.{Tests, Done}
 use Rattle.pie_bottomup.specs.declared.state.InHand.{InHand}
 use Rattle.pie_bottomup.specs.declared.state.Turn.{Turn}
 use Rattle.pie_bottomup.specs.declared.state.Turn.TheVariants.{Went, Settled, StartAfresh}
-use Rattle.pie_bottomup.specs.inner.Exact.{IsPlanNow, IsTakenExact, IsExactCore, BeginsAsOld, EndedRight, IsWaitingFor, OwnsTold, IsSiteNow, lost_task}
+use Rattle.pie_bottomup.specs.inner.Exact.{IsPlanNow, IsTakenExact, IsLoadedCore, IsExactCore, BeginsAsOld, EndedRight, IsWaitingFor, OwnsTold, IsSiteNow, lost_task}
 use Rattle.pie_bottomup.specs.inner.Finished.{end_row}
 use Rattle.pie_bottomup.specs.inner.States.{IsOwn}
 
@@ -114,8 +114,7 @@ pub record IsBuildNow (u : Update) (p : Plan) : Type 0 where
 -- a build goes on whole where no task is in hand
 abbrev pub WalksWhole : Core → Core → Turn → Type 0
 WalksWhole old new t =
-    (u : Update) → IsBuildNow u old.plan → ((s : WalkState) → OutputsAreCanonical old.tables.records (is_done s)) → IsExactCore u old → IsResting u old
-    → TurnIsWhole u new t
+    (u : Update) → IsBuildNow u old.plan → IsExactCore u old → IsResting u old → TurnIsWhole u new t
 
 -- where a root is next, and no task is new
 abbrev pub RootsWhole : Core → Core → Turn → Type 0
@@ -159,11 +158,10 @@ pub record IsAnsweredFrom (u : Update) (c : Core) (p : Parked) : Type 0 where
   pub none : NoneIsNew (build_of c)
   pub marked : (n : ℕ) → runs (mark_of c.frames.walk.marks n) ≡ true → IsMarked c.tables.ran.items n
 
--- it runs on or ends, if the outputs of settled tasks are values of the program
+-- it runs on or ends
 abbrev pub AnswersWhole : Core → ℕ → Parked → Core → Turn → Type 0
 AnswersWhole old n p new t =
-    (u : Update) → IsBuildNow u old.plan → OutputsAreCanonical old.tables.records (is_done old.frames.walk) → IsExactCore u old
-    → BeginsAsOld old.tables old.frames.walk.rows n p.from → IsAnsweredFrom u old p → TurnIsWhole u new t
+    (u : Update) → IsBuildNow u old.plan → IsExactCore u old → BeginsAsOld old.tables old.frames.walk.rows n p.from → IsAnsweredFrom u old p → TurnIsWhole u new t
 
 -- a task that has these notes may end so: with the record of its evaluation, and it ran
 pub record MayEndAs (u : Update) (c : Core) (k : ℕ) (n : Noted) (o : Outcome) : Type 0 where
@@ -248,8 +246,15 @@ abbrev pub NoLook : Update → Core → Option InHand → Type 0
 NoLook u c None = Unit {0}
 NoLook u c (Some h) = LooksAtNoneNext (site_of u c) (build_of c) (callers_up c.frames.parked.items) h.task
 
--- a step after the first over these files that is no look leaves a build whole, if the outputs of settled tasks are values of the program
+-- what holds of a build between two steps: before the first one, unless it has too many old tasks and starts afresh, these are loaded
+abbrev pub StandsWhole : Update → Core → Type 0
+StandsWhole u c = ((c.first ≡ Done → ⊥) × (c.first ≡ Tests → IsLoadedCore u c)) ⊎ IsWhole u c
+
+-- a build is whole once its old tasks were held against what is there, if the files tell that
+abbrev pub TestsWhole : Option Directory → Core → Core → Type 0
+TestsWhole held old new = (u : Update) → IsBuildNow u old.plan → held ≡ Some u.directory → IsLoadedCore u old → IsWhole u new
+
+-- a step over these files that is no look leaves a build whole
 abbrev pub StepsWhole : Option Directory → Core → Core → Turn → Type 0
 StepsWhole held old new t =
-    (u : Update) → IsBuildNow u old.plan → IsSiteNow u held → ((s : WalkState) → OutputsAreCanonical old.tables.records (is_done s)) → IsWhole u old
-    → NoLook u old old.hand → TurnIsWhole u new t
+    (u : Update) → IsBuildNow u old.plan → IsSiteNow u held → StandsWhole u old → NoLook u old old.hand → TurnIsWhole u new t

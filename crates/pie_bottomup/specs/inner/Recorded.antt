@@ -5,6 +5,7 @@ use Rattle.pie_value.specs.declared.task.Task.{Task}
 use Rattle.pie_graph.specs.Numbers.{IsMarked}
 use Rattle.pie_graph.specs.Rows.{row_at, Calls}
 use Rattle.pie_record.specs.declared.records.Records.{Records}
+use Rattle.pie_record.specs.Canonical.{IsTrueOutcome}
 use Rattle.pie_record.specs.declared.task_record.TaskRecord.{TaskRecord}
 use Rattle.pie_record.specs.inner.Records.{record_of}
 use Rattle.pie_walk.specs.declared.marks.Mark.{Mark}
@@ -34,6 +35,14 @@ pub record IsStill (w : WalkState) (n : ℕ) : Type 0 where
   pub calm : IsMarked w.scheduled n → ⊥
   pub free : WasTaken w n → ⊥
 
+-- the output of a record, if it has one, is a value of the program
+abbrev pub HasValue : TaskRecord → Type 0
+HasValue r = IsTrueOutcome r.outcome
+
+-- so it is with each record
+abbrev pub OutputsAreValues : Records → Type 0
+OutputsAreValues records = (n : ℕ) (r : TaskRecord) → record_of records n ≡ Some r → HasValue r
+
 -- the records of the tasks that don't run
 pub record AreRecorded (names : List Task) (records : Records) (w : WalkState) : Type 0 where
   -- a task without a record has to run
@@ -42,6 +51,7 @@ pub record AreRecorded (names : List Task) (records : Records) (w : WalkState) :
   pub rows : (n : ℕ) (r : TaskRecord) → record_of records n ≡ Some r → is_done r.outcome ≡ true → (WasTaken w n → ⊥) → IsRowOf names r (row_at w.rows n)
   -- a task that is done and hasn't to run requires tasks alone that are done
   pub done : (n k : ℕ) → HasOutput records n → IsStill w n → Calls w.rows n k → HasOutput records k
+  pub outputs : OutputsAreValues records
 
 -- a root has a number, and was met
 pub record IsMet (names : List Task) (marks : List Mark) (t : Task) : Type 0 where

@@ -14,7 +14,7 @@ use Rattle.pie_old.specs.inner.Rows.{tasks_at}
 use Rattle.pie_running.specs.inner.Noted.{Noted, tasks_on}
 use Rattle.pie_frames.specs.declared.parked.Parked.{Parked}
 use Rattle.pie_bottomup.specs.declared.plan.Plan.{Plan}
-use Rattle.pie_bottomup.specs.inner.Recorded.{HasEnded, AreRecorded, AreKnown, IsMet}
+use Rattle.pie_bottomup.specs.inner.Recorded.{HasEnded, HasValue, AreRecorded, AreKnown, IsMet}
 
 -- a task is of a function of the pipeline, or of one that has a digest
 abbrev pub IsKnown : Plan → Task → Type 0
@@ -43,11 +43,13 @@ pub record Agree (p : Plan) (names : List Task) (records : Records) (w : WalkSta
   pub met : AreMet names w.marks p.roots.items at
   pub known : AreKnown (IsKnown p) names records w
 
--- the record of a task that ends without failing: what stands in its row from a place on is what the record requires, and is done
+-- the record of a task that ends without failing: what stands in its row from a place on is what the record requires, and is done; its output is a
+-- value of the program
 pub record EndsWell (p : Plan) (names : List Task) (records : Records) (w : WalkState) (n from : ℕ) (r : TaskRecord) : Type 0 where
   pub needs : tasks_at names (drop from (row_at w.rows n).needs) ≡ map Some (needs r)
   pub ended : All (HasEnded records w.marks) (drop from (row_at w.rows n).needs)
   pub known : IsKnown p r.task
+  pub output : HasValue r
 
 -- a task may end with a record
 abbrev pub EndsSo : Plan → List Task → Records → WalkState → ℕ → ℕ → TaskRecord → Type 0

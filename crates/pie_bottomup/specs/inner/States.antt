@@ -7,7 +7,7 @@ use Rattle.pie_graph.specs.declared.edges.TaskNo.{TaskNo}
 use Rattle.pie_graph.specs.Numbers.{IsMarked}
 use Rattle.pie_graph.specs.Rows.{Row, row_at, Calls}
 use Rattle.pie_parser.specs.FunctionTrees.{FunctionTree}
-use Rattle.pie_record.specs.Canonical.{IsStorableOutcome}
+use Rattle.pie_record.specs.Canonical.{IsStorableOutcome, IsTrueOutcome}
 use Rattle.pie_record.specs.declared.task_record.Outcome.{Outcome}
 use Rattle.pie_record.specs.declared.records.Records.{Records}
 use Rattle.pie_record.specs.declared.task_record.TaskRecord.{TaskRecord}
@@ -34,7 +34,7 @@ use Rattle.pie_bottomup.specs.declared.state.First.TheVariants.{Tests, TooMany, 
 use Rattle.pie_bottomup.specs.declared.state.InHand.{InHand}
 use Rattle.pie_bottomup.specs.declared.state.Turn.{Turn}
 use Rattle.pie_bottomup.specs.declared.state.Turn.TheVariants.{Went, Settled, StartAfresh}
-use Rattle.pie_bottomup.specs.inner.Recorded.{AreRecorded, HasOutput}
+use Rattle.pie_bottomup.specs.inner.Recorded.{AreRecorded, HasOutput, OutputsAreValues}
 use Rattle.pie_bottomup.specs.inner.Running.{IsNoted, Agree}
 
 -- a plan of these functions, digests and roots
@@ -208,9 +208,10 @@ told_mass (Fails n k) = 1
 pub record IsFull (c : Core) (no : TaskNo) (from : ℕ) (n : Noted) (o : Outcome) : Type 0 where
   pub sound : IsSound n
   pub outcome : IsStorableOutcome o
+  pub output : IsTrueOutcome o
   pub own : IsOwn c no from n
 
--- a task may end so: it failed, or what was noted and its output can be stored
+-- a task may end so: it failed, or what was noted and its output can be stored, which is a value of the program
 abbrev pub MayEnd : Core → TaskNo → ℕ → Noted → Outcome → Type 0
 MayEnd c task from n o = HasFailed o ⊎ IsFull c task from n o
 
@@ -267,6 +268,7 @@ pub record MayBegin (o : Old) : Type 0 where
   pub looks : length o.looks_out.items ≡ length o.rows
   pub earlier : NeedsAreEarlier o.rows
   pub each : (n : ℕ) → n < length o.rows → IsOldTask o.tables.names o.tables.records o.rows n
+  pub outputs : OutputsAreValues o.tables.records
 
 -- no task was started, or one that has canonical bytes
 abbrev pub StartsOne : List Task → List Task → Type 0

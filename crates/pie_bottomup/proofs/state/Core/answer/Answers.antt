@@ -33,7 +33,7 @@ returns-in_default-clause-whole c =
     c.end_below.ensures.failed c.in_ok-failed.ensures.is c.end_below.ensures.whole
 
 pub returns-in_ok-task-in-Done-clause-whole : goal.returns-in_ok-task-in-Done-clause-whole
-returns-in_ok-task-in-Done-clause-whole c = λ u now canonical e begins from.
+returns-in_ok-task-in-Done-clause-whole c = λ u now e begins from.
     caller_works u c.args.self.now c.args.no c.args.parked now e c.requires.holds c.requires.number c.requires.caller c.requires.settled from
-    c.in-Done.output c.in_ok-task-in-Done.task canonical (λ q kept. sym c.in-Done.is ∙ c.in_ok-failed.ensures.is q kept)
+    c.in-Done.output c.in_ok-task-in-Done.task c.requires.site (λ q kept. sym c.in-Done.is ∙ c.in_ok-failed.ensures.is q kept)
     c.in_ok-task-in-Done.ensures.told begins

@@ -4,6 +4,7 @@ use Rattle.pie_bottomup.specs.inner.States.{RunsOrRests}
 use Rattle.pie_bottomup.proofs.FirstStep.{begun_rests}
 use Rattle.pie_bottomup.proofs.Holding.{as_before}
 use Rattle.pie_bottomup.proofs.ExactBeginning.{tested_exact}
+use Rattle.pie_bottomup.proofs.GoingFirst.{tested_whole}
 use Rattle.pie_bottomup.proofs.state.Core.begin_tested.Goals as goal
 
 pub returns-clause-turns : goal.returns-clause-turns
@@ -30,3 +31,10 @@ returns-clause-exact g c = λ u plan holds loaded.
     tested_exact u c.args.self.now c.test_all.new.self plan loaded now.0 now.1
     (as_before u.directory c.test_all.new.self count ok.due now.1) ok.learns ok.only.walk ok.only.stage
     ok.tested.untested.rests.stands ok.tested.untested.start.parked ok.tested.untested.start.hand
+
+pub returns-clause-whole : goal.returns-clause-whole
+returns-clause-whole g c = λ u now holds loaded.
+    let ok = c.in_ok-test_all.ensures in
+    let start = ok.tested.untested.start in
+    tested_whole u c.args.self.now (record c.test_all.new.self { first = Done }) loaded ok.learns.tables start.fresh start.parked start.hand
+    (returns-clause-exact g c u now.plan holds loaded)

@@ -1,5 +1,10 @@
-use Rattle.pie_bottomup.proofs.GoingEvents.{first_whole}
+use Rattle.pie_bottomup.proofs.GoingFirst.{test_whole, walk_whole}
 use Rattle.pie_bottomup.proofs.state.Core.go_on.Goals as goal
 
+pub returns-in-Done-clause-whole : goal.returns-in-Done-clause-whole
+returns-in-Done-clause-whole g c =
+    walk_whole (g.F.Files.holds c.args.files.now) c.args.self.now c.walk_on.new.self c.walk_on.result c.requires.free c.in-Done.is c.walk_on.ensures.whole
+
 pub returns-in-Tests-clause-whole : goal.returns-in-Tests-clause-whole
-returns-in-Tests-clause-whole g c = first_whole c.args.self.now c.begin_tested.new.self c.begin_tested.result c.in-Tests.is
+returns-in-Tests-clause-whole g c =
+    test_whole (g.F.Files.holds c.args.files.now) c.args.self.now c.begin_tested.new.self c.begin_tested.result c.in-Tests.is c.begin_tested.ensures.whole

@@ -2,8 +2,9 @@ use Rattle.std.proofs.Common.{Option, sym, ◌∙◌, subst}
 use Rattle.std.specs.Prelude.{IfOk}
 use Rattle.pie_bottomup.specs.declared.state.InHand.{InHand}
 use Rattle.pie_bottomup.specs.inner.Exact.{AsksExact}
-use Rattle.pie_bottomup.specs.inner.Going.{GoesWhole, WalksWhole}
-use Rattle.pie_bottomup.proofs.GoingEvents.{event_whole, walk_whole}
+use Rattle.pie_bottomup.specs.inner.Going.{GoesWhole, StepsWhole}
+use Rattle.pie_bottomup.proofs.GoingEvents.{event_whole}
+use Rattle.pie_bottomup.proofs.GoingFirst.{free_whole}
 use Rattle.pie_bottomup.proofs.ExactAsking.{event_steps, in_hand}
 use Rattle.pie_bottomup.proofs.state.Core.step.Goals as goal
 
@@ -20,12 +21,13 @@ pub returns-in-Some-clause-whole : goal.returns-in-Some-clause-whole
 returns-in-Some-clause-whole g c =
     let held = g.F.Files.holds c.args.files.now in
     let hand = c.in-Some.hand in
-    event_whole held c.args.self.now c.event.new.self hand c.event.result (sym c.take.ensures.value ∙ c.in-Some.is)
+    event_whole held c.args.self.now c.event.new.self hand c.event.result c.requires (sym c.take.ensures.value ∙ c.in-Some.is)
     (subst (λ (h : Option InHand). IfOk c.event.result (GoesWhole held (record c.args.self.now { hand = h }) hand c.event.new.self)) c.take.ensures.after
     c.event.ensures.whole)
 
 pub returns-in-None-clause-whole : goal.returns-in-None-clause-whole
 returns-in-None-clause-whole g c =
-    walk_whole (g.F.Files.holds c.args.files.now) c.args.self.now c.go_on.new.self c.go_on.result (sym c.take.ensures.value ∙ c.in-None.is)
-    (subst (λ (h : Option InHand). IfOk c.go_on.result (WalksWhole (record c.args.self.now { hand = h }) c.go_on.new.self)) c.take.ensures.after
+    let held = g.F.Files.holds c.args.files.now in
+    free_whole held c.args.self.now c.go_on.new.self c.go_on.result (sym c.take.ensures.value ∙ c.in-None.is)
+    (subst (λ (h : Option InHand). IfOk c.go_on.result (StepsWhole held (record c.args.self.now { hand = h }) c.go_on.new.self)) c.take.ensures.after
     c.go_on.ensures.whole)
