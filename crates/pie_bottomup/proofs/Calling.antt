@@ -33,7 +33,7 @@ ends_called old mid n from r output has so =
     (subst (λ (w : WalkState). EndsSo old.plan old.tables.names old.tables.records w n from r) (sym has.walk) restated))
   where
     restated : EndsSo old.plan old.tables.names old.tables.records (record old.frames.walk { scheduled = mid.frames.walk.scheduled }) n from r
-    restated = elim so [ inl failed ↦ inl failed | inr well ↦ inr (record { needs = well.needs; ended = well.ended; known = well.known }) ]
+    restated = elim so [ inl failed ↦ inl failed | inr well ↦ inr (record { needs = well.needs; ended = well.ended; known = well.known; output = well.output }) ]
 
 pub named_called : (old mid : Core) (n k : ℕ) (t : Task) (output : Bool) → HasCalled old mid n output → slice_get old.tables.names k ≡ Some t
     → slice_get mid.tables.names k ≡ Some t

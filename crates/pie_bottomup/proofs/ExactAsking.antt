@@ -11,7 +11,6 @@ use Rattle.pie_value.specs.declared.event.By.{By}
 use Rattle.pie_value.specs.declared.event.Answer.{Answer}
 use Rattle.pie_files.specs.Directory.{Directory}
 use Rattle.pie_graph.specs.declared.edges.TaskNo.{TaskNo}
-use Rattle.pie_graph.specs.Rows.{Row}
 use Rattle.pie_record.specs.declared.dep.Dep.{Dep}
 use Rattle.pie_record.specs.declared.dep.DepKind.{DepKind}
 use Rattle.pie_record.specs.declared.dep.DepKind.TheVariants as kinds
@@ -213,18 +212,7 @@ in_hand c h (inr going) some = subst (RunsOrRests c) some going.state
 
 -- ---- the file that a task is about to look at
 
-pub fetches : {E : Type 0} (held : Option Directory) (c new : Core) (task : TaskNo) (from : ℕ) (path : List ℕ) (writer : ℕ) (rows : List Row)
-    (staged : Staged) (number : TaskNo) (at : ℕ) (r : Result (Unit {0}) E) → rows ≡ c.frames.walk.rows → staged ≡ c.stage → number ≡ task → at ≡ from
-    → Lacks rows staged number.0 at path writer → OnOk r (FilesExact held c writer path new) → OnOk r (FetchesExact held c task.0 from new)
-fetches {E} held c new task from path writer rows staged number at r rs st n f lacks files = by r files
-  where
-    here : Lacks c.frames.walk.rows c.stage task.0 from path writer
-    here =
-        subst (λ (x : List Row). Lacks x c.stage task.0 from path writer) rs
-        (subst (λ (x : Staged). Lacks rows x task.0 from path writer) st
-        (subst (λ (x : TaskNo). Lacks rows staged x.0 from path writer) n
-        (subst (λ (x : ℕ). Lacks rows staged number.0 x path writer) f lacks)))
-
-    by : (s : Result (Unit {0}) E) → OnOk s (FilesExact held c writer path new) → OnOk s (FetchesExact held c task.0 from new)
-    by (Ok x) is = λ u site w settled e. is u site (lacking_may c task.0 from path writer w settled here) e
-    by (Err x) is = tt
+pub fetches : {E : Type 0} (held : Option Directory) (c new : Core) (n from : ℕ) (path : List ℕ) (writer : ℕ) (r : Result (Unit {0}) E)
+    → Lacks c.frames.walk.rows c.stage n from path writer → OnOk r (FilesExact held c writer path new) → OnOk r (FetchesExact held c n from new)
+fetches held c new n from path writer (Ok x) lacks is = λ u site w settled e. is u site (lacking_may c n from path writer w settled lacks) e
+fetches held c new n from path writer (Err x) lacks is = tt

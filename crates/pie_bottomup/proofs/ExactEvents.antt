@@ -1,6 +1,6 @@
 -- A build stays exact where contents are staged, and what a task noted that fails.
-use Rattle.std.proofs.Common.{◌≡◌, ◌⊎◌, ℕ, ◌<◌, ◌≤◌, ◌-◌, ◌&&◌, Bool, true, false, cond, List, [], ◌∷◌, map, Option, None, Some, length, refl, sym, ap, ◌∙◌, subst, inl, inr, arith, bytes_eq}
-use Rattle.std.specs.Prelude.{slice_index_or, option_map, take, drop, min, IfSome}
+use Rattle.std.proofs.Common.{◌≡◌, ◌⊎◌, ℕ, ◌<◌, ◌≤◌, ◌-◌, ◌&&◌, Bool, true, false, cond, List, [], ◌∷◌, map, None, Some, length, refl, sym, ap, ◌∙◌, subst, inl, inr, arith, bytes_eq}
+use Rattle.std.specs.Prelude.{slice_index_or, option_map, take, drop, min}
 use Rattle.std.specs.List.{Contains}
 use Rattle.std.specs.declared.cmp.Ordering.TheVariants.{Less, Equal, Greater}
 use Rattle.std.specs.Ordering.{nat_cmp, is_eq, MatchOrdering}
@@ -11,11 +11,7 @@ use Rattle.std.proofs.lemmas.List.{take_all, drop_all, length-drop, length-map, 
 use Rattle.std.proofs.lemmas.Map.Text.{is_eq-slice_cmp}
 use Rattle.pie_value.specs.Canonical.{enc_task}
 use Rattle.pie_graph.specs.declared.edges.TaskNo.{TaskNo}
-use Rattle.pie_files.specs.Directory.{Directory, file_at}
-use Rattle.pie_files.specs.declared.files.Within.{Within}
-use Rattle.pie_files.specs.declared.files.Within.TheVariants.{Whole}
-use Rattle.pie_files.specs.declared.files.Found.{Found}
-use Rattle.pie_files.specs.inner.Within.{IsWithin}
+use Rattle.pie_files.specs.Directory.{Directory}
 use Rattle.pie_graph.specs.Numbers.{IsMarked, numbers}
 use Rattle.pie_graph.specs.Rows.{row_at}
 use Rattle.pie_graph.proofs.Among.{contains_cases}
@@ -36,6 +32,7 @@ use Rattle.pie_model.specs.Built.{bytes_at}
 use Rattle.pie_model.proofs.Basics.{same_bytes, bytes_same, clash}
 use Rattle.pie_model.proofs.LooksLemmas.{first_write-hashed}
 use Rattle.pie_model_pipeline.specs.World.{world}
+use Rattle.pie_earlier_laws.specs.Left.{AreThere}
 use Rattle.pie_core_laws.specs.Update.{Update, present}
 use Rattle.pie_core_laws.specs.Exact.{runs, is_busy}
 use Rattle.pie_core_laws.specs.Keeping.{Separates}
@@ -150,16 +147,26 @@ first_there (w ∷ ws) p h = by (bytes_eq p w.0) refl (first_there ws p)
           | inr later ↦ let q = below later in (q.0, ap (λ b. cond b (Some w.1) (first_write p ws)) is ∙ q.1)
         ]
 
-module _ (u : Update) (c : Core) (later : Staged) (writer : ℕ) (path bytes : List ℕ) (e : IsExactCore u c) (may : MayStage c writer path)
-    (apart : Separates u) (puts : Puts c.stage later writer path bytes) (at : bytes_at u.directory path ≡ Some bytes)
-    (met : among bytes u.besides ≡ true) where
-  wrote_first : (rec : TaskRecord) → kept_of c.tables.records writer ≡ Some rec → (hash : List ℕ) × (first_write path rec.writes ≡ Some hash)
-  wrote_first rec kept =
+-- what was written is there
+written_at : (d : Directory) (ws : List (List ℕ × List ℕ)) (p : List ℕ) → Contains (map (λ (w : List ℕ × List ℕ). w.0) ws) p → AreThere world d ws
+    → (bytes : List ℕ) × (bytes_at d p ≡ Some bytes)
+written_at d [] p h a = absurd (omega (arith, h.1))
+written_at d (w ∷ ws) p h a = elim (contains_cases w.0 p (map (λ (x : List ℕ × List ℕ). x.0) ws) h) [
+  | inl same ↦ (a.0.0, ap (bytes_at d) (sym same) ∙ a.0.1)
+  | inr later ↦ written_at d ws p later a.1
+]
+
+module _ (u : Update) (c : Core) (writer : ℕ) (path : List ℕ) (e : IsExactCore u c) (may : MayStage c writer path) (apart : Separates u) where
+  wrote_there : (rec : TaskRecord) → kept_of c.tables.records writer ≡ Some rec → Contains (map (λ (w : List ℕ × List ℕ). w.0) rec.writes) path
+  wrote_there rec kept =
       let row = e.are.tables.rows writer rec kept (settled_not_runs (mark_of c.frames.walk.marks writer) may.settled) in
-      first_there rec.writes path (subst (λ (ps : List (List ℕ)). Contains ps path) row.1 may.wrote)
+      subst (λ (ps : List (List ℕ)). Contains ps path) row.1 may.wrote
+
+  pub wrote_first : (rec : TaskRecord) → kept_of c.tables.records writer ≡ Some rec → (hash : List ℕ) × (first_write path rec.writes ≡ Some hash)
+  wrote_first rec kept = first_there rec.writes path (wrote_there rec kept)
 
   -- a task that ran has staged it
-  rested : (rec : TaskRecord) → kept_of c.tables.records writer ≡ Some rec → IsMarked c.tables.ran.items writer → ⊥
+  pub rested : (rec : TaskRecord) → kept_of c.tables.records writer ≡ Some rec → IsMarked c.tables.ran.items writer → ⊥
   rested rec kept flag =
       let q = wrote_first rec kept in
       let none : written_now u rec.task path ≡ None =
@@ -170,10 +177,26 @@ module _ (u : Update) (c : Core) (later : Staged) (writer : ℕ) (path bytes : L
       (ap (first_write path) same ∙ first_write-hashed world path (writes_of (trace_of (evaluation world (present u) (enc_task rec.task))))
       ∙ ap (option_map world.hash) none) q.1
 
+  -- one that didn't has it there
+  pub is_there : (bytes : List ℕ) × (bytes_at u.directory path ≡ Some bytes)
+  is_there = by (slice_index_or c.tables.ran.items writer false) refl
+    where
+      by : (b : Bool) → slice_index_or c.tables.ran.items writer false ≡ b → (bytes : List ℕ) × (bytes_at u.directory path ≡ Some bytes)
+      by true flag =
+          let kept = e.are.tables.ended writer may.settled in
+          absurd (rested kept.0 kept.1 flag)
+      by false flag =
+          let kept = e.are.tables.ended writer may.settled in
+          written_at u.directory kept.0.writes path (wrote_there kept.0 kept.1)
+          (e.are.written.there writer kept.0 (not_busy c.frames.walk may.stands writer may.settled) flag kept.1)
+
+module _ (u : Update) (c : Core) (later : Staged) (writer : ℕ) (path bytes : List ℕ) (e : IsExactCore u c) (may : MayStage c writer path)
+    (apart : Separates u) (puts : Puts c.stage later writer path bytes) (at : bytes_at u.directory path ≡ Some bytes)
+    (met : among bytes u.besides ≡ true) where
   written_there : (rec : TaskRecord) → kept_of c.tables.records writer ≡ Some rec → slice_index_or c.tables.ran.items writer false ≡ false
       → written_now u rec.task path ≡ Some bytes
   written_there rec kept rests =
-      let q = wrote_first rec kept in
+      let q = wrote_first u c writer path e may apart rec kept in
       files_written u c.tables.names c.tables.records c.frames.walk e.are.tables may.stands apart writer rec path bytes q.0 may.settled kept
       (e.are.written.there writer rec (not_busy c.frames.walk may.stands writer may.settled) rests kept) q.1 at met
 
@@ -181,7 +204,7 @@ module _ (u : Update) (c : Core) (later : Staged) (writer : ℕ) (path bytes : L
       → kept_of c.tables.records n ≡ Some rec → content later n p ≡ written_now u rec.task p
   ran_now n rec p is flag kept = elim (put_cases c.stage later writer path bytes puts n p) [
     | inl same ↦ same ∙ e.are.written.ran n rec p is flag kept
-    | inr put ↦ absurd (rested rec (subst (λ (m : ℕ). kept_of c.tables.records m ≡ Some rec) put.same_task kept)
+    | inr put ↦ absurd (rested u c writer path e may apart rec (subst (λ (m : ℕ). kept_of c.tables.records m ≡ Some rec) put.same_task kept)
         (subst (IsMarked c.tables.ran.items) put.same_task flag))
   ]
 
@@ -251,11 +274,3 @@ since_is from nos m needs least e =
 -- nothing was written by nobody
 pub none_own : (path : List ℕ) → IsOwn [] path → ⊥
 none_own path own = omega (arith, own.1.1)
-
--- the bytes of a file that was read
-pub whole_at : (held : Option Directory) (d : Directory) (path : List ℕ) (most : ℕ) (w : Within) (found : Found) → held ≡ Some d
-    → IfSome held (λ (x : Directory). IsWithin most w (file_at x path)) → w ≡ Whole found → bytes_at d path ≡ Some found.bytes.items
-whole_at held d path most w found is within whole =
-    ap (option_map (λ (f : List ℕ × ℕ). f.0))
-    (subst (λ (x : Within). IsWithin most x (file_at d path)) whole
-    (subst (λ (o : Option Directory). IfSome o (λ (x : Directory). IsWithin most w (file_at x path))) is within)).0

@@ -71,7 +71,7 @@ use Rattle.pie_bottomup.specs.declared.state.Turn.{Turn}
 use Rattle.pie_bottomup.specs.inner.States.{IsCore, IsOwn, IsSite}
 use Rattle.pie_bottomup.specs.inner.Exact.{IsExactCore, BeginsAsOld, AddsExact, StillBegins}
 use Rattle.pie_bottomup.specs.inner.Going.{site_of, build_of, callers_up, EndsAlone, MayEndAs, MayMeet, Goes, IsWhole, IsBuildNow, HasGrown, IsAskingNow}
-use Rattle.pie_bottomup.specs.inner.Going.{EndsWhole, NotesWhole, ParksWhole, RequiresWhole, GoesOn, IsWorking, ToldWhole, AsksWhole, TreatsWhole, GoesWhole, NoLook, StandsWhole, StepsWhole}
+use Rattle.pie_bottomup.specs.inner.Going.{EndsWhole, NotesWhole, ParksWhole, RequiresWhole, GoesOn, IsWorking, ToldWhole, AsksWhole, GoesWhole, StandsWhole, StepsWhole}
 use Rattle.pie_bottomup.proofs.ExactGrowing.{parked_exact}
 use Rattle.pie_bottomup.proofs.ExactSteps.{if_ok_more, noted_row}
 use Rattle.pie_bottomup.proofs.Going.{is_met}
@@ -305,14 +305,14 @@ write_goes held c new task from w path bytes later t r holds left own is =
 -- ---- what comes of the task in hand
 
 pub asks_goes : {E : Type 0} (held : Option Directory) (c new : Core) (h : InHand) (p : Paused) (w : Waiting) (e : Event) (r : Result Turn E)
-    → p ≡ Asks w e → Gives h.task p → IfOk r (TreatsWhole held c h.no h.from w e new) → IfOk r (GoesWhole held c h new)
+    → p ≡ Asks w e → Gives h.task p → IfOk r (AsksWhole held c h.no h.from w e new) → IfOk r (GoesWhole held c h new)
 asks_goes held c new h p w e r is gives =
-    if_ok_more (TreatsWhole held c h.no h.from w e new) (GoesWhole held c h new)
-    (λ turn treats u now site ex begins working looks.
+    if_ok_more (AsksWhole held c h.no h.from w e new) (GoesWhole held c h new)
+    (λ turn treats u now site ex begins working.
     let mine = subst (Gives h.task) is gives in
     let asking : IsAsking (site_of u c) (build_of c) (callers_up c.frames.parked.items) w e =
     pauses (site_of u c) (build_of c) (callers_up c.frames.parked.items) now.plan.compiled ex.are.tables h.task (Asks w e) working.work.runs mine in
-    treats (looks w e mine.comes.1 asking) u now site ex begins (record { asking = asking; none = working.work.none; marked = working.marked })) r
+    treats u now site ex begins (record { asking = asking; effect = mine.comes.2; none = working.work.none; marked = working.marked })) r
 
 -- it ends with these notes
 ends_may : (u : Update) (c : Core) (h : InHand) (n : Noted) (o : Outcome) → Holds h.no c.frames → IsOwn c h.no h.from h.task.notes → n ≡ h.task.notes
@@ -338,7 +338,7 @@ pub hand_done : {E : Type 0} (held : Option Directory) (c new : Core) (h : InHan
     → IfOk r (NotesWhole c h.no h.from n (output_by n v) new) → IfOk r (GoesWhole held c h new)
 hand_done held c new h p n v r holds own is gives =
     if_ok_more (NotesWhole c h.no h.from n (output_by n v) new) (GoesWhole held c h new)
-    (λ turn notes u now site ex begins working looks.
+    (λ turn notes u now site ex begins working.
     let mine = subst (Gives h.task) is gives in
     notes u now ex begins (same_own c h.no h.from h.task.notes n mine.comes own)
     (ends_may u c h n (output_by n v) holds own mine.comes working
@@ -349,7 +349,7 @@ pub hand_fails : {E : Type 0} (held : Option Directory) (c new : Core) (h : InHa
     → IfOk r (NotesWhole c h.no h.from n (failed_by n k) new) → IfOk r (GoesWhole held c h new)
 hand_fails held c new h p n k r holds own is gives =
     if_ok_more (NotesWhole c h.no h.from n (failed_by n k) new) (GoesWhole held c h new)
-    (λ turn notes u now site ex begins working looks.
+    (λ turn notes u now site ex begins working.
     let mine = subst (Gives h.task) is gives in
     notes u now ex begins (same_own c h.no h.from h.task.notes n mine.comes own)
     (ends_may u c h n (failed_by n k) holds own mine.comes working
@@ -370,9 +370,8 @@ pub event_whole : {E : Type 0} (held : Option Directory) (old new : Core) (h : I
     → IfOk r (GoesWhole held (record old { hand = None }) h new) → IfOk r (StepsWhole held old new)
 event_whole held old new h r core some =
     if_ok_more (GoesWhole held (record old { hand = None }) h new) (StepsWhole held old new)
-    (λ turn goes u now site stands looks.
+    (λ turn goes u now site stands.
     let whole = in_hand_whole u old h some core stands in
     let working = subst (Goes u old) some whole.going in
     goes u now site (record { tested = whole.exact.tested; are = whole.exact.are; parked = whole.exact.parked; hand = tt })
-    (subst (HoldsAsOld old.tables old.frames.walk.rows) some whole.exact.hand) (record { work = working.work; marked = working.marked })
-    (subst (NoLook u old) some looks)) r
+    (subst (HoldsAsOld old.tables old.frames.walk.rows) some whole.exact.hand) (record { work = working.work; marked = working.marked })) r

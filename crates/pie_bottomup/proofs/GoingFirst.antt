@@ -80,7 +80,7 @@ module _ {E : Type 0} (held : Option Directory) (old new : Core) (r : Result Tur
       by t u now holds tests (inr whole) = absurd (apart_firsts old.first first whole.exact.tested)
 
       all : (s : Result Turn E) → OnOk s (TestsWhole held old new) → IfOk s (StepsWhole held old new)
-      all (Ok t) tests = λ u now site stands looks. by t u now site.holds tests stands
+      all (Ok t) tests = λ u now site stands. by t u now site.holds tests stands
       all (Err x) tests = tt
 
   pub walk_whole : old.hand ≡ None → old.first ≡ Done → IfOk r (WalksWhole old new) → IfOk r (StepsWhole held old new)

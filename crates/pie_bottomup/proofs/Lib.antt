@@ -12,6 +12,7 @@ pub mod ExactGrowing
 pub mod ExactResults
 pub mod ExactSteps
 pub mod ExactWalking
+pub mod Fetching
 pub mod Finishing
 pub mod FirstStep
 pub mod Going
@@ -19,6 +20,7 @@ pub mod GoingAnswers
 pub mod GoingEnds
 pub mod GoingEvents
 pub mod GoingFirst
+pub mod GoingLooks
 pub mod GoingOn
 pub mod GoingRoots
 pub mod GoingSteps
@@ -28,6 +30,7 @@ pub mod Moving
 pub mod Owning
 pub mod Parts
 pub mod Settling
+pub mod Shown
 pub mod Sites
 pub mod Telling
 pub mod Twice

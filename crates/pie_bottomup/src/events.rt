@@ -4,7 +4,7 @@ ghost use Rattle.pie_files.specs.Reading.{ReadsOnly};
 ghost use Rattle.pie_running.specs.inner.Frames.{IsWaiting};
 ghost use Rattle.pie_frames.specs.inner.Standing.{Holds};
 ghost use Rattle.pie_bottomup.specs.inner.Exact.{AsksExact, ToldExact};
-ghost use Rattle.pie_bottomup.specs.inner.Going.{AsksWhole, GoesWhole, ToldWhole, TreatsWhole};
+ghost use Rattle.pie_bottomup.specs.inner.Going.{AsksWhole, GoesWhole, LooksWhole, ToldWhole};
 ghost use Rattle.pie_value.specs.declared.event.Event.TheVariants as events;
 ghost use Rattle.pie_bottomup.specs.inner.States.{IsInHand, IsOwn, IsSite, MayGo, GoesTo, Keeps, Nearer, rest, told_mass};
 
@@ -61,7 +61,7 @@ impl<'a> Core<'a> {
         ensures kept { OnOk result (Keeps self.old self.new) }
         ensures reads { ReadsOnly F.holds F.moment F.left_since F.images F.faults files.old files.new result }
         ensures exact { IfOk result (AsksExact (F.holds files.old) self.old no.0 from self.new) }
-        ensures whole { IfOk result (TreatsWhole (F.holds files.old) self.old no from waiting.entry event self.new) }
+        ensures whole { IfOk result (AsksWhole (F.holds files.old) self.old no from waiting.entry event self.new) }
     {
         match event {
             Event::Exists(path) => self.exists(no, from, waiting, path, files),
@@ -98,6 +98,7 @@ impl<'a> Core<'a> {
         ensures kept { OnOk result (Keeps self.old self.new) }
         ensures reads { ReadsOnly F.holds F.moment F.left_since F.images F.faults files.old files.new result }
         ensures exact { IfOk result (AsksExact (F.holds files.old) self.old no.0 from self.new) }
+        ensures whole { IfOk result (AsksWhole (F.holds files.old) self.old no from waiting.entry (events.Exists path) self.new) }
     {
         self.fetch(no, from, &path, files)?;
         self.exists_there(no, from, waiting, path, files)
@@ -122,6 +123,7 @@ impl<'a> Core<'a> {
         ensures kept { OnOk result (Keeps self.old self.new) }
         ensures reads { ReadsOnly F.holds F.moment F.left_since F.images F.faults files.old files.new result }
         ensures exact { IfOk result (AsksExact (F.holds files.old) self.old no.0 from self.new) }
+        ensures whole { IfOk result (LooksWhole (F.holds files.old) self.old no from waiting.entry (events.Exists path) path self.new) }
     {
         let told = waiting.exists(&self.sight(no, from), path, files)?;
         Ok(self.told(no, from, told)?)
@@ -147,6 +149,7 @@ impl<'a> Core<'a> {
         ensures kept { OnOk result (Keeps self.old self.new) }
         ensures reads { ReadsOnly F.holds F.moment F.left_since F.images F.faults files.old files.new result }
         ensures exact { IfOk result (AsksExact (F.holds files.old) self.old no.0 from self.new) }
+        ensures whole { IfOk result (AsksWhole (F.holds files.old) self.old no from waiting.entry (events.Read path by) self.new) }
     {
         self.fetch(no, from, &path, files)?;
         self.read_there(no, from, waiting, path, by, files)
@@ -172,6 +175,7 @@ impl<'a> Core<'a> {
         ensures kept { OnOk result (Keeps self.old self.new) }
         ensures reads { ReadsOnly F.holds F.moment F.left_since F.images F.faults files.old files.new result }
         ensures exact { IfOk result (AsksExact (F.holds files.old) self.old no.0 from self.new) }
+        ensures whole { IfOk result (LooksWhole (F.holds files.old) self.old no from waiting.entry (events.Read path by) path self.new) }
     {
         let told = waiting.read(self.alloc, &self.sight(no, from), path, by, files)?;
         Ok(self.told(no, from, told)?)
@@ -196,6 +200,7 @@ impl<'a> Core<'a> {
         ensures kept { OnOk result (Keeps self.old self.new) }
         ensures reads { ReadsOnly F.holds F.moment F.left_since F.images F.faults files.old files.new result }
         ensures exact { IfOk result (AsksExact (F.holds files.old) self.old no.0 from self.new) }
+        ensures whole { IfOk result (AsksWhole (F.holds files.old) self.old no from waiting.entry (events.Digest path) self.new) }
     {
         self.fetch(no, from, &path, files)?;
         self.digest_there(no, from, waiting, path, files)
@@ -220,6 +225,7 @@ impl<'a> Core<'a> {
         ensures kept { OnOk result (Keeps self.old self.new) }
         ensures reads { ReadsOnly F.holds F.moment F.left_since F.images F.faults files.old files.new result }
         ensures exact { IfOk result (AsksExact (F.holds files.old) self.old no.0 from self.new) }
+        ensures whole { IfOk result (LooksWhole (F.holds files.old) self.old no from waiting.entry (events.Digest path) path self.new) }
     {
         let told = waiting.digest(&self.sight(no, from), path, files)?;
         Ok(self.told(no, from, told)?)

@@ -4,6 +4,7 @@ use Rattle.pie_value.specs.declared.task.Task.{Task}
 use Rattle.pie_value.specs.declared.event.Event.{Event}
 use Rattle.pie_value.specs.declared.event.Event.TheVariants as events
 use Rattle.pie_value.specs.Canonical.{enc_task}
+use Rattle.pie_base.specs.Path.{is_out}
 use Rattle.pie_graph.specs.declared.edges.TaskNo.{TaskNo}
 use Rattle.pie_graph.specs.Numbers.{IsMarked}
 use Rattle.pie_graph.specs.Rows.{row_at}
@@ -19,6 +20,7 @@ use Rattle.pie_running.specs.declared.frame.RunningTask.{RunningTask}
 use Rattle.pie_running.specs.declared.frame.Waiting.{Waiting}
 use Rattle.pie_running.specs.inner.Coded.{HasFunction}
 use Rattle.pie_running.specs.inner.Noted.{Noted, observed}
+use Rattle.pie_running.specs.inner.Steps.{IsEffect}
 use Rattle.pie_builder_laws.specs.Names.{AreTasks}
 use Rattle.pie_builder_laws.specs.Views.{RowIs}
 use Rattle.pie_frames.specs.declared.parked.Parked.{Parked}
@@ -39,6 +41,7 @@ use Rattle.pie_bottomup.specs.declared.state.Turn.{Turn}
 use Rattle.pie_bottomup.specs.declared.state.Turn.TheVariants.{Went, Settled, StartAfresh}
 use Rattle.pie_bottomup.specs.inner.Exact.{IsPlanNow, IsTakenExact, IsLoadedCore, IsExactCore, BeginsAsOld, EndedRight, IsWaitingFor, OwnsTold, IsSiteNow, lost_task}
 use Rattle.pie_bottomup.specs.inner.Finished.{end_row}
+use Rattle.pie_bottomup.specs.inner.Sights.{SeenIsStaged}
 use Rattle.pie_bottomup.specs.inner.States.{IsOwn}
 
 -- what a build goes by, and its tasks, in the words of the laws
@@ -192,6 +195,7 @@ ParksWhole old n from w callee new t =
 -- the task in hand asks this as in the model, and none is new
 pub record IsAskingNow (u : Update) (c : Core) (w : Waiting) (e : Event) : Type 0 where
   pub asking : IsAsking (site_of u c) (build_of c) (callers_up c.frames.parked.items) w e
+  pub effect : IsEffect e
   pub none : NoneIsNew (build_of c)
   pub marked : (n : ℕ) → runs (mark_of c.frames.walk.marks n) ≡ true → IsMarked c.tables.ran.items n
 
@@ -218,33 +222,16 @@ AsksWhole held old task from w e new t =
     (u : Update) → IsBuildNow u old.plan → IsSiteNow u held → IsExactCore u old → BeginsAsOld old.tables old.frames.walk.rows task.0 from
     → IsAskingNow u old w e → TurnIsWhole u new t
 
--- an event that lists a directory, writes or requires a task
-abbrev pub LooksAtNone : Event → Type 0
-LooksAtNone (events.Exists path) = ⊥
-LooksAtNone (events.Read path by) = ⊥
-LooksAtNone (events.Digest path) = ⊥
-LooksAtNone (events.List dir) = Unit {0}
-LooksAtNone (events.Write path bytes) = Unit {0}
-LooksAtNone (events.Require task how) = Unit {0}
-LooksAtNone (events.Done v) = ⊥
-LooksAtNone (events.Fail v) = ⊥
+-- so it is of a look at a path, if what is seen there is staged
+abbrev pub LooksWhole : Option Directory → Core → TaskNo → ℕ → Waiting → Event → List ℕ → Core → Turn → Type 0
+LooksWhole held old task from w e path new t =
+    (is_out path ≡ true → SeenIsStaged old.frames.walk.rows old.stage task.0 from path) → AsksWhole held old task from w e new t
 
-abbrev pub TreatsWhole : Option Directory → Core → TaskNo → ℕ → Waiting → Event → Core → Turn → Type 0
-TreatsWhole held old task from w e new t = LooksAtNone e → AsksWhole held old task from w e new t
-
--- what comes of the task in hand is no look at a path
-abbrev pub LooksAtNoneNext : Site → Build → List Caller → RunningTask → Type 0
-LooksAtNoneNext x b cs f = (w : Waiting) (e : Event) → w.notes ≡ f.notes → IsAsking x b cs w e → LooksAtNone e
-
+-- what comes of the task in hand
 abbrev pub GoesWhole : Option Directory → Core → InHand → Core → Turn → Type 0
 GoesWhole held old h new t =
     (u : Update) → IsBuildNow u old.plan → IsSiteNow u held → IsExactCore u old → BeginsAsOld old.tables old.frames.walk.rows h.no.0 h.from
-    → IsWorking u old h.task → LooksAtNoneNext (site_of u old) (build_of old) (callers_up old.frames.parked.items) h.task → TurnIsWhole u new t
-
--- the task in hand, if there is one, looks at no path next
-abbrev pub NoLook : Update → Core → Option InHand → Type 0
-NoLook u c None = Unit {0}
-NoLook u c (Some h) = LooksAtNoneNext (site_of u c) (build_of c) (callers_up c.frames.parked.items) h.task
+    → IsWorking u old h.task → TurnIsWhole u new t
 
 -- what holds of a build between two steps: before the first one, unless it has too many old tasks and starts afresh, these are loaded
 abbrev pub StandsWhole : Update → Core → Type 0
@@ -254,7 +241,6 @@ StandsWhole u c = ((c.first ≡ Done → ⊥) × (c.first ≡ Tests → IsLoaded
 abbrev pub TestsWhole : Option Directory → Core → Core → Type 0
 TestsWhole held old new = (u : Update) → IsBuildNow u old.plan → held ≡ Some u.directory → IsLoadedCore u old → IsWhole u new
 
--- a step over these files that is no look leaves a build whole
+-- a step over these files leaves a build whole
 abbrev pub StepsWhole : Option Directory → Core → Core → Turn → Type 0
-StepsWhole held old new t =
-    (u : Update) → IsBuildNow u old.plan → IsSiteNow u held → StandsWhole u old → NoLook u old old.hand → TurnIsWhole u new t
+StepsWhole held old new t = (u : Update) → IsBuildNow u old.plan → IsSiteNow u held → StandsWhole u old → TurnIsWhole u new t

@@ -1,5 +1,13 @@
+use Rattle.pie_value.specs.declared.event.Event.TheVariants as events
 use Rattle.pie_bottomup.proofs.Twice.{reads_then}
+use Rattle.pie_bottomup.proofs.GoingLooks.{fetched_looks}
 use Rattle.pie_bottomup.proofs.state.Core.exists.Goals as goal
 
 pub returns-clause-reads : goal.returns-clause-reads
 returns-clause-reads g c = reads_then g.F.Files.holds g.F.Files.moment g.F.Files.left_since g.F.Files.images g.F.Files.faults c.args.files.now c.fetch.new.files c.exists_there.new.files _ c.exists_there.result c.in_ok-fetch.ensures.reads c.exists_there.ensures.reads
+
+pub returns-clause-whole : goal.returns-clause-whole
+returns-clause-whole g c =
+    fetched_looks (g.F.Files.holds c.args.files.now) (g.F.Files.holds c.fetch.new.files) c.args.self.now c.fetch.new.self c.exists_there.new.self c.args.no
+    c.args.from c.args.waiting (events.Exists c.args.path) c.args.path c.exists_there.result c.in_ok-fetch.ensures.reads.same c.fetch.ensures.same c.requires.holds
+    c.requires.own c.in_ok-fetch.ensures.exact c.in_ok-fetch.ensures.fetches c.exists_there.ensures.whole

@@ -4,6 +4,9 @@ use Rattle.std.specs.Prelude.{option_map}
 use Rattle.pie_record.specs.declared.dep.DepKind.TheVariants as kinds
 use Rattle.pie_running.specs.inner.Told.{told_flag}
 use Rattle.pie_bottomup.proofs.ExactAsking.{told_asks, looked_owns}
+use Rattle.pie_bottomup.proofs.GoingLooks.{exists_goes}
+use Rattle.pie_bottomup.proofs.Shown.{task_at, shown_here}
+use Rattle.pie_bottomup.specs.inner.Sights.{ShowsOut}
 use Rattle.pie_bottomup.proofs.state.Core.exists_there.Goals as goal
 
 pub told-requires-clause-goes : goal.told-requires-clause-goes
@@ -16,3 +19,17 @@ returns-clause-exact g c =
     c.in_ok-told.told (λ d held.
     let x = c.in_ok-told.ensures.tells d held in
     looked_owns c.args.self.now c.args.no c.args.from c.args.waiting kinds.Exists c.args.path (option_map (told_flag c.args.path) x.presence) c.in_ok-told.told x.told c.requires.own) c.in_ok-told-2.ensures.exact
+
+pub exists-requires-clause-knows : goal.exists-requires-clause-knows
+exists-requires-clause-knows g c =
+    task_at c.args.self.now c.args.no c.args.from c.args.waiting.notes c.sight.result.rows.now c.sight.result.no c.sight.result.from c.sight.ensures.rows
+    c.sight.ensures.task c.sight.ensures.from c.requires.holds c.requires.own
+
+pub returns-clause-whole : goal.returns-clause-whole
+returns-clause-whole g c =
+    let rows = c.sight.result.rows.now in
+    let stage = c.sight.result.stage.now in
+    let n = c.args.waiting.notes in
+    exists_goes {E = Unit {0}} (g.F.Files.holds c.args.files.now) c.args.self.now c.told.new.self c.args.no c.args.from c.args.waiting c.args.path
+    (λ o. ShowsOut rows stage n.number n.needs c.args.path o) c.in_ok-told.told (Ok c.in_ok-told-2.field-0) c.requires.holds c.requires.waits.left
+    c.requires.own (λ o. shown_here c.args.self.now rows stage n c.args.path o c.sight.ensures.rows c.sight.ensures.stage) (λ d held. c.in_ok-told.ensures.tells d held) c.in_ok-told-2.ensures.whole

@@ -1,6 +1,14 @@
 use Rattle.std.proofs.Common.{Ok}
 use Rattle.pie_bottomup.proofs.ExactAsking.{told_asks, read_owns}
+use Rattle.pie_bottomup.proofs.GoingLooks.{read_goes}
+use Rattle.pie_bottomup.proofs.Owning.{may_go}
+use Rattle.pie_bottomup.proofs.Shown.{task_at, shown_here}
+use Rattle.pie_bottomup.specs.inner.Sights.{ShowsOut}
 use Rattle.pie_bottomup.proofs.state.Core.read_there.Goals as goal
+
+pub told-requires-clause-goes : goal.told-requires-clause-goes
+told-requires-clause-goes g c =
+    may_go c.args.self.now c.args.no c.args.from c.args.waiting.notes c.in_ok-told.told c.in_ok-told.ensures.answered c.requires.own
 
 pub returns-clause-exact : goal.returns-clause-exact
 returns-clause-exact g c =
@@ -8,3 +16,17 @@ returns-clause-exact g c =
     c.in_ok-told.told (λ d held.
     let x = c.in_ok-told.ensures.tells d held in
     read_owns c.args.self.now c.args.no c.args.from c.args.waiting c.args.by c.args.path x.sight c.in_ok-told.told x.told c.requires.own) c.in_ok-told-2.ensures.exact
+
+pub read-requires-clause-knows : goal.read-requires-clause-knows
+read-requires-clause-knows g c =
+    task_at c.args.self.now c.args.no c.args.from c.args.waiting.notes c.sight.result.rows.now c.sight.result.no c.sight.result.from c.sight.ensures.rows
+    c.sight.ensures.task c.sight.ensures.from c.requires.holds c.requires.own
+
+pub returns-clause-whole : goal.returns-clause-whole
+returns-clause-whole g c =
+    let rows = c.sight.result.rows.now in
+    let stage = c.sight.result.stage.now in
+    let n = c.args.waiting.notes in
+    read_goes {E = Unit {0}} (g.F.Files.holds c.args.files.now) c.args.self.now c.told.new.self c.args.no c.args.from c.args.waiting c.args.path
+    (λ o. ShowsOut rows stage n.number n.needs c.args.path o) c.in_ok-told.told (Ok c.in_ok-told-2.field-0) c.requires.holds c.requires.waits.left
+    c.requires.own (λ o. shown_here c.args.self.now rows stage n c.args.path o c.sight.ensures.rows c.sight.ensures.stage) c.args.by (λ d held. c.in_ok-told.ensures.tells d held) c.in_ok-told-2.ensures.whole

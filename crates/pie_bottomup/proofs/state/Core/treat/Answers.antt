@@ -1,6 +1,6 @@
 use Rattle.std.proofs.Common.{Ok, sym, subst}
 use Rattle.pie_value.specs.declared.event.Event.{Event}
-use Rattle.pie_bottomup.specs.inner.Going.{TreatsWhole}
+use Rattle.pie_bottomup.specs.inner.Going.{AsksWhole}
 use Rattle.pie_bottomup.proofs.ExactAsking.{written_asks}
 use Rattle.pie_bottomup.proofs.GoingEvents.{write_goes}
 use Rattle.pie_bottomup.proofs.state.Core.treat.Goals as goal
@@ -13,8 +13,8 @@ returns-in-Write-clause-exact g c =
 
 pub returns-in-Write-clause-whole : goal.returns-in-Write-clause-whole
 returns-in-Write-clause-whole g c =
-    subst (λ (e : Event). TreatsWhole (g.F.Files.holds c.args.files.now) c.args.self.now c.args.no c.args.from c.args.waiting e c.told.new.self
+    subst (λ (e : Event). AsksWhole (g.F.Files.holds c.args.files.now) c.args.self.now c.args.no c.args.from c.args.waiting e c.told.new.self
     c.in_ok-told-in-Write-2.field-0) (sym c.in-Write.is)
-    (λ looks. write_goes {E = Unit {0}} (g.F.Files.holds c.args.files.now) c.args.self.now c.told.new.self c.args.no c.args.from c.args.waiting c.in-Write.path
+    (write_goes {E = Unit {0}} (g.F.Files.holds c.args.files.now) c.args.self.now c.told.new.self c.args.no c.args.from c.args.waiting c.in-Write.path
     c.in-Write.bytes c.write.new.stage c.in_ok-told-in-Write.told (Ok c.in_ok-told-in-Write-2.field-0) c.requires.holds c.requires.waits.left c.requires.own
     c.in_ok-told-in-Write.ensures.told c.in_ok-told-in-Write-2.ensures.whole)
