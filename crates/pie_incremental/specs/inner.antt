@@ -9,4 +9,3 @@ pub mod Evaluated
 pub mod Joined
 pub mod Plans
 pub mod Updated
-pub mod Walks

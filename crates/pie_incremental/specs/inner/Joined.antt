@@ -12,6 +12,7 @@ use Rattle.pie_files.specs.Directory.{Directory}
 use Rattle.pie_record.specs.Canonical.{IsStorable}
 use Rattle.pie_record.specs.declared.task_record.TaskRecord.{TaskRecord}
 use Rattle.pie_results.specs.inner.Made.{IsKept}
+use Rattle.pie_report.specs.declared.report.Report.{Report}
 use Rattle.pie_store.specs.Canonical.{AreInOrder}
 use Rattle.pie_store.specs.declared.cause.Cause.{Cause}
 use Rattle.pie_store.specs.declared.image.StoreImage.{StoreImage}
@@ -70,6 +71,10 @@ Settles c (Some cause) = Unit {0}
 abbrev pub Reports : List Task → List Task → Done → Type 0
 Reports old new (Reported r) = (new ≡ old ++ r.value.ran.items) × All IsEncodableTask r.value.ran.items
 Reports old new (Stopped stop) = Started old new
+
+-- a report is another one but for its cause and the tasks that ran
+abbrev pub IsRetold : Report → Report → Type 0
+IsRetold old new = new ≡ record old { fresh = new.fresh; ran = new.ran }
 
 -- a build that has to start afresh has changed nothing
 abbrev pub IsAsBefore : Option Directory → Option Directory → Done → Type 0
