@@ -42,8 +42,8 @@ module _ (e : Earlier) (list : List (List ℕ)) (d : Directory) (b : Base) (p : 
     (says : ProjectSays d (Ok (front_of p))) (has : HasDigests d p.digests.items) (names : HasNames p.typed p.digests.items)
     (funcs : AreFuncs p.digests.items) where
   -- the earlier build, and what is there now
-  abbrev u : Update
-  u = record {
+  abbrev pub update_of : Update
+  update_of = record {
     old_functions = e.found.functions;
     built = e.built;
     old_roots = map enc_task e.roots;
@@ -55,7 +55,7 @@ module _ (e : Earlier) (list : List (List ℕ)) (d : Directory) (b : Base) (p : 
     besides = from.strings;
   }
 
-  update : IsUpdate u
+  update : IsUpdate update_of
   update = record {
     build = record { accepted = sym e.accepted; sources = e.sources; provided = e.provided };
     changes = from.changes b base;
@@ -64,26 +64,26 @@ module _ (e : Earlier) (list : List (List ℕ)) (d : Directory) (b : Base) (p : 
   separate : AreSeparate e from.strings d p.typed p.roots.items
   separate = from.now p.typed p.roots.items says
 
-  is_update : (held : Option Directory) → held ≡ Some d → IsUpdateFrom u held b p list
+  pub is_update : (held : Option Directory) → held ≡ Some d → IsUpdateFrom update_of held b p list
   is_update held told = record {
     here = record { update = update; holds = told; functions = refl; roots_are = refl; separates = separate.separate; met = from.out };
     base = base;
     stored = record { rows = (from.stored b base).rows; names = refl; meaning = means_same e list d b p from base says has names funcs };
   }
 
-  other_of : (path : List ℕ) → IsOtherOf u path → IsOther (live_of p.typed d p.roots.items) d path
+  other_of : (path : List ℕ) → IsOtherOf update_of path → IsOther (live_of p.typed d p.roots.items) d path
   other_of path o = record { bytes = o.bytes; provided = o.provided; other = o.other }
 
-  of_other : (path : List ℕ) → IsOther (live_of p.typed d p.roots.items) d path → IsOtherOf u path
+  of_other : (path : List ℕ) → IsOther (live_of p.typed d p.roots.items) d path → IsOtherOf update_of path
   of_other path o = record { bytes = o.bytes; provided = o.provided; other = o.other }
 
-  stray_of : (path : List ℕ) → IsStrayOf u path → IsStray (live_of p.typed d p.roots.items) d path
+  stray_of : (path : List ℕ) → IsStrayOf update_of path → IsStray (live_of p.typed d p.roots.items) d path
   stray_of path s = record { out = s.out; there = s.there; absent = s.absent }
 
-  of_stray : (path : List ℕ) → IsStray (live_of p.typed d p.roots.items) d path → IsStrayOf u path
+  of_stray : (path : List ℕ) → IsStray (live_of p.typed d p.roots.items) d path → IsStrayOf update_of path
   of_stray path s = record { out = s.out; there = s.there; absent = s.absent }
 
-  leaves_clean : (r : Report) (after : Option Directory) → LeavesAsClean u p.digests.items p.roots.items r after
+  leaves_clean : (r : Report) (after : Option Directory) → LeavesAsClean update_of p.digests.items p.roots.items r after
       → LeavesClean p.typed p.digests.items p.roots.items d r after
   leaves_clean r after l =
       let c = l.left in
@@ -102,7 +102,7 @@ module _ (e : Earlier) (list : List (List ℕ)) (d : Directory) (b : Base) (p : 
         ordered = c.ordered;
       }
 
-  as_clean : (r : Report) (after : Option Directory) → BuildsCleanOf u p.digests.items p.roots.items r after → IsAsClean d r after
+  as_clean : (r : Report) (after : Option Directory) → BuildsCleanOf update_of p.digests.items p.roots.items r after → IsAsClean d r after
   as_clean r after builds = record {
     funcs = p.digests.items;
     roots = p.roots.items;
@@ -121,7 +121,7 @@ from_clean b p list before mid after r same says has names funcs runs = record {
       record {
         goes_on = λ none e from.
             as_clean e list d b p from base project digests names funcs r after
-            ((runs.once d (same ∙ told) none).each (u e list d b p from base project digests names funcs)
+            ((runs.once d (same ∙ told) none).each (update_of e list d b p from base project digests names funcs)
             (is_update e list d b p from base project digests names funcs mid (same ∙ told)));
         afresh = λ some. runs.afresh d (same ∙ told) some;
       };

@@ -14,3 +14,4 @@ pub mod Leaving
 pub mod Updating
 pub mod Meaning
 pub mod Cleanly
+pub mod Crashing

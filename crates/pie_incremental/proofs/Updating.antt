@@ -38,7 +38,7 @@ use Rattle.pie_incremental.specs.inner.Cleaned.{KnowsWhere, LeavesBy}
 use Rattle.pie_incremental.specs.inner.Digested.{digested, with_digests}
 use Rattle.pie_incremental.specs.inner.Evaluated.{IsResultOf, IsUpdateHere, MakesExact}
 use Rattle.pie_incremental.specs.inner.Joined.{IsAsBefore, IsEndingOf}
-use Rattle.pie_incremental.specs.inner.Updated.{GoesClean, GoesOn, RunsClean, RunsCleanOnce, RunsOrStops}
+use Rattle.pie_incremental.specs.inner.Updated.{GoesClean, GoesOn, IsUpdateFrom, RunsClean, RunsCleanOnce, RunsOrStops}
 
 -- ---- the end
 
@@ -91,25 +91,36 @@ begun_digested before mid digests ds s t image same are is h =
     subst (λ m. IfSome m (λ d. image ≡ digested d digests t)) same
     (subst (λ (x : StoreImage). IfSome mid (λ d. image ≡ digested d digests x)) is (subst (λ x. IfSome mid (λ d. image ≡ digested d x s)) are h))
 
+module _ (b : Base) (e : Ending) (p : Project) (list : List (List ℕ)) (s : StoreImage) (held : Option Directory) (u : Update) (ending : IsEndingOf b list e)
+    (knows : IfSome held (λ d. KnowsWhere b d e)) (image : IfSome held (λ d. s ≡ digested d p.digests.items b.image)) (from : IsUpdateFrom u held b p list)
+  where
+    is_digested : s ≡ digested u.directory p.digests.items b.image
+    is_digested = subst (λ o. IfSome o (λ x. s ≡ digested x p.digests.items b.image)) from.here.holds image
+
+    pub begun_stored : IsStoredIn u s.funcs p.digests.items s.rows e.names.items
+    begun_stored =
+        let d = u.directory in
+        let digests = p.digests.items in
+        let rows : s.rows ≡ b.image.rows = ap (λ (x : StoreImage). x.rows) is_digested ∙ digested_rows d digests b.image b.image.pipeline in
+        record {
+          rows = subst (λ (x : List TaskRecord). map record_of x ≡ store_rows world (earlier u) u.old_roots) (sym rows) from.stored.rows;
+          names = from.stored.names ∙ sym ending.names;
+          meaning = subst (λ (x : StoreImage). (t : Task) → IsCanonicalTask t (enc_task t) → SameCode (digest_under x.funcs t.func) (digest_under digests t.func)
+              → next u.old_functions (enc_task t) ≡ next u.functions (enc_task t)) (sym is_digested) from.stored.meaning;
+        }
+
+    pub begun_known : IsKnown e.own e.held u.directory
+    begun_known =
+        (subst (λ o. IfSome o (λ x. KnowsWhere b x e)) from.here.holds knows) u from.here.update refl begun_stored.names from.stored.rows from.base
+
 runs_clean : (b : Base) (e : Ending) (p : Project) (list : List (List ℕ)) (s : StoreImage) (before mid after : Option Directory) (r : Report) → mid ≡ before
     → IsEndingOf b list e → IfSome before (λ d. KnowsWhere b d e) → IfSome before (λ d. s ≡ digested d p.digests.items b.image)
     → GoesClean s e p mid after r → RunsClean b p list before after r
 runs_clean b e p list s before mid after r same ending knows image goes = record {
   none = goes.none;
   each = λ u from.
-      let d = u.directory in
-      let digests = p.digests.items in
-      let is : s ≡ digested d digests b.image = subst (λ o. IfSome o (λ x. s ≡ digested x digests b.image)) from.here.holds image in
-      let rows : s.rows ≡ b.image.rows = ap (λ (x : StoreImage). x.rows) is ∙ digested_rows d digests b.image b.image.pipeline in
-      let stored : IsStoredIn u s.funcs digests s.rows e.names.items = record {
-        rows = subst (λ (x : List TaskRecord). map record_of x ≡ store_rows world (earlier u) u.old_roots) (sym rows) from.stored.rows;
-        names = from.stored.names ∙ sym ending.names;
-        meaning = subst (λ (x : StoreImage). (t : Task) → IsCanonicalTask t (enc_task t) → SameCode (digest_under x.funcs t.func) (digest_under digests t.func)
-            → next u.old_functions (enc_task t) ≡ next u.functions (enc_task t)) (sym is) from.stored.meaning;
-      } in
-      let known : IsKnown e.own e.held d =
-      (subst (λ o. IfSome o (λ x. KnowsWhere b x e)) from.here.holds knows) u from.here.update refl stored.names from.stored.rows from.base in
-      goes.each u (subst (λ m. IsUpdateHere u m p.typed p.roots.items) (sym same) from.here) stored known;
+      goes.each u (subst (λ m. IsUpdateHere u m p.typed p.roots.items) (sym same) from.here)
+      (begun_stored b e p list s before u ending knows image from) (begun_known b e p list s before u ending knows image from);
 }
 
 runs_then : (b : Base) (e : Ending) (p : Project) (list : List (List ℕ)) (s : StoreImage) (before mid after : Option Directory) (done : Done)

@@ -4,6 +4,7 @@ pub mod Built
 pub mod Changes
 pub mod Clean
 pub mod Cleaned
+pub mod Crashed
 pub mod Digested
 pub mod Evaluated
 pub mod Joined
