@@ -1,6 +1,6 @@
 -- A build of a directory by a list, as a clean build.
-use Rattle.std.proofs.Common.{◌≡◌, ℕ, ◌≤◌, List, [], ◌++◌, length, drop, map, Option, None, Some, Result, Ok, Err, refl, sym, ap, subst, ◌∙◌}
-use Rattle.std.specs.Prelude.{Box, Global, IfOk, IfSome, IsSome}
+use Rattle.std.proofs.Common.{◌≡◌, ℕ, ◌≤◌, List, [], ◌++◌, length, drop, map, Option, None, Some, Result, Ok, Err, Global, refl, sym, ap, subst, ◌∙◌}
+use Rattle.std.specs.Prelude.{Box, IfOk, IfSome, IsSome}
 use Rattle.std.proofs.lemmas.List.{drop-append-le}
 use Rattle.pie_build.specs.Left.{Leaves}
 use Rattle.pie_core_laws.specs.Update.{Update, IsUpdate}

@@ -1,6 +1,6 @@
 -- What a crash leaves of a build by what changed, from part to part.
-use Rattle.std.proofs.Common.{◌≡◌, ◌⊎◌, inl, inr, ⊎_elim, ℕ, false, List, ◌++◌, map, Option, None, Some, Ok, refl, sym, ap, subst, ◌∙◌}
-use Rattle.std.specs.Prelude.{◌||◌, codes, Box, Global, IfSome}
+use Rattle.std.proofs.Common.{◌≡◌, ◌⊎◌, inl, inr, ⊎_elim, ℕ, false, List, ◌++◌, map, Option, None, Some, Ok, Global, refl, sym, ap, subst, ◌∙◌}
+use Rattle.std.specs.Prelude.{◌||◌, codes, Box, IfSome}
 use Rattle.pie_base.specs.Path.{is_out, same_text}
 use Rattle.pie_build.specs.Crashes.{IsDone, IsOfThree, IsUnderWay, StaysAtRest, Withstands}
 use Rattle.pie_build.specs.Left.{may_change, Leaves, LeavesAll, LeavesBy as LeavesAfresh}

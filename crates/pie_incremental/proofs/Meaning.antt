@@ -182,10 +182,10 @@ module _ (e : Earlier) (list : List (List ℕ)) (d : Directory) (b : Base) (p : 
       → is_hash (hash_in d (codes "pie.pipeline")) hash ≡ t → Means (cond t (record b.image { funcs = p.digests.items }) b.image).funcs
   by_hash hash none tells false is t canonical same =
       let nothing : None ≡ Some same.0 = ap (λ rows. digest_under rows t.func) (sym none) ∙ same.1 in absurd (let f : ⊥ = cc in f)
-  by_hash hash none tells true is =
+  by_hash hash none tells true is t canonical same =
       let there : hash_in d (codes "pie.pipeline") ≡ Some (sha256 now.text) = hash_of (file_at d pipeline_path) now.text now.there in
       let equal : sha256 now.text ≡ hash = same_path (sha256 now.text) hash (ap (λ o. is_hash o hash) (sym there) ∙ is) in
-      by_text (one_text (sym (tells was.text was.there) ∙ sym equal))
+      by_text (one_text (sym (tells was.text was.there) ∙ sym equal)) t canonical same
 
   by_store : (o : Option (List ℕ)) → IsFormat b.image.version o b.image.funcs → TellsFunctions e b.image.funcs o
       → Means (with_digests d p.digests.items b.image o).funcs
