@@ -3,6 +3,7 @@ use Rattle.std.specs.Prelude.{◌≡◌, ◌||◌, ℕ, Bool, true, false, List,
 use Rattle.pie_base.specs.Path.{same_text}
 use Rattle.pie_build.specs.Left.{may_change}
 use Rattle.pie_files.specs.Directory.{Directory, file_at}
+use Rattle.pie_incremental.specs.Clean.{BuildsClean}
 use Rattle.pie_incremental.specs.Treated.{TreatsNames}
 use Rattle.pie_listing.specs.Held.{manifest_path}
 use Rattle.pie_listing.specs.Listings.{IsListing}
@@ -15,7 +16,7 @@ use Rattle.pie_auto.specs.Kept.{Wrote}
 
 -- a build by what was found of a directory: by the change list, or without one
 abbrev pub BuildsBy : Listing → Directory → Report → Option Directory → Type 0
-BuildsBy (Listed paths) d r after = TreatsNames paths.items d r after
+BuildsBy (Listed paths) d r after = TreatsNames paths.items d r after × BuildsClean paths.items d r after
 BuildsBy (Unlisted reason) d r after = Unit {0}
 
 -- after an accepted build the manifest of what it left was written; after another one nothing

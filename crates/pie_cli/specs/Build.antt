@@ -3,6 +3,7 @@ use Rattle.std.specs.Prelude.{◌≡◌, ◌⊎◌, ℕ, Bool, List, Option, IfS
 use Rattle.pie_base.specs.declared.status.Status.{Status}
 use Rattle.pie_base.specs.declared.status.Status.TheVariants as status
 use Rattle.pie_files.specs.Directory.{Directory}
+use Rattle.pie_incremental.specs.Clean.{BuildsClean}
 use Rattle.pie_incremental.specs.Runs.{TellsFew}
 use Rattle.pie_incremental.specs.Treated.{TreatsNames}
 use Rattle.pie_project.specs.Refusals.{Refusal}
@@ -15,10 +16,11 @@ use Rattle.pie_cli.specs.Listed.{RunsByList}
 abbrev pub RefusesProject : Option Directory → Option Directory → List ℕ → Status → Type 0
 RefusesProject before after text ended = (e : Refusal) × (after ≡ before) × (text ≡ refusal_line e) × (ended ≡ status.Pipeline)
 
--- a build with these names came to this report: what it did with names, and how many tasks it started
+-- a build with these names came to this report: what it did with names, how many tasks it started, and that it is a clean build's
 pub record IsBuilt (names : List (List ℕ)) (before after : Option Directory) (report : Report) : Type 0 where
   pub treated : IfSome before (λ d. TreatsNames names d report after)
   pub few : TellsFew report
+  pub clean : IfSome before (λ d. BuildsClean names d report after)
 
 -- there is a report, and the text is that of the report
 abbrev pub TellsReport : Bool → List (List ℕ) → Option Directory → Option Directory → List ℕ → Status → Type 0

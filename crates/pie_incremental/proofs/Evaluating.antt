@@ -1,11 +1,12 @@
 -- An evaluation of the roots, as the model of building knows it.
-use Rattle.std.proofs.Common.{◌≡◌, inl, inr, ℕ, List, [], ◌∷◌, map, Option, refl, sym, ap, subst, ◌∙◌}
+use Rattle.std.proofs.Common.{◌≡◌, inl, inr, ℕ, List, map, Option, sym, ap, subst, ◌∙◌}
 use Rattle.pie_bottomup.specs.declared.plan.Plan.{Plan}
 use Rattle.pie_bottomup.specs.declared.state.Core.{Core}
 use Rattle.pie_bottomup.specs.declared.state.First.TheVariants.{Done}
 use Rattle.pie_bottomup.specs.declared.state.Turn.{Turn}
 use Rattle.pie_bottomup.specs.declared.state.Turn.TheVariants.{Went, Settled}
-use Rattle.pie_bottomup.specs.inner.Exact.{IsExactCore, IsPlanNow, IsSiteNow, StandsExact, StepsExact, TurnIsExact}
+use Rattle.pie_bottomup.specs.inner.Exact.{IsExactCore, IsSiteNow}
+use Rattle.pie_bottomup.specs.inner.Going.{IsBuildNow, IsWhole, StandsWhole, StepsWhole, TurnIsWhole}
 use Rattle.pie_bottomup.specs.inner.Loaded.{BeginsExact}
 use Rattle.pie_bottomup.specs.inner.Made.{MadeExact, MakesClean}
 use Rattle.pie_bottomup.specs.inner.States.{HasSettled, IsPlanOf}
@@ -28,19 +29,22 @@ use Rattle.pie_store.specs.declared.image.StoreImage.{StoreImage}
 use Rattle.pie_value.specs.Canonical.{enc_task}
 use Rattle.pie_value.specs.declared.task.Task.{Task}
 use Rattle.pie_incremental.specs.inner.Evaluated.{BeginsNow, EndsStanding, IsResultOf, MakesExact, ResultsExact, StaysStanding}
-use Rattle.pie_incremental.specs.inner.Walks.{AreSteps, EndRightAlong}
 
 -- ---- how it begins
 
 pub begins_now : (fs : List FunctionTree) (codes : List Code) (funcs digests : List (List ℕ × List ℕ)) (rows : List TaskRecord) (names : List (List ℕ))
     (roots : List Task) (c : Core) → IsPlanOf fs digests roots c.plan → (c.first ≡ Done → ⊥) → c.plan.code.now ≡ codes → BeginsExact funcs digests rows names c
-    → BeginsNow fs codes funcs digests rows names c
+    → BeginsNow fs codes roots funcs digests rows names c
 begins_now fs codes funcs digests rows names roots c plan fresh code begins = record {
-  each = λ u update same compiled stored. (
+  each = λ u held here compiled stored. (
     record {
-      update = update;
-      functions = plan.typed ∙ same;
-      compiled = subst (AreCompiled u.functions) (sym code) (subst (λ (gs : List FunctionTree). AreCompiled gs codes) same compiled);
+      plan = record {
+        update = here.update;
+        functions = plan.typed ∙ here.functions;
+        compiled = subst (AreCompiled u.functions) (sym code) (subst (λ (gs : List FunctionTree). AreCompiled gs codes) here.functions compiled);
+      };
+      roots = sym here.roots_are ∙ ap (λ (ts : List Task). map enc_task ts) (sym plan.roots);
+      apart = here.separates;
     },
     inl (fresh, λ tests. begins u stored tests),
   );
@@ -49,36 +53,21 @@ begins_now fs codes funcs digests rows names roots c plan fresh code begins = re
 -- ---- its steps
 
 pub stands_first : (held : Option Directory) (c : Core) → StaysStanding held c c
-stands_first held c = record { steps = []; are = refl; each = λ u site now stands ends. stands }
+stands_first held c u site now stands = stands
 
-module _ (held mid : Option Directory) (a b c : Core) (turn : Turn) (same : mid ≡ held) (plan : b.plan ≡ a.plan) (keeps : c.plan ≡ b.plan)
-    (before : StaysStanding held a b) (step : StepsExact mid b c turn) where
-  step_now : StepsExact held b c turn
-  step_now = subst (λ m. StepsExact m b c turn) same step
-
-  abbrev one_more : List (Core × Core)
-  one_more = (b, c) ∷ before.steps
-
-  they_are : AreSteps held a one_more c
-  they_are = (refl, record { turn = turn; plan = keeps; exact = step_now }, before.are)
-
-  turned : (u : Update) → IsSiteNow u held → IsPlanNow u a.plan → StandsExact u a → EndRightAlong u one_more → TurnIsExact u c turn
-  turned u site now stands ends =
-      step_now u site (subst (λ (p : Plan). IsPlanNow u p) (sym plan) now) (before.each u site now stands ends.1) ends.0
+module _ (held mid : Option Directory) (a b c : Core) (turn : Turn) (same : mid ≡ held) (plan : b.plan ≡ a.plan) (before : StaysStanding held a b)
+    (step : StepsWhole mid b c turn) where
+  turned : (u : Update) → IsSiteNow u held → IsBuildNow u a.plan → StandsWhole u a → TurnIsWhole u c turn
+  turned u site now stands =
+      subst (λ m. StepsWhole m b c turn) same step u (subst (λ (p : Plan). IsBuildNow u p) (sym plan) now) site (before u site now stands)
 
   pub stands_on : turn ≡ Went → StaysStanding held a c
-  stands_on went = record {
-    steps = one_more;
-    are = they_are;
-    each = λ u site now stands ends. inr (subst (TurnIsExact u c) went (turned u site now stands ends));
-  }
+  stands_on went u site now stands = inr (subst (TurnIsWhole u c) went (turned u site now stands))
 
   pub stands_end : turn ≡ Settled → EndsStanding held a c
-  stands_end settled = record {
-    steps = one_more;
-    are = they_are;
-    each = λ u site now stands ends. subst (TurnIsExact u c) settled (turned u site now stands ends);
-  }
+  stands_end settled u site now stands =
+      let whole : IsWhole u c = subst (TurnIsWhole u c) settled (turned u site now stands) in
+      whole.exact
 
 -- ---- what it makes
 
@@ -111,13 +100,11 @@ results_exact c roots b settled are makes = record { each = λ u e apart met sam
 -- ---- all of it
 
 pub evaluated : (held : Option Directory) (fs : List FunctionTree) (codes : List Code) (digests : List (List ℕ × List ℕ)) (roots : List Task) (s : StoreImage)
-    (names : List (List ℕ)) (old new : Core) (b : Result) → AreCompiled fs codes → BeginsNow fs codes s.funcs digests s.rows names old
+    (names : List (List ℕ)) (old new : Core) (b : Result) → AreCompiled fs codes → BeginsNow fs codes roots s.funcs digests s.rows names old
     → EndsStanding held old new → ResultsExact new roots b → MakesExact held fs digests roots s names b
 evaluated held fs codes digests roots s names old new b compiled begins settles makes = record {
-  walk = record { codes = codes; first = old; steps = settles.steps; last = new };
-  is = record { compiled = compiled; steps = settles.are };
-  each = λ u here stored right.
-      let begun = begins.each u here.update here.functions compiled stored in
+  each = λ u here stored.
+      let begun = begins.each u held here compiled stored in
       let site : IsSiteNow u held = record { holds = here.holds; apart = here.separates; besides = here.met } in
-      makes.each u (settles.each u site begun.0 begun.1 right.ends) here.separates here.met here.roots_are;
+      makes.each u (settles u site begun.0 begun.1) here.separates here.met here.roots_are;
 }

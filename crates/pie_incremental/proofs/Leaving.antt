@@ -41,7 +41,7 @@ use Rattle.pie_incremental.specs.declared.base.Base.{Base}
 use Rattle.pie_incremental.specs.declared.base.OwnFiles.{OwnFiles}
 use Rattle.pie_incremental.specs.declared.ending.Ending.{Ending}
 use Rattle.pie_incremental.specs.inner.Built.{AreFilesOf, IsBegun, IsKnown}
-use Rattle.pie_incremental.specs.inner.Cleaned.{IsClean, IsExactBuild, KnowsWhere, LeavesClean, LeavesWhere, LeavesBy, MayLeave, MayLeaveBy, HasParts, IsPlanFor, TellsPlan}
+use Rattle.pie_incremental.specs.inner.Cleaned.{IsClean, IsExactBuild, KnowsWhere, LeavesCleanOf, LeavesWhere, LeavesBy, MayLeave, MayLeaveBy, HasParts, IsPlanFor, TellsPlan}
 use Rattle.pie_incremental.specs.inner.Plans.{IsChangesPlan, MayPlace, Places}
 use Rattle.pie_incremental.specs.Kept.{IsOfNames}
 use Rattle.pie_incremental.specs.Own.{open_path}
@@ -70,7 +70,7 @@ module _ (own : OwnFiles) (held : List (List ℕ × List ℕ)) (funcs : List (Li
 
   -- over the directory of the update
   cleans : (u : Update) (after : Option Directory) → IsExactBuild u own held rows contents u.directory → Places p u.directory after
-      → LeavesClean u funcs roots rows outputs u.directory r after
+      → LeavesCleanOf u funcs roots rows outputs u.directory r after
   cleans u after e placed = record {
     left = put.0;
     told = put.1;
@@ -128,7 +128,7 @@ module _ (own : OwnFiles) (held : List (List ℕ × List ℕ)) (funcs : List (Li
 
   leaves : (d : Directory) (after : Option Directory) → Places p d after → LeavesWhere own held funcs roots rows contents outputs d r after
   leaves d after placed u e =
-      subst (λ x. LeavesClean u funcs roots rows outputs x r after) e.directory
+      subst (λ x. LeavesCleanOf u funcs roots rows outputs x r after) e.directory
       (cleans u after (subst (λ x. IsExactBuild u own held rows contents x) (sym e.directory) e) (subst (λ x. Places p x after) (sym e.directory) placed))
 
   pub leaves_by : (before after : Option Directory) (b : Box Report Global) (result : Result (Box Report Global) FilesError) → b.value ≡ r

@@ -12,3 +12,6 @@ pub mod Treating
 pub mod Placing
 pub mod Leaving
 pub mod Updating
+pub mod Meaning
+pub mod Cleanly
+pub mod Crashing

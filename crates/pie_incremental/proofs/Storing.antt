@@ -11,15 +11,25 @@ use Rattle.pie_build.specs.Stored.{MayStand}
 use Rattle.pie_checks.specs.declared.built.Built.{Built}
 use Rattle.pie_digest.specs.Digests.{function_names, HasNames}
 use Rattle.pie_parser.specs.FunctionTrees.{FunctionTree}
+use Rattle.pie_record.specs.Canonical.{IsStorable, IsTrueRecord}
 use Rattle.pie_record.specs.declared.task_record.TaskRecord.{TaskRecord}
 use Rattle.pie_results.specs.inner.Made.{IsKept}
 use Rattle.pie_store.specs.Canonical.{names_of, tasks_in, AreFuncs, IsStorableStore}
+use Rattle.pie_store.specs.Texts.{IsRow, IsStoreText}
 use Rattle.pie_store.specs.declared.image.StoreImage.{StoreImage}
 use Rattle.pie_value.specs.Canonical.{IsEncodableTask}
 use Rattle.pie_value.specs.declared.task.Task.{Task}
 use Rattle.pie_value.specs.declared.verdict.Verdict.{Verdict}
 use Rattle.pie_value.specs.declared.verdict.Verdict.TheVariants.{Accepted, Refused}
-use Rattle.pie_incremental.specs.inner.Joined.{IsDrafted, IsMade, StandsIf}
+use Rattle.pie_incremental.specs.inner.Joined.{IsDrafted, IsImage, IsMade, StandsIf}
+
+-- a store of which there is a text can be begun from
+pub image_of_text : (s : StoreImage) (bytes : List ℕ) → IsStoreText s bytes → IsImage s
+image_of_text s bytes is = record {
+  storable = All-weaker IsRow IsStorable (λ r row. row.storable) s.rows is.store.rows;
+  parts = All-weaker IsRow IsTrueRecord (λ r row. row.parts) s.rows is.store.rows;
+  order = is.store.order;
+}
 
 module _ (fs : List FunctionTree) (funcs : List (List ℕ × List ℕ)) (roots : List Task) (p : Plan) (names : HasNames fs funcs) (plan : IsPlanOf fs funcs roots p) where
   -- a function of the plan has a digest

@@ -7,19 +7,16 @@ use Rattle.pie_build.specs.inner.Projects.{IsReady}
 use Rattle.pie_checks.specs.declared.built.Built.{Built}
 use Rattle.pie_core_laws.specs.Update.{Update, earlier}
 use Rattle.pie_diff.specs.Hashes.{hash_in, is_hash}
+use Rattle.pie_earlier_laws.specs.Functions.{digest_under}
 use Rattle.pie_files.specs.Directory.{Directory}
 use Rattle.pie_files.specs.declared.files.FilesError.{FilesError}
 use Rattle.pie_fresh.specs.Cleans.{IsRootOf}
-use Rattle.pie_earlier_laws.specs.Functions.{digest_under}
 use Rattle.pie_model.specs.Built.{store_rows}
 use Rattle.pie_model.specs.inner.Reasons.{SameCode}
 use Rattle.pie_model_pipeline.specs.Rows.{record_of, verdict_of}
 use Rattle.pie_model_pipeline.specs.World.{world, next}
-use Rattle.pie_project.specs.Digested.{HasDigests}
-use Rattle.pie_project.specs.Fronts.{ProjectSays}
 use Rattle.pie_project.specs.declared.fault.BuildError.{BuildError}
 use Rattle.pie_project.specs.declared.project.Project.{Project}
-use Rattle.pie_project.specs.inner.Projects.{front_of}
 use Rattle.pie_record.specs.declared.task_record.TaskRecord.{TaskRecord}
 use Rattle.pie_report.specs.declared.report.Report.{Report}
 use Rattle.pie_store.specs.declared.cause.Cause.{Cause}
@@ -33,14 +30,15 @@ use Rattle.pie_incremental.specs.declared.base.Base.{Base}
 use Rattle.pie_incremental.specs.declared.ending.Ending.{Ending}
 use Rattle.pie_incremental.specs.declared.run.Done.{Done}
 use Rattle.pie_incremental.specs.declared.run.Done.TheVariants.{Reported, Stopped}
-use Rattle.pie_incremental.specs.inner.Clean.{BuildsClean, LeavesAsClean}
+use Rattle.pie_incremental.specs.declared.run.Stop.{Stop}
+use Rattle.pie_incremental.specs.Clean.{IsAfresh}
 use Rattle.pie_incremental.specs.inner.Built.{IsKnown}
+use Rattle.pie_incremental.specs.inner.Clean.{BuildsCleanOf, LeavesAsClean}
 use Rattle.pie_incremental.specs.inner.Cleaned.{KnowsWhere, LeavesBy}
 use Rattle.pie_incremental.specs.inner.Digested.{digested, with_digests}
 use Rattle.pie_incremental.specs.inner.Evaluated.{IsResultOf, IsUpdateHere, MakesExact}
-use Rattle.pie_incremental.specs.inner.Joined.{IsEndingOf}
-use Rattle.pie_incremental.specs.inner.Updated.{FromClean, GoesClean, GoesOn, RunsClean, RunsCleanOnce, RunsOrStops}
-use Rattle.pie_incremental.specs.inner.Walks.{GoesRight, IsWalk}
+use Rattle.pie_incremental.specs.inner.Joined.{IsAsBefore, IsEndingOf}
+use Rattle.pie_incremental.specs.inner.Updated.{GoesClean, GoesOn, IsUpdateFrom, RunsClean, RunsCleanOnce, RunsOrStops}
 
 -- ---- the end
 
@@ -48,9 +46,9 @@ module _ (s : StoreImage) (e : Ending) (p : Project) (before mid after : Option 
     (makes : MakesExact before p.typed p.digests.items p.roots.items s e.names.items b)
     (leaves : IfSome mid (λ d. LeavesBy b.verdict e.own e.held p.digests.items p.roots.items b d r after)) (is : r.verdict ≡ b.verdict) (u : Update)
     (here : IsUpdateHere u before p.typed p.roots.items) (stored : IsStoredIn u s.funcs p.digests.items s.rows e.names.items)
-    (known : IsKnown e.own e.held u.directory) (right : GoesRight u makes.walk) where
+    (known : IsKnown e.own e.held u.directory) where
   made : IsResultOf u b
-  made = makes.each u here stored right
+  made = makes.each u here stored
 
   left : LeavesBy b.verdict e.own e.held p.digests.items p.roots.items b u.directory r after
   left = subst (λ m. IfSome m (λ d. LeavesBy b.verdict e.own e.held p.digests.items p.roots.items b d r after)) (same ∙ here.holds) leaves
@@ -65,17 +63,16 @@ module _ (s : StoreImage) (e : Ending) (p : Project) (before mid after : Option 
         (record { directory = refl; separates = here.separates; met = here.met; made = made.made accepted; known = known });
   }
 
-  builds_clean : BuildsClean u p.digests.items p.roots.items r after
+  builds_clean : BuildsCleanOf u p.digests.items p.roots.items r after
   builds_clean = record { verdict = ap verdict_of is ∙ made.verdict; left = λ accepted. leaves_clean (sym is ∙ accepted) }
 
 pub goes_clean : (s : StoreImage) (e : Ending) (p : Project) (before mid after : Option Directory) (b : Built) (r : Report) → mid ≡ before
     → MakesExact before p.typed p.digests.items p.roots.items s e.names.items b
-    → IfSome mid (λ d. LeavesBy b.verdict e.own e.held p.digests.items p.roots.items b d r after) → r.verdict ≡ b.verdict
+    → IfSome mid (λ d. LeavesBy b.verdict e.own e.held p.digests.items p.roots.items b d r after) → r.verdict ≡ b.verdict → r.fresh ≡ None
     → GoesClean s e p before after r
-goes_clean s e p before mid after b r same makes leaves is = record {
-  walk = makes.walk;
-  is = makes.is;
-  each = λ u here stored known right. builds_clean s e p before mid after b r same makes leaves is u here stored known right;
+goes_clean s e p before mid after b r same makes leaves is none = record {
+  none = none;
+  each = λ u here stored known. builds_clean s e p before mid after b r same makes leaves is u here stored known;
 }
 
 -- ---- the beginning
@@ -94,26 +91,36 @@ begun_digested before mid digests ds s t image same are is h =
     subst (λ m. IfSome m (λ d. image ≡ digested d digests t)) same
     (subst (λ (x : StoreImage). IfSome mid (λ d. image ≡ digested d digests x)) is (subst (λ x. IfSome mid (λ d. image ≡ digested d x s)) are h))
 
+module _ (b : Base) (e : Ending) (p : Project) (list : List (List ℕ)) (s : StoreImage) (held : Option Directory) (u : Update) (ending : IsEndingOf b list e)
+    (knows : IfSome held (λ d. KnowsWhere b d e)) (image : IfSome held (λ d. s ≡ digested d p.digests.items b.image)) (from : IsUpdateFrom u held b p list)
+  where
+    is_digested : s ≡ digested u.directory p.digests.items b.image
+    is_digested = subst (λ o. IfSome o (λ x. s ≡ digested x p.digests.items b.image)) from.here.holds image
+
+    pub begun_stored : IsStoredIn u s.funcs p.digests.items s.rows e.names.items
+    begun_stored =
+        let d = u.directory in
+        let digests = p.digests.items in
+        let rows : s.rows ≡ b.image.rows = ap (λ (x : StoreImage). x.rows) is_digested ∙ digested_rows d digests b.image b.image.pipeline in
+        record {
+          rows = subst (λ (x : List TaskRecord). map record_of x ≡ store_rows world (earlier u) u.old_roots) (sym rows) from.stored.rows;
+          names = from.stored.names ∙ sym ending.names;
+          meaning = subst (λ (x : StoreImage). (t : Task) → IsCanonicalTask t (enc_task t) → SameCode (digest_under x.funcs t.func) (digest_under digests t.func)
+              → next u.old_functions (enc_task t) ≡ next u.functions (enc_task t)) (sym is_digested) from.stored.meaning;
+        }
+
+    pub begun_known : IsKnown e.own e.held u.directory
+    begun_known =
+        (subst (λ o. IfSome o (λ x. KnowsWhere b x e)) from.here.holds knows) u from.here.update refl begun_stored.names from.stored.rows from.base
+
 runs_clean : (b : Base) (e : Ending) (p : Project) (list : List (List ℕ)) (s : StoreImage) (before mid after : Option Directory) (r : Report) → mid ≡ before
     → IsEndingOf b list e → IfSome before (λ d. KnowsWhere b d e) → IfSome before (λ d. s ≡ digested d p.digests.items b.image)
     → GoesClean s e p mid after r → RunsClean b p list before after r
 runs_clean b e p list s before mid after r same ending knows image goes = record {
-  walk = goes.walk;
-  is = subst (λ m. IsWalk m p.typed goes.walk) same goes.is;
-  each = λ u from right.
-      let d = u.directory in
-      let digests = p.digests.items in
-      let is : s ≡ digested d digests b.image = subst (λ o. IfSome o (λ x. s ≡ digested x digests b.image)) from.here.holds image in
-      let rows : s.rows ≡ b.image.rows = ap (λ (x : StoreImage). x.rows) is ∙ digested_rows d digests b.image b.image.pipeline in
-      let stored : IsStoredIn u s.funcs digests s.rows e.names.items = record {
-        rows = subst (λ (x : List TaskRecord). map record_of x ≡ store_rows world (earlier u) u.old_roots) (sym rows) from.stored.rows;
-        names = from.stored.names ∙ sym ending.names;
-        meaning = subst (λ (x : StoreImage). (t : Task) → IsCanonicalTask t (enc_task t) → SameCode (digest_under x.funcs t.func) (digest_under digests t.func)
-            → next u.old_functions (enc_task t) ≡ next u.functions (enc_task t)) (sym is) from.stored.meaning;
-      } in
-      let known : IsKnown e.own e.held d =
-      (subst (λ o. IfSome o (λ x. KnowsWhere b x e)) from.here.holds knows) u from.here.update refl stored.names from.stored.rows from.base in
-      goes.each u (subst (λ m. IsUpdateHere u m p.typed p.roots.items) (sym same) from.here) stored known right;
+  none = goes.none;
+  each = λ u from.
+      goes.each u (subst (λ m. IsUpdateHere u m p.typed p.roots.items) (sym same) from.here)
+      (begun_stored b e p list s before u ending knows image from) (begun_known b e p list s before u ending knows image from);
 }
 
 runs_then : (b : Base) (e : Ending) (p : Project) (list : List (List ℕ)) (s : StoreImage) (before mid after : Option Directory) (done : Done)
@@ -137,63 +144,33 @@ pub large_runs : (b : Base) (p : Project) (list : List (List ℕ)) (before after
     → IfSome before (λ d. IsReady p.typed p.roots.items) → ¬ (All (λ t. is_small_task t ≡ true) p.roots.items)
     → IfOk result (RunsCleanOnce b p list before after)
 large_runs b p list before after (Err e) ready large = tt
-large_runs b p list before after (Ok r) ready large = record {
-  once = λ d told none.
-      let is : IsReady p.typed p.roots.items = subst (λ o. IfSome o (λ x. IsReady p.typed p.roots.items)) told ready in
-      absurd (large (All-weaker (IsRootOf p.typed) (λ t. is_small_task t ≡ true) (λ t root. root.small) p.roots.items is.roots));
-}
+large_runs b p list before after (Ok r) ready large =
+    record { once = λ d told none. absurd (never d told); afresh = λ d told some. absurd (never d told) }
+  where
+    never : (d : Directory) → before ≡ Some d → ⊥
+    never d told =
+        let is : IsReady p.typed p.roots.items = subst (λ o. IfSome o (λ x. IsReady p.typed p.roots.items)) told ready in
+        large (All-weaker (IsRootOf p.typed) (λ t. is_small_task t ≡ true) (λ t root. root.small) p.roots.items is.roots)
 
-pub reported_runs : (b : Base) (p : Project) (list : List (List ℕ)) (before after : Option Directory) (done : Done) (report : Box Report Global) (r : Report)
-    → done ≡ Reported report → r ≡ report.value → RunsOrStops b p list before after done → RunsCleanOnce b p list before after r
-reported_runs b p list before after done report r is same h = record {
-  once = λ d told none. subst (RunsClean b p list before after) (sym same) (subst (RunsOrStops b p list before after) is h);
-}
-
-no_cause : (o : Option Cause) → IsSome o → o ≡ None → ⊥
+pub no_cause : (o : Option Cause) → IsSome o → o ≡ None → ⊥
 no_cause None some is = cc
 no_cause (Some c) some is = cc
 
--- one that tells why it started afresh
-pub again_runs : (b : Base) (p : Project) (list : List (List ℕ)) (before after : Option Directory) (result : Result Report BuildError)
-    → IfOk result (λ r. IsSome r.fresh) → IfOk result (RunsCleanOnce b p list before after)
-again_runs b p list before after (Err e) why = tt
-again_runs b p list before after (Ok r) why = record { once = λ d told none. absurd (no_cause r.fresh why none) }
+pub reported_runs : (b : Base) (p : Project) (list : List (List ℕ)) (before after : Option Directory) (done : Done) (report : Box Report Global) (r : Report)
+    → done ≡ Reported report → r ≡ report.value → RunsOrStops b p list before after done → RunsCleanOnce b p list before after r
+reported_runs b p list before after done report r is same h =
+    let runs : RunsClean b p list before after r = subst (RunsClean b p list before after) (sym same) (subst (RunsOrStops b p list before after) is h) in
+    record { once = λ d told none. runs; afresh = λ d told some. absurd (no_cause r.fresh some runs.none) }
 
--- ---- the project that is there
+-- one that has to start afresh has changed nothing
+pub as_before : (before mid : Option Directory) (done : Done) (stop : Box Stop Global) → done ≡ Stopped stop → IsAsBefore before mid done → mid ≡ before
+as_before before mid done stop is h = subst (IsAsBefore before mid) is h
 
-from_clean : (b : Base) (p : Project) (list : List (List ℕ)) (before mid after : Option Directory) (r : Report) → mid ≡ before
-    → IfSome before (λ d. ProjectSays d (Ok (front_of p))) → IfSome before (λ d. HasDigests d p.digests.items) → RunsCleanOnce b p list mid after r
-    → FromClean b list before after r
-from_clean b p list before mid after r same says has runs = record {
-  once = λ d told none.
-      let run : RunsClean b p list mid after r = runs.once d (same ∙ told) none in
-      record {
-        functions = p.typed;
-        walk = run.walk;
-        is = subst (λ m. IsWalk m p.typed run.walk) same run.is;
-        each = λ u of base right.
-            let project : ProjectSays u.directory (Ok (front_of p)) = subst (λ o. IfSome o (λ x. ProjectSays x (Ok (front_of p)))) of.holds says in
-            let digests : HasDigests u.directory p.digests.items = subst (λ o. IfSome o (λ x. HasDigests x p.digests.items)) of.holds has in
-            let now = of.project p.typed p.roots.items project in
-            let store = of.stored b base in (
-              now.0,
-              record {
-                funcs = p.digests.items;
-                roots = p.roots.items;
-                digests = digests;
-                roots_are = now.1;
-                builds = run.each u (record {
-                  here = record { update = of.update; holds = same ∙ of.holds; functions = now.0; roots_are = now.1; separates = of.separates; met = of.met };
-                  base = base;
-                  stored = record { rows = store.0; names = store.1; meaning = of.meaning b p.digests.items base digests };
-                }) right;
-              },
-            );
-      };
+-- and one that tells why it did
+pub again_runs : (b : Base) (p : Project) (list : List (List ℕ)) (before mid after : Option Directory) (result : Result Report BuildError) → mid ≡ before
+    → IfOk result (λ r. IsSome r.fresh) → IfSome mid (λ d. IfOk result (λ r. IsAfresh d r after)) → IfOk result (RunsCleanOnce b p list before after)
+again_runs b p list before mid after (Err e) same why is = tt
+again_runs b p list before mid after (Ok r) same why is = record {
+  once = λ d told none. absurd (no_cause r.fresh why none);
+  afresh = λ d told some. subst (λ m. IfSome m (λ x. IsAfresh x r after)) (same ∙ told) is;
 }
-
-pub from_project : (b : Base) (p : Project) (list : List (List ℕ)) (before mid after : Option Directory) (result : Result Report BuildError) → mid ≡ before
-    → IfSome before (λ d. ProjectSays d (Ok (front_of p))) → IfSome before (λ d. HasDigests d p.digests.items)
-    → IfOk result (RunsCleanOnce b p list mid after) → IfOk result (FromClean b list before after)
-from_project b p list before mid after (Err e) same says has runs = tt
-from_project b p list before mid after (Ok r) same says has runs = from_clean b p list before mid after r same says has runs

@@ -4,4 +4,6 @@ pub mod Names
 pub mod Kept
 pub mod Treated
 pub mod Runs
+pub mod Earlier
+pub mod Clean
 pub mod inner

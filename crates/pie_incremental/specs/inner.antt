@@ -4,9 +4,9 @@ pub mod Built
 pub mod Changes
 pub mod Clean
 pub mod Cleaned
+pub mod Crashed
 pub mod Digested
 pub mod Evaluated
 pub mod Joined
 pub mod Plans
 pub mod Updated
-pub mod Walks

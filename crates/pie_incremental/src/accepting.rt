@@ -1,5 +1,5 @@
 //! An accepted build by what changed, put into place.
-ghost use Rattle.std.specs.Prelude.{◌≡◌, true, IfSome, IfOk, OnOk};
+ghost use Rattle.std.specs.Prelude.{◌≡◌, true, None, IfSome, IfOk, OnOk};
 ghost use Rattle.pie_commit.specs.Outcomes.{LeavesFromRest};
 ghost use Rattle.pie_commit.specs.inner.Plans.{is_sound};
 ghost use Rattle.pie_files.specs.Streams.{Counted};
@@ -53,6 +53,7 @@ pub(crate) fn accept<F: Files>(
     ensures left { IfSome (F.holds files.old) (λ d. IfOk result (λ r. LeavesWhere ending.now.own ending.now.held project.now.digests.items project.now.roots.items made.rows.items made.contents.items made.outputs.items d r.value (F.holds files.new))) }
     ensures crash { LeavesFromRest F.holds F.moment F.left_since F.images (MayLeave ending.now.own ending.now.held project.now.digests.items project.now.roots.items made.rows.items made.contents.items) files.old files.new }
     ensures verdict { IfOk result (λ r. r.value.verdict ≡ verdicts.Accepted) }
+    ensures fresh { IfOk result (λ r. r.value.fresh ≡ None) }
     ensures ran { IfOk result (λ r. r.value.ran ≡ ran) }
     ensures names { IfOk result (λ r. Treats ending.now.own ending.now.names.items r.value.verdict (F.holds files.old) (F.holds files.new)) }
     ensures counted { Counted F.faults FilesError.Failed files.old files.new result }
@@ -162,6 +163,7 @@ fn report_of(
     outputs: Vec<(Task, Value)>,
 ) -> Result<Box<Report>, OutOfMemory>
     ensures verdict { IfOk result (λ r. r.value.verdict ≡ verdicts.Accepted) }
+    ensures fresh { IfOk result (λ r. r.value.fresh ≡ None) }
     ensures ran { IfOk result (λ r. r.value.ran ≡ ran) }
     ensures tells { IfOk result (λ r. TellsPlan plan.now live outputs.items r.value) }
 {

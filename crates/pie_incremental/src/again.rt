@@ -1,10 +1,11 @@
 //! A build that starts afresh after tasks ran.
-ghost use Rattle.std.specs.Prelude.{◌≡◌, ◌≤◌, ◌+◌, ◌++◌, drop, length, All, List, IfOk, OnOk, IsSome};
+ghost use Rattle.std.specs.Prelude.{◌≡◌, ◌≤◌, ◌+◌, ◌++◌, drop, length, All, List, IfOk, IfSome, OnOk, IsSome};
 ghost use Rattle.pie_build.specs.Left.{KeepsRest};
 ghost use Rattle.pie_build.specs.inner.Rebuilt.{IsRefusal, Tells};
 ghost use Rattle.pie_value.specs.Canonical.{IsEncodableTask};
 ghost use Rattle.pie_value.specs.declared.task.Task.{Task as TaskOf};
-ghost use Rattle.pie_incremental.specs.inner.Joined.{KeepsAfter, Treats};
+ghost use Rattle.pie_incremental.specs.Clean.{IsAfresh};
+ghost use Rattle.pie_incremental.specs.inner.Joined.{IsRetold, KeepsAfter, Treats};
 
 use crate::cause::put_cause;
 use crate::ending::Ending;
@@ -32,6 +33,7 @@ pub(crate) fn again<F: Files>(
     ensures rest { KeepsRest (F.holds files.old) (F.holds files.new) }
     ensures refused { IsRefusal result → F.holds files.new ≡ F.holds files.old }
     ensures names { IfOk result (λ r. Treats stop.value.ending.value.own stop.value.ending.value.names.items r.verdict (F.holds files.old) (F.holds files.new)) }
+    ensures afresh { IfSome (F.holds files.old) (λ d. IfOk result (λ r. IsAfresh d r (F.holds files.new))) }
     ensures fresh { IfOk result (λ r. IsSome r.fresh) }
     ensures ran { IfOk result (λ r. r.ran.items ≡ drop before runs.new) }
     ensures grows { IfOk result (λ r. (more : List TaskOf) × (runs.new ≡ runs.old ++ more)) }
@@ -59,6 +61,7 @@ fn retell<F: Files>(
     ensures never { ¬ (IsRefusal result) }
     ensures names { IfOk result (λ r. KeepsAfter report.verdict stop.value.ending.value.own stop.value.ending.value.names.items (F.holds files.old) (F.holds files.new)) }
     ensures verdict { IfOk result (λ r. r.verdict ≡ report.verdict) }
+    ensures retold { IfOk result (IsRetold report) }
     ensures fresh { IfOk result (λ r. IsSome r.fresh) }
     ensures ran { IfOk result (λ r. r.ran.items ≡ drop before runs.now) }
     ensures told { Tells F.faults files.old files.new result }
@@ -84,6 +87,7 @@ fn complete<F: Files>(
     ensures never { ¬ (IsRefusal result) }
     ensures names { OnOk result (KeepsAfter report.old.verdict stop.value.ending.value.own stop.value.ending.value.names.items (F.holds files.old) (F.holds files.new)) }
     ensures verdict { report.new.verdict ≡ report.old.verdict }
+    ensures retold { OnOk result (IsRetold report.old report.new) }
     ensures fresh { OnOk result (IsSome report.new.fresh) }
     ensures ran { OnOk result (report.new.ran.items ≡ drop before runs.now) }
     ensures told { Tells F.faults files.old files.new result }
@@ -107,6 +111,7 @@ fn put_ran(
 ) -> Result<(), OutOfMemory>
     requires { before ≤ length runs.now }
     ensures verdict { report.new.verdict ≡ report.old.verdict }
+    ensures same { report.new ≡ record report.old { ran = report.new.ran } }
     ensures ran { OnOk result (report.new.ran.items ≡ drop before runs.now) }
 {
     let ran = since(alloc, runs, before)?;

@@ -8,6 +8,7 @@ ghost use Rattle.pie_value.specs.Canonical.{IsEncodableTask};
 ghost use Rattle.pie_value.specs.Limits.{is_small_task};
 ghost use Rattle.pie_store.specs.Canonical.{AreFuncs};
 ghost use Rattle.pie_store.specs.inner.Pending.{in_order};
+ghost use Rattle.pie_incremental.specs.Clean.{BuildsClean, IsAfresh};
 ghost use Rattle.pie_incremental.specs.Runs.{TellsFew};
 ghost use Rattle.pie_incremental.specs.Treated.{AfreshBy, TreatsNames};
 ghost use Rattle.pie_incremental.specs.inner.Joined.{IsBase, Treats};
@@ -42,6 +43,7 @@ pub fn build<F: Files>(
     ensures rest { KeepsRest (F.holds files.old) (F.holds files.new) }
     ensures refused { IsRefusal result → F.holds files.new ≡ F.holds files.old }
     ensures names { IfSome (F.holds files.old) (λ d. IfOk result (λ r. TreatsNames changes.now d r (F.holds files.new))) }
+    ensures clean { IfSome (F.holds files.old) (λ d. IfOk result (λ r. BuildsClean changes.now d r (F.holds files.new))) }
     ensures ran { IfOk result (λ r. runs.new ≡ runs.old ++ r.ran.items) }
     ensures few { length runs.new ≤ length runs.old + 100000 }
     ensures most { IfOk result TellsFew }
@@ -66,6 +68,7 @@ fn afresh<F: Files>(
     ensures rest { KeepsRest (F.holds files.old) (F.holds files.new) }
     ensures refused { IsRefusal result → F.holds files.new ≡ F.holds files.old }
     ensures names { IfSome (F.holds files.old) (λ d. IfOk result (λ r. AfreshBy r.verdict d (F.holds files.new))) }
+    ensures afresh { IfSome (F.holds files.old) (λ d. IfOk result (λ r. IsAfresh d r (F.holds files.new))) }
     ensures fresh { IfOk result (λ r. r.fresh ≡ Some cause) }
     ensures ran { IfOk result (λ r. runs.new ≡ runs.old ++ r.ran.items) }
     ensures few { length runs.new ≤ length runs.old + 50000 }

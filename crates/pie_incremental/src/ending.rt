@@ -1,5 +1,5 @@
 //! How a build by what changed ends.
-ghost use Rattle.std.specs.Prelude.{◌≡◌, IfSome, IfOk, OnOk};
+ghost use Rattle.std.specs.Prelude.{◌≡◌, None, IfSome, IfOk, OnOk};
 ghost use Rattle.std.specs.Option.{option_copied};
 ghost use Rattle.pie_files.specs.Streams.{Counted};
 ghost use Rattle.pie_build.specs.Left.{KeepsRest};
@@ -67,6 +67,7 @@ pub(crate) fn finish<F: Files>(
     ensures left { IfSome (F.holds files.old) (λ d. IfOk result (λ r. LeavesBy built.value.verdict ending.now.own ending.now.held project.now.digests.items project.now.roots.items built.value d r.value (F.holds files.new))) }
     ensures crash { LeavesFromRest F.holds F.moment F.left_since F.images (MayLeaveBy built.value.verdict ending.now.own ending.now.held project.now.digests.items project.now.roots.items built.value ending.now.names.items) files.old files.new }
     ensures verdict { IfOk result (λ r. r.value.verdict ≡ built.value.verdict) }
+    ensures fresh { IfOk result (λ r. r.value.fresh ≡ None) }
     ensures rest { KeepsRest (F.holds files.old) (F.holds files.new) }
     ensures ran { IfOk result (λ r. r.value.ran ≡ ran) }
     ensures names { IfOk result (λ r. Treats ending.now.own ending.now.names.items r.value.verdict (F.holds files.old) (F.holds files.new)) }
@@ -107,6 +108,7 @@ fn refuse<F: Files>(
     ensures rest { KeepsRest (F.holds files.old) (F.holds files.new) }
     ensures crash { LeavesFromRest F.holds F.moment F.left_since F.images (IsOfNames ending.now.names.items (bytes_of ending.now.own.pending)) files.old files.new }
     ensures verdict { IfOk result (λ r. r.value.verdict ≡ verdicts.Refused refusal) }
+    ensures fresh { IfOk result (λ r. r.value.fresh ≡ None) }
     ensures ran { IfOk result (λ r. r.value.ran ≡ ran) }
     ensures names { IfOk result (λ r. Treats ending.now.own ending.now.names.items r.value.verdict (F.holds files.old) (F.holds files.new)) }
     ensures counted { Counted F.faults FilesError.Failed files.old files.new result }
@@ -120,6 +122,7 @@ fn refuse<F: Files>(
 
 fn report_of(alloc: Global, refusal: Refusal, ran: Vec<Task>) -> Result<Box<Report>, OutOfMemory>
     ensures verdict { IfOk result (λ r. r.value.verdict ≡ verdicts.Refused refusal) }
+    ensures fresh { IfOk result (λ r. r.value.fresh ≡ None) }
     ensures ran { IfOk result (λ r. r.value.ran ≡ ran) }
 {
     let report = Box::new(alloc, refused(alloc, refusal, ran))?;

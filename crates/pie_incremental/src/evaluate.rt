@@ -71,7 +71,7 @@ fn core_of<'a>(
     ensures core { IfOk result (λ c. IsCore c.value) }
     ensures plan { IfOk result (λ c. IsPlanOf project.now.typed project.now.digests.items project.now.roots.items c.value.plan) }
     ensures room { IfOk result (λ c. room c.value ≤ MAX_TASKS) }
-    ensures exact { IfOk result (λ c. BeginsNow project.now.typed code.now image.value.funcs project.now.digests.items image.value.rows names.now c.value) }
+    ensures exact { IfOk result (λ c. BeginsNow project.now.typed code.now project.now.roots.items image.value.funcs project.now.digests.items image.value.rows names.now c.value) }
 {
     let core = Core::new(
         alloc,

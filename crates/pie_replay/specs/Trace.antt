@@ -2,6 +2,7 @@
 use Rattle.std.specs.Prelude.{◌≡◌, ℕ, List, [], ◌∷◌, ◌++◌, All, Option, Some, IfSome}
 use Rattle.pie_build.specs.Left.{KeepsRest}
 use Rattle.pie_files.specs.Directory.{Directory, with_file, without_file}
+use Rattle.pie_incremental.specs.Clean.{BuildsClean}
 use Rattle.pie_incremental.specs.Runs.{TellsFew}
 use Rattle.pie_incremental.specs.Treated.{TreatsNames}
 use Rattle.pie_report.specs.declared.report.Report.{Report}
@@ -21,6 +22,7 @@ pub record HasBuilt {S : Type 0} (holds : S → Option Directory) (names : List 
   pub rest : KeepsRest (holds old) (holds new)
   pub treated : IfSome (holds old) (λ d. TreatsNames names d report (holds new))
   pub few : TellsFew report
+  pub clean : IfSome (holds old) (λ d. BuildsClean names d report (holds new))
   pub encodable : All IsEncodableTask report.ran.items
 
 -- what a script did since it began: the steps that were done, the names since the last build, the reports of its builds, and the files as they are then;

@@ -8,7 +8,7 @@ use Rattle.pie_checks.specs.declared.built.Built.{Built}
 use Rattle.pie_digest.specs.Digests.{function_names, HasNames}
 use Rattle.pie_incremental.specs.inner.Joined.{IsImage, IsMade, StandsIf}
 use Rattle.pie_parser.specs.FunctionTrees.{FunctionTree}
-use Rattle.pie_record.specs.Canonical.{IsStorable}
+use Rattle.pie_record.specs.Canonical.{IsStorable, IsTrueRecord}
 use Rattle.pie_record.specs.declared.task_record.TaskRecord.{TaskRecord}
 use Rattle.pie_results.specs.inner.Made.{IsKept}
 use Rattle.pie_store.specs.Canonical.{names_of, AreFuncs, AreInOrder}
@@ -22,7 +22,11 @@ use Rattle.pie_topdown_build.specs.inner.Bases.{Quiet}
 
 -- a store whose records stay can be begun from
 pub image_kept : (s t : StoreImage) → t.rows ≡ s.rows → IsImage s → IsImage t
-image_kept s t same is = record { storable = subst (All IsStorable) (sym same) is.storable; order = subst AreInOrder (sym same) is.order }
+image_kept s t same is = record {
+  storable = subst (All IsStorable) (sym same) is.storable;
+  parts = subst (All IsTrueRecord) (sym same) is.parts;
+  order = subst AreInOrder (sym same) is.order;
+}
 
 stands : (fs : List FunctionTree) (funcs : List (List ℕ × List ℕ)) (roots : List Task) (b : Built) → HasNames fs funcs → AreFuncs funcs
     → All IsEncodableTask roots → IsKept b → (v : Verdict) → StoredIf v fs roots b → StandsIf v funcs roots b.rows.items

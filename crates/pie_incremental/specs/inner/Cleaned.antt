@@ -47,7 +47,7 @@ pub record IsExactBuild (u : Update) (own : OwnFiles) (held : List (List ℕ × 
 
 -- the directory after is that of the clean build, and the store in it has these functions, roots and records; the report tells which files were written,
 -- where the directory had other bytes or none, which were removed, each once in path order, and the outputs
-pub record LeavesClean (u : Update) (funcs : List (List ℕ × List ℕ)) (roots : List Task) (rows : List TaskRecord) (outputs : List (Task × Value))
+pub record LeavesCleanOf (u : Update) (funcs : List (List ℕ × List ℕ)) (roots : List Task) (rows : List TaskRecord) (outputs : List (Task × Value))
     (d : Directory) (r : Report) (after : Option Directory) : Type 0 where
   pub left : Directory
   pub told : after ≡ Some left
@@ -64,7 +64,7 @@ pub record LeavesClean (u : Update) (funcs : List (List ℕ × List ℕ)) (roots
 abbrev pub LeavesWhere : OwnFiles → List (List ℕ × List ℕ) → List (List ℕ × List ℕ) → List Task → List TaskRecord → List (List ℕ × Vec ℕ Global)
     → List (Task × Value) → Directory → Report → Option Directory → Type 0
 LeavesWhere own held funcs roots rows contents outputs d r after =
-    (u : Update) → IsExactBuild u own held rows contents d → LeavesClean u funcs roots rows outputs d r after
+    (u : Update) → IsExactBuild u own held rows contents d → LeavesCleanOf u funcs roots rows outputs d r after
 
 -- the same of what was made, by its verdict
 abbrev pub LeavesBy : Verdict → OwnFiles → List (List ℕ × List ℕ) → List (List ℕ × List ℕ) → List Task → Built → Directory → Report → Option Directory

@@ -1,7 +1,8 @@
 -- What an evaluation of the roots by what changed makes, as the model of building knows it.
 use Rattle.std.specs.Prelude.{◌≡◌, ℕ, List, map, Option, Some, None}
 use Rattle.pie_bottomup.specs.declared.state.Core.{Core}
-use Rattle.pie_bottomup.specs.inner.Exact.{IsExactCore, IsPlanNow, IsSiteNow, StandsExact}
+use Rattle.pie_bottomup.specs.inner.Exact.{IsExactCore, IsSiteNow}
+use Rattle.pie_bottomup.specs.inner.Going.{IsBuildNow, StandsWhole}
 use Rattle.pie_bottomup.specs.inner.Loaded.{IsStoredIn}
 use Rattle.pie_builder_laws.specs.Events.{AreCompiled}
 use Rattle.pie_checks.specs.declared.built.Built.{Built as Result}
@@ -24,40 +25,12 @@ use Rattle.pie_value.specs.declared.task.Task.{Task}
 use Rattle.pie_value.specs.declared.verdict.Verdict.TheVariants.{Accepted}
 use Rattle.pie_incremental.specs.declared.evaluate.Ended.{Ended}
 use Rattle.pie_incremental.specs.declared.evaluate.Ended.TheVariants.{Built, Afresh}
-use Rattle.pie_incremental.specs.inner.Walks.{AreSteps, EndRightAlong, GoesRight, IsWalk, Walk}
 
 -- what is made has the verdict of the clean build; where that accepts, it is an accepted build with the outputs of the clean one
 pub record IsResultOf (u : Update) (b : Result) : Type 0 where
   pub verdict : verdict_of b.verdict ≡ verdict world (present u) u.roots
   pub made : b.verdict ≡ Accepted → IsAccepted u b.rows.items (contents_in b.files.items)
   pub outputs : b.verdict ≡ Accepted → map output_bytes b.outputs.items ≡ map (with_output u.functions u.directory) u.roots
-
--- a core begins as that of each update to these functions, with this code, whose store has these rows and digests
-pub record BeginsNow (fs : List FunctionTree) (codes : List Code) (funcs digests : List (List ℕ × List ℕ)) (rows : List TaskRecord) (names : List (List ℕ))
-    (c : Core) : Type 0 where
-  pub each : (u : Update) → IsUpdate u → fs ≡ u.functions → AreCompiled fs codes → IsStoredIn u funcs digests rows names
-      → IsPlanNow u c.plan × StandsExact u c
-
--- by steps over files that hold this directory, in which tasks end right, a core that stands still does
-pub record StaysStanding (held : Option Directory) (old new : Core) : Type 0 where
-  pub steps : List (Core × Core)
-  pub are : AreSteps held old steps new
-  pub each : (u : Update) → IsSiteNow u held → IsPlanNow u old.plan → StandsExact u old → EndRightAlong u steps → StandsExact u new
-
--- it is exact at the end
-pub record EndsStanding (held : Option Directory) (old new : Core) : Type 0 where
-  pub steps : List (Core × Core)
-  pub are : AreSteps held old steps new
-  pub each : (u : Update) → IsSiteNow u held → IsPlanNow u old.plan → StandsExact u old → EndRightAlong u steps → IsExactCore u new
-
--- so it is once it is settled
-abbrev pub SettlesExact : Option Directory → Core → Core → Option Cause → Type 0
-SettlesExact held old new None = EndsStanding held old new
-SettlesExact held old new (Some cause) = Unit {0}
-
--- what an exact core makes of these roots
-pub record ResultsExact (c : Core) (roots : List Task) (b : Result) : Type 0 where
-  pub each : (u : Update) → IsExactCore u c → Separates u → OutIsMet u → map enc_task roots ≡ u.roots → IsResultOf u b
 
 -- an update to these functions and roots in what the files hold, whose hashes and marks separate what it meets
 pub record IsUpdateHere (u : Update) (held : Option Directory) (fs : List FunctionTree) (roots : List Task) : Type 0 where
@@ -68,12 +41,33 @@ pub record IsUpdateHere (u : Update) (held : Option Directory) (fs : List Functi
   pub separates : Separates u
   pub met : OutIsMet u
 
--- what an evaluation that goes right makes of each such update from this store, with these names
+-- a core begins as that of each update to these functions and roots, with this code, whose store has these rows and digests
+pub record BeginsNow (fs : List FunctionTree) (codes : List Code) (roots : List Task) (funcs digests : List (List ℕ × List ℕ)) (rows : List TaskRecord)
+    (names : List (List ℕ)) (c : Core) : Type 0 where
+  pub each : (u : Update) (held : Option Directory) → IsUpdateHere u held fs roots → AreCompiled fs codes → IsStoredIn u funcs digests rows names
+      → IsBuildNow u c.plan × StandsWhole u c
+
+-- over files that hold the directory of an update, a core that stands still does
+abbrev pub StaysStanding : Option Directory → Core → Core → Type 0
+StaysStanding held old new = (u : Update) → IsSiteNow u held → IsBuildNow u old.plan → StandsWhole u old → StandsWhole u new
+
+-- it is exact at the end
+abbrev pub EndsStanding : Option Directory → Core → Core → Type 0
+EndsStanding held old new = (u : Update) → IsSiteNow u held → IsBuildNow u old.plan → StandsWhole u old → IsExactCore u new
+
+-- so it is once it is settled
+abbrev pub SettlesExact : Option Directory → Core → Core → Option Cause → Type 0
+SettlesExact held old new None = EndsStanding held old new
+SettlesExact held old new (Some cause) = Unit {0}
+
+-- what an exact core makes of these roots
+pub record ResultsExact (c : Core) (roots : List Task) (b : Result) : Type 0 where
+  pub each : (u : Update) → IsExactCore u c → Separates u → OutIsMet u → map enc_task roots ≡ u.roots → IsResultOf u b
+
+-- what an evaluation makes of each such update from this store, with these names
 pub record MakesExact (held : Option Directory) (fs : List FunctionTree) (digests : List (List ℕ × List ℕ)) (roots : List Task) (s : StoreImage)
     (names : List (List ℕ)) (b : Result) : Type 0 where
-  pub walk : Walk
-  pub is : IsWalk held fs walk
-  pub each : (u : Update) → IsUpdateHere u held fs roots → IsStoredIn u s.funcs digests s.rows names → GoesRight u walk → IsResultOf u b
+  pub each : (u : Update) → IsUpdateHere u held fs roots → IsStoredIn u s.funcs digests s.rows names → IsResultOf u b
 
 abbrev pub EvaluatesExact : Option Directory → List FunctionTree → List (List ℕ × List ℕ) → List Task → StoreImage → List (List ℕ) → Ended → Type 0
 EvaluatesExact held fs digests roots s names (Built b) = MakesExact held fs digests roots s names b.value

@@ -9,9 +9,10 @@ use Rattle.pie_checks.specs.declared.built.Built.{Built as Result}
 use Rattle.pie_commit.specs.declared.plan.Plan.{Plan}
 use Rattle.pie_commit.specs.inner.Plans.{has_own_places}
 use Rattle.pie_files.specs.Directory.{Directory}
-use Rattle.pie_record.specs.Canonical.{IsStorable}
+use Rattle.pie_record.specs.Canonical.{IsStorable, IsTrueRecord}
 use Rattle.pie_record.specs.declared.task_record.TaskRecord.{TaskRecord}
 use Rattle.pie_results.specs.inner.Made.{IsKept}
+use Rattle.pie_report.specs.declared.report.Report.{Report}
 use Rattle.pie_store.specs.Canonical.{AreInOrder}
 use Rattle.pie_store.specs.declared.cause.Cause.{Cause}
 use Rattle.pie_store.specs.declared.image.StoreImage.{StoreImage}
@@ -33,9 +34,10 @@ use Rattle.pie_incremental.specs.Treated.{HasNoNames, NamesBy}
 use Rattle.pie_incremental.specs.inner.Changes.{bytes_of}
 use Rattle.pie_incremental.specs.inner.Plans.{HasChanged}
 
--- a store whose records can be stored, and stand in order
+-- a store whose records can be stored, are of the program and stand in order
 pub record IsImage (s : StoreImage) : Type 0 where
   pub storable : All IsStorable s.rows
+  pub parts : All IsTrueRecord s.rows
   pub order : AreInOrder s.rows
 
 abbrev pub IsBase : Base → Type 0
@@ -70,6 +72,10 @@ Settles c (Some cause) = Unit {0}
 abbrev pub Reports : List Task → List Task → Done → Type 0
 Reports old new (Reported r) = (new ≡ old ++ r.value.ran.items) × All IsEncodableTask r.value.ran.items
 Reports old new (Stopped stop) = Started old new
+
+-- a report is another one but for its cause and the tasks that ran
+abbrev pub IsRetold : Report → Report → Type 0
+IsRetold old new = new ≡ record old { fresh = new.fresh; ran = new.ran }
 
 -- a build that has to start afresh has changed nothing
 abbrev pub IsAsBefore : Option Directory → Option Directory → Done → Type 0

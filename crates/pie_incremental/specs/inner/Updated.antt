@@ -1,9 +1,8 @@
 -- What the parts of a build by what changed say of an update.
-use Rattle.std.specs.Prelude.{◌≡◌, ℕ, List, ◌++◌, Option, Some, None}
+use Rattle.std.specs.Prelude.{◌≡◌, ℕ, List, ◌++◌, Option, Some, None, IsSome}
 use Rattle.pie_bottomup.specs.inner.Loaded.{IsStoredIn}
 use Rattle.pie_core_laws.specs.Update.{Update}
 use Rattle.pie_files.specs.Directory.{Directory}
-use Rattle.pie_parser.specs.FunctionTrees.{FunctionTree}
 use Rattle.pie_project.specs.declared.project.Project.{Project}
 use Rattle.pie_report.specs.declared.report.Report.{Report}
 use Rattle.pie_store.specs.declared.image.StoreImage.{StoreImage}
@@ -12,19 +11,18 @@ use Rattle.pie_incremental.specs.declared.base.Base.{Base}
 use Rattle.pie_incremental.specs.declared.ending.Ending.{Ending}
 use Rattle.pie_incremental.specs.declared.run.Done.{Done}
 use Rattle.pie_incremental.specs.declared.run.Done.TheVariants.{Reported, Stopped}
-use Rattle.pie_incremental.specs.inner.Clean.{BuildsClean, IsAsClean, IsUpdateOf}
+use Rattle.pie_incremental.specs.Clean.{BuildsClean, IsAfresh}
 use Rattle.pie_incremental.specs.Starts.{IsBase}
 use Rattle.pie_incremental.specs.inner.Built.{IsKnown}
+use Rattle.pie_incremental.specs.inner.Clean.{BuildsCleanOf}
 use Rattle.pie_incremental.specs.inner.Digested.{digested}
 use Rattle.pie_incremental.specs.inner.Evaluated.{IsUpdateHere}
-use Rattle.pie_incremental.specs.inner.Walks.{GoesRight, IsWalk, Walk}
 
--- a build from this store, with what its end needs, is that of each update to this project of which that is known, if its evaluation goes right
+-- a build from this store, with what its end needs, tells no cause to start afresh, and is that of each update to this project of which that is known
 pub record GoesClean (s : StoreImage) (e : Ending) (p : Project) (before after : Option Directory) (r : Report) : Type 0 where
-  pub walk : Walk
-  pub is : IsWalk before p.typed walk
+  pub none : r.fresh ≡ None
   pub each : (u : Update) → IsUpdateHere u before p.typed p.roots.items → IsStoredIn u s.funcs p.digests.items s.rows e.names.items
-      → IsKnown e.own e.held u.directory → GoesRight u walk → BuildsClean u p.digests.items p.roots.items r after
+      → IsKnown e.own e.held u.directory → BuildsCleanOf u p.digests.items p.roots.items r after
 
 -- so it is unless it has to start afresh
 abbrev pub GoesOn : StoreImage → Ending → Project → Option Directory → Option Directory → Done → Type 0
@@ -37,28 +35,21 @@ pub record IsUpdateFrom (u : Update) (held : Option Directory) (b : Base) (p : P
   pub base : IsBase u.directory b
   pub stored : IsStoredIn u (digested u.directory p.digests.items b.image).funcs p.digests.items b.image.rows (in_order (list ++ b.names.items))
 
--- a build of this project from this base is that of each such update, if its evaluation goes right
+-- a build of this project from this base tells no cause to start afresh, and is that of each such update
 pub record RunsClean (b : Base) (p : Project) (list : List (List ℕ)) (before after : Option Directory) (r : Report) : Type 0 where
-  pub walk : Walk
-  pub is : IsWalk before p.typed walk
-  pub each : (u : Update) → IsUpdateFrom u before b p list → GoesRight u walk → BuildsClean u p.digests.items p.roots.items r after
+  pub none : r.fresh ≡ None
+  pub each : (u : Update) → IsUpdateFrom u before b p list → BuildsCleanOf u p.digests.items p.roots.items r after
 
 -- so it is unless it has to start afresh
 abbrev pub RunsOrStops : Base → Project → List (List ℕ) → Option Directory → Option Directory → Done → Type 0
 RunsOrStops b p list before after (Reported r) = RunsClean b p list before after r.value
 RunsOrStops b p list before after (Stopped stop) = Unit {0}
 
--- the same of a report that tells no cause to start afresh, over files that tell their directory
+-- over files that tell their directory, a report that tells no cause to start afresh is that of such a build, and another one that of a clean build
 pub record RunsCleanOnce (b : Base) (p : Project) (list : List (List ℕ)) (before after : Option Directory) (r : Report) : Type 0 where
   pub once : (d : Directory) → before ≡ Some d → r.fresh ≡ None → RunsClean b p list before after r
+  pub afresh : (d : Directory) → before ≡ Some d → IsSome r.fresh → IsAfresh d r after
 
--- a build from this base is that of each update to what the files hold, if its evaluation goes right
-pub record GoesFrom (b : Base) (list : List (List ℕ)) (before after : Option Directory) (r : Report) : Type 0 where
-  pub functions : List FunctionTree
-  pub walk : Walk
-  pub is : IsWalk before functions walk
-  pub each : (u : Update) → IsUpdateOf u list before → IsBase u.directory b → GoesRight u walk → (functions ≡ u.functions) × IsAsClean u r after
-
--- the same of a report that tells no cause to start afresh, over files that tell their directory
+-- a build from the base that is there came to what a build with this list does
 pub record FromClean (b : Base) (list : List (List ℕ)) (before after : Option Directory) (r : Report) : Type 0 where
-  pub once : (d : Directory) → before ≡ Some d → r.fresh ≡ None → GoesFrom b list before after r
+  pub of : (d : Directory) → before ≡ Some d → IsBase d b → BuildsClean list d r after

@@ -1,3 +1,4 @@
+use Rattle.pie_incremental.proofs.Cleanly.{again_afresh}
 use Rattle.pie_incremental.proofs.Joining.{rest_both, retold_encodable}
 use Rattle.pie_incremental.proofs.Treating.{again_done}
 use Rattle.pie_incremental.proofs.again.again.Goals as goal
@@ -14,3 +15,8 @@ pub returns-in-Ok-clause-names : goal.returns-in-Ok-clause-names
 returns-in-Ok-clause-names g c = again_done c.args.stop.value.ending.value.own c.args.stop.value.ending.value.names.items c.in-Ok.report
     (g.F.Files.holds c.args.files.now) (g.F.Files.holds c.rebuild.new.files) (g.F.Files.holds c.retell.new.files) c.retell.result c.in-Ok.ensures.left
     c.retell.ensures.names c.retell.ensures.verdict
+
+pub returns-in-Ok-clause-afresh : goal.returns-in-Ok-clause-afresh
+returns-in-Ok-clause-afresh g c = again_afresh c.args.stop.value.ending.value.own c.args.stop.value.ending.value.names.items (g.F.Files.holds c.args.files.now)
+    (g.F.Files.holds c.rebuild.new.files) (g.F.Files.holds c.retell.new.files) c.in-Ok.report c.retell.result c.args.before c.args.runs.now c.rebuild.new.runs
+    c.requires.before c.in-Ok.ensures.ran c.in-Ok.ensures.left c.retell.ensures.retold c.retell.ensures.ran c.retell.ensures.names c.retell.ensures.verdict

@@ -2,7 +2,7 @@ use Rattle.pie_build.proofs.Cleaning.{is_ready}
 use Rattle.pie_store.specs.inner.Pending.{in_order}
 use Rattle.std.specs.Prelude.{◌++◌}
 use Rattle.pie_incremental.proofs.Treating.{treats_result}
-use Rattle.pie_incremental.proofs.Updating.{from_project}
+use Rattle.pie_incremental.proofs.Cleanly.{from_project}
 use Rattle.pie_incremental.proofs.building.from.Goals as goal
 
 pub with_project-requires-clause-ready : goal.with_project-requires-clause-ready
@@ -17,4 +17,4 @@ returns-in-Ok-clause-names g c = treats_result c.args.base.value.own (in_order (
 pub returns-in-Ok-clause-clean : goal.returns-in-Ok-clause-clean
 returns-in-Ok-clause-clean g c = from_project c.args.base.value c.in-Ok.project c.args.changes.now (g.F.Files.holds c.args.files.now)
     (g.F.Files.holds c.read_project.new.files) (g.F.Files.holds c.with_project.new.files) c.with_project.result c.in-Ok.ensures.looks.same
-    c.in-Ok.ensures.found c.in-Ok.ensures.digests c.with_project.ensures.clean
+    c.in-Ok.ensures.found c.in-Ok.ensures.digests c.in-Ok.ensures.names c.in-Ok.ensures.funcs c.with_project.ensures.clean

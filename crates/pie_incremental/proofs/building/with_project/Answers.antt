@@ -5,7 +5,7 @@ use Rattle.pie_value.specs.Limits.{is_small_task}
 use Rattle.pie_value.specs.declared.task.Task.{Task}
 use Rattle.pie_incremental.proofs.Joining.{few_again, few_once}
 use Rattle.pie_incremental.proofs.Treating.{large_treats, treats_again, treats_reported}
-use Rattle.pie_incremental.proofs.Updating.{again_runs, large_runs, reported_runs}
+use Rattle.pie_incremental.proofs.Updating.{again_runs, as_before, large_runs, reported_runs}
 use Rattle.pie_incremental.proofs.building.with_project.Goals as goal
 
 pub returns-then-not-are_small-clause-names : goal.returns-then-not-are_small-clause-names
@@ -54,5 +54,7 @@ returns-in-Ok-Reported-clause-clean g c =
 
 pub returns-in-Ok-Stopped-clause-clean : goal.returns-in-Ok-Stopped-clause-clean
 returns-in-Ok-Stopped-clause-clean g c =
-    again_runs c.args.base.value c.args.project.now c.args.changes.now (g.F.Files.holds c.args.files.now) (g.F.Files.holds c.again.new.files) c.again.result
-    c.again.ensures.fresh
+    let e = c.in-Ok-Stopped in
+    again_runs c.args.base.value c.args.project.now c.args.changes.now (g.F.Files.holds c.args.files.now) (g.F.Files.holds c.run.new.files)
+    (g.F.Files.holds c.again.new.files) c.again.result (as_before (g.F.Files.holds c.args.files.now) (g.F.Files.holds c.run.new.files) e.field-0 e.stop
+    e.field-0-is e.ensures.stopped) c.again.ensures.fresh c.again.ensures.afresh

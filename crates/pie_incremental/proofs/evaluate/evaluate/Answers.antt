@@ -13,8 +13,8 @@ returns-clause-exact g c =
     let old = c.deref_mut.result.now in
     let codes = c.as_slice.result.now in
     let first : old ≡ c.in_ok-core.core.value = search rules in
-    let begins : BeginsNow p.typed codes s.funcs p.digests.items s.rows c.args.names.now old =
-    subst (λ (x : Core). BeginsNow p.typed codes s.funcs p.digests.items s.rows c.args.names.now x) (sym first) c.in_ok-core.ensures.exact in
+    let begins : BeginsNow p.typed codes p.roots.items s.funcs p.digests.items s.rows c.args.names.now old =
+    subst (λ (x : Core). BeginsNow p.typed codes p.roots.items s.funcs p.digests.items s.rows c.args.names.now x) (sym first) c.in_ok-core.ensures.exact in
     let ends : EndsStanding held old c.settle.new.core = subst (SettlesExact held old c.settle.new.core) c.in-None.is c.in_ok-cause.ensures.exact in
     let makes : ResultsExact c.settle.new.core p.roots.items c.in_ok-built-in-None.built.value = search rules in
     let compiled : AreCompiled p.typed codes =

@@ -15,11 +15,11 @@ steps-preserved g c =
       s.reads.same ∙ i.3,
       s.reads.counted.steady ∙ i.4,
       stands_on (g.F.Files.holds c.args.files.now) (g.F.Files.holds c.steps.files) c.args.core.now c.steps.core c.step.new.self c.in_ok-step.field-0 i.3 i.2.plan
-          s.spends.plan i.5 s.exact c.in-Went.is,
+          i.5 s.whole c.in-Went.is,
       both_before g.F.Files.holds g.F.Files.moment g.F.Files.left_since g.F.Files.images c.args.files.now c.steps.files c.step.new.files i.3 i.6 s.reads.crash,
     )
 
 pub returns-in-Settled-clause-exact : goal.returns-in-Settled-clause-exact
 returns-in-Settled-clause-exact g c =
     stands_end (g.F.Files.holds c.args.files.now) (g.F.Files.holds c.steps.files) c.args.core.now c.steps.core c.step.new.self c.in_ok-step.field-0
-    c.steps.invariant.3 c.steps.invariant.2.plan c.in_ok-step.ensures.spends.plan c.steps.invariant.5 c.in_ok-step.ensures.exact c.in-Settled.is
+    c.steps.invariant.3 c.steps.invariant.2.plan c.steps.invariant.5 c.in_ok-step.ensures.whole c.in-Settled.is

@@ -25,4 +25,4 @@ returns-in_ok-report-in-Built-clause-clean g c =
     subst (λ ns. MakesExact before p.typed p.digests.items p.roots.items s ns b) names evaluated in
     let leaves : IfSome mid (λ d. LeavesBy b.verdict e.own e.held p.digests.items p.roots.items b d r after) =
     subst (λ (x : Ending). IfSome mid (λ d. LeavesBy b.verdict x.own x.held p.digests.items p.roots.items b d r after)) ending report.ensures.left in
-    goes_clean s e p before mid after b r c.in_ok-built.ensures.reads.same makes leaves report.ensures.verdict
+    goes_clean s e p before mid after b r c.in_ok-built.ensures.reads.same makes leaves report.ensures.verdict report.ensures.fresh

@@ -1,5 +1,6 @@
 use Rattle.std.proofs.Common.{ℕ, List, subst, rules}
 use Rattle.std.specs.Prelude.{IfSome}
+use Rattle.pie_incremental.specs.Clean.{BuildsClean}
 use Rattle.pie_incremental.specs.Treated.{TreatsNames}
 use Rattle.pie_replay.proofs.Refusing.{is_refusal}
 use Rattle.pie_replay.proofs.step.build_into.Goals as goal
@@ -15,6 +16,8 @@ returns-in-Ok-clause-goes g c = (
     treated = subst (λ (ns : List (List ℕ)). IfSome (g.F.Files.holds c.args.files.now) (λ d. TreatsNames ns d c.in-Ok.report (g.F.Files.holds c.build.new.files)))
         c.as_slice.ensures.value c.in-Ok.ensures.names;
     few = c.in-Ok.ensures.most;
+    clean = subst (λ (ns : List (List ℕ)). IfSome (g.F.Files.holds c.args.files.now) (λ d. BuildsClean ns d c.in-Ok.report (g.F.Files.holds c.build.new.files)))
+        c.as_slice.ensures.value c.in-Ok.ensures.clean;
     encodable = c.in-Ok.ensures.encodable;
   },
   search rules,

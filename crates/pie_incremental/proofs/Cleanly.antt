@@ -1,0 +1,205 @@
+-- A build of a directory by a list, as a clean build.
+use Rattle.std.proofs.Common.{◌≡◌, ℕ, ◌≤◌, List, [], ◌++◌, length, drop, map, Option, None, Some, Result, Ok, Err, Global, refl, sym, ap, subst, ◌∙◌}
+use Rattle.std.specs.Prelude.{Box, IfOk, IfSome, IsSome}
+use Rattle.std.proofs.lemmas.List.{drop-append-le}
+use Rattle.pie_build.specs.Left.{Leaves}
+use Rattle.pie_core_laws.specs.Update.{Update, IsUpdate}
+use Rattle.pie_digest.specs.Digests.{HasNames}
+use Rattle.pie_files.proofs.Reading.{if_always, if_each, if_two}
+use Rattle.pie_files.specs.Directory.{Directory}
+use Rattle.pie_left_laws.specs.Reported.{IsOther as IsOtherOf, IsStray as IsStrayOf}
+use Rattle.pie_model_pipeline.specs.Clean.{output_bytes}
+use Rattle.pie_project.specs.Digested.{HasDigests}
+use Rattle.pie_project.specs.Fronts.{ProjectSays}
+use Rattle.pie_project.specs.declared.fault.BuildError.{BuildError}
+use Rattle.pie_project.specs.declared.project.Project.{Project}
+use Rattle.pie_project.specs.inner.Projects.{front_of}
+use Rattle.pie_report.specs.declared.report.Report.{Report}
+use Rattle.pie_store.specs.Canonical.{AreFuncs}
+use Rattle.pie_store.specs.declared.cause.Cause.{Cause}
+use Rattle.pie_store.specs.inner.Pending.{in_order}
+use Rattle.pie_value.specs.Canonical.{enc_task}
+use Rattle.pie_value.specs.declared.task.Task.{Task}
+use Rattle.pie_value.specs.declared.value.Value.{Value}
+use Rattle.pie_value.specs.declared.verdict.Verdict.{Verdict}
+use Rattle.pie_value.specs.declared.verdict.Verdict.TheVariants.{Accepted}
+use Rattle.pie_incremental.specs.declared.base.Base.{Base}
+use Rattle.pie_incremental.specs.declared.base.OwnFiles.{OwnFiles}
+use Rattle.pie_incremental.specs.declared.base.Start.{Start}
+use Rattle.pie_incremental.specs.declared.base.Start.TheVariants.{Afresh, From}
+use Rattle.pie_incremental.specs.Clean.{BuildsClean, IsAfresh, IsAsClean, IsOther, IsStray, LeavesClean}
+use Rattle.pie_incremental.specs.Earlier.{AreSeparate, Earlier, GoesOnFrom, live_of}
+use Rattle.pie_incremental.specs.Starts.{IsBase, StartsFrom}
+use Rattle.pie_incremental.specs.inner.Clean.{BuildsCleanOf, LeavesAsClean}
+use Rattle.pie_incremental.specs.inner.Joined.{IsRetold, KeepsAfter}
+use Rattle.pie_incremental.specs.inner.Updated.{FromClean, IsUpdateFrom, RunsCleanOnce}
+use Rattle.pie_incremental.proofs.Meaning.{means_same}
+use Rattle.pie_incremental.proofs.Updating.{no_cause}
+
+-- ---- one that goes on from an earlier build
+
+module _ (e : Earlier) (list : List (List ℕ)) (d : Directory) (b : Base) (p : Project) (from : GoesOnFrom e list d) (base : IsBase d b)
+    (says : ProjectSays d (Ok (front_of p))) (has : HasDigests d p.digests.items) (names : HasNames p.typed p.digests.items)
+    (funcs : AreFuncs p.digests.items) where
+  -- the earlier build, and what is there now
+  abbrev pub update_of : Update
+  update_of = record {
+    old_functions = e.found.functions;
+    built = e.built;
+    old_roots = map enc_task e.roots;
+    left = e.left;
+    functions = p.typed;
+    directory = d;
+    roots = map enc_task p.roots.items;
+    names = in_order (list ++ b.names.items);
+    besides = from.strings;
+  }
+
+  update : IsUpdate update_of
+  update = record {
+    build = record { accepted = sym e.accepted; sources = e.sources; provided = e.provided };
+    changes = from.changes b base;
+  }
+
+  separate : AreSeparate e from.strings d p.typed p.roots.items
+  separate = from.now p.typed p.roots.items says
+
+  pub is_update : (held : Option Directory) → held ≡ Some d → IsUpdateFrom update_of held b p list
+  is_update held told = record {
+    here = record { update = update; holds = told; functions = refl; roots_are = refl; separates = separate.separate; met = from.out };
+    base = base;
+    stored = record { rows = (from.stored b base).rows; names = refl; meaning = means_same e list d b p from base says has names funcs };
+  }
+
+  other_of : (path : List ℕ) → IsOtherOf update_of path → IsOther (live_of p.typed d p.roots.items) d path
+  other_of path o = record { bytes = o.bytes; provided = o.provided; other = o.other }
+
+  of_other : (path : List ℕ) → IsOther (live_of p.typed d p.roots.items) d path → IsOtherOf update_of path
+  of_other path o = record { bytes = o.bytes; provided = o.provided; other = o.other }
+
+  stray_of : (path : List ℕ) → IsStrayOf update_of path → IsStray (live_of p.typed d p.roots.items) d path
+  stray_of path s = record { out = s.out; there = s.there; absent = s.absent }
+
+  of_stray : (path : List ℕ) → IsStray (live_of p.typed d p.roots.items) d path → IsStrayOf update_of path
+  of_stray path s = record { out = s.out; there = s.there; absent = s.absent }
+
+  leaves_clean : (r : Report) (after : Option Directory) → LeavesAsClean update_of p.digests.items p.roots.items r after
+      → LeavesClean p.typed p.digests.items p.roots.items d r after
+  leaves_clean r after l =
+      let c = l.left in
+      record {
+        left = c.left;
+        told = c.told;
+        text = c.text;
+        rows = l.rows;
+        built = c.built;
+        records = l.rows_are;
+        store = c.store;
+        live = c.live;
+        outputs = ap (λ (os : List (Task × Value)). map output_bytes os) c.outputs_are ∙ l.outputs_are;
+        wrote = λ path. (λ i. other_of path ((c.wrote path).0 i), λ o. (c.wrote path).1 (of_other path o));
+        removed = λ path. (λ i. stray_of path ((c.removed path).0 i), λ o. (c.removed path).1 (of_stray path o));
+        ordered = c.ordered;
+      }
+
+  as_clean : (r : Report) (after : Option Directory) → BuildsCleanOf update_of p.digests.items p.roots.items r after → IsAsClean d r after
+  as_clean r after builds = record {
+    funcs = p.digests.items;
+    roots = p.roots.items;
+    found = record { functions = p.typed; says = says; names = names; digests = has };
+    verdict = builds.verdict;
+    left = λ accepted. leaves_clean r after (builds.left accepted);
+  }
+
+from_clean : (b : Base) (p : Project) (list : List (List ℕ)) (before mid after : Option Directory) (r : Report) → mid ≡ before
+    → IfSome before (λ d. ProjectSays d (Ok (front_of p))) → IfSome before (λ d. HasDigests d p.digests.items) → HasNames p.typed p.digests.items
+    → AreFuncs p.digests.items → RunsCleanOnce b p list mid after r → FromClean b list before after r
+from_clean b p list before mid after r same says has names funcs runs = record {
+  of = λ d told base.
+      let project : ProjectSays d (Ok (front_of p)) = subst (λ o. IfSome o (λ x. ProjectSays x (Ok (front_of p)))) told says in
+      let digests : HasDigests d p.digests.items = subst (λ o. IfSome o (λ x. HasDigests x p.digests.items)) told has in
+      record {
+        goes_on = λ none e from.
+            as_clean e list d b p from base project digests names funcs r after
+            ((runs.once d (same ∙ told) none).each (update_of e list d b p from base project digests names funcs)
+            (is_update e list d b p from base project digests names funcs mid (same ∙ told)));
+        afresh = λ some. runs.afresh d (same ∙ told) some;
+      };
+}
+
+pub from_project : (b : Base) (p : Project) (list : List (List ℕ)) (before mid after : Option Directory) (result : Result Report BuildError) → mid ≡ before
+    → IfSome before (λ d. ProjectSays d (Ok (front_of p))) → IfSome before (λ d. HasDigests d p.digests.items) → HasNames p.typed p.digests.items
+    → AreFuncs p.digests.items → IfOk result (RunsCleanOnce b p list mid after) → IfOk result (FromClean b list before after)
+from_project b p list before mid after (Err e) same says has names funcs runs = tt
+from_project b p list before mid after (Ok r) same says has names funcs runs = from_clean b p list before mid after r same says has names funcs runs
+
+-- ---- one that starts afresh
+
+-- a cause, and more tasks that ran
+pub retold : (a b c : Report) (cause : Option Cause) → b ≡ record a { ran = b.ran } → c ≡ record b { fresh = cause } → IsRetold a c
+retold a b c cause ran is =
+    let all : c ≡ record a { fresh = cause; ran = b.ran } = is ∙ ap (λ (x : Report). record x { fresh = cause }) ran in
+    all ∙ sym (ap (λ (x : Report). record a { fresh = x.fresh; ran = x.ran }) all)
+
+caused : (a c : Report) (cause : Option Cause) → c ≡ record a { fresh = cause } → IsRetold a c
+caused a c cause is = is ∙ sym (ap (λ (x : Report). record a { fresh = x.fresh; ran = x.ran }) is)
+
+-- at once
+pub afresh_is : (before after : Option Directory) (r q : Report) (cause : Option Cause) → q ≡ record r { fresh = cause }
+    → IfSome before (λ d. Leaves d r after) → IfSome before (λ d. IsAfresh d q after)
+afresh_is before after r q cause is h = if_each (λ d. Leaves d r after) (λ d. IsAfresh d q after) before
+    (λ d leaves. record {
+      clean = r;
+      left = after;
+      leaves = leaves;
+      is = caused r q cause is;
+      before = [];
+      ran = ap (λ (x : Report). x.ran.items) is;
+      after_is = λ accepted. refl;
+    }) h
+
+kept_accepted : (v : Verdict) (own : OwnFiles) (names : List (List ℕ)) (mid after : Option Directory) → v ≡ Accepted → KeepsAfter v own names mid after
+    → after ≡ mid
+kept_accepted v own names mid after is h = subst (λ (w : Verdict). KeepsAfter w own names mid after) is h
+
+-- after tasks ran
+pub again_afresh : (own : OwnFiles) (names : List (List ℕ)) (before mid after : Option Directory) (report : Report) (result : Result Report BuildError) (n : ℕ)
+    (old new : List Task) → n ≤ length old → new ≡ old ++ report.ran.items → IfSome before (λ d. Leaves d report mid) → IfOk result (IsRetold report)
+    → IfOk result (λ r. r.ran.items ≡ drop n new) → IfOk result (λ r. KeepsAfter report.verdict own names mid after)
+    → IfOk result (λ r. r.verdict ≡ report.verdict) → IfSome before (λ d. IfOk result (λ r. IsAfresh d r after))
+again_afresh own names before mid after report (Err e) n old new l more leaves told ran keeps verdict = if_always before (tt {0})
+again_afresh own names before mid after report (Ok r) n old new l more leaves told ran keeps verdict =
+    if_each (λ d. Leaves d report mid) (λ d. IsAfresh d r after) before
+    (λ d left. record {
+      clean = report;
+      left = mid;
+      leaves = left;
+      is = told;
+      before = drop n old;
+      ran = ran ∙ ap (drop n) more ∙ drop-append-le n old report.ran.items l;
+      after_is = λ accepted. kept_accepted report.verdict own names mid after (sym verdict ∙ accepted) keeps;
+    }) leaves
+
+-- ---- the whole build
+
+pub afresh_cleans : (list : List (List ℕ)) (cause : Cause) (before mid after : Option Directory) (result : Result Report BuildError) → mid ≡ before
+    → IfSome mid (λ d. IfOk result (λ r. IsAfresh d r after)) → IfOk result (λ r. r.fresh ≡ Some cause)
+    → IfSome before (λ d. IfOk result (λ r. BuildsClean list d r after))
+afresh_cleans list cause before mid after (Err e) same is why = if_always before (tt {0})
+afresh_cleans list cause before mid after (Ok r) same is why =
+    if_each (λ d. IsAfresh d r after) (λ d. BuildsClean list d r after) before
+    (λ d afresh. record { goes_on = λ none. absurd (differs (sym why ∙ none)); afresh = λ some. afresh })
+    (subst (λ m. IfSome m (λ d. IsAfresh d r after)) same is)
+  where
+    differs : Some cause ≡ None → ⊥
+    differs h = cc
+
+pub from_cleans : (list : List (List ℕ)) (start : Start) (b : Box Base Global) (before mid after : Option Directory) (result : Result Report BuildError)
+    → start ≡ From b → IfSome before (λ d. StartsFrom d start) → mid ≡ before → IfOk result (FromClean b.value list mid after)
+    → IfSome before (λ d. IfOk result (λ r. BuildsClean list d r after))
+from_cleans list start b before mid after (Err e) is begins same h = if_always before (tt {0})
+from_cleans list start b before mid after (Ok r) is begins same h = by before same begins
+  where
+    by : (o : Option Directory) → mid ≡ o → IfSome o (λ d. StartsFrom d start) → IfSome o (λ d. BuildsClean list d r after)
+    by None told begun = tt
+    by (Some d) told begun = h.of d told (subst (StartsFrom d) is begun)
