@@ -85,7 +85,7 @@ module _ {E : Type 0} (held : Option Directory) (old new : Core) (r : Result Tur
 
   pub walk_whole : old.hand ≡ None → old.first ≡ Done → IfOk r (WalksWhole old new) → IfOk r (StepsWhole held old new)
   walk_whole free done =
-      if_ok_more (WalksWhole old new) (StepsWhole held old new) (λ turn walks u now site stands looks. by turn u now walks stands) r
+      if_ok_more (WalksWhole old new) (StepsWhole held old new) (λ turn walks u now site stands. by turn u now walks stands) r
     where
       by : (t : Turn) (u : Update) → IsBuildNow u old.plan → WalksWhole old new t → StandsWhole u old → TurnIsWhole u new t
       by t u now walks (inl loaded) = absurd (loaded.0 done)

@@ -1,9 +1,12 @@
+use Rattle.std.specs.Prelude.{Ok}
+use Rattle.pie_files.specs.declared.files.FilesError.{FilesError}
 use Rattle.pie_bottomup.proofs.GoingFirst.{test_whole, walk_whole}
 use Rattle.pie_bottomup.proofs.state.Core.go_on.Goals as goal
 
-pub returns-in-Done-clause-whole : goal.returns-in-Done-clause-whole
-returns-in-Done-clause-whole g c =
-    walk_whole (g.F.Files.holds c.args.files.now) c.args.self.now c.walk_on.new.self c.walk_on.result c.requires.free c.in-Done.is c.walk_on.ensures.whole
+pub returns-in_ok-walk_on-in-Done-clause-whole : goal.returns-in_ok-walk_on-in-Done-clause-whole
+returns-in_ok-walk_on-in-Done-clause-whole g c =
+    walk_whole {E = FilesError} (g.F.Files.holds c.args.files.now) c.args.self.now c.walk_on.new.self (Ok c.in_ok-walk_on-in-Done.field-0) c.requires.free
+    c.in-Done.is c.in_ok-walk_on-in-Done.ensures.whole
 
 pub returns-in-Tests-clause-whole : goal.returns-in-Tests-clause-whole
 returns-in-Tests-clause-whole g c =
