@@ -1,6 +1,6 @@
 -- What a crash leaves of a build by what changed, from part to part.
-use Rattle.std.proofs.Common.{◌≡◌, ◌⊎◌, inl, inr, ⊎_elim, ℕ, false, List, ◌++◌, map, Option, None, Some, Ok, Global, refl, sym, ap, subst, ◌∙◌}
-use Rattle.std.specs.Prelude.{◌||◌, codes, Box, IfSome}
+use Rattle.std.proofs.Common.{◌≡◌, ◌⊎◌, inl, inr, ⊎_elim, ℕ, false, List, ◌++◌, map, Option, None, Some, Result, Ok, Err, Global, refl, sym, ap, subst, ◌∙◌}
+use Rattle.std.specs.Prelude.{◌||◌, codes, Box, IfOk, IfSome}
 use Rattle.pie_base.specs.Path.{is_out, same_text}
 use Rattle.pie_build.specs.Crashes.{IsDone, IsOfThree, IsUnderWay, StaysAtRest, Withstands}
 use Rattle.pie_build.specs.Left.{may_change, Leaves, LeavesAll, LeavesBy as LeavesAfresh}
@@ -9,11 +9,12 @@ use Rattle.pie_commit.proofs.Reading.{before_rest, then_rest}
 use Rattle.pie_commit.specs.Outcomes.{IsAtRest, LeavesFromRest}
 use Rattle.pie_core_laws.specs.Update.{Update, present}
 use Rattle.pie_digest.specs.Digests.{HasNames as HasFunctionNames}
-use Rattle.pie_files.proofs.Reading.{in_turn, none_before, weaker}
+use Rattle.pie_files.proofs.Reading.{both_before, in_turn, none_before, weaker}
 use Rattle.pie_files.specs.Directory.{Directory, without_file}
 use Rattle.pie_files.specs.Images.{Only}
 use Rattle.pie_files.specs.Reading.{LeavesAsBefore}
 use Rattle.pie_files.specs.Reading.{Leaves as LeavesOnly}
+use Rattle.pie_files.specs.declared.files.FilesError.{FilesError}
 use Rattle.pie_bottomup.specs.inner.Loaded.{IsStoredIn}
 use Rattle.pie_model.specs.Built.{store_rows}
 use Rattle.pie_model_pipeline.specs.Rows.{record_of}
@@ -36,7 +37,7 @@ use Rattle.pie_incremental.specs.declared.base.Start.{Start}
 use Rattle.pie_incremental.specs.declared.base.Start.TheVariants.{From}
 use Rattle.pie_incremental.specs.declared.ending.Ending.{Ending}
 use Rattle.pie_incremental.specs.declared.run.Done.{Done}
-use Rattle.pie_incremental.specs.declared.run.Done.TheVariants.{Stopped}
+use Rattle.pie_incremental.specs.declared.run.Done.TheVariants.{Reported, Stopped}
 use Rattle.pie_incremental.specs.declared.run.Stop.{Stop}
 use Rattle.pie_incremental.specs.Earlier.{Earlier, GoesOnFrom}
 use Rattle.pie_incremental.specs.Kept.{is_builders, HasNames, IsOfNames, IsUnderway}
@@ -130,6 +131,31 @@ may_run b e p list s held d c ending knows image told go u from =
 
 pub run_first : (b : Base) (p : Project) (list : List (List ℕ)) (d : Directory) → MayRun b p list d d
 run_first b p list d u from = inr (inl refl)
+
+module _ {S : Type 0} (holds : S → Option Directory) (moment : S → ℕ) (left_since : S → ℕ → Directory → Type 0) (images : S → Directory → Type 0) where
+  pub crash_end : (s : StoreImage) (e : Ending) (p : Project) (old mid new : S) (b : Built) → holds mid ≡ holds old
+      → LeavesAsBefore holds moment left_since images old mid → MakesExact (holds old) p.typed p.digests.items p.roots.items s e.names.items b
+      → LeavesFromRest holds moment left_since images (MayLeaveBy b.verdict e.own e.held p.digests.items p.roots.items b e.names.items) mid new
+      → LeavesFromRest holds moment left_since images (MayGo s e p) old new
+  crash_end s e p old mid new b same before makes h =
+      then_rest holds moment left_since images (MayGo s e p) (go_first s e p) old mid new same before
+      (leaves_where holds moment left_since images (MayLeaveBy b.verdict e.own e.held p.digests.items p.roots.items b e.names.items) (MayGo s e p) mid new
+      (λ d c told may. may_go s e p (holds old) b makes d c (sym same ∙ told) may) h)
+
+  pub crash_begun : (b : Base) (e : Ending) (p : Project) (list : List (List ℕ)) (s : StoreImage) (old mid new : S) → holds mid ≡ holds old
+      → LeavesAsBefore holds moment left_since images old mid → IsEndingOf b list e → IfSome (holds old) (λ d. KnowsWhere b d e)
+      → IfSome (holds old) (λ d. s ≡ digested d p.digests.items b.image) → LeavesFromRest holds moment left_since images (MayGo s e p) mid new
+      → LeavesFromRest holds moment left_since images (MayRun b p list) old new
+  crash_begun b e p list s old mid new same before ending knows image h =
+      then_rest holds moment left_since images (MayRun b p list) (run_first b p list) old mid new same before
+      (leaves_where holds moment left_since images (MayGo s e p) (MayRun b p list) mid new
+      (λ d c told go. may_run b e p list s (holds old) d c ending knows image (sym same ∙ told) go) h)
+
+  pub still_ok : (old mid new : S) (result : Result Done FilesError) → holds mid ≡ holds old → LeavesAsBefore holds moment left_since images old mid
+      → IfOk result (StaysBefore holds moment left_since images mid new) → IfOk result (StaysBefore holds moment left_since images old new)
+  still_ok old mid new (Err e) same before h = tt
+  still_ok old mid new (Ok (Reported r)) same before h = tt
+  still_ok old mid new (Ok (Stopped stop)) same before h = both_before holds moment left_since images old mid new same before h
 
 -- ---- a build that starts afresh
 

@@ -1,6 +1,11 @@
 //! A build that starts afresh after tasks ran.
 ghost use Rattle.std.specs.Prelude.{◌≡◌, ◌≤◌, ◌+◌, ◌++◌, drop, length, All, List, IfOk, IfSome, OnOk, IsSome};
 ghost use Rattle.pie_build.specs.Left.{KeepsRest};
+ghost use Rattle.pie_commit.specs.Outcomes.{LeavesFromRest};
+ghost use Rattle.pie_incremental.specs.Kept.{IsOfNames};
+ghost use Rattle.pie_incremental.specs.inner.Changes.{bytes_of};
+ghost use Rattle.pie_incremental.specs.inner.Crashed.{MayRestart};
+ghost use Rattle.pie_value.specs.declared.verdict.Verdict.TheVariants as verdicts;
 ghost use Rattle.pie_build.specs.inner.Rebuilt.{IsRefusal, Tells};
 ghost use Rattle.pie_value.specs.Canonical.{IsEncodableTask};
 ghost use Rattle.pie_value.specs.declared.task.Task.{Task as TaskOf};
@@ -34,6 +39,7 @@ pub(crate) fn again<F: Files>(
     ensures refused { IsRefusal result → F.holds files.new ≡ F.holds files.old }
     ensures names { IfOk result (λ r. Treats stop.value.ending.value.own stop.value.ending.value.names.items r.verdict (F.holds files.old) (F.holds files.new)) }
     ensures afresh { IfSome (F.holds files.old) (λ d. IfOk result (λ r. IsAfresh d r (F.holds files.new))) }
+    ensures crash { LeavesFromRest F.holds F.moment F.left_since F.images (MayRestart stop.value.ending.value.own stop.value.ending.value.names.items) files.old files.new }
     ensures fresh { IfOk result (λ r. IsSome r.fresh) }
     ensures ran { IfOk result (λ r. r.ran.items ≡ drop before runs.new) }
     ensures grows { IfOk result (λ r. (more : List TaskOf) × (runs.new ≡ runs.old ++ more)) }
@@ -60,6 +66,8 @@ fn retell<F: Files>(
     ensures rest { KeepsRest (F.holds files.old) (F.holds files.new) }
     ensures never { ¬ (IsRefusal result) }
     ensures names { IfOk result (λ r. KeepsAfter report.verdict stop.value.ending.value.own stop.value.ending.value.names.items (F.holds files.old) (F.holds files.new)) }
+    ensures quiet { report.verdict ≡ verdicts.Accepted → files.new ≡ files.old }
+    ensures crash { LeavesFromRest F.holds F.moment F.left_since F.images (IsOfNames stop.value.ending.value.names.items (bytes_of stop.value.ending.value.own.pending)) files.old files.new }
     ensures verdict { IfOk result (λ r. r.verdict ≡ report.verdict) }
     ensures retold { IfOk result (IsRetold report) }
     ensures fresh { IfOk result (λ r. IsSome r.fresh) }
@@ -73,7 +81,7 @@ fn retell<F: Files>(
 }
 
 // The report gets all tasks that were started, and the cause. A refused build keeps the names.
-#[tactic(auto, using(pie_build::proofs::OwnPaths::same_keeps))]
+#[tactic(auto, using(pie_build::proofs::OwnPaths::same_keeps, crate::proofs::Crashing::names_still))]
 fn complete<F: Files>(
     alloc: Global,
     files: &mut F,
@@ -86,6 +94,8 @@ fn complete<F: Files>(
     ensures rest { KeepsRest (F.holds files.old) (F.holds files.new) }
     ensures never { ¬ (IsRefusal result) }
     ensures names { OnOk result (KeepsAfter report.old.verdict stop.value.ending.value.own stop.value.ending.value.names.items (F.holds files.old) (F.holds files.new)) }
+    ensures quiet { report.old.verdict ≡ verdicts.Accepted → files.new ≡ files.old }
+    ensures crash { LeavesFromRest F.holds F.moment F.left_since F.images (IsOfNames stop.value.ending.value.names.items (bytes_of stop.value.ending.value.own.pending)) files.old files.new }
     ensures verdict { report.new.verdict ≡ report.old.verdict }
     ensures retold { OnOk result (IsRetold report.old report.new) }
     ensures fresh { OnOk result (IsSome report.new.fresh) }
@@ -120,7 +130,7 @@ fn put_ran(
 }
 
 // A refused build keeps the names for the next one.
-#[tactic(auto, using(pie_build::proofs::OwnPaths::same_keeps))]
+#[tactic(auto, using(pie_build::proofs::OwnPaths::same_keeps, crate::proofs::Crashing::names_still))]
 fn keep<F: Files>(
     alloc: Global,
     files: &mut F,
@@ -130,6 +140,8 @@ fn keep<F: Files>(
     ensures rest { KeepsRest (F.holds files.old) (F.holds files.new) }
     ensures never { ¬ (IsRefusal result) }
     ensures names { OnOk result (KeepsAfter verdict.now ending.now.own ending.now.names.items (F.holds files.old) (F.holds files.new)) }
+    ensures quiet { verdict.now ≡ verdicts.Accepted → files.new ≡ files.old }
+    ensures crash { LeavesFromRest F.holds F.moment F.left_since F.images (IsOfNames ending.now.names.items (bytes_of ending.now.own.pending)) files.old files.new }
     ensures told { Tells F.faults files.old files.new result }
 {
     match verdict {

@@ -1,7 +1,10 @@
 //! A build by what changed.
 ghost use Rattle.std.specs.Prelude.{◌≡◌, ◌≤◌, ◌+◌, ◌++◌, true, false, None, Some, length, All, IfOk, IfSome, IsTrue};
-ghost use Rattle.pie_build.specs.Left.{KeepsRest};
+ghost use Rattle.pie_build.specs.Left.{KeepsRest, Leaves};
 ghost use Rattle.pie_build.specs.inner.Projects.{IsReady};
+ghost use Rattle.pie_build.specs.Crashes.{IsOfThree};
+ghost use Rattle.pie_commit.specs.Outcomes.{LeavesFromRest};
+ghost use Rattle.pie_incremental.specs.inner.Crashed.{MayBuild, MayFrom, MayStop};
 ghost use Rattle.pie_build.specs.inner.Rebuilt.{IsRefusal, Tells};
 ghost use Rattle.pie_digest.specs.Digests.{HasNames};
 ghost use Rattle.pie_value.specs.Canonical.{IsEncodableTask};
@@ -44,6 +47,7 @@ pub fn build<F: Files>(
     ensures refused { IsRefusal result → F.holds files.new ≡ F.holds files.old }
     ensures names { IfSome (F.holds files.old) (λ d. IfOk result (λ r. TreatsNames changes.now d r (F.holds files.new))) }
     ensures clean { IfSome (F.holds files.old) (λ d. IfOk result (λ r. BuildsClean changes.now d r (F.holds files.new))) }
+    ensures crash { LeavesFromRest F.holds F.moment F.left_since F.images (MayStop changes.now) files.old files.new }
     ensures ran { IfOk result (λ r. runs.new ≡ runs.old ++ r.ran.items) }
     ensures few { length runs.new ≤ length runs.old + 100000 }
     ensures most { IfOk result TellsFew }
@@ -69,6 +73,7 @@ fn afresh<F: Files>(
     ensures refused { IsRefusal result → F.holds files.new ≡ F.holds files.old }
     ensures names { IfSome (F.holds files.old) (λ d. IfOk result (λ r. AfreshBy r.verdict d (F.holds files.new))) }
     ensures afresh { IfSome (F.holds files.old) (λ d. IfOk result (λ r. IsAfresh d r (F.holds files.new))) }
+    ensures crash { LeavesFromRest F.holds F.moment F.left_since F.images (IsOfThree Leaves) files.old files.new }
     ensures fresh { IfOk result (λ r. r.fresh ≡ Some cause) }
     ensures ran { IfOk result (λ r. runs.new ≡ runs.old ++ r.ran.items) }
     ensures few { length runs.new ≤ length runs.old + 50000 }
@@ -97,6 +102,7 @@ fn from<F: Files>(
     ensures rest { KeepsRest (F.holds files.old) (F.holds files.new) }
     ensures refused { IsRefusal result → F.holds files.new ≡ F.holds files.old }
     ensures clean { IfOk result (FromClean base.value changes.now (F.holds files.old) (F.holds files.new)) }
+    ensures crash { LeavesFromRest F.holds F.moment F.left_since F.images (MayFrom base.value changes.now) files.old files.new }
     ensures names { IfOk result (λ r. Treats base.value.own (in_order (changes.now ++ base.value.names.items)) r.verdict (F.holds files.old) (F.holds files.new)) }
     ensures ran { IfOk result (λ r. runs.new ≡ runs.old ++ r.ran.items) }
     ensures few { length runs.new ≤ length runs.old + 100000 }
@@ -127,6 +133,7 @@ fn with_project<F: Files>(
     ensures rest { KeepsRest (F.holds files.old) (F.holds files.new) }
     ensures refused { IsRefusal result → F.holds files.new ≡ F.holds files.old }
     ensures clean { IfOk result (RunsCleanOnce base.value project.now changes.now (F.holds files.old) (F.holds files.new)) }
+    ensures crash { LeavesFromRest F.holds F.moment F.left_since F.images (MayBuild base.value project.now changes.now) files.old files.new }
     ensures names { IfOk result (λ r. Treats base.value.own (in_order (changes.now ++ base.value.names.items)) r.verdict (F.holds files.old) (F.holds files.new)) }
     ensures ran { IfOk result (λ r. runs.new ≡ runs.old ++ r.ran.items) }
     ensures few { length runs.new ≤ length runs.old + 100000 }

@@ -6,6 +6,8 @@ ghost use Rattle.pie_build.specs.Left.{KeepsRest};
 ghost use Rattle.pie_store.specs.Canonical.{AreFuncs};
 ghost use Rattle.pie_value.specs.Canonical.{IsEncodableTask};
 ghost use Rattle.pie_store.specs.inner.Pending.{in_order};
+ghost use Rattle.pie_commit.specs.Outcomes.{LeavesFromRest};
+ghost use Rattle.pie_incremental.specs.inner.Crashed.{MayGo, MayRun, StaysBefore};
 ghost use Rattle.pie_incremental.specs.inner.Joined.{IsAsBefore, IsBase, IsImage, Reports, TreatsIn};
 ghost use Rattle.pie_incremental.specs.inner.Updated.{GoesOn, RunsOrStops};
 
@@ -54,7 +56,9 @@ pub(crate) fn run<F: Files>(
     requires roots { All IsEncodableTask project.now.roots.items }
     ensures rest { KeepsRest (F.holds files.old) (F.holds files.new) }
     ensures stopped { IfOk result (IsAsBefore (F.holds files.old) (F.holds files.new)) }
+    ensures still { IfOk result (StaysBefore F.holds F.moment F.left_since F.images files.old files.new) }
     ensures clean { IfOk result (RunsOrStops base.value project.now changes.now (F.holds files.old) (F.holds files.new)) }
+    ensures crash { LeavesFromRest F.holds F.moment F.left_since F.images (MayRun base.value project.now changes.now) files.old files.new }
     ensures names { IfOk result (TreatsIn base.value.own (in_order (changes.now ++ base.value.names.items)) (F.holds files.old) (F.holds files.new)) }
     ensures ran { IfOk result (Reports runs.old runs.new) }
     ensures few { length runs.new ≤ length runs.old + 50000 }
@@ -79,7 +83,9 @@ fn go_on<F: Files>(
     requires roots { All IsEncodableTask project.now.roots.items }
     ensures rest { KeepsRest (F.holds files.old) (F.holds files.new) }
     ensures stopped { IfOk result (IsAsBefore (F.holds files.old) (F.holds files.new)) }
+    ensures still { IfOk result (StaysBefore F.holds F.moment F.left_since F.images files.old files.new) }
     ensures clean { IfOk result (GoesOn begun.image.value begun.ending.value project.now (F.holds files.old) (F.holds files.new)) }
+    ensures crash { LeavesFromRest F.holds F.moment F.left_since F.images (MayGo begun.image.value begun.ending.value project.now) files.old files.new }
     ensures names { IfOk result (TreatsIn begun.ending.value.own begun.ending.value.names.items (F.holds files.old) (F.holds files.new)) }
     ensures ran { IfOk result (Reports runs.old runs.new) }
     ensures few { length runs.new ≤ length runs.old + 50000 }

@@ -1,6 +1,7 @@
 use Rattle.pie_incremental.proofs.Cleanly.{again_afresh}
 use Rattle.pie_incremental.proofs.Joining.{rest_both, retold_encodable}
 use Rattle.pie_incremental.proofs.Treating.{again_done}
+use Rattle.pie_incremental.proofs.Crashing.{crash_again, crash_failed}
 use Rattle.pie_incremental.proofs.again.again.Goals as goal
 
 pub returns-in-Ok-clause-rest : goal.returns-in-Ok-clause-rest
@@ -20,3 +21,14 @@ pub returns-in-Ok-clause-afresh : goal.returns-in-Ok-clause-afresh
 returns-in-Ok-clause-afresh g c = again_afresh c.args.stop.value.ending.value.own c.args.stop.value.ending.value.names.items (g.F.Files.holds c.args.files.now)
     (g.F.Files.holds c.rebuild.new.files) (g.F.Files.holds c.retell.new.files) c.in-Ok.report c.retell.result c.args.before c.args.runs.now c.rebuild.new.runs
     c.requires.before c.in-Ok.ensures.ran c.in-Ok.ensures.left c.retell.ensures.retold c.retell.ensures.ran c.retell.ensures.names c.retell.ensures.verdict
+
+pub returns-in-Ok-clause-crash : goal.returns-in-Ok-clause-crash
+returns-in-Ok-clause-crash g c =
+    crash_again g.F.Files.holds g.F.Files.moment g.F.Files.left_since g.F.Files.images c.args.stop.value.ending.value.own
+    c.args.stop.value.ending.value.names.items c.args.files.now c.rebuild.new.files c.retell.new.files c.in-Ok.report c.in-Ok.ensures.crash
+    (c.in-Ok.ensures.durable tt) c.in-Ok.ensures.left c.retell.ensures.quiet c.retell.ensures.crash
+
+pub returns-in-Err-clause-crash : goal.returns-in-Err-clause-crash
+returns-in-Err-clause-crash g c =
+    crash_failed g.F.Files.holds g.F.Files.moment g.F.Files.left_since g.F.Files.images c.args.stop.value.ending.value.own
+    c.args.stop.value.ending.value.names.items c.args.files.now c.rebuild.new.files c.in-Err.ensures.crash

@@ -6,6 +6,7 @@ use Rattle.pie_value.specs.declared.task.Task.{Task}
 use Rattle.pie_incremental.proofs.Joining.{few_again, few_once}
 use Rattle.pie_incremental.proofs.Treating.{large_treats, treats_again, treats_reported}
 use Rattle.pie_incremental.proofs.Updating.{again_runs, as_before, large_runs, reported_runs}
+use Rattle.pie_incremental.proofs.Crashing.{crash_large, crash_run, crash_stopped}
 use Rattle.pie_incremental.proofs.building.with_project.Goals as goal
 
 pub returns-then-not-are_small-clause-names : goal.returns-then-not-are_small-clause-names
@@ -58,3 +59,29 @@ returns-in-Ok-Stopped-clause-clean g c =
     again_runs c.args.base.value c.args.project.now c.args.changes.now (g.F.Files.holds c.args.files.now) (g.F.Files.holds c.run.new.files)
     (g.F.Files.holds c.again.new.files) c.again.result (as_before (g.F.Files.holds c.args.files.now) (g.F.Files.holds c.run.new.files) e.field-0 e.stop
     e.field-0-is e.ensures.stopped) c.again.ensures.fresh c.again.ensures.afresh
+
+pub returns-then-not-are_small-clause-crash : goal.returns-then-not-are_small-clause-crash
+returns-then-not-are_small-clause-crash g c =
+    crash_large g.F.Files.holds g.F.Files.moment g.F.Files.left_since g.F.Files.images c.args.base.value c.args.project.now c.args.changes.now c.args.files.now
+    c.rebuild.new.files c.rebuild.ensures.crash
+
+pub returns-in-Ok-Reported-clause-crash : goal.returns-in-Ok-Reported-clause-crash
+returns-in-Ok-Reported-clause-crash g c =
+    crash_run g.F.Files.holds g.F.Files.moment g.F.Files.left_since g.F.Files.images c.args.base.value c.args.project.now c.args.changes.now c.args.files.now
+    c.run.new.files c.run.ensures.crash
+
+pub returns-in-Ok-Stopped-clause-crash : goal.returns-in-Ok-Stopped-clause-crash
+returns-in-Ok-Stopped-clause-crash g c =
+    let e = c.in-Ok-Stopped in
+    crash_stopped g.F.Files.holds g.F.Files.moment g.F.Files.left_since g.F.Files.images c.args.base.value c.args.project.now c.args.changes.now c.args.files.now
+    c.run.new.files c.again.new.files e.field-0 e.stop e.field-0-is e.ensures.names e.ensures.stopped e.ensures.still c.again.ensures.crash
+
+pub returns-in-Err-Failed-clause-crash : goal.returns-in-Err-Failed-clause-crash
+returns-in-Err-Failed-clause-crash g c =
+    crash_run g.F.Files.holds g.F.Files.moment g.F.Files.left_since g.F.Files.images c.args.base.value c.args.project.now c.args.changes.now c.args.files.now
+    c.run.new.files c.run.ensures.crash
+
+pub returns-in-Err-OutOfMemory-clause-crash : goal.returns-in-Err-OutOfMemory-clause-crash
+returns-in-Err-OutOfMemory-clause-crash g c =
+    crash_run g.F.Files.holds g.F.Files.moment g.F.Files.left_since g.F.Files.images c.args.base.value c.args.project.now c.args.changes.now c.args.files.now
+    c.run.new.files c.run.ensures.crash
