@@ -1,6 +1,6 @@
 -- Observations that have the stamps of now stand.
 use Rattle.std.proofs.Common.{◌≡◌, not, ◌&&◌, ◌⊎◌, inl, inr, ℕ, Bool, true, false, cond, Option, Some, None, List, [], ◌∷◌, ◌++◌, map, IsTrue, refl, sym, ap, subst, ◌∙◌}
-use Rattle.std.specs.Prelude.{slice_get, option_map, nat_le, length, Contains}
+use Rattle.std.specs.Prelude.{slice_get, option_map, Contains}
 use Rattle.std.proofs.lemmas.Bool.Decides.{Decides-eqb}
 use Rattle.std.proofs.lemmas.List.{map-append}
 use Rattle.std.proofs.lemmas.List.Elements.{Contains-append_left, Contains-append_right, All-contains}
@@ -32,7 +32,7 @@ use Rattle.pie_tables.specs.declared.tables.Tables.{Tables}
 use Rattle.pie_named.specs.declared.named.Named.{Named}
 use Rattle.pie_named.specs.declared.stamps.FileStamp.{FileStamp}
 use Rattle.pie_named.specs.declared.stamps.FileStamp.TheVariants as files
-use Rattle.pie_named.specs.Stamped.{is_stamp, presence_of, hash_of, mark_of, listing_of, paths_list, most_content, stamp_in, differs_from}
+use Rattle.pie_named.specs.Stamped.{is_stamp, presence_of, hash_of, mark_of, listing_of, paths_list, stamp_in, differs_from}
 use Rattle.pie_named.specs.inner.Known.{IsTrueOf, known_stamp, known_differs}
 use Rattle.pie_view.specs.declared.seen.Seen.{Seen as RowsSeen}
 use Rattle.pie_view.specs.declared.seen.Seen.TheVariants.{Absent, By, Clash}
@@ -65,7 +65,7 @@ use Rattle.pie_builder_laws.proofs.Tabled.{record_by_number}
 use Rattle.pie_builder_laws.proofs.Lookings.{limit_is}
 use Rattle.pie_builder_laws.proofs.KindLemmas.{kinds_same}
 use Rattle.pie_compare_laws.specs.Settled.{RestsOn, ArePresent}
-use Rattle.pie_compare_laws.specs.Agreeing.{IsPlainRow, MarkedFilesAreShort, OutputsAreCanonical}
+use Rattle.pie_compare_laws.specs.Agreeing.{IsPlainRow, OutputsAreCanonical}
 use Rattle.pie_compare_laws.proofs.Ways.{one_some, number_of, first_is, hash_told, seen_told, wrote_by, seen_of}
 use Rattle.pie_compare_laws.proofs.Agreement.{asked_of_path, told_hash_stamp, each_recorded, numbers_more, settled_more}
 
@@ -182,13 +182,11 @@ digest_same p None s h = subst (λ z. differs_from (Some files.Absent) z ≡ fal
 digest_same p (Some f) s h = hash_same (sha256 f.0) s h
 
 marked_same : (p : Path) (o : Option (List ℕ × ℕ)) (s : Stamp) → kind_of p ≡ Source
-    → ((f : List ℕ × ℕ) → o ≡ Some f → s ≡ stamps.Mark f.1 → nat_le (length f.0) most_content ≡ true)
     → look_stamp world looks.ByMark p (seen_file o) ≡ stamp_of s → differs_from (mark_of o) s ≡ false
-marked_same p None s k short h = subst (λ z. differs_from (Some files.Absent) z ≡ false) (sym (absent_back s h)) refl
-marked_same p (Some f) s k short h =
+marked_same p None s k h = subst (λ z. differs_from (Some files.Absent) z ≡ false) (sym (absent_back s h)) refl
+marked_same p (Some f) s k h =
     let e : s ≡ stamps.Mark f.1 = mark_back f.1 s (sym (ap (λ z. mark_stamp world z f.0 f.1) k) ∙ h) in
-    ap (λ b. differs_from (cond b (Some (files.Mark f.1)) None) s) (short f refl e)
-    ∙ subst (λ z. differs_from (Some (files.Mark f.1)) z ≡ false) (sym e)
+    subst (λ z. differs_from (Some (files.Mark f.1)) z ≡ false) (sym e)
     (same_is (files.Mark f.1) (stamps.Mark f.1) ((Decides-eqb f.1 f.1).1 refl))
 
 listed_same : (fs : List FunctionTree) (d : Directory) (p : Path) (s : Stamp) → listing_now world (listing world (project fs d) p) ≡ Some (stamp_of s)
@@ -337,19 +335,17 @@ module _ (fs : List FunctionTree) (d : Directory) (t : Tables) (rows : List Row)
 
     file_stands : (own : List (Path × List ℕ)) (kind : DepKind) (p : Path) (s : Stamp) → IsTrue (allows kind (File p) (tag_of s))
         → (kind ≡ kinds.List → is_source p ≡ true)
-        → (kind ≡ kinds.ReadMark → is_source p ≡ true → (f : List ℕ × ℕ) → file_at d p ≡ Some f → s ≡ stamps.Mark f.1
-        → nat_le (length f.0) most_content ≡ true)
         → stamp_now world (project fs d) (by_records (recorded t.names t.records) told) own (map enc_task us) (asked_of kind p) ≡ Some (stamp_of s)
         → FileStands (record { tables = t; rows = rows; known = n; own = own }) required kind p s
-    file_stands own kinds.Exists p s a l m h =
+    file_stands own kinds.Exists p s a l h =
         look_stands own kinds.Exists looks.Exists refl refl (λ x. refl) p s (λ k j i. there_same p (file_at d p) s i) h
-    file_stands own kinds.ReadHash p s a l m h =
+    file_stands own kinds.ReadHash p s a l h =
         look_stands own kinds.ReadHash looks.ByHash refl refl (λ x. refl) p s (λ k j i. read_same p (file_at d p) s i) h
-    file_stands own kinds.ReadMark p s a l m h =
-        look_stands own kinds.ReadMark looks.ByMark refl refl (λ x. refl) p s (λ k j i. marked_same p (file_at d p) s k (λ f. m refl j f) i) h
-    file_stands own kinds.Digest p s a l m h =
+    file_stands own kinds.ReadMark p s a l h =
+        look_stands own kinds.ReadMark looks.ByMark refl refl (λ x. refl) p s (λ k j i. marked_same p (file_at d p) s k i) h
+    file_stands own kinds.Digest p s a l h =
         look_stands own kinds.Digest looks.Digest refl refl (λ x. refl) p s (λ k j i. digest_same p (file_at d p) s i) h
-    file_stands own kinds.List p s a l m h = record {
+    file_stands own kinds.List p s a l h = record {
       looks = refl;
       out = λ i. clash (is_out p) i (source_not_out p (l refl));
       other = λ i. record {
@@ -357,9 +353,9 @@ module _ (fs : List FunctionTree) (d : Directory) (t : Tables) (rows : List Row)
         reserved = λ j. clash (is_source p) (l refl) j;
       };
     }
-    file_stands own kinds.Require p s a l m h = cc
-    file_stands own kinds.RequireHash p s a l m h = cc
-    file_stands own kinds.Run p s a l m h = cc
+    file_stands own kinds.Require p s a l h = cc
+    file_stands own kinds.RequireHash p s a l h = cc
+    file_stands own kinds.Run p s a l h = cc
 
   -- ---- required tasks
 
@@ -406,8 +402,6 @@ module _ (fs : List FunctionTree) (d : Directory) (t : Tables) (rows : List Row)
       allowed : IsTrue (allows dep.kind dep.what (tag_of dep.stamp))
       whole : (u : Value) → dep.stamp ≡ stamps.Whole u → IsCanonical (tree_of u) (enc (tree_of u))
       listed : (p : Path) → dep.what ≡ File p → dep.kind ≡ kinds.List → is_source p ≡ true
-      short : (p : Path) → dep.what ≡ File p → dep.kind ≡ kinds.ReadMark → is_source p ≡ true → (f : List ℕ × ℕ) → file_at d p ≡ Some f
-          → dep.stamp ≡ stamps.Mark f.1 → nat_le (length f.0) most_content ≡ true
       ready : (u : Task) → Contains (called_on dep.what) u → (k : ℕ) × (slice_get t.names k ≡ Some u) × (settled k ≡ true)
 
     deps_stand : (deps : List Dep) (required : List ℕ) (us : List Task) → ((dep : Dep) → Contains deps dep → IsPlainDep dep)
@@ -435,7 +429,7 @@ module _ (fs : List FunctionTree) (d : Directory) (t : Tables) (rows : List Row)
           required,
           (
             file_stands required us e all own dep.kind p dep.stamp (subst (λ z. IsTrue (allows dep.kind z (tag_of dep.stamp))) w its.allowed)
-                (its.listed p w) (its.short p w) g,
+                (its.listed p w) g,
             refl,
           ),
           go required us e all
@@ -464,10 +458,10 @@ module _ (fs : List FunctionTree) (d : Directory) (t : Tables) (rows : List Row)
 
 pub agreeing_stand : (fs : List FunctionTree) (d : Directory) (t : Tables) (rows : List Row) (n : Named) (settled : ℕ → Bool)
     (told : List (List ℕ) → Path → Told) (no : ℕ) (rec : TaskRecord) → ArePresent t.names t.records rows settled told
-    → RestsOn t.names t.records rows settled no rec → IsTrueOf d n → IsPlainRow rec → MarkedFilesAreShort d rec → OutputsAreCanonical t.records settled
+    → RestsOn t.names t.records rows settled no rec → IsTrueOf d n → IsPlainRow rec → OutputsAreCanonical t.records settled
     → RecordAgrees world (project fs d) (by_records (recorded t.names t.records) told) (record_of rec)
     → DepsStand (record { tables = t; rows = rows; known = n; own = rec.writes }) [] rec.deps
-agreeing_stand fs d t rows n settled told number rec present rests known plain short outputs h =
+agreeing_stand fs d t rows n settled told number rec present rests known plain outputs h =
     deps_stand fs d t rows n settled told present known outputs rec.writes rec.deps [] [] each refl (λ k i. absurd (none_in k i)) h
   where
     its_stamp : (dep : Dep) → Contains rec.deps dep → (u : Value) → dep.stamp ≡ stamps.Whole u → IsCanonical (tree_of u) (enc (tree_of u))
@@ -491,7 +485,6 @@ agreeing_stand fs d t rows n settled told number rec present rests known plain s
       allowed = (All-contains IsStorableDep rec.deps dep plain.storable.deps i).allowed;
       whole = its_stamp dep i;
       listed = λ p w k. plain.lists dep p i k w;
-      short = λ p w k s f g e. short dep p f i k w s g e;
       ready = λ v j.
           let m = number_of t.names (row_at rows number).needs (called_in rec.deps) v rests.row.0 (called_in_deps rec.deps dep v i j) in
           (m.number, m.named, rests.ready m.number m.listed);

@@ -1,5 +1,5 @@
 -- Observations that stand have the stamps that they would get now in the model.
-use Rattle.std.specs.Prelude.{◌≡◌, ℕ, Bool, true, List, [], map, length, nat_le, Some, Contains}
+use Rattle.std.specs.Prelude.{◌≡◌, ℕ, Bool, true, List, [], map, Some, Contains}
 use Rattle.pie_base.specs.Path.{is_source}
 use Rattle.pie_value.specs.declared.stamp.Stamp.TheVariants as stamps
 use Rattle.pie_value.specs.declared.value.Value.{Value}
@@ -18,8 +18,7 @@ use Rattle.pie_tables.specs.declared.tables.Tables.{Tables}
 use Rattle.pie_named.specs.declared.named.Named.{Named}
 use Rattle.pie_compare.specs.inner.Standing.{DepsStand}
 use Rattle.pie_parser.specs.FunctionTrees.{FunctionTree}
-use Rattle.pie_files.specs.Directory.{Directory, file_at}
-use Rattle.pie_named.specs.Stamped.{most_content}
+use Rattle.pie_files.specs.Directory.{Directory}
 use Rattle.pie_named.specs.inner.Known.{IsTrueOf}
 use Rattle.pie_model.specs.Paths.{Path}
 use Rattle.pie_model.specs.inner.StampNow.{Told, by_records, RecordAgrees}
@@ -49,12 +48,6 @@ pub record IsPlainRow (rec : TaskRecord) : Type 0 where
   pub parts : IsTrueRecord rec
   pub lists : (dep : Dep) (p : Path) → Contains rec.deps dep → dep.kind ≡ kinds.List → dep.what ≡ File p → is_source p ≡ true
 
--- no file that has a recorded mark is longer than a value may be
-abbrev pub MarkedFilesAreShort : Directory → TaskRecord → Type 0
-MarkedFilesAreShort d rec =
-    (dep : Dep) (p : Path) (f : List ℕ × ℕ) → Contains rec.deps dep → dep.kind ≡ kinds.ReadMark → dep.what ≡ File p → is_source p ≡ true
-    → file_at d p ≡ Some f → dep.stamp ≡ stamps.Mark f.1 → nat_le (length f.0) most_content ≡ true
-
 -- the outputs of settled tasks are values with canonical bytes
 abbrev pub OutputsAreCanonical : Records → (ℕ → Bool) → Type 0
 OutputsAreCanonical records settled =
@@ -65,5 +58,5 @@ abbrev pub AgreeingObservationsStand : Type 0
 AgreeingObservationsStand =
     (fs : List FunctionTree) (d : Directory) (t : Tables) (rows : List Row) (n : Named) (settled : ℕ → Bool) (told : List (List ℕ) → Path → Told)
     (no : ℕ) (rec : TaskRecord) → ArePresent t.names t.records rows settled told → RestsOn t.names t.records rows settled no rec
-    → IsTrueOf d n → IsPlainRow rec → MarkedFilesAreShort d rec → OutputsAreCanonical t.records settled
+    → IsTrueOf d n → IsPlainRow rec → OutputsAreCanonical t.records settled
     → RecordAgrees world (project fs d) (by_records (recorded t.names t.records) told) (record_of rec) → ObservationsStand t rows n rec

@@ -254,7 +254,7 @@ fallen_reasons u t s n number rec kept digest update informed e w apart m falls 
             deps = agreeing_stand u.functions u.directory t s.rows n (is_done s)
                 (told_by (recorded t.names t.records) (rank_by t.names s.places)) number rec
                 (are_present u t.names t.records s e w (told_by (recorded t.names t.records) (rank_by t.names s.places))
-                (exactly.tells u t.names t.records s e w.holds.agrees)) m.rests informed.known plain m.short m.outputs agrees;
+                (exactly.tells u t.names t.records s e w.holds.agrees)) m.rests informed.known plain m.outputs agrees;
             writes = writes;
           },
         ))

@@ -1,6 +1,6 @@
 -- Observations of sources that don't differ have the stamps of now, and what is written at named paths is there.
 use Rattle.std.proofs.Common.{◌≡◌, ℕ, ◌&&◌, Bool, true, false, cond, Option, Some, None, List, [], ◌∷◌, map, All, IsTrue, refl, sym, ap, ◌∙◌}
-use Rattle.std.specs.Prelude.{Contains, option_map, nat_le, length}
+use Rattle.std.specs.Prelude.{Contains, option_map}
 use Rattle.std.specs.List.{list_any}
 use Rattle.std.proofs.lemmas.Bool.Decides.{Decides-eqb}
 use Rattle.std.proofs.lemmas.List.Elements.{All-head, All-tail}
@@ -23,7 +23,7 @@ use Rattle.pie_named.specs.declared.named.Named.{Named}
 use Rattle.pie_named.specs.declared.stamps.FileStamp.{FileStamp}
 use Rattle.pie_named.specs.declared.stamps.FileStamp.TheVariants.{Absent, Present, Hash, Mark}
 use Rattle.pie_named.specs.Names.{is_named, is_above}
-use Rattle.pie_named.specs.Stamped.{is_stamp, presence_of, hash_of, mark_of, listing_of, paths_list, most_content, stamp_in, differs_from}
+use Rattle.pie_named.specs.Stamped.{is_stamp, presence_of, hash_of, mark_of, listing_of, paths_list, stamp_in, differs_from}
 use Rattle.pie_compare.specs.inner.Touching.{on_differs, dep_differs, write_differs}
 use Rattle.pie_model.specs.declared.words.Kind.TheVariants.{Source}
 use Rattle.pie_model.specs.declared.words.Look.TheVariants as looks
@@ -107,14 +107,7 @@ digest_is p (Some f) s h = ap stamp_of (sym (hash_is (sha256 f.0) s (is_it (Hash
 marked_is : (p : Path) (o : Option (List ℕ × ℕ)) (s : Stamp) → kind_of p ≡ Source → differs_from (mark_of o) s ≡ false
     → look_stamp world looks.ByMark p (seen_file o) ≡ stamp_of s
 marked_is p None s k h = ap stamp_of (sym (absent_now s h))
-marked_is p (Some f) s k h = by (is_short f) h
-  where
-    is_short : List ℕ × ℕ → Bool
-    is_short g = nat_le (length g.0) most_content
-
-    by : (b : Bool) → differs_from (cond b (Some (Mark f.1)) None) s ≡ false → look_stamp world looks.ByMark p (seen_file (Some f)) ≡ stamp_of s
-    by true i = ap (λ z. mark_stamp world z f.0 f.1) k ∙ ap stamp_of (sym (mark_is f.1 s (is_it (Mark f.1) s i)))
-    by false i = cc
+marked_is p (Some f) s k h = ap (λ z. mark_stamp world z f.0 f.1) k ∙ ap stamp_of (sym (mark_is f.1 s (is_it (Mark f.1) s h)))
 
 listed_is : (fs : List FunctionTree) (d : Directory) (p : Path) (s : Stamp) → differs_from (listing_of (entries_of d p)) s ≡ false
     → listing_now world (listing world (project fs d) p) ≡ Some (stamp_of s)

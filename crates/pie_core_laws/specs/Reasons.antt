@@ -12,17 +12,16 @@ use Rattle.pie_model.specs.inner.Reasons.{RunReason}
 use Rattle.pie_model_pipeline.specs.Rows.{record_of}
 use Rattle.pie_model_pipeline.specs.World.{world}
 use Rattle.pie_compare_laws.specs.Settled.{RestsOn}
-use Rattle.pie_compare_laws.specs.Agreeing.{MarkedFilesAreShort, OutputsAreCanonical}
+use Rattle.pie_compare_laws.specs.Agreeing.{OutputsAreCanonical}
 use Rattle.pie_core_laws.specs.Update.{Update, IsUpdate, IsInformed, present}
 use Rattle.pie_core_laws.specs.Exact.{runs, is_done, IsExact}
 use Rattle.pie_core_laws.specs.Keeping.{Separates}
 
--- a task that was taken rests on settled tasks; values are those of the program, and no file with a recorded mark is too long to be read
+-- a task that was taken rests on settled tasks, and values are those of the program
 pub record MayBeCompared (u : Update) (t : Tables) (s : WalkState) (number : ℕ) (rec : TaskRecord) : Type 0 where
   pub ran : runs (mark_of s.marks number) ≡ true
   pub rests : RestsOn t.names t.records s.rows (is_done s) number rec
   pub parts : IsTrueRecord rec
-  pub short : MarkedFilesAreShort u.directory rec
   pub outputs : OutputsAreCanonical t.records (is_done s)
 
 -- where its record doesn't stand, the task has a reason to run

@@ -1,5 +1,5 @@
 -- The stamps that observations of files and directories would get in a directory.
-use Rattle.std.specs.Prelude.{ℕ, ◌==◌, Bool, true, false, cond, nat_le, List, length, map, Option, Some, None}
+use Rattle.std.specs.Prelude.{ℕ, ◌==◌, Bool, true, false, cond, List, map, Option, Some, None}
 use Rattle.sha2.specs.Sha256.{sha256}
 use lib.Pointwise.{pointwise}
 use Rattle.pie_value.specs.declared.stamp.Stamp.{Stamp}
@@ -28,11 +28,7 @@ is_stamp (Hash one) (stamps.Hash other) = pointwise ◌==◌ one other
 is_stamp (Mark one) (stamps.Mark other) = one == other
 is_stamp now other = false
 
--- the most bytes that a value may hold
-abbrev pub most_content : ℕ
-most_content = 1048571
-
--- by its presence, by its SHA-256, and by its mark, which no task sees of a file that is longer than a value
+-- by its presence, by its SHA-256, and by its mark
 abbrev pub presence_of : Option (List ℕ × ℕ) → Option FileStamp
 presence_of None = Some Absent
 presence_of (Some f) = Some Present
@@ -43,7 +39,7 @@ hash_of (Some f) = Some (Hash (sha256 f.0))
 
 abbrev pub mark_of : Option (List ℕ × ℕ) → Option FileStamp
 mark_of None = Some Absent
-mark_of (Some f) = cond (nat_le (length f.0) most_content) (Some (Mark f.1)) None
+mark_of (Some f) = Some (Mark f.1)
 
 -- the paths as a value
 abbrev pub paths_list : List (List ℕ) → Tree

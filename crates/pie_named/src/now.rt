@@ -8,13 +8,10 @@ ghost use Rattle.pie_named.specs.inner.Known.{IsNow};
 
 use crate::stamps::FileStamp;
 use pie_base::{OutOfMemory, Path};
-use pie_files::{Files, FilesError, Within};
+use pie_files::{Files, FilesError};
 use pie_stamp::hash_of;
 use pie_value::{Items, Value, encode};
 use std::alloc::Global;
-
-/// The most bytes of a file that a task reads: as a value it has five more.
-const MAX_CONTENT_BYTES: usize = 1_048_571;
 
 /// Whether a file is there.
 #[tactic(auto, using(pie_files::proofs::Reading::reads))]
@@ -46,7 +43,7 @@ pub(crate) fn hash_now<F: Files>(
     }
 }
 
-/// The mark of a file, if a task can read it.
+/// The mark of a file. Its bytes aren't asked for.
 #[tactic(auto, using(pie_files::proofs::Reading::reads))]
 pub(crate) fn mark_now<F: Files>(
     path: &Path,
@@ -55,10 +52,9 @@ pub(crate) fn mark_now<F: Files>(
     ensures reads { ReadsOnly F.holds F.moment F.left_since F.images F.faults files.old files.new result }
     ensures now { IfOk result (IsNow (F.holds files.old) kinds.ReadMark path.now) }
 {
-    match files.read_within(path, MAX_CONTENT_BYTES)? {
-        Within::Absent => Ok(Some(FileStamp::Absent)),
-        Within::Long => Ok(None),
-        Within::Whole(found) => Ok(Some(FileStamp::Mark(found.mark))),
+    match files.mark(path)? {
+        Some(mark) => Ok(Some(FileStamp::Mark(mark))),
+        None => Ok(Some(FileStamp::Absent)),
     }
 }
 

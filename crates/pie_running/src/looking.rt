@@ -72,7 +72,8 @@ pub(crate) fn reading<S: Shows, F: Files>(
         return Ok(copied(alloc, shows, notes, path, by)?);
     }
     if path.is_source() {
-        return source(path, by, files);
+        let seen = source(path, by, files)?;
+        return Ok(seen);
     }
     Ok(Sight::File(None))
 }

@@ -81,6 +81,7 @@ enum Call<'a> {
     Within(usize),
     Exists,
     Digest,
+    Mark,
     Write(&'a str),
     Remove,
     Sync,
@@ -137,6 +138,15 @@ fn digest(answer: &Result<Option<[u8; 32]>, FilesError>) -> &'static str {
     }
 }
 
+fn mark(answer: &Result<Option<u64>, FilesError>) -> &'static str {
+    match answer {
+        Ok(Some(0)) => "zero",
+        Ok(Some(_)) => "some",
+        Ok(None) => "none",
+        Err(error) => word(error),
+    }
+}
+
 fn joined(alloc: Global, paths: &[Path]) -> Result<String, Fail> {
     let mut text = String::new(alloc);
     for path in paths {
@@ -175,6 +185,7 @@ fn short(files: &mut DirFiles, call: Call, path: &Path) -> &'static str {
         Call::Within(most) => length(&files.read_within(path, most)),
         Call::Exists => truth(&files.exists(path)),
         Call::Digest => digest(&files.digest(path)),
+        Call::Mark => mark(&files.mark(path)),
         Call::Write(text) => done(&files.write(path, text.as_bytes())),
         Call::Remove => done(&files.remove(path)),
         _ => done(&files.sync()),
@@ -440,6 +451,8 @@ fn a_long_file_is_told_by_its_size(rt: HostRuntime) -> Result<(), Fail> {
         (Call::Read, "long", "failed"),
         (Call::Exists, "long", "yes"),
         (Call::Digest, "abc", "of abc"),
+        (Call::Mark, "long", "some"),
+        (Call::Mark, "none", "none"),
     ];
     let root = scratch(rt, "long")?;
     let at = root.as_str();

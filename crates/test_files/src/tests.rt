@@ -148,25 +148,27 @@ fn looks(alloc: Global, files: &mut SureFiles) -> Result<String, Fail> {
     files.put(&page, b"abc", 1)?;
     let (there, not) = (files.exists(&page)?, files.exists(&other)?);
     let digest = is_digest_of_abc(&files.digest(&page)?);
-    let none = files.digest(&other)?.is_none();
+    let none = files.digest(&other)?.is_none() && files.mark(&other)?.is_none();
+    let mark = files.mark(&page)?.unwrap_or(0);
     let read = ends_with_a_read(files);
-    Ok(format!(in alloc; "{there} {not} {digest} {none} {read}")?)
+    Ok(format!(in alloc; "{there} {not} {digest} {none} {mark} {read}")?)
 }
 
 #[test]
-fn a_file_is_looked_for_and_digested_without_its_bytes(rt: HostRuntime) -> Result<(), Fail> {
+fn a_file_is_looked_for_digested_and_marked_without_its_bytes(rt: HostRuntime) -> Result<(), Fail> {
     let told = looks(rt.alloc(), &mut SureFiles::new(rt.alloc()))?;
-    assert!(rt; told.as_str() == "true false true true true");
+    assert!(rt; told.as_str() == "true false true true 1 true");
     Ok(())
 }
 
 fn failed_looks(alloc: Global, files: &mut MemFiles) -> Result<String, Fail> {
     let page = path(alloc, "src/page")?;
     files.put(&page, b"abc", 1)?;
-    files.fail_at(&[1, 2, 3])?;
+    files.fail_at(&[1, 2, 3, 4])?;
     let within_failed = within(files, &page, 3) == Err(FilesError::Failed);
     let exists_failed = files.exists(&page) == Err(FilesError::Failed);
-    let digest_failed = files.digest(&page) == Err(FilesError::Failed);
+    let digest_failed = files.digest(&page) == Err(FilesError::Failed)
+        && files.mark(&page) == Err(FilesError::Failed);
     let there = files.exists(&page)?;
     let digest = is_digest_of_abc(&files.digest(&page)?);
     let whole = within(files, &page, 3)?;

@@ -9,5 +9,5 @@ returns-clause-agree c =
 
 pub returns-clause-stand : goal.returns-clause-stand
 returns-clause-stand c =
-    λ fs d t rows n settled told number rec present rests known plain short outputs h.
-    agreeing_stand fs d t rows n settled told number rec present rests known plain short outputs h
+    λ fs d t rows n settled told number rec present rests known plain outputs h.
+    agreeing_stand fs d t rows n settled told number rec present rests known plain outputs h
