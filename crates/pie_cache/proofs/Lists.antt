@@ -8,7 +8,7 @@ use Rattle.pie_record.specs.inner.Reading.{Parsed as Part}
 use Rattle.pie_store.specs.inner.Offers.{Offered}
 use Rattle.pie_cache.specs.declared.cache_fault.CacheFault.{CacheFault}
 use Rattle.pie_cache.specs.declared.cache_fault.CacheFault.TheVariants.{Entry}
-use Rattle.pie_cache.specs.Texts.{enc_entry, IsEntry}
+use Rattle.pie_cache.specs.inner.Texts.{enc_entry, IsEntry}
 use Rattle.pie_cache.specs.inner.Faults.{NoneInFront}
 use Rattle.pie_cache.specs.inner.Reading.{Parsed, then_on, placed, part_at, entry_part, some_at}
 use Rattle.pie_cache.proofs.Parts.{entry_codec}

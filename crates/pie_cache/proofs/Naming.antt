@@ -9,7 +9,7 @@ use Rattle.hex.specs.Hex.{lower_digits, encode_with, encode_lower}
 use Rattle.hex.proofs.HexLemmas.{length-encode_with}
 use Rattle.pie_base.specs.Path.{same_text, is_slash, is_control, segments, is_segment, is_path}
 use Rattle.pie_value.proofs.Taking.{IsBytes}
-use Rattle.pie_cache.specs.Places.{path_of_hash, is_in_cache, IsCachePath}
+use Rattle.pie_cache.specs.inner.Places.{path_of_hash, is_in_cache, IsCachePath}
 
 -- a byte that is no slash and no control character
 abbrev is_plain : ℕ → Bool

@@ -14,7 +14,7 @@ use Rattle.pie_record.specs.inner.Reading.{Parsed, then_on, counted_at, record_a
 use Rattle.pie_record.proofs.RecordCodec.{record_codec}
 use Rattle.pie_record.proofs.Steps.{pair, then_ok, same_value, same_rest, told_ok, told_on, guard_ok, guard_on, Codec, step}
 use Rattle.pie_store.specs.inner.Offers.{Offered}
-use Rattle.pie_cache.specs.Texts.{enc_entry, AreContents, IsEntry}
+use Rattle.pie_cache.specs.inner.Texts.{enc_entry, AreContents, IsEntry}
 use Rattle.pie_cache.specs.inner.Reading.{hashed, content_at, contents_at, entry_part}
 
 -- ---- contents

@@ -15,7 +15,7 @@ use Rattle.pie_store.specs.declared.offers.Offer.{Offer}
 use Rattle.pie_store.specs.inner.Offers.{Offered, offered}
 use Rattle.pie_cache.specs.declared.cache_fault.CacheFault.{CacheFault}
 use Rattle.pie_cache.specs.declared.cache_fault.CacheFault.TheVariants.{Short, Magic, Version, Digest, Count, Entry, Rest, OutOfMemory}
-use Rattle.pie_cache.specs.Texts.{magic, enc_entry, enc_body, IsCount, IsEntry, IsCacheText}
+use Rattle.pie_cache.specs.inner.Texts.{magic, enc_entry, enc_body, IsCount, IsEntry, IsCacheText}
 use Rattle.pie_cache.specs.inner.Agreement.{AgreesWhole, Refuses}
 use Rattle.pie_cache.specs.inner.Frame.{framed, sealed}
 use Rattle.pie_cache.specs.inner.Reading.{Parsed, some_at, closed, then_closed, is_count, counted_says, body_says, on_body, cache_says}

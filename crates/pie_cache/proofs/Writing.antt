@@ -8,7 +8,7 @@ use Rattle.pie_value.specs.Canonical.{counted}
 use Rattle.pie_record.specs.Canonical.{enc_record}
 use Rattle.pie_store.specs.declared.offers.Offer.{Offer}
 use Rattle.pie_store.specs.inner.Offers.{Offered, offered}
-use Rattle.pie_cache.specs.Texts.{magic, enc_entry, enc_body, AreContents, IsEntry}
+use Rattle.pie_cache.specs.inner.Texts.{magic, enc_entry, enc_body, AreContents, IsEntry}
 use Rattle.pie_cache.specs.inner.Contents.{enc_offer, IsKeptOffer, IsTrueOffer, IsShort}
 
 -- what is written of things is what is written of what they stand for

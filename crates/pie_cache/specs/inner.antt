@@ -3,5 +3,7 @@ pub mod Agreement
 pub mod Contents
 pub mod Faults
 pub mod Frame
+pub mod Places
 pub mod Reading
 pub mod Stored
+pub mod Texts

@@ -2,7 +2,7 @@
 ghost use Rattle.std.specs.Prelude.{◌≡◌, ◌≤◌, List, length, map, All, IfOk, []};
 ghost use Rattle.pie_store.specs.inner.Offers.{Offered, offered};
 ghost use Rattle.pie_cache.specs.declared.cache_fault.CacheFault.{CacheFault};
-ghost use Rattle.pie_cache.specs.Texts.{IsCount, IsKept, IsCacheText};
+ghost use Rattle.pie_cache.specs.inner.Texts.{IsCount, IsKept, IsCacheText};
 ghost use Rattle.pie_cache.specs.inner.Agreement.{AgreesWhole, Refuses};
 ghost use Rattle.pie_cache.specs.inner.Faults.{HasFault, RefusesWith, TellsFault};
 ghost use Rattle.pie_cache.specs.inner.Reading.{cache_says, body_says, some_at, then_closed, is_count as specs_is_count};

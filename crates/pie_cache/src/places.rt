@@ -2,7 +2,7 @@
 ghost use Rattle.std.specs.Prelude.{◌≡◌, ◌++◌, IfOk};
 ghost use Rattle.sha2.specs.Sha256.{sha256};
 ghost use Rattle.pie_value.specs.Canonical.{enc_task, IsEncodableTask};
-ghost use Rattle.pie_cache.specs.Places.{cache_path as specs_cache_path, path_of_hash, IsCachePath};
+ghost use Rattle.pie_cache.specs.inner.Places.{cache_path as specs_cache_path, path_of_hash, IsCachePath};
 
 use pie_base::{OutOfMemory, Path};
 use pie_stamp::hash_of;

@@ -4,7 +4,7 @@ ghost use Rattle.std.specs.List.{flat_map};
 ghost use Rattle.pie_value.specs.Canonical.{be32, counted};
 ghost use Rattle.pie_record.specs.Canonical.{IsTrueRecord, IsStorable};
 ghost use Rattle.pie_store.specs.inner.Offers.{offered};
-ghost use Rattle.pie_cache.specs.Texts.{enc_entry, enc_body, IsCount, IsKept, IsEntry, IsCacheText};
+ghost use Rattle.pie_cache.specs.inner.Texts.{enc_entry, enc_body, IsCount, IsKept, IsEntry, IsCacheText};
 ghost use Rattle.pie_cache.specs.inner.Contents.{enc_offer, IsKeptOffer, IsTrueOffer, IsShort};
 ghost use Rattle.pie_cache.specs.inner.Reading.{cache_says};
 

@@ -4,8 +4,8 @@ use Rattle.std.specs.Global.{Global}
 use Rattle.pie_record.specs.Canonical.{IsTrueRecord}
 use Rattle.pie_store.specs.declared.offers.Offer.{Offer}
 use Rattle.pie_store.specs.inner.Offers.{offered}
-use Rattle.pie_cache.specs.Places.{IsCachePath, is_in_cache}
-use Rattle.pie_cache.specs.Texts.{enc_entry, IsKept}
+use Rattle.pie_cache.specs.inner.Places.{IsCachePath, is_in_cache}
+use Rattle.pie_cache.specs.inner.Texts.{enc_entry, IsKept}
 
 -- the bytes of an entry
 abbrev pub enc_offer : Offer → List ℕ

@@ -7,7 +7,7 @@ use Rattle.pie_store.specs.declared.offers.Offer.{Offer}
 use Rattle.pie_store.specs.inner.Offers.{Offered}
 use Rattle.pie_cache.specs.declared.cache_fault.CacheFault.{CacheFault}
 use Rattle.pie_cache.specs.declared.cache_fault.CacheFault.TheVariants.{Short, Magic, Version, Digest, Count, Entry, Rest, OutOfMemory}
-use Rattle.pie_cache.specs.Texts.{magic, enc_entry, IsCount, IsEntry}
+use Rattle.pie_cache.specs.inner.Texts.{magic, enc_entry, IsCount, IsEntry}
 
 -- no entry stands in front
 abbrev pub NoneInFront : List ℕ → Type 0

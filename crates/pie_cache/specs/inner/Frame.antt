@@ -5,7 +5,7 @@ use Rattle.std.specs.Str.{bytes_eq}
 use Rattle.sha2.specs.Sha256.{sha256}
 use Rattle.pie_cache.specs.declared.cache_fault.CacheFault.{CacheFault}
 use Rattle.pie_cache.specs.declared.cache_fault.CacheFault.TheVariants.{Short, Magic, Version, Digest}
-use Rattle.pie_cache.specs.Texts.{magic}
+use Rattle.pie_cache.specs.inner.Texts.{magic}
 
 -- the bytes before the last 32, where these are their SHA-256
 abbrev pub sealed : List ℕ → Result (List ℕ) CacheFault

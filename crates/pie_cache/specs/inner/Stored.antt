@@ -6,7 +6,7 @@ use Rattle.pie_files.specs.declared.files.Within.TheVariants.{Absent, Long, Whol
 use Rattle.pie_store.specs.inner.Offers.{Offered}
 use Rattle.pie_value.specs.declared.task.Task.{Task}
 use Rattle.pie_cache.specs.declared.cache_fault.CacheFault.{CacheFault}
-use Rattle.pie_cache.specs.Places.{cache_path}
+use Rattle.pie_cache.specs.inner.Places.{cache_path}
 use Rattle.pie_cache.specs.inner.Reading.{cache_says}
 
 -- the entries that were read, or none

@@ -1,7 +1,7 @@
 use Rattle.std.proofs.Common.{◌≡◌, subst, sym, rules}
 use Rattle.std.specs.Prelude.{IsTrue}
 use Rattle.pie_base.specs.Path.{is_path}
-use Rattle.pie_cache.specs.Places.{path_of_hash}
+use Rattle.pie_cache.specs.inner.Places.{path_of_hash}
 use Rattle.pie_cache.proofs.Naming.{hash_path}
 use Rattle.pie_cache.proofs.places.at_hash.Goals as goal
 

@@ -2,7 +2,7 @@ use Rattle.std.proofs.Common.{sym, subst, rules}
 use Rattle.std.specs.Prelude.{map}
 use Rattle.std.proofs.lemmas.List.{length-map}
 use Rattle.pie_store.specs.inner.Offers.{offered}
-use Rattle.pie_cache.specs.Texts.{IsCount, IsCacheText}
+use Rattle.pie_cache.specs.inner.Texts.{IsCount, IsCacheText}
 use Rattle.pie_cache.proofs.Wholes.{read_again}
 use Rattle.pie_cache.proofs.Writing.{all_entries}
 use Rattle.pie_cache.proofs.writer.encode_entries.Goals as goal
