@@ -1,0 +1,9 @@
+pub mod Steps
+pub mod Turns
+pub mod Parts
+pub mod Lists
+pub mod Wholes
+pub mod Faulting
+pub mod Coming
+pub mod Writing
+pub mod Naming

@@ -1,0 +1,43 @@
+//! What stands around the entries of a cache file: four fixed bytes, the version, and the SHA-256 of all before it.
+ghost use Rattle.std.specs.Prelude.{◌≡◌, ◌+◌, ◌≤◌, length, IfOk};
+ghost use Rattle.pie_cache.specs.inner.Frame.{FrameAgrees, framed, sealed};
+
+use crate::CacheFault;
+use pie_stamp::hash_of;
+
+pub(crate) const MAGIC: &[u8; 4] = b"PIEC";
+
+/// The fewest bytes of a cache file's frame with a number of entries.
+const LEAST: usize = 38;
+
+const DIGEST: usize = 32;
+
+// The bytes before the digest, where they have a good frame.
+pub(crate) fn body_of(bytes: &[u8]) -> Result<&[u8], CacheFault>
+    ensures body { FrameAgrees result (framed bytes.now) }
+    ensures long { IfOk result (λ body. 6 ≤ length body.now) }
+{
+    if bytes.len() < LEAST {
+        return Err(CacheFault::Short);
+    }
+    if &bytes[..4] != MAGIC.as_slice() {
+        return Err(CacheFault::Magic);
+    }
+    if bytes[4] != 1 {
+        return Err(CacheFault::Version);
+    }
+    sealed_body(bytes)
+}
+
+// The bytes before the digest, where it is theirs.
+fn sealed_body(bytes: &[u8]) -> Result<&[u8], CacheFault>
+    requires { 32 ≤ length bytes.now }
+    ensures body { FrameAgrees result (sealed bytes.now) }
+    ensures long { IfOk result (λ body. length body.now + 32 ≡ length bytes.now) }
+{
+    let (body, digest) = bytes.split_at(bytes.len() - DIGEST);
+    if hash_of(body).as_slice() != digest {
+        return Err(CacheFault::Digest);
+    }
+    Ok(body)
+}
