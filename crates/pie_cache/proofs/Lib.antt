@@ -7,3 +7,5 @@ pub mod Faulting
 pub mod Coming
 pub mod Writing
 pub mod Naming
+pub mod Fetching
+pub mod Changing

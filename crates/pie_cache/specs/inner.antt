@@ -1,5 +1,6 @@
 -- Definitions that no clause of `pie_cli::run` rests on: what crates say to each other, and the steps of this one.
 pub mod Agreement
+pub mod Changes
 pub mod Contents
 pub mod Faults
 pub mod Frame
