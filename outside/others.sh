@@ -65,8 +65,14 @@ test_a_big_source_is_looked_at_without_memory_for_it() {
   status=$?
   ended 0
   holds out/page there
-  pipeline 'func main() -> unit { write(path("out/page"), get(read(path("src/big")))); }'
+  pipeline 'func main() -> unit { write(path("out/page"), get(read(path("src/big") by mark))); }'
   (ulimit -v 400000 && timeout 20 "$program" fresh </dev/null >../printed 2>../told)
+  status=$?
+  ended 1
+  printed 'refused fault main(): Big'
+  # by hash it is hashed, as a look at its digest hashes it
+  pipeline 'func main() -> unit { write(path("out/page"), get(read(path("src/big")))); }'
+  (ulimit -v 400000 && timeout 300 "$program" fresh </dev/null >../printed 2>../told)
   status=$?
   ended 1
   printed 'refused fault main(): Big'
