@@ -10,6 +10,7 @@ ghost use Rattle.pie_core_laws.specs.Joins.{HasNames};
 ghost use Rattle.pie_bottomup.specs.declared.state.First.TheVariants.{Tests, Done};
 ghost use Rattle.pie_bottomup.specs.inner.States.{IsCore, IsPlanOf, MayBegin, room};
 ghost use Rattle.pie_bottomup.specs.inner.Loaded.{BeginsExact};
+ghost use Rattle.pie_bottomup.specs.inner.Ran.{BeginsKnowing};
 
 use crate::plan::Plan;
 use crate::state::{Core, First};
@@ -50,6 +51,7 @@ impl<'a> Core<'a> {
         ensures first { IfOk result (λ c. c.first ≡ Done → ⊥) }
         ensures code { IfOk result (λ c. c.plan.code.now ≡ code.now) }
         ensures exact { IfOk result (BeginsExact image.funcs digests.now image.rows changes.now) }
+        ensures knows { IfOk result (BeginsKnowing image.funcs digests.now image.rows changes.now) }
     {
         let named = names_of(alloc, changes)?;
         let roots = copies(alloc, roots)?;

@@ -13,6 +13,7 @@ use Rattle.pie_record.specs.declared.records.Records.{Records}
 use Rattle.pie_record.specs.declared.task_record.TaskRecord.{TaskRecord}
 use Rattle.pie_record.specs.inner.Records.{record_of}
 use Rattle.pie_store.specs.Canonical.{names_of}
+use Rattle.pie_tables.specs.declared.tables.Tables.{Tables}
 use Rattle.pie_tables.specs.Tabled.{IsTables, HasFailed}
 use Rattle.pie_old.specs.declared.old.Old.{Old}
 use Rattle.pie_old.specs.inner.Rows.{IsRowOf}
@@ -171,21 +172,30 @@ Nearer bound c (StartAfresh cause) = Unit {0}
 abbrev pub room : Core → ℕ
 room c = begins c.frames.walk
 
--- a build stays that of its plan, and no more tasks may be started than before
+-- each task keeps its number; one that has a record has one still, and one that ran has run
+pub record KeepsTasks (old new : Tables) : Type 0 where
+  pub names : (n : ℕ) (t : Task) → slice_get old.names n ≡ Some t → slice_get new.names n ≡ Some t
+  pub recorded : (n : ℕ) → IsSome (record_of old.records n) → IsSome (record_of new.records n)
+  pub ran : (n : ℕ) → IsMarked old.ran.items n → IsMarked new.ran.items n
+
+-- a build stays that of its plan, with its tasks, and no more tasks may be started than before
 pub record Keeps (old new : Core) : Type 0 where
   pub plan : new.plan ≡ old.plan
   pub room : room new ≤ room old
+  pub tasks : KeepsTasks old.tables new.tables
 
 -- each task that was started takes of that
 pub record Spends (old new : Core) (runs_old runs_new : List Task) : Type 0 where
   pub plan : new.plan ≡ old.plan
   pub room : length runs_new + room new ≤ length runs_old + room old
+  pub tasks : KeepsTasks old.tables new.tables
 
 -- the same of a task that may be started
 pub record SpendsOne (old new : Core) (runs_old runs_new : List Task) : Type 0 where
   pub plan : new.plan ≡ old.plan
   pub room : room new ≤ room old
   pub one : length runs_new ≤ length runs_old + 1
+  pub tasks : KeepsTasks old.tables new.tables
 
 -- ---- the task in hand
 

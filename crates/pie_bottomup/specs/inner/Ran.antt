@@ -1,0 +1,65 @@
+-- Which tasks a build by what changed runs, and why.
+use Rattle.std.specs.Prelude.{◌≡◌, ◌⊎◌, ℕ, ◌<◌, ◌≤◌, Bool, false, List, [], ◌∷◌, ◌++◌, length, Option, Some, IsSome, slice_get, slice_index_or}
+use Rattle.pie_value.specs.declared.task.Task.{Task}
+use Rattle.pie_value.specs.Canonical.{enc_task}
+use Rattle.pie_files.specs.Directory.{Directory}
+use Rattle.pie_graph.specs.Numbers.{IsMarked}
+use Rattle.pie_record.specs.declared.task_record.TaskRecord.{TaskRecord}
+use Rattle.pie_record.specs.inner.Records.{record_of}
+use Rattle.pie_tables.specs.declared.tables.Tables.{Tables}
+use Rattle.pie_old.specs.inner.Code.{is_same_code}
+use Rattle.pie_model.specs.inner.Reasons.{RunReason}
+use Rattle.pie_model_pipeline.specs.World.{world}
+use Rattle.pie_earlier_laws.specs.Functions.{digest_under}
+use Rattle.pie_core_laws.specs.Update.{Update, present, old_record}
+use Rattle.pie_bottomup.specs.declared.state.Core.{Core}
+use Rattle.pie_bottomup.specs.declared.state.First.TheVariants.{Tests}
+use Rattle.pie_bottomup.specs.inner.Exact.{IsSiteNow}
+use Rattle.pie_bottomup.specs.inner.Going.{IsBuildNow, StandsWhole}
+use Rattle.pie_bottomup.specs.inner.Loaded.{IsStoredIn}
+
+-- an old task has a number below this, and a record
+pub record IsKnownAs (t : Tables) (count : ℕ) (bytes : List ℕ) : Type 0 where
+  pub number : ℕ
+  pub task : Task
+  pub old : number < count
+  pub named : slice_get t.names number ≡ Some task
+  pub is : enc_task task ≡ bytes
+  pub recorded : IsSome (record_of t.records number)
+
+-- the tasks of the earlier build have the first numbers, and of each it is known whether its function has one digest then and now
+pub record KnowsCode (u : Update) (funcs digests : List (List ℕ × List ℕ)) (same : List Bool) (t : Tables) : Type 0 where
+  pub few : length same ≤ length t.names
+  pub each : (n : ℕ) (task : Task) → n < length same → slice_get t.names n ≡ Some task
+      → slice_index_or same n false ≡ is_same_code funcs digests task.func
+  pub olds : (bytes : List ℕ) → IsSome (old_record u bytes) → IsKnownAs t (length same) bytes
+
+-- so a build begins, whatever the update is, unless it has too many old tasks
+abbrev pub BeginsKnowing : List (List ℕ × List ℕ) → List (List ℕ × List ℕ) → List TaskRecord → List (List ℕ) → Core → Type 0
+BeginsKnowing funcs digests kept changes c =
+    (u : Update) → IsStoredIn u funcs digests kept changes → c.first ≡ Tests → KnowsCode u funcs digests c.plan.same.items c.tables
+
+-- a task has a reason to run: it is new, its code is another, or something that its record observed or wrote is
+abbrev pub HasReason : Update → List (List ℕ × List ℕ) → List (List ℕ × List ℕ) → Task → Type 0
+HasReason u funcs digests t =
+    RunReason world (present u) u.directory (old_record u (enc_task t)) (digest_under funcs t.func) (digest_under digests t.func)
+
+-- a task that hadn't run starts to run, for a reason
+pub record StartsFor (u : Update) (funcs digests : List (List ℕ × List ℕ)) (old new : Tables) (before after : List Task) : Type 0 where
+  pub number : ℕ
+  pub task : Task
+  pub named : slice_get old.names number ≡ Some task
+  pub rested : slice_index_or old.ran.items number false ≡ false
+  pub ran : IsMarked new.ran.items number
+  pub added : after ≡ before ++ task ∷ []
+  pub reason : HasReason u funcs digests task
+
+-- no task starts to run, or one does for a reason
+abbrev pub RunsFor : Update → List (List ℕ × List ℕ) → List (List ℕ × List ℕ) → Tables → Tables → List Task → List Task → Type 0
+RunsFor u funcs digests old new before after = (after ≡ before) ⊎ StartsFor u funcs digests old new before after
+
+-- so it is in a step over these files
+abbrev pub StepsFor : Option Directory → Core → Core → List Task → List Task → Type 0
+StepsFor held old new before after =
+    (u : Update) (funcs digests : List (List ℕ × List ℕ)) → IsBuildNow u old.plan → IsSiteNow u held → StandsWhole u old
+    → KnowsCode u funcs digests old.plan.same.items old.tables → RunsFor u funcs digests old.tables new.tables before after
