@@ -1,9 +1,6 @@
--- What a task was told, and how a step keeps a build exact.
-use Rattle.std.proofs.Common.{◌≡◌, ℕ, Bool, true, false, List, [], ◌∷◌, ◌++◌, map, Option, None, Some, Result, Ok, Err, refl, sym, ap, ◌∙◌, subst, inl, inr}
-use Rattle.std.specs.Prelude.{IfOk, OnOk}
-use Rattle.std.specs.List.{Contains}
-use Rattle.std.proofs.lemmas.List.Elements.{All-contains}
-use Rattle.pie_base.specs.Path.{is_out}
+-- What a task was told, and that a build stays exact while it looks and writes.
+use Rattle.std.proofs.Common.{◌≡◌, ℕ, Bool, true, false, List, [], ◌∷◌, ◌++◌, map, Option, None, Some, Result, Ok, Err, refl, sym, ap, ◌∙◌, subst}
+use Rattle.std.specs.Prelude.{OnOk}
 use Rattle.pie_base.specs.declared.fault.FaultKind.{FaultKind}
 use Rattle.pie_value.specs.Limits.{is_small}
 use Rattle.pie_value.specs.declared.stamp.Stamp.{Stamp}
@@ -16,7 +13,6 @@ use Rattle.pie_record.specs.declared.dep.DepKind.{DepKind}
 use Rattle.pie_record.specs.declared.dep.DepKind.TheVariants as kinds
 use Rattle.pie_store.specs.Canonical.{required_on}
 use Rattle.pie_view.specs.Content.{Staged, content}
-use Rattle.pie_walk.specs.Marks.{IsSettled}
 use Rattle.pie_walk.proofs.StateSteps.{top_runs}
 use Rattle.pie_running.specs.declared.frame.Told.{Told}
 use Rattle.pie_running.specs.declared.frame.Told.TheVariants.{Goes, Fails}
@@ -32,16 +28,11 @@ use Rattle.pie_core_laws.specs.Exact.{runs}
 use Rattle.pie_bottomup.specs.declared.state.Core.{Core}
 use Rattle.pie_bottomup.specs.declared.state.First.{First}
 use Rattle.pie_bottomup.specs.declared.state.First.TheVariants.{Tests, Done}
-use Rattle.pie_bottomup.specs.declared.state.InHand.{InHand}
-use Rattle.pie_bottomup.specs.declared.state.Turn.{Turn}
-use Rattle.pie_bottomup.specs.inner.Recorded.{HasEnded}
-use Rattle.pie_bottomup.specs.inner.States.{IsOwn, IsCore, IsInHand, RunsOrRests}
-use Rattle.pie_bottomup.specs.inner.Loaded.{TestsExact}
-use Rattle.pie_bottomup.specs.inner.Exact.{IsPlanNow, BeginsAsOld, HoldsAsOld, IsExactCore, EndRight, TurnIsExact, StandsExact}
-use Rattle.pie_bottomup.specs.inner.Exact.{WalksExact, RunsExact, AsksExact, StepsExact, OwnsTold, ToldExact, FetchesExact, FilesExact, Lacks}
+use Rattle.pie_bottomup.specs.inner.States.{IsOwn}
+use Rattle.pie_bottomup.specs.inner.Exact.{IsExactCore}
+use Rattle.pie_bottomup.specs.inner.Exact.{OwnsTold, FetchesExact, FilesExact, Lacks}
 use Rattle.pie_bottomup.proofs.Owning.{same_own}
 use Rattle.pie_bottomup.proofs.ExactEvents.{SameBeside, staged_exact, puts_beside, lacking_may}
-use Rattle.pie_bottomup.proofs.ExactSteps.{if_ok_more, turn_exact}
 
 -- ---- the notes of a task that fails
 
@@ -123,92 +114,10 @@ written_exact u old task from later w path bytes b t holds own is e =
     beside true (Fails n k) h = absurd h
     beside false s h = all_same h.0
 
-module _ {E : Type 0} (held : Option Directory) (old new : Core) (task : TaskNo) (from : ℕ) (r : Result Turn E) where
-  pub told_asks : (t : Told) → ((d : Directory) → held ≡ Some d → OwnsTold old task from t) → IfOk r (ToldExact old task from t new)
-      → IfOk r (AsksExact held old task.0 from new)
-  told_asks t owns =
-      if_ok_more (ToldExact old task from t new) (AsksExact held old task.0 from new)
-      (λ turn told u site plan e begins right. told (owns u.directory site.holds) u plan e begins right) r
-
-  -- nothing was asked
-  pub runs_asks : IfOk r (RunsExact old task.0 from new) → IfOk r (AsksExact held old task.0 from new)
-  runs_asks =
-      if_ok_more (RunsExact old task.0 from new) (AsksExact held old task.0 from new)
-      (λ turn goes u site plan e begins right. goes u plan e begins right) r
-
-  -- the file that it is about to look at was staged before
-  pub fetched_asks : (now : Option Directory) (mid : Core) (n : Noted) → now ≡ held → mid ≡ record old { stage = mid.stage } → Holds task old.frames
-      → IsOwn old task from n → FetchesExact held old task.0 from mid → IfOk r (AsksExact now mid task.0 from new)
-      → IfOk r (AsksExact held old task.0 from new)
-  fetched_asks now mid n here same holds own fetches =
-      if_ok_more (AsksExact now mid task.0 from new) (AsksExact held old task.0 from new)
-      (λ turn asks u site plan e begins right.
-      asks u (record { holds = here ∙ site.holds; apart = site.apart; besides = site.besides })
-      (subst (λ (z : Core). IsPlanNow u z.plan) (sym same) plan)
-      (fetches u site holds.taken.stands (λ k h. settled k (subst (λ (ns : List ℕ). Contains ns k) own.row.same h)) e)
-      (subst (λ (z : Core). BeginsAsOld z.tables z.frames.walk.rows task.0 from) (sym same) begins) right) r
-    where
-      settled : (k : ℕ) → Contains n.needs k → IsSettled old.frames.walk.marks k
-      settled k h = (All-contains (HasEnded old.tables.records old.frames.walk.marks) n.needs k own.noted.ended h).settled
-
-  -- it wrote
-  pub written_asks : (later : Staged) (w : Waiting) (path bytes : List ℕ) (t : Told) → Holds task old.frames → IsOwn old task from w.notes
-      → IsToldWrite (is_out path) w old.stage later path bytes t → IfOk r (ToldExact (record old { stage = later }) task from t new)
-      → IfOk r (AsksExact held old task.0 from new)
-  written_asks later w path bytes t holds own is =
-      if_ok_more (ToldExact (record old { stage = later }) task from t new) (AsksExact held old task.0 from new)
-      (λ turn told u site plan e begins right.
-      told (written_owns old task from later w path bytes (is_out path) t own is) u plan
-      (written_exact u old task from later w path bytes (is_out path) t holds own is e) begins right) r
-
 -- ---- steps
 
 pub apart_firsts : (f : First) → f ≡ Tests → f ≡ Done → ⊥
 apart_firsts f tests done = let clash : Tests ≡ Done = sym tests ∙ done in cc
-
-module _ {E : Type 0} (held : Option Directory) (old new : Core) (r : Result Turn E) where
-  pub walk_steps : old.first ≡ Done → IfOk r (WalksExact old new) → IfOk r (StepsExact held old new)
-  walk_steps done =
-      if_ok_more (WalksExact old new) (StepsExact held old new) (λ turn walks u site plan stands right. by turn u plan right walks stands) r
-    where
-      by : (t : Turn) (u : Update) → IsPlanNow u old.plan → EndRight u old new → WalksExact old new t → StandsExact u old → TurnIsExact u new t
-      by t u plan right walks (inl loaded) = absurd (loaded.0 done)
-      by t u plan right walks (inr e) = walks u plan e right
-
-  pub test_steps : old.first ≡ Tests → OnOk r (TestsExact held old new) → IfOk r (StepsExact held old new)
-  test_steps first tests = all r tests
-    where
-      by : (t : Turn) (u : Update) → IsPlanNow u old.plan → held ≡ Some u.directory → TestsExact held old new → StandsExact u old → TurnIsExact u new t
-      by t u plan holds tests (inl loaded) = turn_exact u new t (tests u plan holds (loaded.1 first))
-      by t u plan holds tests (inr e) = absurd (apart_firsts old.first first e.tested)
-
-      all : (s : Result Turn E) → OnOk s (TestsExact held old new) → IfOk s (StepsExact held old new)
-      all (Ok t) tests = λ u site plan stands right. by t u plan site.holds tests stands
-      all (Err x) tests = tt
-
-  -- the task in hand goes on
-  pub event_steps : (h : InHand) → IsCore old → old.hand ≡ Some h → IsInHand old h → IfOk r (AsksExact held (record old { hand = None }) h.no.0 h.from new)
-      → IfOk r (StepsExact held old new)
-  event_steps h core some is =
-      if_ok_more (AsksExact held (record old { hand = None }) h.no.0 h.from new) (StepsExact held old new)
-      (λ turn asks u site plan stands right.
-      let e = exact u core stands in
-      asks u site plan (record { tested = e.tested; are = e.are; parked = e.parked; hand = tt })
-      (subst (HoldsAsOld old.tables old.frames.walk.rows) some e.hand)
-      (right h.no.0 (inl (ap runs (top_runs old.frames.walk h.no is.holds.top is.holds.taken.stands.holds))))) r
-    where
-      none_some : None ≡ Some h → ⊥
-      none_some e = cc
-
-      exact : (u : Update) → IsCore old → StandsExact u old → IsExactCore u old
-      exact u (inl untested) (inl loaded) = absurd (none_some (sym untested.start.hand ∙ some))
-      exact u (inr going) (inl loaded) = absurd (loaded.0 going.site.tested)
-      exact u c (inr e) = e
-
--- the task in hand was taken
-pub in_hand : (c : Core) (h : InHand) → IsCore c → c.hand ≡ Some h → IsInHand c h
-in_hand c h (inl untested) some = absurd (let clash : None ≡ Some h = sym untested.start.hand ∙ some in cc)
-in_hand c h (inr going) some = subst (RunsOrRests c) some going.state
 
 -- ---- the file that a task is about to look at
 

@@ -6,7 +6,7 @@ use Rattle.std.specs.Cmp.Lexicographic.{slice_cmp}
 use Rattle.std.specs.List.{All, list_any}
 use Rattle.std.proofs.lemmas.Bool.{cases_lt}
 use Rattle.std.proofs.lemmas.List.{length-map, get_or-map, get_or_past, get_or-replicate, length-replicate, take_more}
-use Rattle.std.proofs.lemmas.List.Elements.{All-nil}
+use Rattle.std.proofs.lemmas.List.Elements.{All-nil, All-contains}
 use Rattle.std.proofs.lemmas.Option.{slice_get_within, get_or_from_slice_get}
 use Rattle.pie_base.specs.Path.{is_below}
 use Rattle.pie_value.specs.declared.task.Task.{Task}
@@ -14,7 +14,7 @@ use Rattle.pie_value.specs.declared.stamp.Stamp.{Stamp}
 use Rattle.pie_value.specs.Canonical.{enc_task}
 use Rattle.pie_graph.specs.Numbers.{IsMarked}
 use Rattle.pie_graph.specs.Rows.{row_at}
-use Rattle.pie_record.specs.Canonical.{IsStorable}
+use Rattle.pie_record.specs.Canonical.{IsStorable, IsTrueRecord}
 use Rattle.pie_record.specs.declared.dep.DepKind.{DepKind}
 use Rattle.pie_record.specs.declared.dep.DepOn.{DepOn}
 use Rattle.pie_record.specs.declared.dep.DepOn.TheVariants.{File, Called}
@@ -35,7 +35,7 @@ use Rattle.pie_model.specs.Paths.{among}
 use Rattle.pie_model_pipeline.specs.Rows.{record_of as model_record}
 use Rattle.pie_model_pipeline.specs.World.{world}
 use Rattle.pie_builder_laws.specs.Views.{RowIs}
-use Rattle.pie_builder_laws.proofs.Naming.{canonical_at}
+use Rattle.pie_builder_laws.proofs.Naming.{canonical_at, placed}
 use Rattle.pie_earlier_laws.specs.Left.{AreThere}
 use Rattle.pie_earlier_laws.proofs.Leaving.{old_writes_there}
 use Rattle.pie_earlier_laws.proofs.Pipelines.{write_once}
@@ -78,8 +78,8 @@ code_marked funcs digests names same e n t flag named =
     ap f (sym (get_or_from_slice_get names n t t named)) ∙ at ∙ here
 
 pub loaded_core : (funcs digests : List (List ℕ × List ℕ)) (kept : List TaskRecord) (changes : List (List ℕ)) (c : Core) → All IsStorable kept
-    → (c.first ≡ Tests → IsLoadedFrom kept c) → IsUnmet c → IsInformedOf funcs digests changes c → BeginsExact funcs digests kept changes c
-loaded_core funcs digests kept changes c storable loaded unmet informed = λ u stored first.
+    → All IsTrueRecord kept → (c.first ≡ Tests → IsLoadedFrom kept c) → IsUnmet c → IsInformedOf funcs digests changes c → BeginsExact funcs digests kept changes c
+loaded_core funcs digests kept changes c storable parts loaded unmet informed = λ u stored first.
     let from = loaded first in
     record {
       loaded = loaded_begin u kept c.tables c.frames.walk (record {
@@ -102,6 +102,7 @@ loaded_core funcs digests kept changes c storable loaded unmet informed = λ u s
             stored.meaning t (canonical_at c.tables.names unmet.tasks n t at)
             (same_codes funcs digests t.func (code_marked funcs digests c.tables.names c.plan.same.items informed.same n t flag at));
       };
+      parts = λ n rec is. All-contains IsTrueRecord kept rec parts (placed kept n rec (sym (from.tables.records n) ∙ is));
       unstarted = λ n. record {
         rested = ap (λ (flags : List Bool). slice_index_or flags n false) from.tables.ran ∙ unflagged (length kept) n;
         unstaged = λ path. ap (λ staged. content staged n path) unmet.stage;
@@ -186,6 +187,7 @@ module _ (u : Update) (old new : Core) (plan : IsPlanNow u old.plan) (l : IsLoad
     searched = λ n rec kept un flag touched.
         known_same new.named rec
         ((held n (inside n rec kept) rec (kept_now n rec kept) (subst (λ p. IsMarked p.same.items n) (sym learns.plan) flag)).searched touched);
+    parts = λ n rec kept un. l.parts n rec kept;
   }
 
   there_now : (n : ℕ) (rec : TaskRecord) → is_busy new.frames.walk n ≡ false → kept_of old.tables.records n ≡ Some rec

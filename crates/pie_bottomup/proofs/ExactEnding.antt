@@ -42,7 +42,7 @@ use Rattle.pie_bottomup.specs.declared.state.Core.{Core}
 use Rattle.pie_bottomup.specs.inner.Finished.{HasFinished, HasSameEdges, end_row}
 use Rattle.pie_bottomup.specs.inner.Finished as told
 use Rattle.pie_bottomup.specs.inner.Exact.{IsPlanNow, KnowsTouched, AreWritten, BeginsAsOld, WaitsAsOld, HoldsAsOld, AreExact}
-use Rattle.pie_bottomup.specs.inner.Exact.{IsExactCore, IsTakenExact, EndedRight, EndsRight}
+use Rattle.pie_bottomup.specs.inner.Exact.{IsExactCore, IsTakenExact, EndedRight}
 use Rattle.pie_bottomup.proofs.Exactly.{nothing_staged, marked_apart}
 use Rattle.pie_bottomup.proofs.Settling.{put_at, put_other}
 
@@ -134,6 +134,7 @@ module _ (s after : WalkState) (n : ℕ) (one : SettlesOne s after n) where
       means = λ k x flag at. known.meaning.means k x flag (ap (λ (ns : List Task). slice_get ns k) (sym names) ∙ at);
     };
     searched = λ k rec kept un flag. known.searched k rec (sym (records k (not_it k un)) ∙ kept) (λ is. un (stays_settled k is)) flag;
+    parts = λ k rec kept un. known.parts k rec (sym (records k (not_it k un)) ∙ kept) (λ is. un (stays_settled k is));
   }
 
 -- ---- those that wait beside it
@@ -299,27 +300,6 @@ module _ (u : Update) (c : Core) (f : Frames) (t : Tables) (task : TaskNo) (from
         (waits_apart c.tables t c.frames task f.walk.rows holds names put_there rows_apart e.parked);
     hand = subst (HoldsAsOld t f.walk.rows) (sym free) tt;
   }
-
-  -- so it is settled, and has its record
-  pub ended_marked : IsSettled f.walk.marks task.0
-  ended_marked = one.marked
-
-  pub ended_kept : kept_of t.records task.0 ≡ Some rec
-  ended_kept = put_here
-
--- so it is with a build that is another by its walk and its tables
-pub ends_exact : (u : Update) (c new : Core) (task : TaskNo) (from : ℕ) (rec : TaskRecord) → IsPlanNow u c.plan → IsExactCore u c → Holds task c.frames
-    → Rests new.frames → new ≡ record c { frames = new.frames; tables = new.tables } → new.tables.ran.items ≡ c.tables.ran.items
-    → new.frames.parked ≡ c.frames.parked → c.hand ≡ None → HasFinished c new task.0 from rec → slice_get c.tables.names task.0 ≡ Some rec.task
-    → BeginsAsOld c.tables c.frames.walk.rows task.0 from → RowIs c.tables.names (end_row c.frames.walk task.0 from rec) (Some rec)
-    → EndsRight u new task.0 → IsExactCore u new
-ends_exact u c new task from rec plan e holds rests same ran parked free has named begins row right =
-    let now = subst (λ (z : Core). HasFinished c z task.0 from rec) same has in
-    let marked = ended_marked u c new.frames new.tables task from rec plan e holds rests has.names ran parked free now named begins row in
-    let kept = ended_kept u c new.frames new.tables task from rec plan e holds rests has.names ran parked free now named begins row in
-    subst (IsExactCore u) (sym same)
-    (ended_exact u c new.frames new.tables task from rec plan e holds rests has.names ran parked free now named begins row
-    (subst (λ (z : Core). EndedRight u z task.0 rec) same (right rec marked kept)))
 
 -- a build after three calls of which the first and the last change the walk alone
 pub ends_same : (old a b new : Core) → a ≡ record old { frames = a.frames } → b ≡ record a { frames = b.frames; tables = b.tables }

@@ -120,6 +120,7 @@ module _ (u : Update) (c : Core) (f : Frames) (t : Tables) (task : Task) (e : Is
           (ap (λ (ns : List Task). slice_get ns n) (sym names) ∙ at));
     };
     searched = λ n rec kept un flag. e.are.known.searched n rec (sym (kept_same n) ∙ kept) (λ is. un (marks_same n ∙ is)) flag;
+    parts = λ n rec kept un. e.are.known.parts n rec (sym (kept_same n) ∙ kept) (λ is. un (marks_same n ∙ is));
   }
 
   written_grown : AreWritten u t f.walk c.stage
@@ -250,6 +251,7 @@ module _ (u : Update) (c : Core) (t : Tables) (task : TaskNo) (h : InHand) (take
           means = λ n x flag at. known.meaning.means n x flag (ap (λ (ns : List Task). slice_get ns n) (sym names) ∙ at);
         };
         searched = λ n rec kept un flag. known.searched n rec (sym (kept_as n) ∙ kept) un flag;
+        parts = λ n rec kept un. known.parts n rec (sym (kept_as n) ∙ kept) un;
       }
 
   pub started_exact : h.no ≡ task → h.from ≡ length (row_at c.frames.walk.rows task.0).needs → IsExactCore u (record c { tables = t; hand = Some h })

@@ -77,6 +77,7 @@ known_on u named same t old new stays k = record {
   informed = k.informed;
   meaning = k.meaning;
   searched = λ n rec kept un flag. k.searched n rec kept (λ is. un (stays n is)) flag;
+  parts = λ n rec kept un. k.parts n rec kept (λ is. un (stays n is));
 }
 
 pub are_moved : (u : Update) (named : Named) (same : List Bool) (t : Tables) (s after : WalkState) (staged : Staged) → AreExact u named same t s staged

@@ -20,6 +20,7 @@ use Rattle.pie_bottomup.specs.inner.Recorded.{IsStill, HasOutput, IsMet}
 use Rattle.pie_bottomup.specs.inner.Running.{IsKnown, IsCaller}
 use Rattle.pie_bottomup.specs.inner.States.{IsUntested, IsAtRest, IsTested, IsDue}
 use Rattle.pie_bottomup.proofs.Going.{recorded_on, goes_marking}
+use Rattle.pie_bottomup.proofs.Keeping.{tasks_stay, keeps_then}
 
 -- what is named may be better known
 pub named_tested : (c new : Core) → new ≡ record c { named = new.named } → IsUntested c → IsTested c new
@@ -42,7 +43,7 @@ named_tested c new e is = subst (IsTested c) (sym e) (record {
   rows = refl;
   first = refl;
   nearer = omega arith;
-  keeps = record { plan = refl; room = omega arith };
+  keeps = record { plan = refl; room = omega arith; tasks = tasks_stay c.tables };
   more = λ n flag. flag;
 })
 
@@ -72,7 +73,7 @@ scheduled_tested c f n is l rests e same weights room =
       rows = ap (λ (s : WalkState). length s.rows) e;
       first = refl;
       nearer = omega (arith, weights);
-      keeps = record { plan = refl; room = room };
+      keeps = record { plan = refl; room = room; tasks = tasks_stay c.tables };
       more = λ k flag. subst (λ (fs : List Bool). IsMarked fs k) (sym flags) (flag_kept old.scheduled n k inside flag);
     }
 
@@ -82,7 +83,7 @@ tested_on a b c one two = record {
   rows = two.rows ∙ one.rows;
   first = two.first ∙ one.first;
   nearer = omega (arith, one.nearer, two.nearer);
-  keeps = record { plan = two.keeps.plan ∙ one.keeps.plan; room = omega (arith, one.keeps.room, two.keeps.room) };
+  keeps = keeps_then a b c one.keeps two.keeps;
   more = λ n flag. two.more n (one.more n flag);
 }
 

@@ -78,7 +78,7 @@ callers_goes c new task from w outcome rec r named deps writes same =
 -- ---- it is answered
 
 -- the output of a task has canonical bytes
-output_canonical : (c : Core) (n : ℕ) (rec : TaskRecord) (v : Value) → IsSite c → kept_of c.tables.records n ≡ Some rec → rec.outcome ≡ ends.Done v
+pub output_canonical : (c : Core) (n : ℕ) (rec : TaskRecord) (v : Value) → IsSite c → kept_of c.tables.records n ≡ Some rec → rec.outcome ≡ ends.Done v
     → IsCanonical (tree_of v) (enc (tree_of v))
 output_canonical c n rec v site kept done =
     let at : IsRecordAt c.tables.names n rec = subst (λ o. IfSome o (IsRecordAt c.tables.names n)) kept (site.tables.records n) in

@@ -5,7 +5,6 @@ use Rattle.pie_record.specs.declared.task_record.TaskRecord.{TaskRecord}
 use Rattle.pie_record.specs.inner.Records.{record_of as kept_of}
 use Rattle.pie_tables.specs.declared.tables.Tables.{Tables}
 use Rattle.pie_files.specs.Directory.{Directory}
-use Rattle.pie_walk.specs.declared.marks.Mark.{Mark}
 use Rattle.pie_walk.specs.declared.marks.Mark.TheVariants.{New}
 use Rattle.pie_walk.specs.Marks.{mark_of}
 use Rattle.pie_frames.specs.declared.parked.Parked.{Parked}

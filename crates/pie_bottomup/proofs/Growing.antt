@@ -24,7 +24,7 @@ use Rattle.std.proofs.lemmas.List.{get_or_past}
 use Rattle.pie_store.specs.Canonical.{needs}
 use Rattle.std.proofs.Common.{None}
 
-flag_more : (flags : List Bool) (b : Bool) (n : ℕ) → IsMarked flags n → IsMarked (flags ++ b ∷ []) n
+pub flag_more : (flags : List Bool) (b : Bool) (n : ℕ) → IsMarked flags n → IsMarked (flags ++ b ∷ []) n
 flag_more flags b n is = by (cases_lt n (length flags))
   where
     by : (n < length flags) ⊎ (length flags ≤ n) → IsMarked (flags ++ b ∷ []) n

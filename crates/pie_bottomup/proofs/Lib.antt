@@ -26,9 +26,11 @@ pub mod GoingRoots
 pub mod GoingSteps
 pub mod Growing
 pub mod Holding
+pub mod Keeping
 pub mod Moving
 pub mod Owning
 pub mod Parts
+pub mod Reasoning
 pub mod Settling
 pub mod Shown
 pub mod Sites

@@ -10,7 +10,7 @@ ghost use Rattle.pie_results.specs.inner.Failures.{is_done};
 ghost use Rattle.pie_record.specs.declared.task_record.TaskRecord.{TaskRecord};
 ghost use Rattle.pie_record.specs.inner.Records.{record_of};
 ghost use Rattle.pie_bottomup.specs.inner.Going.{AnswersWhole, CallersWhole};
-ghost use Rattle.pie_bottomup.specs.inner.Exact.{CallerExact, RunsExact, lost_task};
+ghost use Rattle.pie_bottomup.specs.inner.Exact.{lost_task};
 ghost use Rattle.pie_bottomup.specs.inner.Recorded.{HasOutput};
 ghost use Rattle.pie_bottomup.specs.inner.Running.{IsCaller};
 ghost use Rattle.pie_bottomup.specs.inner.States.{IsSite, GoesTo, Keeps, Nearer, rest};
@@ -36,7 +36,6 @@ impl<'a> Core<'a> {
         ensures turns { IfOk result (GoesTo self.new) }
         ensures nearer { IfOk result (Nearer (rest self.old + left_of parked.entry) self.new) }
         ensures kept { OnOk result (Keeps self.old self.new) }
-        ensures exact { IfOk result (RunsExact self.old no.0 parked.entry.from self.new) }
         ensures whole { IfOk result (AnswersWhole self.old no.0 parked.entry self.new) }
     {
         let Parked {
@@ -80,7 +79,6 @@ impl<'a> Core<'a> {
         ensures turns { IfOk result (GoesTo self.new) }
         ensures nearer { IfOk result (Nearer (rest self.old + 1) self.new) }
         ensures kept { OnOk result (Keeps self.old self.new) }
-        ensures exact { IfOk result (CallerExact self.old no from caller.entry self.new) }
         ensures failed { HasFailed outcome }
         ensures whole { IfOk result (CallersWhole self.old no from caller.entry outcome self.new) }
     {

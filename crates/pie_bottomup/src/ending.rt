@@ -7,7 +7,6 @@ ghost use Rattle.pie_walk.specs.Marks.{IsSettled};
 ghost use Rattle.pie_tables.specs.Tabled.{IsKept};
 ghost use Rattle.pie_running.specs.inner.Noted.{IsSound};
 ghost use Rattle.pie_frames.specs.inner.Standing.{Holds};
-ghost use Rattle.pie_bottomup.specs.inner.Exact.{EndsExact, NotesExact, RunsExact};
 ghost use Rattle.pie_bottomup.specs.inner.Going.{EndsWhole, NotesWhole};
 ghost use Rattle.pie_task_laws.specs.Coming.{failed_by, output_by};
 ghost use Rattle.pie_bottomup.specs.inner.Finished.{HasFinished, HasSameEdges, HasSettledWith, HasSwept};
@@ -39,7 +38,6 @@ impl<'a> Core<'a> {
         ensures turns { IfOk result (GoesTo self.new) }
         ensures nearer { IfOk result (Nearer (rest self.old + 1) self.new) }
         ensures kept { OnOk result (Keeps self.old self.new) }
-        ensures exact { IfOk result (RunsExact self.old no.0 from self.new) }
         ensures whole { IfOk result (NotesWhole self.old no from notes (output_by notes output) self.new) }
     {
         if !output.is_small() {
@@ -63,7 +61,6 @@ impl<'a> Core<'a> {
         ensures turns { IfOk result (GoesTo self.new) }
         ensures nearer { IfOk result (Nearer (rest self.old + 1) self.new) }
         ensures kept { OnOk result (Keeps self.old self.new) }
-        ensures exact { IfOk result (NotesExact self.old no from notes self.new) }
         ensures whole { IfOk result (NotesWhole self.old no from notes (failed_by notes kind) self.new) }
     {
         let fault = Fault {
@@ -89,7 +86,6 @@ impl<'a> Core<'a> {
         ensures turns { IfOk result (GoesTo self.new) }
         ensures nearer { IfOk result (Nearer (rest self.old + 1) self.new) }
         ensures kept { OnOk result (Keeps self.old self.new) }
-        ensures exact { IfOk result (NotesExact self.old no from notes self.new) }
         ensures whole { IfOk result (NotesWhole self.old no from notes outcome self.new) }
     {
         let NoteParts { deps, writes, .. } = notes.into_parts();
@@ -122,7 +118,6 @@ impl<'a> Core<'a> {
         ensures finished { OnOk result (HasFinished self.old self.new no.0 from rec) }
         ensures same { OnOk result (self.new ≡ record self.old { frames = self.new.frames; tables = self.new.tables }) }
         ensures ran { OnOk result (self.new.tables.ran.items ≡ self.old.tables.ran.items) }
-        ensures exact { IfOk result (EndsExact self.old no.0 from rec self.new) }
         ensures whole { IfOk result (EndsWhole self.old no.0 from rec self.new) }
     {
         let old = self.tables.records.get(no);

@@ -3,7 +3,6 @@ ghost use Rattle.std.specs.Prelude.{◌≡◌, ◌+◌, ◌*◌, None, IfOk, OnO
 ghost use Rattle.pie_files.specs.Reading.{ReadsOnly};
 ghost use Rattle.pie_running.specs.inner.Frames.{IsWaiting};
 ghost use Rattle.pie_frames.specs.inner.Standing.{Holds};
-ghost use Rattle.pie_bottomup.specs.inner.Exact.{AsksExact, ToldExact};
 ghost use Rattle.pie_bottomup.specs.inner.Going.{AsksWhole, GoesWhole, LooksWhole, ToldWhole};
 ghost use Rattle.pie_value.specs.declared.event.Event.TheVariants as events;
 ghost use Rattle.pie_bottomup.specs.inner.States.{IsInHand, IsOwn, IsSite, MayGo, GoesTo, Keeps, Nearer, rest, told_mass};
@@ -30,7 +29,6 @@ impl<'a> Core<'a> {
         ensures nearer { IfOk result (Nearer (rest self.old + 2 * hand.entry.task.notes.left + 1) self.new) }
         ensures kept { OnOk result (Keeps self.old self.new) }
         ensures reads { ReadsOnly F.holds F.moment F.left_since F.images F.faults files.old files.new result }
-        ensures exact { IfOk result (AsksExact (F.holds files.old) self.old hand.entry.no.0 hand.entry.from self.new) }
         ensures whole { IfOk result (GoesWhole (F.holds files.old) self.old hand.entry self.new) }
     {
         let InHand { no, from, task } = hand;
@@ -60,7 +58,6 @@ impl<'a> Core<'a> {
         ensures nearer { IfOk result (Nearer (rest self.old + 2 * waiting.entry.notes.left + 1) self.new) }
         ensures kept { OnOk result (Keeps self.old self.new) }
         ensures reads { ReadsOnly F.holds F.moment F.left_since F.images F.faults files.old files.new result }
-        ensures exact { IfOk result (AsksExact (F.holds files.old) self.old no.0 from self.new) }
         ensures whole { IfOk result (AsksWhole (F.holds files.old) self.old no from waiting.entry event self.new) }
     {
         match event {
@@ -97,7 +94,6 @@ impl<'a> Core<'a> {
         ensures nearer { IfOk result (Nearer (rest self.old + 2 * waiting.entry.notes.left + 1) self.new) }
         ensures kept { OnOk result (Keeps self.old self.new) }
         ensures reads { ReadsOnly F.holds F.moment F.left_since F.images F.faults files.old files.new result }
-        ensures exact { IfOk result (AsksExact (F.holds files.old) self.old no.0 from self.new) }
         ensures whole { IfOk result (AsksWhole (F.holds files.old) self.old no from waiting.entry (events.Exists path) self.new) }
     {
         self.fetch(no, from, &path, files)?;
@@ -122,7 +118,6 @@ impl<'a> Core<'a> {
         ensures nearer { IfOk result (Nearer (rest self.old + 2 * waiting.entry.notes.left + 1) self.new) }
         ensures kept { OnOk result (Keeps self.old self.new) }
         ensures reads { ReadsOnly F.holds F.moment F.left_since F.images F.faults files.old files.new result }
-        ensures exact { IfOk result (AsksExact (F.holds files.old) self.old no.0 from self.new) }
         ensures whole { IfOk result (LooksWhole (F.holds files.old) self.old no from waiting.entry (events.Exists path) path self.new) }
     {
         let told = waiting.exists(&self.sight(no, from), path, files)?;
@@ -148,7 +143,6 @@ impl<'a> Core<'a> {
         ensures nearer { IfOk result (Nearer (rest self.old + 2 * waiting.entry.notes.left + 1) self.new) }
         ensures kept { OnOk result (Keeps self.old self.new) }
         ensures reads { ReadsOnly F.holds F.moment F.left_since F.images F.faults files.old files.new result }
-        ensures exact { IfOk result (AsksExact (F.holds files.old) self.old no.0 from self.new) }
         ensures whole { IfOk result (AsksWhole (F.holds files.old) self.old no from waiting.entry (events.Read path by) self.new) }
     {
         self.fetch(no, from, &path, files)?;
@@ -174,7 +168,6 @@ impl<'a> Core<'a> {
         ensures nearer { IfOk result (Nearer (rest self.old + 2 * waiting.entry.notes.left + 1) self.new) }
         ensures kept { OnOk result (Keeps self.old self.new) }
         ensures reads { ReadsOnly F.holds F.moment F.left_since F.images F.faults files.old files.new result }
-        ensures exact { IfOk result (AsksExact (F.holds files.old) self.old no.0 from self.new) }
         ensures whole { IfOk result (LooksWhole (F.holds files.old) self.old no from waiting.entry (events.Read path by) path self.new) }
     {
         let told = waiting.read(self.alloc, &self.sight(no, from), path, by, files)?;
@@ -199,7 +192,6 @@ impl<'a> Core<'a> {
         ensures nearer { IfOk result (Nearer (rest self.old + 2 * waiting.entry.notes.left + 1) self.new) }
         ensures kept { OnOk result (Keeps self.old self.new) }
         ensures reads { ReadsOnly F.holds F.moment F.left_since F.images F.faults files.old files.new result }
-        ensures exact { IfOk result (AsksExact (F.holds files.old) self.old no.0 from self.new) }
         ensures whole { IfOk result (AsksWhole (F.holds files.old) self.old no from waiting.entry (events.Digest path) self.new) }
     {
         self.fetch(no, from, &path, files)?;
@@ -224,7 +216,6 @@ impl<'a> Core<'a> {
         ensures nearer { IfOk result (Nearer (rest self.old + 2 * waiting.entry.notes.left + 1) self.new) }
         ensures kept { OnOk result (Keeps self.old self.new) }
         ensures reads { ReadsOnly F.holds F.moment F.left_since F.images F.faults files.old files.new result }
-        ensures exact { IfOk result (AsksExact (F.holds files.old) self.old no.0 from self.new) }
         ensures whole { IfOk result (LooksWhole (F.holds files.old) self.old no from waiting.entry (events.Digest path) path self.new) }
     {
         let told = waiting.digest(&self.sight(no, from), path, files)?;
@@ -249,7 +240,6 @@ impl<'a> Core<'a> {
         ensures nearer { IfOk result (Nearer (rest self.old + 2 * waiting.entry.notes.left + 1) self.new) }
         ensures kept { OnOk result (Keeps self.old self.new) }
         ensures reads { ReadsOnly F.holds F.moment F.left_since F.images F.faults files.old files.new result }
-        ensures exact { IfOk result (AsksExact (F.holds files.old) self.old no.0 from self.new) }
         ensures whole { IfOk result (AsksWhole (F.holds files.old) self.old no from waiting.entry (events.List dir) self.new) }
     {
         let told = waiting.list(self.alloc, dir, files)?;
@@ -265,7 +255,6 @@ impl<'a> Core<'a> {
         ensures turns { IfOk result (GoesTo self.new) }
         ensures nearer { IfOk result (Nearer (rest self.old + told_mass told.entry) self.new) }
         ensures kept { OnOk result (Keeps self.old self.new) }
-        ensures exact { IfOk result (ToldExact self.old no from told.entry self.new) }
         ensures whole { IfOk result (ToldWhole self.old no from told.entry self.new) }
     {
         match told {

@@ -5,7 +5,6 @@ ghost use Rattle.pie_graph.specs.Numbers.{numbers, AllBelow};
 ghost use Rattle.pie_value.specs.Canonical.{IsEncodableTask};
 ghost use Rattle.pie_running.specs.inner.Frames.{IsWaiting};
 ghost use Rattle.pie_frames.specs.inner.Standing.{Holds};
-ghost use Rattle.pie_bottomup.specs.inner.Exact.{RunsExact};
 ghost use Rattle.pie_value.specs.Limits.{is_small_task};
 ghost use Rattle.pie_task_laws.specs.Beginning.{calling};
 ghost use Rattle.pie_bottomup.specs.inner.Going.{ParksWhole, RequiresWhole};
@@ -37,7 +36,6 @@ impl<'a> Core<'a> {
         ensures turns { IfOk result (GoesTo self.new) }
         ensures nearer { IfOk result (Nearer (rest self.old + 2 * waiting.entry.notes.left + 1) self.new) }
         ensures kept { OnOk result (Keeps self.old self.new) }
-        ensures exact { IfOk result (RunsExact self.old no.0 from self.new) }
         ensures whole { IfOk result (RequiresWhole self.old no from (calling waiting.entry required how) self.new) }
     {
         if !required.is_small() {
@@ -66,7 +64,6 @@ impl<'a> Core<'a> {
         ensures turns { IfOk result (GoesTo self.new) }
         ensures nearer { IfOk result (Nearer (rest self.old + 2 * caller.entry.waiting.notes.left + 1) self.new) }
         ensures kept { OnOk result (Keeps self.old self.new) }
-        ensures exact { IfOk result (RunsExact self.old no.0 from self.new) }
         ensures whole { is_small_task caller.entry.required ≡ true → IfOk result (RequiresWhole self.old no from caller.entry self.new) }
     {
         let required = caller.required.copy()?;
@@ -96,7 +93,6 @@ impl<'a> Core<'a> {
         ensures turns { IfOk result (GoesTo self.new) }
         ensures nearer { IfOk result (Nearer (rest self.old + 2 * caller.entry.waiting.notes.left + 1) self.new) }
         ensures kept { OnOk result (Keeps self.old self.new) }
-        ensures exact { IfOk result (RunsExact self.old no.0 from self.new) }
         ensures whole { IfOk result (ParksWhole self.old no.0 from caller.entry callee.0 self.new) }
     {
         match self.frames.park(no, caller, from, callee)? {

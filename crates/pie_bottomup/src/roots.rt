@@ -10,8 +10,8 @@ ghost use Rattle.pie_record.specs.inner.Records.{record_of};
 ghost use Rattle.pie_results.specs.inner.Failures.{refusal_by, refusal_in};
 ghost use Rattle.pie_running.specs.inner.Noted.{Noted};
 ghost use Rattle.pie_bottomup.specs.inner.Going.{HasGrown, MeetsWhole, RootsWhole};
-ghost use Rattle.pie_bottomup.specs.inner.Exact.{AddsExact, GoesExact, StillBegins};
-ghost use Rattle.pie_bottomup.specs.inner.States.{IsAtRest, IsNextRoot, IsOwn, IsSite, GoesTo, Keeps, Nearer, RootFailed, rest, room};
+ghost use Rattle.pie_bottomup.specs.inner.Exact.{AddsExact, StillBegins};
+ghost use Rattle.pie_bottomup.specs.inner.States.{IsAtRest, IsNextRoot, IsOwn, IsSite, GoesTo, Keeps, Nearer, RootFailed, rest};
 
 use crate::state::{Core, Turn};
 use pie_base::{MAX_TASKS, OutOfMemory};
@@ -29,7 +29,6 @@ impl<'a> Core<'a> {
         ensures turns { IfOk result (GoesTo self.new) }
         ensures nearer { IfOk result (Nearer (rest self.old) self.new) }
         ensures kept { OnOk result (Keeps self.old self.new) }
-        ensures exact { IfOk result (GoesExact self.old self.new) }
         ensures whole { IfOk result (RootsWhole self.old self.new) }
     {
         if self.at >= self.plan.roots.len() || self.has_failed()? {
@@ -52,7 +51,6 @@ impl<'a> Core<'a> {
         ensures turns { IfOk result (GoesTo self.new) }
         ensures nearer { IfOk result (Nearer (rest self.old) self.new) }
         ensures kept { OnOk result (Keeps self.old self.new) }
-        ensures exact { IfOk result (GoesExact self.old self.new) }
         ensures whole { IfOk result (MeetsWhole self.old no.0 self.new) }
     {
         self.frames.begin(no)?;
@@ -97,7 +95,6 @@ impl<'a> Core<'a> {
         ensures turns { IfOk result (GoesTo self.new) }
         ensures nearer { IfOk result (Nearer (rest self.old) self.new) }
         ensures kept { OnOk result (Keeps self.old self.new) }
-        ensures exact { IfOk result (GoesExact self.old self.new) }
         ensures whole { IfOk result (RootsWhole self.old self.new) }
     {
         if self.is_full() {

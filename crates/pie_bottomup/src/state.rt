@@ -7,7 +7,6 @@ ghost use Rattle.pie_bottomup.specs.inner.Ended.{StoredIf};
 ghost use Rattle.pie_bottomup.specs.inner.Tested.{HasTested};
 ghost use Rattle.pie_bottomup.specs.inner.Going.{StepsWhole};
 ghost use Rattle.pie_bottomup.specs.inner.Ran.{StepsFor};
-ghost use Rattle.pie_bottomup.specs.inner.Exact.{StepsExact};
 ghost use Rattle.pie_bottomup.specs.inner.Made.{MadeExact};
 ghost use Rattle.pie_bottomup.specs.declared.state.First.TheVariants.{Tests};
 
@@ -89,7 +88,6 @@ impl<'a> Core<'a> {
         ensures spends { OnOk result (Spends self.old self.new runs.old runs.new) }
         ensures few { length runs.new ≤ length runs.old + room self.old }
         ensures tested { self.old.first ≡ Tests → OnOk result (HasTested (F.holds files.old) self.old self.new) }
-        ensures exact { IfOk result (StepsExact (F.holds files.old) self.old self.new) }
         ensures whole { IfOk result (StepsWhole (F.holds files.old) self.old self.new) }
         ensures reasons { OnOk result (StepsFor (F.holds files.old) self.old self.new runs.old runs.new) }
         ensures reads { ReadsOnly F.holds F.moment F.left_since F.images F.faults files.old files.new result }

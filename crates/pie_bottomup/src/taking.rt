@@ -1,12 +1,13 @@
 //! Tasks that are taken: they are kept, run, or are no tasks any more.
-ghost use Rattle.std.specs.Prelude.{◌≡◌, ◌<◌, ◌≤◌, ◌+◌, true, length, None, slice_get, IfOk, IfSome, OnOk};
+ghost use Rattle.std.specs.Prelude.{◌≡◌, ◌<◌, ◌≤◌, ◌+◌, true, false, length, None, slice_get, IfOk, IfSome, OnOk};
 ghost use Rattle.pie_tables.specs.Tabled.{HasFailed};
 ghost use Rattle.pie_frames.specs.inner.Standing.{Holds};
 ghost use Rattle.pie_compare.specs.inner.Standing.{RecordStands};
 ghost use Rattle.pie_graph.specs.Numbers.{IsMarked};
 ghost use Rattle.pie_running.specs.inner.Coded.{IsCodeFor};
 ghost use Rattle.pie_bottomup.specs.inner.Going.{StartsWhole, TakesWhole, WalksWhole};
-ghost use Rattle.pie_bottomup.specs.inner.Exact.{WalksExact, TakesExact, StartsExact, lost_record};
+ghost use Rattle.pie_bottomup.specs.inner.Exact.{lost_record};
+ghost use Rattle.pie_bottomup.specs.inner.Ran.{HasStarted, TakesFor, WalksFor};
 ghost use Rattle.pie_bottomup.specs.inner.Running.{IsKnown};
 ghost use Rattle.pie_bottomup.specs.inner.States.{StartsOne, IsAsRecorded, IsAtRest, IsSite, GoesTo, Keeps, Nearer, Spends, SpendsOne, rest, room};
 
@@ -34,8 +35,8 @@ impl<'a> Core<'a> {
         ensures spends { OnOk result (Spends self.old self.new runs.old runs.new) }
         ensures starts { StartsOne runs.old runs.new }
         ensures few { length runs.new ≤ length runs.old + room self.old }
-        ensures exact { IfOk result (WalksExact self.old self.new) }
         ensures whole { IfOk result (WalksWhole self.old self.new) }
+        ensures reasons { OnOk result (WalksFor self.old self.new runs.old runs.new) }
     {
         match self.frames.next()? {
             Next::Takes(no) => self.take(no, runs),
@@ -54,8 +55,8 @@ impl<'a> Core<'a> {
         ensures nearer { IfOk result (Nearer (rest self.old + 2000004) self.new) }
         ensures spends { OnOk result (SpendsOne self.old self.new runs.old runs.new) }
         ensures starts { StartsOne runs.old runs.new }
-        ensures exact { IfOk result (TakesExact self.old no.0 self.new) }
         ensures whole { IfOk result (TakesWhole self.old no.0 self.new) }
+        ensures reasons { OnOk result (TakesFor self.old no.0 self.new runs.old runs.new) }
     {
         match code_of(self.plan.typed, self.plan.code, self.tables.names.task(no)) {
             Some(code) => self.take_known(no, code, runs),
@@ -80,8 +81,8 @@ impl<'a> Core<'a> {
         ensures nearer { IfOk result (Nearer (rest self.old + 2000004) self.new) }
         ensures spends { OnOk result (SpendsOne self.old self.new runs.old runs.new) }
         ensures starts { StartsOne runs.old runs.new }
-        ensures exact { IfOk result (StartsExact self.old no.0 self.new) }
         ensures whole { IfOk result (StartsWhole self.old no.0 code.now self.new) }
+        ensures reasons { OnOk result (TakesFor self.old no.0 self.new runs.old runs.new) }
     {
         if self.stands(no)? {
             return Ok(self.keep(no));
@@ -101,7 +102,6 @@ impl<'a> Core<'a> {
         ensures turns { GoesTo self.new result }
         ensures nearer { Nearer (rest self.old + 1) self.new result }
         ensures kept { Keeps self.old self.new }
-        ensures exact { StartsExact self.old no.0 self.new result }
         ensures whole { TakesWhole self.old no.0 self.new result }
     {
         let _names = self.tables.names.as_slice();
@@ -115,6 +115,8 @@ impl<'a> Core<'a> {
         requires number { no.0 < length self.now.tables.names }
         ensures stands { IfOk result (λ stands. stands ≡ true → RecordStands self.now.tables self.now.frames.walk.rows self.now.named no.0) }
         ensures same { IfOk result (λ stands. stands ≡ true → IsMarked self.now.plan.same.items no.0) }
+        ensures falls { IfOk result (λ stands. stands ≡ false → IsMarked self.now.plan.same.items no.0
+            → ¬ (RecordStands self.now.tables self.now.frames.walk.rows self.now.named no.0)) }
     {
         if !flag_of(self.plan.same.as_slice(), no) {
             return Ok(false);
@@ -136,8 +138,8 @@ impl<'a> Core<'a> {
         ensures nearer { IfOk result (Nearer (rest self.old + 2000004) self.new) }
         ensures spends { OnOk result (SpendsOne self.old self.new runs.old runs.new) }
         ensures starts { StartsOne runs.old runs.new }
-        ensures exact { IfOk result (StartsExact self.old no.0 self.new) }
         ensures whole { IfOk result (StartsWhole self.old no.0 code.now self.new) }
+        ensures started { OnOk result (HasStarted self.old no.0 self.new runs.old runs.new) }
     {
         let _names = self.tables.names.as_slice();
         let from = self.frames.walk().rows().callees(no).len();
@@ -156,7 +158,6 @@ impl<'a> Core<'a> {
         ensures turns { IfOk result (GoesTo self.new) }
         ensures nearer { IfOk result (Nearer (rest self.old + 1) self.new) }
         ensures kept { OnOk result (Keeps self.old self.new) }
-        ensures exact { IfOk result (TakesExact self.old no.0 self.new) }
         ensures whole { IfOk result (TakesWhole self.old no.0 self.new) }
     {
         let _names = self.tables.names.as_slice();

@@ -6,7 +6,7 @@ ghost use Rattle.pie_bottomup.specs.inner.States.{StartsOne, IsAtRest, IsDue, Is
 ghost use Rattle.pie_bottomup.specs.inner.Tested.{AreHeld, HasTested, HoldsBy, IsHeld, Learns, OnlySchedules, TaskWasHeld};
 ghost use Rattle.pie_bottomup.specs.inner.Loaded.{TestsExact};
 ghost use Rattle.pie_bottomup.specs.inner.Going.{StepsWhole, TestsWhole};
-ghost use Rattle.pie_bottomup.specs.inner.Exact.{StepsExact};
+ghost use Rattle.pie_bottomup.specs.inner.Ran.{StepsFor};
 
 use crate::flags::flag_of;
 use crate::state::{Core, First, Turn};
@@ -35,8 +35,8 @@ impl<'a> Core<'a> {
         ensures spends { OnOk result (Spends self.old self.new runs.old runs.new) }
         ensures few { length runs.new ≤ length runs.old + room self.old }
         ensures tested { self.old.first ≡ Tests → OnOk result (HasTested (F.holds files.old) self.old self.new) }
-        ensures exact { IfOk result (StepsExact (F.holds files.old) self.old self.new) }
         ensures whole { IfOk result (StepsWhole (F.holds files.old) self.old self.new) }
+        ensures reasons { OnOk result (StepsFor (F.holds files.old) self.old self.new runs.old runs.new) }
         ensures reads { ReadsOnly F.holds F.moment F.left_since F.images F.faults files.old files.new result }
     {
         match &self.first {

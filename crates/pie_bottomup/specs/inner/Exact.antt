@@ -1,5 +1,5 @@
 -- A build by what changed, as the model of building knows it, between two steps.
-use Rattle.std.specs.Prelude.{◌≡◌, ◌⊎◌, ℕ, ◌≤◌, Bool, true, false, List, [], ◌∷◌, ◌++◌, map, drop, take, length, Option, None, Some, slice_get, slice_index_or}
+use Rattle.std.specs.Prelude.{◌≡◌, ℕ, ◌≤◌, Bool, true, false, List, [], ◌∷◌, ◌++◌, map, drop, take, length, Option, None, Some, slice_get, slice_index_or}
 use Rattle.std.specs.List.{All, Contains}
 use Rattle.pie_base.specs.Path.{is_out}
 use Rattle.pie_value.specs.declared.task.Task.{Task}
@@ -15,6 +15,7 @@ use Rattle.pie_record.specs.declared.dep.Dep.{Dep}
 use Rattle.pie_record.specs.declared.dep.DepOn.TheVariants.{Called}
 use Rattle.pie_record.specs.declared.task_record.Outcome.TheVariants.{Failed}
 use Rattle.pie_record.specs.declared.task_record.TaskRecord.{TaskRecord}
+use Rattle.pie_record.specs.Canonical.{IsTrueRecord}
 use Rattle.pie_record.specs.inner.Records.{record_of as kept_of}
 use Rattle.pie_tables.specs.declared.tables.Tables.{Tables}
 use Rattle.pie_named.specs.declared.named.Named.{Named}
@@ -28,7 +29,7 @@ use Rattle.pie_view.specs.Seen.{Visible}
 use Rattle.pie_running.specs.declared.frame.Caller.{Caller}
 use Rattle.pie_running.specs.declared.frame.Told.{Told}
 use Rattle.pie_running.specs.declared.frame.Told.TheVariants.{Goes, Fails}
-use Rattle.pie_running.specs.inner.Noted.{Noted, tasks_on}
+use Rattle.pie_running.specs.inner.Noted.{tasks_on}
 use Rattle.pie_frames.specs.declared.parked.Parked.{Parked}
 use Rattle.pie_frames.specs.inner.Standing.{number_of}
 use Rattle.pie_model.specs.Built.{bytes_at}
@@ -37,7 +38,7 @@ use Rattle.pie_model_pipeline.specs.World.{world, next}
 use Rattle.pie_builder_laws.specs.Events.{AreCompiled}
 use Rattle.pie_builder_laws.specs.Names.{called_in}
 use Rattle.pie_builder_laws.specs.Requiring.{requiring_kind}
-use Rattle.pie_builder_laws.specs.Views.{AreNumbersOf, RowIs}
+use Rattle.pie_builder_laws.specs.Views.{AreNumbersOf}
 use Rattle.pie_earlier_laws.specs.Left.{AreThere}
 use Rattle.pie_core_laws.specs.Update.{Update, IsUpdate, IsInformed}
 use Rattle.pie_compare_laws.specs.Settled.{RestsOn}
@@ -49,11 +50,8 @@ use Rattle.pie_core_laws.specs.Keeping.{Separates}
 use Rattle.pie_core_laws.specs.Seeing.{written_now}
 use Rattle.pie_bottomup.specs.declared.plan.Plan.{Plan}
 use Rattle.pie_bottomup.specs.declared.state.Core.{Core}
-use Rattle.pie_bottomup.specs.declared.state.First.TheVariants.{Tests, Done}
+use Rattle.pie_bottomup.specs.declared.state.First.TheVariants.{Done}
 use Rattle.pie_bottomup.specs.declared.state.InHand.{InHand}
-use Rattle.pie_bottomup.specs.declared.state.Turn.{Turn}
-use Rattle.pie_bottomup.specs.declared.state.Turn.TheVariants.{Went, Settled, StartAfresh}
-use Rattle.pie_bottomup.specs.inner.Finished.{end_row}
 use Rattle.pie_bottomup.specs.inner.States.{IsOwn}
 
 -- ---- what never changes
@@ -71,12 +69,14 @@ pub record KeepsMeaning (u : Update) (same : List Bool) (names : List Task) : Ty
 
 -- ---- what is known and what is there
 
--- what is known is true; and of each task that isn't settled and means what it meant, what shows that its record is touched is known
+-- what is known is true; of each task that isn't settled and means what it meant, what shows that its record is touched is known; and the record of
+-- a task that isn't settled is one of the program
 pub record KnowsTouched (u : Update) (named : Named) (same : List Bool) (t : Tables) (marks : List Mark) : Type 0 where
   pub informed : IsInformed u named
   pub meaning : KeepsMeaning u same t.names
   pub searched : (n : ℕ) (rec : TaskRecord) → kept_of t.records n ≡ Some rec → (IsSettled marks n → ⊥) → IsMarked same n
       → IsSearched u.directory named rec
+  pub parts : (n : ℕ) (rec : TaskRecord) → kept_of t.records n ≡ Some rec → (IsSettled marks n → ⊥) → IsTrueRecord rec
 
 -- nothing is staged of a task, and it didn't run
 pub record IsUnstarted (t : Tables) (staged : Staged) (n : ℕ) : Type 0 where
@@ -132,11 +132,8 @@ pub record IsLoadedCore (u : Update) (c : Core) : Type 0 where
   pub loaded : IsLoaded u c.tables.names c.tables.records c.frames.walk
   pub informed : IsInformed u c.named
   pub meaning : KeepsMeaning u c.plan.same.items c.tables.names
+  pub parts : (n : ℕ) (rec : TaskRecord) → kept_of c.tables.records n ≡ Some rec → IsTrueRecord rec
   pub unstarted : (n : ℕ) → IsUnstarted c.tables c.stage n
-
--- what holds of a build between two steps: before the first one, unless it has too many old tasks and starts afresh, these are loaded
-abbrev pub StandsExact : Update → Core → Type 0
-StandsExact u c = ((c.first ≡ Done → ⊥) × (c.first ≡ Tests → IsLoadedCore u c)) ⊎ IsExactCore u c
 
 -- ---- steps
 
@@ -146,61 +143,12 @@ pub record EndedRight (u : Update) (c : Core) (n : ℕ) (rec : TaskRecord) : Typ
   pub ran : (path : List ℕ) → IsMarked c.tables.ran.items n → content c.stage n path ≡ written_now u rec.task path
   pub rested : slice_index_or c.tables.ran.items n false ≡ false → AreThere world u.directory rec.writes × IsUnstarted c.tables c.stage n
 
--- so it is with one task, if it has ended
-abbrev pub EndsRight : Update → Core → ℕ → Type 0
-EndsRight u c n = (rec : TaskRecord) → IsSettled c.frames.walk.marks n → kept_of c.tables.records n ≡ Some rec → EndedRight u c n rec
-
--- a task ran before, or had no record
-abbrev pub HasToEnd : Core → ℕ → Type 0
-HasToEnd c n = (runs (mark_of c.frames.walk.marks n) ≡ true) ⊎ (kept_of c.tables.records n ≡ None)
-
--- each such task ends right, if it ends
-abbrev pub EndRight : Update → Core → Core → Type 0
-EndRight u old new = (n : ℕ) → HasToEnd old n → EndsRight u new n
-
--- what a step leaves is exact
-abbrev pub TurnIsExact : Update → Core → Turn → Type 0
-TurnIsExact u c Went = IsExactCore u c
-TurnIsExact u c Settled = IsExactCore u c
-TurnIsExact u c (StartAfresh cause) = Unit {0}
-
--- a step that ends no task but by keeping it leaves an exact build exact
-abbrev pub GoesExact : Core → Core → Turn → Type 0
-GoesExact old new t = (u : Update) → IsPlanNow u old.plan → IsExactCore u old → TurnIsExact u new t
-
--- so it is where tasks that end do so with right records
-abbrev pub WalksExact : Core → Core → Turn → Type 0
-WalksExact old new t = (u : Update) → IsPlanNow u old.plan → IsExactCore u old → EndRight u old new → TurnIsExact u new t
-
 -- a task was taken: what it requires is settled, and it has the row of its record
 pub record IsTakenExact (u : Update) (c : Core) (n : ℕ) : Type 0 where
   pub exact : IsExactCore u c
   pub rests : (rec : TaskRecord) → kept_of c.tables.records n ≡ Some rec
       → RestsOn c.tables.names c.tables.records c.frames.walk.rows (is_done c.frames.walk) n rec
   pub unstarted : IsUnstarted c.tables c.stage n
-
--- it is kept, begins to run, or is lost; where it had no record, it ends right, if it ends
-abbrev pub TakesExact : Core → ℕ → Core → Turn → Type 0
-TakesExact old n new t =
-    (u : Update) → IsPlanNow u old.plan → IsTakenExact u old n → (kept_of old.tables.records n ≡ None → EndsRight u new n) → TurnIsExact u new t
-
--- it is kept or begins to run
-abbrev pub StartsExact : Core → ℕ → Core → Turn → Type 0
-StartsExact old n new t = (u : Update) → IsPlanNow u old.plan → IsTakenExact u old n → TurnIsExact u new t
-
--- a task that runs goes on, waits or ends
-abbrev pub RunsExact : Core → ℕ → ℕ → Core → Turn → Type 0
-RunsExact old n from new t =
-    (u : Update) → IsPlanNow u old.plan → IsExactCore u old → BeginsAsOld old.tables old.frames.walk.rows n from → EndsRight u new n → TurnIsExact u new t
-
--- it ends with a record of which the row is known
-abbrev pub EndsExact : Core → ℕ → ℕ → TaskRecord → Core → Turn → Type 0
-EndsExact old n from rec new t =
-    RowIs old.tables.names (end_row old.frames.walk n from rec) (Some rec) → RunsExact old n from new t
-
--- it ends, and these are its notes
-abbrev pub NotesExact : Core → TaskNo → ℕ → Noted → Core → Turn → Type 0
-NotesExact old task from n new t = IsOwn old task from n → RunsExact old task.0 from new t
 
 -- whatever the update is, the build stays exact
 abbrev pub StaysExact : Core → Core → Type 0
@@ -220,17 +168,6 @@ pub record IsSiteNow (u : Update) (held : Option Directory) : Type 0 where
   pub apart : Separates u
   pub besides : (path bytes : List ℕ) → is_out path ≡ true → bytes_at u.directory path ≡ Some bytes → among bytes u.besides ≡ true
 
--- a task that runs goes on, waits or ends, over these files
-abbrev pub AsksExact : Option Directory → Core → ℕ → ℕ → Core → Turn → Type 0
-AsksExact held old n from new t =
-    (u : Update) → IsSiteNow u held → IsPlanNow u old.plan → IsExactCore u old → BeginsAsOld old.tables old.frames.walk.rows n from → EndsRight u new n
-    → TurnIsExact u new t
-
--- a step over these files keeps a build exact, whatever the update is, where tasks that end do so with right records
-abbrev pub StepsExact : Option Directory → Core → Core → Turn → Type 0
-StepsExact held old new t =
-    (u : Update) → IsSiteNow u held → IsPlanNow u old.plan → StandsExact u old → EndRight u old new → TurnIsExact u new t
-
 -- the record of a task that is of no function: it failed without having run
 abbrev pub lost_record : Task → TaskRecord
 lost_record t = record { task = t; deps = []; writes = []; outcome = Failed (record { task = t; kind = Unknown }) }
@@ -246,18 +183,10 @@ pub record IsWaitingFor (c : Core) (task : TaskNo) (from : ℕ) (w : Caller) : T
   pub row : drop from (row_at c.frames.walk.rows task.0).needs ≡ w.waiting.notes.needs ++ callee ∷ []
   pub needs : tasks_at c.tables.names w.waiting.notes.needs ≡ map Some (tasks_on w.waiting.notes.deps)
 
--- it ends as the task did for which it waited
-abbrev pub CallerExact : Core → TaskNo → ℕ → Caller → Core → Turn → Type 0
-CallerExact old task from w new t = IsWaitingFor old task from w → RunsExact old task.0 from new t
-
 -- these are the notes of a task that was told something and fails
 abbrev pub OwnsTold : Core → TaskNo → ℕ → Told → Type 0
 OwnsTold c task from (Goes f) = Unit {0}
 OwnsTold c task from (Fails n k) = IsOwn c task from n
-
--- a task that was told something goes on, or fails
-abbrev pub ToldExact : Core → TaskNo → ℕ → Told → Core → Turn → Type 0
-ToldExact old task from told new t = OwnsTold old task from told → RunsExact old task.0 from new t
 
 -- ---- files of tasks that didn't run
 

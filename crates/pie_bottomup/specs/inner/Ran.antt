@@ -14,7 +14,7 @@ use Rattle.pie_earlier_laws.specs.Functions.{digest_under}
 use Rattle.pie_core_laws.specs.Update.{Update, present, old_record}
 use Rattle.pie_bottomup.specs.declared.state.Core.{Core}
 use Rattle.pie_bottomup.specs.declared.state.First.TheVariants.{Tests}
-use Rattle.pie_bottomup.specs.inner.Exact.{IsSiteNow}
+use Rattle.pie_bottomup.specs.inner.Exact.{IsSiteNow, IsExactCore, IsTakenExact}
 use Rattle.pie_bottomup.specs.inner.Going.{IsBuildNow, StandsWhole}
 use Rattle.pie_bottomup.specs.inner.Loaded.{IsStoredIn}
 
@@ -57,6 +57,25 @@ pub record StartsFor (u : Update) (funcs digests : List (List ℕ × List ℕ)) 
 -- no task starts to run, or one does for a reason
 abbrev pub RunsFor : Update → List (List ℕ × List ℕ) → List (List ℕ × List ℕ) → Tables → Tables → List Task → List Task → Type 0
 RunsFor u funcs digests old new before after = (after ≡ before) ⊎ StartsFor u funcs digests old new before after
+
+-- a task starts to run: it is marked, and added to the runs
+pub record HasStarted (old : Core) (n : ℕ) (new : Core) (before after : List Task) : Type 0 where
+  pub task : Task
+  pub named : slice_get old.tables.names n ≡ Some task
+  pub ran : IsMarked new.tables.ran.items n
+  pub added : after ≡ before ++ task ∷ []
+
+-- one was taken: it alone may start to run, and does for a reason
+abbrev pub TakesFor : Core → ℕ → Core → List Task → List Task → Type 0
+TakesFor old n new before after =
+    (u : Update) (funcs digests : List (List ℕ × List ℕ)) → IsBuildNow u old.plan → IsTakenExact u old n
+    → KnowsCode u funcs digests old.plan.same.items old.tables → RunsFor u funcs digests old.tables new.tables before after
+
+-- so it is where the walk goes on
+abbrev pub WalksFor : Core → Core → List Task → List Task → Type 0
+WalksFor old new before after =
+    (u : Update) (funcs digests : List (List ℕ × List ℕ)) → IsBuildNow u old.plan → IsExactCore u old
+    → KnowsCode u funcs digests old.plan.same.items old.tables → RunsFor u funcs digests old.tables new.tables before after
 
 -- so it is in a step over these files
 abbrev pub StepsFor : Option Directory → Core → Core → List Task → List Task → Type 0

@@ -1,7 +1,7 @@
 use Rattle.std.proofs.Common.{ap, refl}
 use Rattle.pie_results.specs.inner.Failures.{is_done}
 use Rattle.pie_bottomup.proofs.Owning.{given_own}
-use Rattle.pie_bottomup.proofs.ExactSteps.{caller_runs, waiting_for}
+use Rattle.pie_bottomup.proofs.ExactSteps.{waiting_for}
 use Rattle.std.proofs.Common.{◌∙◌, sym}
 use Rattle.pie_bottomup.proofs.GoingAnswers.{answer_fails, caller_works}
 use Rattle.pie_bottomup.proofs.state.Core.answer.Goals as goal
@@ -20,11 +20,6 @@ returns-in_ok-task-in-Done-clause-turns c =
         own = record { number = own.number; row = own.row; noted = own.noted };
       };
     }
-
-pub returns-in_default-clause-exact : goal.returns-in_default-clause-exact
-returns-in_default-clause-exact c =
-    caller_runs c.args.self.now c.end_below.new.self c.args.no c.args.parked.from c.args.parked.caller c.end_below.result
-    (waiting_for c.args.self.now c.args.no c.args.parked c.requires.number c.requires.parked c.requires.caller) c.end_below.ensures.exact
 
 pub returns-in_default-clause-whole : goal.returns-in_default-clause-whole
 returns-in_default-clause-whole c =

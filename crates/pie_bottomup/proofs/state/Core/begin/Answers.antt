@@ -2,7 +2,6 @@ use Rattle.std.proofs.Common.{◌+◌, sym, subst, arith}
 use Rattle.std.proofs.lemmas.Option.{slice_get_within}
 use Rattle.pie_bottomup.specs.inner.States.{RunsOrRests}
 use Rattle.pie_bottomup.proofs.Sites.{site_begun}
-use Rattle.pie_bottomup.proofs.ExactWalking.{begun_exact}
 use Rattle.pie_bottomup.proofs.GoingRoots.{begun_whole}
 use Rattle.pie_bottomup.proofs.state.Core.begin.Goals as goal
 
@@ -12,12 +11,6 @@ returns-clause-turns c = record {
       c.in_ok-begin.ensures.began c.begin.ensures.parked;
   state = subst (RunsOrRests (record c.args.self.now { frames = c.begin.new.self; at = c.args.self.now.at + 1 })) (sym c.requires.free) c.in_ok-begin.ensures.rests;
 }
-
-pub returns-clause-exact : goal.returns-clause-exact
-returns-clause-exact c = λ u plan e.
-    begun_exact u c.args.self.now c.begin.new.self c.args.no e c.requires.rests.rests c.in_ok-begin.ensures.rests
-    (omega (arith, slice_get_within c.args.self.now.tables.names c.args.no.0 c.requires.root.root c.requires.root.named, c.requires.rests.site.sized)) c.in_ok-begin.ensures.began
-    c.begin.ensures.parked
 
 pub returns-clause-whole : goal.returns-clause-whole
 returns-clause-whole c = λ u now e may.

@@ -1,5 +1,6 @@
 use Rattle.std.proofs.Common.{refl, arith}
 use Rattle.pie_bottomup.proofs.Sites.{site_calling}
+use Rattle.pie_bottomup.proofs.Keeping.{tasks_stay}
 use Rattle.pie_bottomup.proofs.state.Core.call_callers.Goals as goal
 
 pub returns-in_ok-schedule_callers-clause-called : goal.returns-in_ok-schedule_callers-clause-called
@@ -11,7 +12,7 @@ returns-in_ok-schedule_callers-clause-called c =
       tables = refl;
       hand = refl;
       nearer = omega (arith, now.weight);
-      keeps = record { plan = refl; room = now.room };
+      keeps = record { plan = refl; room = now.room; tasks = tasks_stay c.args.self.now.tables };
       called = λ _. now.scheduled.each;
       kept = now.scheduled.kept;
       only = now.scheduled.only;

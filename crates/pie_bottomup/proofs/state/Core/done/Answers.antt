@@ -2,13 +2,8 @@ use Rattle.std.proofs.Common.{refl, sym, ◌∙◌}
 use Rattle.pie_base.specs.declared.fault.FaultKind.TheVariants.{Big}
 use Rattle.pie_record.specs.declared.task_record.Outcome.TheVariants.{Done}
 use Rattle.pie_task_laws.specs.Coming.{failed_by}
-use Rattle.pie_bottomup.proofs.ExactSteps.{own_exact}
 use Rattle.pie_bottomup.proofs.GoingEvents.{done_goes}
 use Rattle.pie_bottomup.proofs.state.Core.done.Goals as goal
-
-pub returns-then-not-is_small-clause-exact : goal.returns-then-not-is_small-clause-exact
-returns-then-not-is_small-clause-exact c =
-    own_exact c.args.self.now c.fail.new.self c.args.no c.args.from c.args.notes c.fail.result c.requires.own c.fail.ensures.exact
 
 pub returns-then-not-is_small-clause-whole : goal.returns-then-not-is_small-clause-whole
 returns-then-not-is_small-clause-whole c =

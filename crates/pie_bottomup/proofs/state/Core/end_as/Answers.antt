@@ -2,7 +2,6 @@ use Rattle.std.proofs.Common.{◌∙◌, Some, sym, ap, subst}
 use Rattle.pie_running.specs.inner.Noted.{Noted}
 use Rattle.pie_bottomup.specs.inner.States.{MayEnd}
 use Rattle.pie_bottomup.proofs.Owning.{ends_so}
-use Rattle.pie_bottomup.proofs.ExactSteps.{noted_exact}
 use Rattle.std.proofs.Common.{refl}
 use Rattle.pie_bottomup.proofs.GoingEvents.{notes_goes}
 use Rattle.pie_bottomup.proofs.state.Core.end_as.Goals as goal
@@ -13,12 +12,6 @@ end_with-requires-clause-ends c =
     (record { task = c.in_ok-copy.field-0; deps = c.new.result; writes = c.new-2.result; outcome = c.args.outcome })
     (subst (λ (n : Noted). MayEnd c.args.self.now c.args.no c.args.from n c.args.outcome) c.into_parts-deps.ensures c.requires.ends)
     (c.task.ensures ∙ ap Some (sym c.in_ok-copy.ensures)) c.new.ensures
-
-pub returns-clause-exact : goal.returns-clause-exact
-returns-clause-exact c =
-    noted_exact c.args.self.now c.end_with.new.self c.args.no c.args.from c.args.notes
-    (record { task = c.in_ok-copy.field-0; deps = c.new.result; writes = c.new-2.result; outcome = c.args.outcome }) c.end_with.result
-    (c.new.ensures ∙ sym (ap (λ (n : Noted). n.deps) c.into_parts-deps.ensures)) c.end_with.ensures.exact
 
 pub returns-clause-whole : goal.returns-clause-whole
 returns-clause-whole c =

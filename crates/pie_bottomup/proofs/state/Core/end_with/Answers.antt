@@ -2,7 +2,7 @@ use Rattle.std.proofs.Common.{◌∙◌, ap}
 use Rattle.std.specs.Option.{option_copied}
 use Rattle.pie_bottomup.proofs.Calling.{are_called, ends_called, same_output}
 use Rattle.pie_bottomup.proofs.Telling.{has_finished}
-use Rattle.pie_bottomup.proofs.ExactEnding.{ends_exact, ends_same}
+use Rattle.pie_bottomup.proofs.ExactEnding.{ends_same}
 use Rattle.pie_bottomup.proofs.GoingEnds.{ends_whole}
 use Rattle.pie_bottomup.proofs.state.Core.end_with.Goals as goal
 
@@ -29,24 +29,6 @@ pub returns-clause-same : goal.returns-clause-same
 returns-clause-same c =
     ends_same c.args.self.now c.call_callers.new.self c.settle_with.new.self c.sweep_above.new.self c.call_callers.ensures.same c.settle_with.ensures.same
     c.sweep_above.ensures.same c.in_ok-sweep_above.ensures.told.tables
-
-pub returns-clause-exact : goal.returns-clause-exact
-returns-clause-exact c = λ row u plan e begins right.
-    let old = c.args.self.now in
-    let new = c.sweep_above.new.self in
-    let same =
-    ends_same old c.call_callers.new.self c.settle_with.new.self new c.call_callers.ensures.same c.settle_with.ensures.same
-    c.sweep_above.ensures.same c.in_ok-sweep_above.ensures.told.tables in
-    let finished =
-    has_finished old c.call_callers.new.self c.settle_with.new.self new c.args.no c.args.from c.args.rec
-    c.has_other_output-output.result c.has_other_edges-edges.result c.in_ok-call_callers.ensures.called c.in_ok-settle_with.ensures.settles
-    c.in_ok-sweep_above.ensures.told c.requires.holds
-    (λ was kept. same_output (option_copied c.get-old.result) was c.args.rec c.has_other_output-output.result (c.get-old.ensures ∙ kept)
-    c.has_other_output-output.ensures.same)
-    c.has_other_edges-edges.ensures in
-    ends_exact u old new c.args.no c.args.from c.args.rec plan e c.requires.holds c.in_ok-sweep_above.ensures.swept.rests.rests same
-    (ap (λ t. t.ran.items) c.in_ok-sweep_above.ensures.told.tables ∙ c.settle_with.ensures.ran ∙ ap (λ t. t.ran.items) c.in_ok-call_callers.ensures.called.tables)
-    (c.sweep_above.ensures.parked ∙ c.settle_with.ensures.parked ∙ c.call_callers.ensures.parked) c.requires.free finished c.requires.named begins row right
 
 pub returns-clause-whole : goal.returns-clause-whole
 returns-clause-whole c = λ row u now e begins right alone.

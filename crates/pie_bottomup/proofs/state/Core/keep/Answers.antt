@@ -1,7 +1,6 @@
 use Rattle.std.proofs.Common.{sym, subst}
 use Rattle.pie_bottomup.specs.inner.States.{RunsOrRests}
 use Rattle.pie_bottomup.proofs.Settling.{site_kept}
-use Rattle.pie_bottomup.proofs.ExactEnding.{kept_exact}
 use Rattle.pie_bottomup.proofs.GoingEnds.{kept_whole}
 use Rattle.pie_bottomup.proofs.state.Core.keep.Goals as goal
 
@@ -11,11 +10,6 @@ returns-clause-turns c = record {
       c.requires.stands c.keep.ensures.kept c.keep.ensures.parked;
   state = subst (RunsOrRests (record c.args.self.now { frames = c.keep.new.self })) (sym c.requires.free) c.keep.ensures.rests;
 }
-
-pub returns-clause-exact : goal.returns-clause-exact
-returns-clause-exact c = λ u plan taken.
-    kept_exact u c.args.self.now c.keep.new.self c.args.no plan taken c.requires.holds c.requires.same c.requires.stands c.keep.ensures.kept c.keep.ensures.parked
-    c.keep.ensures.rests
 
 pub returns-clause-whole : goal.returns-clause-whole
 returns-clause-whole c = λ u before now from.

@@ -12,6 +12,7 @@ use Rattle.pie_bottomup.specs.declared.state.Core.{Core}
 use Rattle.pie_bottomup.proofs.ExactBeginning.{loaded_core}
 use Rattle.pie_bottomup.specs.inner.Recorded.{AreRecorded}
 use Rattle.pie_bottomup.proofs.Beginning.{start_fresh, start_recorded, have_digests_of}
+use Rattle.pie_bottomup.proofs.Reasoning.{begins_knowing}
 use Rattle.pie_bottomup.proofs.state.Core.new.Goals as goal
 
 pub returns-clause-core : goal.returns-clause-core
@@ -56,7 +57,7 @@ returns-clause-exact c =
       hand = None;
       first = c.in_ok-old.first;
     } in
-    loaded_core c.args.image.funcs digests kept c.args.changes.now core c.requires.storable
+    loaded_core c.args.image.funcs digests kept c.args.changes.now core c.requires.storable c.requires.parts
     (λ first.
     let is = c.in_ok-old.ensures.loaded first in
     record {
@@ -76,3 +77,24 @@ returns-clause-exact c =
           ∙ ap (map (λ (t : Task). is_same_code c.as_slice-2.result.now digests t.func)) c.as_slice.ensures.tasks
           ∙ ap (λ fs. map (λ (t : Task). is_same_code fs digests t.func) old.tables.names) c.as_slice-2.ensures;
     })
+
+pub returns-clause-knows : goal.returns-clause-knows
+returns-clause-knows c =
+    let old = c.in_ok-old.old in
+    let digests = c.args.digests.now in
+    let core : Core = record {
+      alloc = c.args.alloc;
+      plan = record { typed = c.args.typed; code = c.args.code; digests = c.args.digests; roots = c.in_ok-roots.roots; same = c.in_ok-same.same };
+      tables = old.tables;
+      earlier = c.count-earlier.result;
+      frames = c.new-2.result;
+      stage = c.new-3.result;
+      named = c.in_ok-named.named;
+      at = 0;
+      hand = None;
+      first = c.in_ok-old.first;
+    } in
+    begins_knowing c.args.image.funcs digests c.args.image.rows c.args.changes.now core (returns-clause-exact c)
+    (c.in_ok-same.ensures
+    ∙ ap (map (λ (t : Task). is_same_code c.as_slice-2.result.now digests t.func)) c.as_slice.ensures.tasks
+    ∙ ap (λ fs. map (λ (t : Task). is_same_code fs digests t.func) old.tables.names) c.as_slice-2.ensures)

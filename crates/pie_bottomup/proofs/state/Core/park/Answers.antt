@@ -6,7 +6,6 @@ use Rattle.pie_frames.specs.inner.Turns.{HasParked}
 use Rattle.pie_bottomup.specs.inner.States.{RunsOrRests}
 use Rattle.pie_bottomup.proofs.Sites.{site_parked}
 use Rattle.pie_bottomup.proofs.Cycles.{cycle_in_hand, there_is}
-use Rattle.pie_bottomup.proofs.ExactGrowing.{parked_exact}
 use Rattle.pie_bottomup.proofs.GoingEvents.{parked_whole}
 use Rattle.pie_bottomup.proofs.state.Core.park.Goals as goal
 
@@ -27,13 +26,6 @@ returns-in-None-clause-turns c =
       site = site_parked c.args.self.now c.park.new.self c.args.no p c.requires.site c.requires.holds has c.requires.number c.requires.own c.requires.named;
       state = subst (RunsOrRests (record c.args.self.now { frames = c.park.new.self })) (sym c.requires.free) has.rests;
     }
-
-pub returns-in-None-clause-exact : goal.returns-in-None-clause-exact
-returns-in-None-clause-exact c = λ u plan e begins right.
-    let p : Parked = record { caller = c.args.caller; from = c.args.from; callee = c.args.callee } in
-    let has : HasParked c.args.self.now.frames c.park.new.self c.args.no p = rw c.in-None.is at c.in_ok-cycle.ensures.parked in
-    parked_exact u c.args.self.now c.park.new.self c.args.no p e c.requires.holds has c.requires.own.number c.requires.number c.requires.own.row.within
-    begins c.requires.free
 
 pub returns-in-None-clause-whole : goal.returns-in-None-clause-whole
 returns-in-None-clause-whole c = λ u now e begins may.

@@ -1,5 +1,4 @@
 use Rattle.std.proofs.Common.{Ok}
-use Rattle.pie_bottomup.proofs.ExactAsking.{told_asks, read_owns}
 use Rattle.pie_bottomup.proofs.GoingLooks.{read_goes}
 use Rattle.pie_bottomup.proofs.Owning.{may_go}
 use Rattle.pie_bottomup.proofs.Shown.{task_at, shown_here}
@@ -9,13 +8,6 @@ use Rattle.pie_bottomup.proofs.state.Core.read_there.Goals as goal
 pub told-requires-clause-goes : goal.told-requires-clause-goes
 told-requires-clause-goes g c =
     may_go c.args.self.now c.args.no c.args.from c.args.waiting.notes c.in_ok-told.told c.in_ok-told.ensures.answered c.requires.own
-
-pub returns-clause-exact : goal.returns-clause-exact
-returns-clause-exact g c =
-    told_asks {E = Unit {0}} (g.F.Files.holds c.args.files.now) c.args.self.now c.told.new.self c.args.no c.args.from (Ok c.in_ok-told-2.field-0)
-    c.in_ok-told.told (λ d held.
-    let x = c.in_ok-told.ensures.tells d held in
-    read_owns c.args.self.now c.args.no c.args.from c.args.waiting c.args.by c.args.path x.sight c.in_ok-told.told x.told c.requires.own) c.in_ok-told-2.ensures.exact
 
 pub read-requires-clause-knows : goal.read-requires-clause-knows
 read-requires-clause-knows g c =

@@ -3,16 +3,10 @@ use Rattle.std.specs.Prelude.{IfOk}
 use Rattle.pie_base.specs.declared.fault.FaultKind.TheVariants.{Big}
 use Rattle.pie_task_laws.specs.Coming.{failed_by}
 use Rattle.pie_bottomup.specs.inner.Going.{NotesWhole}
-use Rattle.pie_bottomup.proofs.Owning.{same_own}
-use Rattle.pie_bottomup.proofs.ExactSteps.{own_exact, numbered_inside}
+use Rattle.pie_bottomup.proofs.ExactSteps.{numbered_inside}
 use Rattle.pie_running.specs.inner.Noted.{Noted}
 use Rattle.pie_bottomup.proofs.GoingEvents.{big_goes, parks_goes}
 use Rattle.pie_bottomup.proofs.state.Core.require.Goals as goal
-
-pub returns-then-not-is_small-clause-exact : goal.returns-then-not-is_small-clause-exact
-returns-then-not-is_small-clause-exact c =
-    own_exact c.args.self.now c.fail.new.self c.args.no c.args.from c.into_notes.result c.fail.result
-    (same_own c.args.self.now c.args.no c.args.from c.args.waiting.notes c.into_notes.result c.into_notes.ensures c.requires.own) c.fail.ensures.exact
 
 pub park-requires-clause-number : goal.park-requires-clause-number
 park-requires-clause-number c =

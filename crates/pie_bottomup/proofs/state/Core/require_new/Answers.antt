@@ -1,8 +1,10 @@
 use Rattle.std.proofs.Common.{subst}
 use Rattle.pie_value.specs.declared.task.Task.{Task}
 use Rattle.pie_bottomup.specs.inner.Going.{HasGrown}
-use Rattle.pie_bottomup.proofs.ExactSteps.{adds_then_runs}
 use Rattle.pie_bottomup.proofs.GoingEvents.{grows_goes}
+use Rattle.pie_bottomup.specs.inner.States.{Keeps}
+use Rattle.pie_bottomup.proofs.ExactSteps.{if_ok_more}
+use Rattle.pie_bottomup.proofs.Keeping.{keeps_then}
 use Rattle.pie_bottomup.proofs.state.Core.require_new.Goals as goal
 
 pub park-requires-clause-holds : goal.park-requires-clause-holds
@@ -11,12 +13,6 @@ park-requires-clause-holds c = c.in_ok-callee.ensures.holds c.args.no c.requires
 pub park-requires-clause-own : goal.park-requires-clause-own
 park-requires-clause-own c = c.in_ok-callee.ensures.own c.args.no c.args.from c.args.caller.waiting.notes c.requires.own
 
-pub returns-clause-exact : goal.returns-clause-exact
-returns-clause-exact c =
-    let ok = c.in_ok-callee.ensures in
-    adds_then_runs c.args.self.now c.add.new.self c.park.new.self c.args.no.0 c.args.from c.park.result ok.kept.plan
-    (ok.exact (ok.holds c.args.no c.requires.holds).taken.stands) (ok.begins c.args.no.0 c.args.from) c.park.ensures.exact
-
 pub returns-clause-whole : goal.returns-clause-whole
 returns-clause-whole c = λ small.
     let ok = c.in_ok-callee.ensures in
@@ -24,3 +20,8 @@ returns-clause-whole c = λ small.
     c.requires.site c.requires.holds.taken.stands (ok.holds c.args.no c.requires.holds).taken.stands
     (subst (λ (t : Task). HasGrown c.args.self.now t c.add.new.self) c.in_ok-required.ensures ok.grown) ok.number ok.exact
     (ok.begins c.args.no.0 c.args.from) c.requires.waits.left small c.park.ensures.whole
+
+pub returns-clause-kept : goal.returns-clause-kept
+returns-clause-kept c =
+    if_ok_more (λ turn. Keeps c.add.new.self c.park.new.self) (λ turn. Keeps c.args.self.now c.park.new.self)
+    (λ turn kept. keeps_then c.args.self.now c.add.new.self c.park.new.self c.in_ok-callee.ensures.kept kept) c.park.result c.park.ensures.kept

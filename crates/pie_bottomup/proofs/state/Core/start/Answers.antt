@@ -9,7 +9,6 @@ use Rattle.pie_bottomup.specs.declared.state.InHand.{InHand}
 use Rattle.pie_bottomup.specs.inner.Running.{IsKnown}
 use Rattle.pie_bottomup.proofs.Owning.{started_own, own_tables}
 use Rattle.pie_bottomup.proofs.Sites.{site_tables}
-use Rattle.pie_bottomup.proofs.ExactGrowing.{started_exact}
 use Rattle.std.proofs.lemmas.Option.{slice_get_within}
 use Rattle.pie_parser.specs.FunctionTrees.{FunctionTree}
 use Rattle.pie_value.specs.declared.task.Task.{Task}
@@ -18,6 +17,7 @@ use Rattle.pie_running.specs.inner.Coded.{HasFunction}
 use Rattle.pie_running.specs.inner.Frames.{IsStarted}
 use Rattle.pie_compare_laws.proofs.Ways.{one_some}
 use Rattle.pie_bottomup.proofs.GoingEnds.{started_whole}
+use Rattle.pie_bottomup.proofs.Keeping.{tasks_run, run_marked}
 use Rattle.pie_bottomup.proofs.state.Core.start.Goals as goal
 
 pub returns-clause-turns : goal.returns-clause-turns
@@ -47,16 +47,18 @@ returns-clause-spends c = record {
   plan = refl;
   room = omega arith;
   one = omega (arith, ap length c.in_ok-task.ensures.runs, length_push c.args.runs.now c.task.result.now);
+  tasks = tasks_run c.args.self.now.tables c.runs.new.self c.args.no.0 c.runs.ensures.names c.runs.ensures.records c.runs.ensures.ran
+      (omega (arith, slice_get_within c.args.self.now.tables.names c.args.no.0 c.task.result.now c.task.ensures, c.requires.site.tables.flags));
 }
 
-pub returns-clause-exact : goal.returns-clause-exact
-returns-clause-exact c = λ u plan taken.
-    let self = c.args.self.now in
-    let needs : numbers c.callees-from.result.now ≡ (row_at self.frames.walk.rows c.args.no.0).needs =
-    c.callees-from.ensures.callees ∙ ap (λ (rows : List Row). (row_at rows c.args.no.0).needs) (c.rows.ensures ∙ ap (λ w. w.rows) c.walk.ensures) in
-    let hand : InHand = record { no = c.args.no; from = length c.callees-from.result.now; task = c.in_ok-task.task } in
-    started_exact u self c.runs.new.self c.args.no hand taken c.requires.holds c.runs.ensures.names c.runs.ensures.records c.runs.ensures.ran refl
-    (sym (length-map c.callees-from.result.now (λ (t : TaskNo). t.0)) ∙ ap length needs)
+pub returns-clause-started : goal.returns-clause-started
+returns-clause-started c = record {
+  task = c.task.result.now;
+  named = c.task.ensures;
+  ran = run_marked c.args.self.now.tables c.runs.new.self c.args.no.0 c.runs.ensures.ran
+      (omega (arith, slice_get_within c.args.self.now.tables.names c.args.no.0 c.task.result.now c.task.ensures, c.requires.site.tables.flags));
+  added = c.in_ok-task.ensures.runs;
+}
 
 pub returns-clause-whole : goal.returns-clause-whole
 returns-clause-whole c = λ code_is u before now from.

@@ -1,5 +1,6 @@
 use Rattle.std.proofs.Common.{refl, arith, inl, inr}
 use Rattle.pie_bottomup.proofs.Sites.{site_sweeping}
+use Rattle.pie_bottomup.proofs.Keeping.{tasks_stay}
 use Rattle.pie_bottomup.proofs.state.Core.sweep_above.Goals as goal
 
 pub returns-in_ok-sweep-clause-swept : goal.returns-in_ok-sweep-clause-swept
@@ -12,7 +13,7 @@ returns-in_ok-sweep-clause-swept c =
       };
       hand = refl;
       nearer = omega (arith, now.weight);
-      keeps = record { plan = refl; room = now.room };
+      keeps = record { plan = refl; room = now.room; tasks = tasks_stay c.args.self.now.tables };
     }
 
 pub returns-in_ok-sweep-clause-told : goal.returns-in_ok-sweep-clause-told

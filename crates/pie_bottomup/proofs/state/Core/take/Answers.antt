@@ -2,8 +2,10 @@ use Rattle.std.proofs.Common.{None, sym, subst}
 use Rattle.std.specs.Prelude.{IfSome}
 use Rattle.pie_value.specs.declared.task.Task.{Task}
 use Rattle.pie_running.specs.inner.Coded.{IsCodeFor}
-use Rattle.pie_bottomup.proofs.ExactSteps.{take_starts}
 use Rattle.pie_bottomup.proofs.GoingSteps.{known_goes}
+use Rattle.std.proofs.Common.{inl, refl}
+use Rattle.pie_bottomup.specs.inner.Ran.{TakesFor}
+use Rattle.pie_bottomup.proofs.Reasoning.{on_ok}
 use Rattle.pie_bottomup.proofs.state.Core.take.Goals as goal
 
 pub lose-requires-clause-none : goal.lose-requires-clause-none
@@ -11,10 +13,11 @@ lose-requires-clause-none c =
     subst (λ o. IfSome o (λ (t : Task). IsCodeFor c.args.self.now.plan.typed.now c.args.self.now.plan.code.now t None)) (sym c.task.ensures)
     (rw c.in-None.is at c.code_of.ensures.found)
 
-pub returns-in-Some-clause-exact : goal.returns-in-Some-clause-exact
-returns-in-Some-clause-exact c = take_starts c.args.self.now c.take_known.new.self c.args.no.0 c.take_known.result c.take_known.ensures.exact
-
 pub returns-in-Some-clause-whole : goal.returns-in-Some-clause-whole
 returns-in-Some-clause-whole c =
     known_goes c.args.self.now c.take_known.new.self c.args.no.0 c.in-Some.code.now c.task.result.now c.take_known.result c.task.ensures
     (rw c.in-Some.is at c.code_of.ensures.found) c.take_known.ensures.whole
+
+pub returns-in-None-clause-reasons : goal.returns-in-None-clause-reasons
+returns-in-None-clause-reasons c =
+    on_ok (TakesFor c.args.self.now c.args.no.0 c.lose.new.self c.args.runs.now c.args.runs.now) c.lose.result (λ u funcs digests now taken knows. inl refl)

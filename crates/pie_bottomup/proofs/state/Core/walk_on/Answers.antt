@@ -1,7 +1,9 @@
 use Rattle.pie_frames.specs.inner.Turns.{HasTaken, HasAnswered, IsOver}
 use Rattle.pie_bottomup.proofs.Sites.{site_taken, taken_recorded, site_answered, callee_settled, rests_over}
-use Rattle.pie_bottomup.proofs.ExactSteps.{walk_takes, walk_answers, walk_idles}
 use Rattle.pie_bottomup.proofs.GoingAnswers.{takes_goes, answers_goes, idles_goes}
+use Rattle.std.proofs.Common.{inl, refl}
+use Rattle.pie_bottomup.specs.inner.Ran.{WalksFor}
+use Rattle.pie_bottomup.proofs.Reasoning.{on_ok, walks_for}
 use Rattle.pie_bottomup.proofs.state.Core.walk_on.Goals as goal
 
 pub take-requires-clause-site : goal.take-requires-clause-site
@@ -34,23 +36,6 @@ next_root-requires-clause-rests c =
     let over : IsOver c.args.self.now.frames c.next.new.self = rw c.in-Idle.is at c.in_ok-no.ensures in
     rests_over c.args.self.now c.next.new.self c.requires.rests.site over
 
-pub returns-in-Takes-clause-exact : goal.returns-in-Takes-clause-exact
-returns-in-Takes-clause-exact c =
-    let has : HasTaken c.args.self.now.frames c.next.new.self c.in-Takes.no = rw c.in-Takes.is at c.in_ok-no.ensures in
-    walk_takes c.args.self.now c.next.new.self c.take.new.self c.in-Takes.no c.take.result c.requires.rests.rests has c.take.ensures.exact
-
-pub returns-in-Answers-clause-exact : goal.returns-in-Answers-clause-exact
-returns-in-Answers-clause-exact c =
-    let has : HasAnswered c.args.self.now.frames c.next.new.self c.in-Answers.no c.in-Answers.parked = rw c.in-Answers.is at c.in_ok-no.ensures in
-    walk_answers c.args.self.now c.next.new.self c.answer.new.self c.in-Answers.no c.answer.result c.requires.rests.rests c.in-Answers.parked has
-    c.answer.ensures.exact
-
-pub returns-in-Idle-clause-exact : goal.returns-in-Idle-clause-exact
-returns-in-Idle-clause-exact c =
-    let over : IsOver c.args.self.now.frames c.next.new.self = rw c.in-Idle.is at c.in_ok-no.ensures in
-    walk_idles c.args.self.now c.next.new.self c.next_root.new.self c.next_root.result c.requires.rests.rests over
-    c.next_root.ensures.exact
-
 pub returns-in-Takes-clause-whole : goal.returns-in-Takes-clause-whole
 returns-in-Takes-clause-whole c =
     let has : HasTaken c.args.self.now.frames c.next.new.self c.in-Takes.no = rw c.in-Takes.is at c.in_ok-no.ensures in
@@ -67,3 +52,17 @@ pub returns-in-Idle-clause-whole : goal.returns-in-Idle-clause-whole
 returns-in-Idle-clause-whole c =
     let over : IsOver c.args.self.now.frames c.next.new.self = rw c.in-Idle.is at c.in_ok-no.ensures in
     idles_goes c.args.self.now c.next.new.self c.next_root.new.self c.next_root.result c.requires.rests.rests over c.next_root.ensures.whole
+
+pub returns-in-Takes-clause-reasons : goal.returns-in-Takes-clause-reasons
+returns-in-Takes-clause-reasons c =
+    let has : HasTaken c.args.self.now.frames c.next.new.self c.in-Takes.no = rw c.in-Takes.is at c.in_ok-no.ensures in
+    walks_for c.args.self.now c.next.new.self c.take.new.self c.in-Takes.no c.args.runs.now c.take.new.runs c.take.result c.requires.rests.rests has
+    c.take.ensures.reasons
+
+pub returns-in-Answers-clause-reasons : goal.returns-in-Answers-clause-reasons
+returns-in-Answers-clause-reasons c =
+    on_ok (WalksFor c.args.self.now c.answer.new.self c.args.runs.now c.args.runs.now) c.answer.result (λ u funcs digests now e knows. inl refl)
+
+pub returns-in-Idle-clause-reasons : goal.returns-in-Idle-clause-reasons
+returns-in-Idle-clause-reasons c =
+    on_ok (WalksFor c.args.self.now c.next_root.new.self c.args.runs.now c.args.runs.now) c.next_root.result (λ u funcs digests now e knows. inl refl)
