@@ -43,6 +43,7 @@ check_grows l m g c is = record {
   needs = subst (λ (ts : List Task). tasks_at ts (numbers c.required.items) ≡ map Some (needs_in (take c.at c.rec.deps))) (sym g.names)
       (all_named_more l.tables.names g.rest (numbers c.required.items) (needs_in (take c.at c.rec.deps)) is.needs);
   ended = All-weaker (HasOutput l.tables.records) (HasOutput m.tables.records) g.outputs (numbers c.required.items) is.ended;
+  rest = is.rest;
 }
 
 pub frame_grows : (l m : Ledger) → Grows l m → (e : Frame) → IsFrame l e → IsFrame m e

@@ -19,7 +19,7 @@ use Rattle.pie_old.specs.inner.Rows.{needs_in, tasks_at}
 use Rattle.pie_topdown.specs.declared.ledger.Ledger.{Ledger}
 use Rattle.pie_topdown.specs.declared.hand.Check.{Check}
 use Rattle.pie_topdown.specs.inner.Ledgers.{HasOutput}
-use Rattle.pie_topdown.specs.inner.Frames.{IsCheck}
+use Rattle.pie_topdown.specs.inner.Frames.{AreOffers, IsCheck}
 use Rattle.pie_topdown.specs.inner.Places.{IsOfTask, IsPassed}
 use Rattle.pie_topdown.proofs.Growing.{mapped_push, tasks_push}
 
@@ -52,8 +52,8 @@ with_ended l ns more (Some k) all of =
 
 -- a check in its next place
 pub stepped : (l : Ledger) (c d : Check) (n : Option TaskNo) → IsCheck l c → IsPassed l c n → d.no ≡ c.no → d.code ≡ c.code → d.rec ≡ c.rec → d.at ≡ c.at + 1
-    → d.required.items ≡ c.required.items ++ option_to_list n → IsCheck l d
-stepped l c d n is passed number code rec at required =
+    → d.required.items ≡ c.required.items ++ option_to_list n → d.rest ≡ c.rest → IsCheck l d
+stepped l c d n is passed number code rec at required rest =
     let of = passed.of_task some_dep in
     record {
       named = subst (λ (k : TaskNo). slice_get l.tables.names k.0 ≡ Some d.rec.task) (sym number)
@@ -66,6 +66,7 @@ stepped l c d n is passed number code rec at required =
           ∙ ap (λ (k : ℕ). map Some (needs_in (take k c.rec.deps))) (sym at) ∙ ap (λ r. map Some (needs_in (take d.at r.deps))) (sym rec);
       ended = subst (λ (ks : List TaskNo). All (HasOutput l.tables.records) (numbers ks)) (sym required)
           (with_ended l c.required.items (required_on (get_or c.rec.deps c.at some_dep).what) n is.ended of);
+      rest = subst AreOffers (sym rest) is.rest;
     }
 
 -- what all observations of a record require

@@ -75,13 +75,13 @@ room_push : (es : List Frame) (e : Frame) → stack_room (es ++ e ∷ []) ≡ st
 room_push [] e = omega arith
 room_push (d ∷ es) e = let more = room_push es e in omega (arith, more)
 
-one_less : (n : ℕ) → n < 50000 → still n ≡ still (n + 1) + 3000008
+one_less : (n : ℕ) → n < 50000 → still n ≡ still (n + 1) + 7000020
 unfolding still
-one_less n lt = let q : 50000 - n ≡ (50000 - (n + 1)) + 1 = omega (arith, lt) in ap (λ k. k * 3000008) q ∙ omega arith
+one_less n lt = let q : 50000 - n ≡ (50000 - (n + 1)) + 1 = omega (arith, lt) in ap (λ k. k * 7000020) q ∙ omega arith
 
 -- a task was entered, and something waits for it
 pub pushed_nearer : (n m : ℕ) (es ds : List Frame) (e : Frame) (bound : ℕ) → n < 50000 → m ≡ n + 1 → ds ≡ es ++ e ∷ [] → frame_mass e ≤ bound + 1
-    → still m + stack_mass ds + 3000006 < still n + stack_mass es + bound
+    → still m + stack_mass ds + 7000018 < still n + stack_mass es + bound
 pushed_nearer n m es ds e bound few one stack light =
     let weight : stack_mass ds ≡ stack_mass es + frame_mass e = ap stack_mass stack ∙ mass_push es e in
     let less = one_less n few in

@@ -1,13 +1,13 @@
-//! Entered tasks that begin: with the check of an old record, or with a run.
+//! Entered tasks that begin: with the check of an old record, with offers, or with a run.
 ghost use Rattle.std.specs.Prelude.{◌≡◌, ◌<◌, ◌≤◌, ◌+◌, length, Some, true, slice_get, IfOk, IfSome, OnOk};
 ghost use Rattle.pie_files.specs.Reading.{ReadsOnly};
 ghost use Rattle.pie_record.specs.Canonical.{IsStorable};
 ghost use Rattle.pie_results.specs.inner.Failures.{is_done as specs_is_done};
-ghost use Rattle.pie_topdown.specs.inner.Frames.{IsCheck, MayStart, IsSite};
-ghost use Rattle.pie_topdown.specs.inner.Turns.{TurnsTo, below, Nearer, room, Spends, StartsOne, Keeps};
+ghost use Rattle.pie_topdown.specs.inner.Frames.{AreOffers, IsCheck, MayStart, IsSite};
+ghost use Rattle.pie_topdown.specs.inner.Turns.{TurnsTo, check_mass, rest_mass, below, Nearer, room, Spends, StartsOne, Keeps};
 
 use crate::builder::Builder;
-use crate::hand::{Check, Hand, Turn};
+use crate::hand::{Check, Hand, Rest, Turn};
 use crate::stands::writes_stand;
 use pie_base::OutOfMemory;
 use pie_code::Checked;
@@ -15,24 +15,26 @@ use pie_files::{Files, FilesError};
 use pie_graph::TaskNo;
 use pie_record::{Outcome, TaskRecord};
 use pie_running::RunningTask;
+use pie_store::Offers;
 use pie_vm::Runs;
 use std::alloc::Global;
 
 impl<'a> Builder<'a> {
-    /// An entered task begins: with the check of its old record, if it has one whose function stayed the same and whose writes are there, or else it
-    /// runs.
+    /// An entered task begins: with the check of its old record, if it has one whose function stayed the same and whose writes are there, or else with
+    /// its offers.
     #[tactic(auto, using(pie_files::proofs::Reading::reads))]
-    pub(crate) fn begin<F: Files>(
+    pub(crate) fn begin<F: Files, O: Offers>(
         &mut self,
         no: TaskNo,
         code: &'a Checked,
+        offers: &mut O,
         files: &mut F,
         runs: &mut Runs,
     ) -> Result<Turn<'a>, FilesError>
         requires site { IsSite self.old }
         requires starts { MayStart self.old.ledger no.0 code.now.params }
         ensures turns { IfOk result (TurnsTo self.new) }
-        ensures nearer { IfOk result (Nearer (below self.old + 3000006) self.new) }
+        ensures nearer { IfOk result (Nearer (below self.old + 7000018) self.new) }
         ensures spends { IfOk result (Spends (room self.old + 1) runs.old runs.new self.new) }
         ensures starts { StartsOne runs.old runs.new }
         ensures few { length runs.new ≤ length runs.old + (room self.old + 1) }
@@ -40,8 +42,8 @@ impl<'a> Builder<'a> {
         ensures reads { ReadsOnly F.holds F.moment F.left_since F.images F.faults files.old files.new result }
     {
         match self.old_record(no)? {
-            Some(rec) => self.begin_with(no, code, rec, files, runs),
-            None => Ok(self.start(no, code, runs)?),
+            Some(rec) => self.begin_with(no, code, rec, offers, files, runs),
+            None => self.ask(no, code, offers, files, runs),
         }
     }
 
@@ -71,11 +73,12 @@ impl<'a> Builder<'a> {
 
     // The same with an old record.
     #[tactic(auto, using(pie_files::proofs::Reading::reads, crate::proofs::Twice::reads_then))]
-    fn begin_with<F: Files>(
+    fn begin_with<F: Files, O: Offers>(
         &mut self,
         no: TaskNo,
         code: &'a Checked,
         rec: Box<TaskRecord>,
+        offers: &mut O,
         files: &mut F,
         runs: &mut Runs,
     ) -> Result<Turn<'a>, FilesError>
@@ -84,7 +87,7 @@ impl<'a> Builder<'a> {
         requires storable { IsStorable rec.value }
         requires named { slice_get self.old.ledger.tables.names no.0 ≡ Some rec.value.task }
         ensures turns { IfOk result (TurnsTo self.new) }
-        ensures nearer { IfOk result (Nearer (below self.old + 3000006) self.new) }
+        ensures nearer { IfOk result (Nearer (below self.old + 7000018) self.new) }
         ensures spends { IfOk result (Spends (room self.old + 1) runs.old runs.new self.new) }
         ensures starts { StartsOne runs.old runs.new }
         ensures few { length runs.new ≤ length runs.old + (room self.old + 1) }
@@ -92,29 +95,34 @@ impl<'a> Builder<'a> {
         ensures reads { ReadsOnly F.holds F.moment F.left_since F.images F.faults files.old files.new result }
     {
         if !writes_stand(&mut self.named, rec.writes.as_slice(), files)? {
-            return Ok(self.start(no, code, runs)?);
+            return self.ask(no, code, offers, files, runs);
         }
-        let check = self.check_of(no, code, rec)?;
+        let check = self.check_of(no, code, rec, None, Rest::Unasked)?;
         Ok(Turn::Goes(Hand::Checks(check)))
     }
 
-    // The check of a record from its first observation on.
-    fn check_of(
+    /// The check of a record from its first observation on. An offered one has its contents.
+    pub(crate) fn check_of(
         &self,
         no: TaskNo,
         code: &'a Checked,
         rec: Box<TaskRecord>,
+        contents: Option<Vec<Vec<u8>>>,
+        rest: Rest,
     ) -> Result<Box<Check<'a>>, OutOfMemory>
         requires starts { MayStart self.now.ledger no.0 code.now.params }
         requires storable { IsStorable rec.value }
         requires named { slice_get self.now.ledger.tables.names no.0 ≡ Some rec.value.task }
+        requires rest { AreOffers rest }
         ensures check { IfOk result (λ c. IsCheck self.now.ledger c.value) }
-        ensures first { IfOk result (λ c. c.value.at ≡ 0) }
+        ensures mass { IfOk result (λ c. check_mass c.value ≡ 3000005 + rest_mass rest) }
     {
         let check = Check {
             no,
             code,
             rec: Box::into_inner(rec),
+            contents,
+            rest,
             at: 0,
             required: Vec::new(self.alloc),
         };
@@ -163,7 +171,8 @@ fn copy_done(alloc: Global, rec: &TaskRecord) -> Result<Option<Box<TaskRecord>>,
     Ok(Some(copy))
 }
 
-fn is_done(outcome: &Outcome) -> bool
+/// Whether a task gave an output.
+pub(crate) fn is_done(outcome: &Outcome) -> bool
     ensures { result ≡ specs_is_done outcome.now }
 {
     match outcome {

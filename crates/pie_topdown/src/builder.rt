@@ -9,7 +9,9 @@ use crate::ledger::Ledger;
 use crate::plan::Plan;
 use pie_base::OutOfMemory;
 use pie_files::{Files, FilesError};
+use pie_graph::TaskNo;
 use pie_named::Named;
+use pie_store::Offers;
 use pie_value::Tasks;
 use pie_view::Stage;
 use pie_vm::Runs;
@@ -28,14 +30,17 @@ pub(crate) struct Builder<'a> {
     pub(crate) stack: Vec<Frame<'a>>,
     /// The cycle that was met, if one was: the records of its tasks say only that there is one.
     pub(crate) circle: Option<Tasks>,
+    /// The tasks that ended with an offered record, in order.
+    pub(crate) reused: Vec<TaskNo>,
 }
 
 impl<'a> Builder<'a> {
     /// One step: an entered task begins, a record is compared in one place, a task runs up to its next event, or what waits goes on.
     #[tactic(auto, using(pie_files::proofs::Reading::reads))]
-    pub(crate) fn step<F: Files>(
+    pub(crate) fn step<F: Files, O: Offers>(
         &mut self,
         hand: Hand<'a>,
+        offers: &mut O,
         files: &mut F,
         runs: &mut Runs,
     ) -> Result<Turn<'a>, FilesError>
@@ -49,8 +54,8 @@ impl<'a> Builder<'a> {
         ensures reads { ReadsOnly F.holds F.moment F.left_since F.images F.faults files.old files.new result }
     {
         match hand {
-            Hand::Enters(no, code) => self.begin(no, code, files, runs),
-            Hand::Checks(check) => self.check(check, files, runs),
+            Hand::Enters(no, code) => self.begin(no, code, offers, files, runs),
+            Hand::Checks(check) => self.check(check, offers, files, runs),
             Hand::Runs(task) => self.event(task, files),
             Hand::Ended => Ok(self.resume()?),
         }

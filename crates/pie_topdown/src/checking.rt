@@ -12,7 +12,7 @@ ghost use Rattle.pie_topdown.specs.declared.ledger.Ledger.{Ledger};
 ghost use Rattle.pie_topdown.specs.inner.Entries.{MayEnter};
 ghost use Rattle.pie_topdown.specs.inner.Frames.{IsCheck, IsSite};
 ghost use Rattle.pie_topdown.specs.inner.Places.{Tells, IsPassed, IsPlace};
-ghost use Rattle.pie_topdown.specs.inner.Turns.{TurnsTo, below, Nearer, room, Fits, Spends, StartsOne, Keeps};
+ghost use Rattle.pie_topdown.specs.inner.Turns.{TurnsTo, check_mass, below, Nearer, room, Fits, Spends, StartsOne, Keeps};
 
 use crate::builder::Builder;
 use crate::entering::Entry;
@@ -23,6 +23,7 @@ use pie_code::Checked;
 use pie_files::{Files, FilesError};
 use pie_graph::TaskNo;
 use pie_record::{Dep, DepKind, DepOn};
+use pie_store::Offers;
 use pie_value::{Stamp, Task};
 use pie_vm::Runs;
 
@@ -41,16 +42,17 @@ pub(crate) enum Place {
 impl<'a> Builder<'a> {
     /// Compares the next observation of a record. A record with more observations than a task can make doesn't stand.
     #[tactic(auto, using(crate::proofs::Twice::reads_then))]
-    pub(crate) fn check<F: Files>(
+    pub(crate) fn check<F: Files, O: Offers>(
         &mut self,
         check: Box<Check<'a>>,
+        offers: &mut O,
         files: &mut F,
         runs: &mut Runs,
     ) -> Result<Turn<'a>, FilesError>
         requires site { IsSite self.old }
         requires check { IsCheck self.old.ledger check.value }
         ensures turns { IfOk result (TurnsTo self.new) }
-        ensures nearer { IfOk result (Nearer (below self.old + ((1000001 - check.entry.value.at) + 2000004)) self.new) }
+        ensures nearer { IfOk result (Nearer (below self.old + check_mass check.entry.value) self.new) }
         ensures spends { IfOk result (Spends (room self.old + 1) runs.old runs.new self.new) }
         ensures starts { StartsOne runs.old runs.new }
         ensures few { length runs.new ≤ length runs.old + (room self.old + 1) }
@@ -58,31 +60,35 @@ impl<'a> Builder<'a> {
         ensures reads { ReadsOnly F.holds F.moment F.left_since F.images F.faults files.old files.new result }
     {
         let place = self.look(&check, files)?;
-        Ok(self.go_on(check, place, runs)?)
+        self.go_on(check, place, offers, files, runs)
     }
 
     // Goes on by what was found at the next observation.
-    fn go_on(
+    #[tactic(auto, using(pie_files::proofs::Reading::reads))]
+    fn go_on<F: Files, O: Offers>(
         &mut self,
         check: Box<Check<'a>>,
         place: Place,
+        offers: &mut O,
+        files: &mut F,
         runs: &mut Runs,
-    ) -> Result<Turn<'a>, OutOfMemory>
+    ) -> Result<Turn<'a>, FilesError>
         requires site { IsSite self.old }
         requires check { IsCheck self.old.ledger check.value }
         requires place { IsPlace self.old.ledger check.value place }
         ensures turns { IfOk result (TurnsTo self.new) }
-        ensures nearer { IfOk result (Nearer (below self.old + ((1000001 - check.entry.value.at) + 2000004)) self.new) }
+        ensures nearer { IfOk result (Nearer (below self.old + check_mass check.entry.value) self.new) }
         ensures spends { IfOk result (Spends (room self.old + 1) runs.old runs.new self.new) }
         ensures starts { StartsOne runs.old runs.new }
         ensures few { length runs.new ≤ length runs.old + (room self.old + 1) }
         ensures kept { OnOk result (Keeps self.old self.new) }
+        ensures reads { ReadsOnly F.holds F.moment F.left_since F.images F.faults files.old files.new result }
     {
         match place {
-            Place::Over => self.keep(check),
-            Place::Stands(no) => self.pass(check, no),
-            Place::Differs => self.start(check.no, check.code, runs),
-            Place::Needs(task) => self.descend(check, task, runs),
+            Place::Over => Ok(self.keep(check)?),
+            Place::Stands(no) => Ok(self.pass(check, no)?),
+            Place::Differs => self.differs(check, offers, files, runs),
+            Place::Needs(task) => self.descend(check, task, offers, files, runs),
         }
     }
 
@@ -92,7 +98,7 @@ impl<'a> Builder<'a> {
         requires check { IsCheck self.now.ledger check.value }
         requires place { IsPlace self.now.ledger check.value (places.Stands no) }
         ensures turns { IfOk result (TurnsTo self.now) }
-        ensures nearer { IfOk result (Nearer (below self.now + ((1000001 - check.entry.value.at) + 2000004)) self.now) }
+        ensures nearer { IfOk result (Nearer (below self.now + check_mass check.entry.value) self.now) }
         ensures fits { IfOk result (Fits (room self.now + 1) self.now) }
     {
         let mut check = check;
@@ -101,26 +107,30 @@ impl<'a> Builder<'a> {
     }
 
     // The next observation is of a task that wasn't entered: that is settled first.
-    fn descend(
+    #[tactic(auto, using(pie_files::proofs::Reading::reads))]
+    fn descend<F: Files, O: Offers>(
         &mut self,
         check: Box<Check<'a>>,
         task: Task,
+        offers: &mut O,
+        files: &mut F,
         runs: &mut Runs,
-    ) -> Result<Turn<'a>, OutOfMemory>
+    ) -> Result<Turn<'a>, FilesError>
         requires site { IsSite self.old }
         requires check { IsCheck self.old.ledger check.value }
         requires encodable { IsEncodableTask task }
         requires absent { ¬ (Contains self.old.ledger.tables.names task) }
         ensures turns { IfOk result (TurnsTo self.new) }
-        ensures nearer { IfOk result (Nearer (below self.old + ((1000001 - check.entry.value.at) + 2000004)) self.new) }
+        ensures nearer { IfOk result (Nearer (below self.old + check_mass check.entry.value) self.new) }
         ensures spends { IfOk result (Spends (room self.old + 1) runs.old runs.new self.new) }
         ensures starts { StartsOne runs.old runs.new }
         ensures few { length runs.new ≤ length runs.old + (room self.old + 1) }
         ensures kept { OnOk result (Keeps self.old self.new) }
+        ensures reads { ReadsOnly F.holds F.moment F.left_since F.images F.faults files.old files.new result }
     {
         match self.entry(&task) {
-            Entry::May(code) => self.push_check(check, task, code),
-            Entry::Unknown => self.start(check.no, check.code, runs),
+            Entry::May(code) => Ok(self.push_check(check, task, code)?),
+            Entry::Unknown => self.differs(check, offers, files, runs),
             Entry::Full => Ok(Turn::Many),
         }
     }
@@ -138,7 +148,7 @@ impl<'a> Builder<'a> {
         requires absent { ¬ (Contains self.old.ledger.tables.names task) }
         requires may { MayEnter self.old task (May code) }
         ensures turns { IfOk result (TurnsTo self.new) }
-        ensures nearer { IfOk result (Nearer (below self.old + ((1000001 - check.entry.value.at) + 2000004)) self.new) }
+        ensures nearer { IfOk result (Nearer (below self.old + check_mass check.entry.value) self.new) }
         ensures fits { IfOk result (Fits (room self.old + 1) self.new) }
         ensures kept { OnOk result (Keeps self.old self.new) }
     {
@@ -239,32 +249,13 @@ impl<'a> Builder<'a> {
             None => Ok(Place::Differs),
         }
     }
-
-    // The record of a check stands: the task ends with it.
-    fn keep(&mut self, check: Box<Check<'a>>) -> Result<Turn<'a>, OutOfMemory>
-        requires site { IsSite self.old }
-        requires check { IsCheck self.old.ledger check.value }
-        requires over { length check.value.rec.deps ≤ check.value.at }
-        ensures turns { IfOk result (TurnsTo self.new) }
-        ensures nearer { IfOk result (Nearer (below self.old + 1) self.new) }
-        ensures fits { IfOk result (Fits (room self.old) self.new) }
-        ensures kept { OnOk result (Keeps self.old self.new) }
-    {
-        let Check {
-            no,
-            rec,
-            required,
-            ..
-        } = Box::into_inner(check);
-        self.ledger.end(no, rec, required)?;
-        Ok(Turn::Goes(Hand::Ended))
-    }
 }
 
 // One observation more was compared, of the task with this number if it is of one.
 fn step_over<'a>(check: &mut Check<'a>, no: Option<TaskNo>) -> Result<(), OutOfMemory>
     requires { check.old.at ≤ 1000000 }
     ensures at { check.new.at ≡ check.old.at + 1 }
+    ensures rest { check.new.rest ≡ check.old.rest }
     ensures check { (l : Ledger) → IsCheck l check.old → IsPassed l check.old no → OnOk result (IsCheck l check.new) }
 {
     check.at += 1;

@@ -4,6 +4,16 @@ use pie_code::Checked;
 use pie_graph::TaskNo;
 use pie_record::TaskRecord;
 use pie_running::{Caller, RunningTask};
+use pie_store::Offer;
+
+/// The offers for a task whose own record doesn't stand.
+#[derive(Drop)]
+pub(crate) enum Rest {
+    /// They weren't asked for yet.
+    Unasked,
+    /// These are still to be tried, in order.
+    Asked(Vec<Offer>),
+}
 
 /// A record that is held against what is there now.
 #[derive(Drop)]
@@ -11,6 +21,10 @@ pub(crate) struct Check<'a> {
     pub(crate) no: TaskNo,
     pub(crate) code: &'a Checked,
     pub(crate) rec: TaskRecord,
+    /// What it wrote, if it is an offered one; of the task's own record it is there.
+    pub(crate) contents: Option<Vec<Vec<u8>>>,
+    /// What may be tried where it differs.
+    pub(crate) rest: Rest,
     /// Which of its observations comes next.
     pub(crate) at: usize,
     /// The numbers of the tasks that those before it required, in order.

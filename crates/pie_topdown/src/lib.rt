@@ -10,12 +10,14 @@ mod entering;
 mod events;
 mod hand;
 mod ledger;
+mod offering;
 mod outs;
 mod plan;
 mod requiring;
 mod roots;
 mod settling;
 mod sight;
+mod standing;
 mod stands;
 
 pub use settling::topdown;

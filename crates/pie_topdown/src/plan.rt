@@ -1,16 +1,34 @@
 //! What a build is of, from its beginning to its end.
 
+use pie_base::{OutOfMemory, Text};
 use pie_code::Checked;
 use pie_tables::Tables;
 use pie_types::Typed;
+use std::alloc::Global;
+use std::collections::BTreeMap;
 
 /// The pipeline, and the records of the build before. It never changes.
 #[derive(Drop)]
 pub(crate) struct Plan<'a> {
     pub(crate) typed: &'a Typed,
     pub(crate) code: &'a [Checked],
+    /// The present digest of each function by its name.
+    pub(crate) digests: BTreeMap<String, [u8; 32]>,
     /// The tasks of the build before, with their records.
     pub(crate) earlier: Tables,
     /// Of each of them: its function has the digest that the store kept.
     pub(crate) same: Vec<bool>,
+}
+
+/// The digests of functions by their names.
+pub(crate) fn digests_of(
+    alloc: Global,
+    funcs: &[(Text, [u8; 32])],
+) -> Result<BTreeMap<String, [u8; 32]>, OutOfMemory> {
+    let mut digests = BTreeMap::new(alloc);
+    for (name, digest) in funcs {
+        let name = String::from_str(alloc, name.as_str())?;
+        digests.insert(name, *digest)?;
+    }
+    Ok(digests)
 }

@@ -15,15 +15,17 @@ use pie_base::{FaultKind, OutOfMemory};
 use pie_code::Checked;
 use pie_files::{Files, FilesError};
 use pie_record::Outcome;
+use pie_store::Offers;
 use pie_value::{Fault, Refusal, Task, Tasks};
 use pie_vm::Runs;
 
 impl<'a> Builder<'a> {
     /// Settles the roots up to the first that fails; why it does.
     #[tactic(auto, using(pie_files::proofs::Reading::reads))]
-    pub(crate) fn settle_all<F: Files>(
+    pub(crate) fn settle_all<F: Files, O: Offers>(
         &mut self,
         roots: &[Task],
+        offers: &mut O,
         files: &mut F,
         runs: &mut Runs,
     ) -> Result<Option<Refusal>, FilesError>
@@ -37,7 +39,7 @@ impl<'a> Builder<'a> {
         ensures reads { ReadsOnly F.holds F.moment F.left_since F.images F.faults files.old files.new result }
     {
         for root in roots {
-            match self.settle(root, files, runs)? {
+            match self.settle(root, offers, files, runs)? {
                 Some(refusal) => return Ok(Some(refusal)),
                 None => {}
             }
@@ -47,9 +49,10 @@ impl<'a> Builder<'a> {
 
     // Settles a root; why it fails, if it does.
     #[tactic(auto, using(pie_files::proofs::Reading::reads))]
-    fn settle<F: Files>(
+    fn settle<F: Files, O: Offers>(
         &mut self,
         root: &Task,
+        offers: &mut O,
         files: &mut F,
         runs: &mut Runs,
     ) -> Result<Option<Refusal>, FilesError>
@@ -65,15 +68,16 @@ impl<'a> Builder<'a> {
     {
         match self.ledger.tables.names.number(root)? {
             Some(_) => Ok(self.refusal_of(root)?),
-            None => self.settle_new(root, files, runs),
+            None => self.settle_new(root, offers, files, runs),
         }
     }
 
     // Settles a root that wasn't entered.
     #[tactic(auto, using(pie_files::proofs::Reading::reads))]
-    fn settle_new<F: Files>(
+    fn settle_new<F: Files, O: Offers>(
         &mut self,
         root: &Task,
+        offers: &mut O,
         files: &mut F,
         runs: &mut Runs,
     ) -> Result<Option<Refusal>, FilesError>
@@ -89,7 +93,7 @@ impl<'a> Builder<'a> {
         ensures reads { ReadsOnly F.holds F.moment F.left_since F.images F.faults files.old files.new result }
     {
         match self.entry(root) {
-            Entry::May(code) => self.settle_with(root, code, files, runs),
+            Entry::May(code) => self.settle_with(root, code, offers, files, runs),
             Entry::Unknown => Ok(Some(unknown(root.copy()?))),
             Entry::Full => Ok(Some(Refusal::Many)),
         }
@@ -97,10 +101,11 @@ impl<'a> Builder<'a> {
 
     // Settles a root that has this code.
     #[tactic(auto, using(pie_files::proofs::Reading::reads))]
-    fn settle_with<F: Files>(
+    fn settle_with<F: Files, O: Offers>(
         &mut self,
         root: &Task,
         code: &'a Checked,
+        offers: &mut O,
         files: &mut F,
         runs: &mut Runs,
     ) -> Result<Option<Refusal>, FilesError>
@@ -117,7 +122,7 @@ impl<'a> Builder<'a> {
         ensures reads { ReadsOnly F.holds F.moment F.left_since F.images F.faults files.old files.new result }
     {
         let no = self.enter(root.copy()?, code)?;
-        if !self.run(Hand::Enters(no, code), files, runs)? {
+        if !self.run(Hand::Enters(no, code), offers, files, runs)? {
             return Ok(Some(Refusal::Many));
         }
         Ok(self.refusal_of(root)?)
@@ -125,9 +130,10 @@ impl<'a> Builder<'a> {
 
     // Goes on until nothing waits, or one task more was to be entered than a build may have.
     #[tactic(auto, using(pie_files::proofs::Reading::reads))]
-    fn run<F: Files>(
+    fn run<F: Files, O: Offers>(
         &mut self,
         hand: Hand<'a>,
+        offers: &mut O,
         files: &mut F,
         runs: &mut Runs,
     ) -> Result<bool, FilesError>
@@ -141,7 +147,7 @@ impl<'a> Builder<'a> {
     {
         let mut hand = hand;
         'steps: loop {
-            match self.step(hand, files, runs)? {
+            match self.step(hand, offers, files, runs)? {
                 Turn::Goes(next) => hand = next,
                 Turn::Rests => return Ok(true),
                 Turn::Many => return Ok(false),

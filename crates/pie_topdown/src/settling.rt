@@ -11,20 +11,21 @@ ghost use Rattle.pie_value.specs.declared.verdict.Verdict.TheVariants.{Refused};
 ghost use Rattle.pie_topdown.specs.inner.Ended.{StoredIf};
 ghost use Rattle.pie_topdown.specs.inner.Frames.{IsSite};
 ghost use Rattle.pie_topdown.specs.inner.Roots.{AreSettled, Started};
-ghost use Rattle.pie_topdown.specs.inner.Turns.{room};
+ghost use Rattle.pie_topdown.specs.inner.Turns.{room, StartsOne};
 
 use crate::builder::Builder;
 use crate::ledger::Ledger;
-use crate::plan::Plan;
+use crate::plan::{Plan, digests_of};
 use pie_base::{MAX_TASKS, OutOfMemory, Text};
 use pie_checks::Built;
 use pie_code::Checked;
 use pie_files::{Files, FilesError};
+use pie_graph::TaskNo;
 use pie_named::Named;
 use pie_old::{Loaded, Old, load, same_code};
 use pie_record::{Records, TaskNames};
 use pie_results::results;
-use pie_store::{Funcs, NoOffers, Rows, StoreImage};
+use pie_store::{Funcs, Offers, Rows, StoreImage};
 use pie_tables::Tables;
 use pie_types::Typed;
 use pie_value::{Refusal, Task, Verdict};
@@ -33,18 +34,19 @@ use pie_vm::Runs;
 use std::alloc::Global;
 
 /// Settles the roots in order up to the first that fails, from the records of an earlier build. A record is kept where its function has one of these
-/// digests and what it wrote and observed is there as it was recorded; else its task runs. It changes no file. `Failed` comes only where the count
-/// of faults rose. The tasks that are started are added to the runs. Nothing is offered so far, so nothing is reused.
+/// digests and what it wrote and observed is there as it was recorded; else the first of its offers that stands is kept, and the task is added to the
+/// reused ones; else its task runs. It changes no file. `Failed` comes only where the count of faults rose. The tasks that are started are added to
+/// the runs. The files are those of the live tasks that ran or were reused.
 /// Rule: docs/BUILDING.md, "A build without a list".
 #[tactic(auto, using(pie_files::proofs::Reading::reads))]
-pub fn topdown<F: Files>(
+pub fn topdown<F: Files, O: Offers>(
     alloc: Global,
     typed: &Typed,
     code: &[Checked],
     digests: &[(Text, [u8; 32])],
     image: StoreImage,
     roots: &[Task],
-    _offers: &mut NoOffers,
+    offers: &mut O,
     files: &mut F,
     runs: &mut Runs,
     reused: &mut Vec<Task>,
@@ -57,11 +59,13 @@ pub fn topdown<F: Files>(
     ensures stored { IfOk result (λ b. StoredIf b.verdict typed.now roots.now b) }
     ensures started { Started runs.old runs.new }
     ensures few { length runs.new ≤ length runs.old + 50000 }
-    ensures reused { reused.new.items ≡ reused.old.items }
+    ensures reused { Started reused.old.items reused.new.items }
     ensures reads { ReadsOnly F.holds F.moment F.left_since F.images F.faults files.old files.new result }
 {
     let mut builder = begun(alloc, typed, code, digests, image)?;
-    match builder.settle_all(roots, files, runs)? {
+    let why = builder.settle_all(roots, offers, files, runs)?;
+    builder.tell_reused(reused)?;
+    match why {
         Some(refusal) => Ok(refused(alloc, refusal)),
         None => {
             let built = builder.built(roots)?;
@@ -95,6 +99,7 @@ fn begun<'a>(
         named: Named::new(alloc),
         stack: Vec::new(alloc),
         circle: None,
+        reused: Vec::new(alloc),
     };
     let builder = Box::new(alloc, builder)?;
     Ok(builder)
@@ -116,9 +121,11 @@ fn plan_of<'a>(
 {
     let earlier = earlier_of(alloc, rows)?;
     let same = same_code(alloc, earlier.names.as_slice(), funcs.as_slice(), digests)?;
+    let digests = digests_of(alloc, digests)?;
     Ok(Plan {
         typed,
         code,
+        digests,
         earlier,
         same,
     })
@@ -143,6 +150,28 @@ fn earlier_of(alloc: Global, rows: Rows) -> Result<Tables, OutOfMemory>
 }
 
 impl<'a> Builder<'a> {
+    // Adds the tasks that were reused to a list.
+    fn tell_reused(&self, reused: &mut Vec<Task>) -> Result<(), OutOfMemory>
+        ensures { Started reused.old.items reused.new.items }
+    {
+        for no in &self.reused {
+            self.tell(*no, reused)?;
+        }
+        Ok(())
+    }
+
+    // Adds an entered task to a list.
+    #[tactic(auto, using(crate::proofs::Naming::named_encodable))]
+    fn tell(&self, no: TaskNo, tasks: &mut Vec<Task>) -> Result<(), OutOfMemory>
+        ensures { StartsOne tasks.old.items tasks.new.items }
+    {
+        let names = self.ledger.tables.names.as_slice();
+        if (no.0 as usize) < names.len() {
+            tasks.push(self.ledger.tables.names.task(no).copy()?)?;
+        }
+        Ok(())
+    }
+
     // What is made where all roots have outputs.
     #[tactic(auto, using(crate::proofs::Making::ledger_acyclic, crate::proofs::Making::made_stored))]
     fn built(&self, roots: &[Task]) -> Result<Built, OutOfMemory>

@@ -1,7 +1,7 @@
 -- What a build without a list stores.
-use Rattle.std.proofs.Common.{◌≡◌, ℕ, List, sym, subst}
-use Rattle.std.specs.Prelude.{All, Contains, Option}
-use Rattle.std.proofs.lemmas.List.Elements.{All-weaker}
+use Rattle.std.proofs.Common.{◌≡◌, ◌∙◌, ℕ, List, [], ◌++◌, ap, sym, subst}
+use Rattle.std.specs.Prelude.{All, Contains, Option, None}
+use Rattle.std.proofs.lemmas.List.Elements.{All-nil, All-weaker}
 use Rattle.std.proofs.lemmas.List.Sorted.{Contains-permutation}
 use Rattle.pie_files.specs.Directory.{Directory}
 use Rattle.pie_checks.specs.declared.built.Built.{Built}
@@ -13,7 +13,9 @@ use Rattle.pie_record.specs.declared.task_record.TaskRecord.{TaskRecord}
 use Rattle.pie_results.specs.inner.Made.{IsKept}
 use Rattle.pie_store.specs.Canonical.{names_of, AreFuncs, AreInOrder}
 use Rattle.pie_store.specs.declared.image.StoreImage.{StoreImage}
+use Rattle.pie_store.proofs.Empty.{empty_storable}
 use Rattle.pie_topdown.specs.inner.Ended.{StoredIf}
+use Rattle.pie_topdown.specs.inner.Roots.{Started}
 use Rattle.pie_value.specs.Canonical.{IsEncodableTask}
 use Rattle.pie_value.specs.declared.task.Task.{Task}
 use Rattle.pie_value.specs.declared.verdict.Verdict.{Verdict}
@@ -50,3 +52,13 @@ made fs funcs roots b names table small kept s = record { kept = kept; stands = 
 -- a build that changes nothing before its end
 pub quiet_then : (v : Verdict) (before mid after : Option Directory) → mid ≡ before → Quiet v mid after → Quiet v before after
 quiet_then v before mid after same h = subst (λ m. Quiet v m after) same h
+
+-- the store of nothing can be begun from
+pub empty_image : (s : StoreImage) → s.version ≡ 2 → s.pipeline ≡ None → s.funcs ≡ [] → s.roots ≡ [] → s.rows ≡ [] → IsImage s
+empty_image s version table funcs roots rows =
+    let can = empty_storable s version table funcs roots rows in
+    record { storable = can.rows; parts = subst (All IsTrueRecord) (sym rows) (All-nil IsTrueRecord); order = can.order }
+
+-- the tasks that were added to an empty list have canonical bytes
+pub added_encodable : (old new : List Task) → old ≡ [] → Started old new → All IsEncodableTask new
+added_encodable old new empty s = subst (All IsEncodableTask) (sym (s.is ∙ ap (λ (ts : List Task). ts ++ s.gained) empty)) s.encodable

@@ -9,7 +9,7 @@ ghost use Rattle.pie_incremental.specs.inner.Joined.{ChangesOut, IsDrafted};
 ghost use Rattle.pie_results.specs.inner.Files.{InPathOrder};
 ghost use Rattle.pie_value.specs.declared.verdict.Verdict.TheVariants as verdicts;
 
-use crate::held::{held_under_out, is_pending};
+use crate::held::{held_beside, held_under_out, is_pending};
 use pie_base::{OutOfMemory, Path, Text};
 use pie_build::{accepted, copies, copies_of_tasks, paths_of};
 use pie_commit::Plan;
@@ -28,19 +28,20 @@ use std::alloc::Global;
 pub(crate) struct Made {
     /// The records of the live tasks in store order.
     pub(crate) rows: Vec<TaskRecord>,
-    /// The files of those that ran.
+    /// The files of those that ran or were reused.
     pub(crate) contents: Vec<(Path, Vec<u8>)>,
     /// The output of each root.
     pub(crate) outputs: Vec<(Task, Value)>,
 }
 
-/// Writes and removes what isn't as it was made, and reports it. The plan and the report are made before the first write.
+/// Writes and removes what isn't as it was made, and reports it. Where there was no store to build from, it writes all. The plan and the report are made
+/// before the first write.
 #[tactic(auto, using(pie_build::proofs::OwnPaths::same_keeps, pie_incremental::proofs::Joining::rest_then))]
 pub(crate) fn accept<F: Files>(
     alloc: Global,
     files: &mut F,
     project: &Project,
-    store: Vec<u8>,
+    store: Option<Vec<u8>>,
     made: Made,
     ran: Vec<Task>,
 ) -> Result<Box<Report>, FilesError>
@@ -51,16 +52,37 @@ pub(crate) fn accept<F: Files>(
     ensures ran { IfOk result (λ r. r.value.ran ≡ ran) }
     ensures counted { Counted F.faults FilesError.Failed files.old files.new result }
 {
-    let held = held_under_out(alloc, files)?;
+    let held = held_now(alloc, files, &store, made.contents.as_slice())?;
     let own = own_files(alloc, files, store)?;
     put_into_place(alloc, files, project, &own, &held, made, ran)
 }
 
-// The builder's own files.
+// What stands under `out/`. Where there was no store, what is to be written counts as not there.
 #[tactic(auto, using(pie_files::proofs::Reading::reads))]
-fn own_files<F: Files>(alloc: Global, files: &mut F, store: Vec<u8>) -> Result<OwnFiles, FilesError>
+fn held_now<F: Files>(
+    alloc: Global,
+    files: &mut F,
+    store: &Option<Vec<u8>>,
+    contents: &[(Path, Vec<u8>)],
+) -> Result<Held, FilesError>
     ensures reads { ReadsOnly F.holds F.moment F.left_since F.images F.faults files.old files.new result }
 {
+    match store {
+        Some(_) => held_under_out(alloc, files),
+        None => held_beside(alloc, files, contents),
+    }
+}
+
+// The builder's own files.
+#[tactic(auto, using(pie_files::proofs::Reading::reads))]
+fn own_files<F: Files>(
+    alloc: Global,
+    files: &mut F,
+    store: Option<Vec<u8>>,
+) -> Result<OwnFiles, FilesError>
+    ensures reads { ReadsOnly F.holds F.moment F.left_since F.images F.faults files.old files.new result }
+{
+    let store = store.unwrap_or(Vec::new(alloc));
     let pending = is_pending(alloc, files)?;
     let pending = if pending { Some(Vec::new(alloc)) } else { None };
     Ok(OwnFiles { store, pending })

@@ -1,11 +1,13 @@
 //! What a build without a list begins from.
 ghost use Rattle.std.specs.Prelude.{IfOk};
 ghost use Rattle.pie_files.specs.Reading.{ReadsOnly};
+ghost use Rattle.pie_incremental.specs.inner.Joined.{IsImage};
 ghost use Rattle.pie_topdown_build.specs.inner.Bases.{IsWhole};
 
 use pie_base::{OutOfMemory, Path};
 use pie_files::{Files, FilesError};
-use pie_store::{Cause, StoreFault, StoreImage, decode_store};
+use pie_store::{Cause, Funcs, Rows, StoreFault, StoreImage, decode_store};
+use pie_value::Tasks;
 use std::alloc::Global;
 
 /// What a build without a list begins from.
@@ -21,8 +23,8 @@ pub(crate) enum Start {
 pub(crate) struct Base {
     /// What the store says.
     pub(crate) image: StoreImage,
-    /// The bytes of the store.
-    pub(crate) store: Vec<u8>,
+    /// The bytes of the store, unless there is nothing to build from.
+    pub(crate) store: Option<Vec<u8>>,
 }
 
 /// The cause to start afresh, or what the build before left: a marker, no store, or a store that can't be read, in this order. Pending names aren't
@@ -43,12 +45,29 @@ pub(crate) fn find_base<F: Files>(alloc: Global, files: &mut F) -> Result<Start,
     }
 }
 
+/// The store of nothing, for a build that has nothing to build from.
+#[tactic(auto, using(crate::proofs::Making::empty_image))]
+pub(crate) fn no_base(alloc: Global) -> Result<Box<Base>, OutOfMemory>
+    ensures { IfOk result (λ b. IsImage b.value.image) }
+{
+    let image = StoreImage {
+        version: 2,
+        pipeline: None,
+        funcs: Funcs::new(Vec::new(alloc)),
+        roots: Tasks::new(Vec::new(alloc)),
+        rows: Rows::new(Vec::new(alloc)),
+    };
+    let base = Box::new(alloc, Base { image, store: None })?;
+    Ok(base)
+}
+
 // What a build begins from where these are the bytes of the store.
 fn with_store(alloc: Global, store: Vec<u8>) -> Result<Start, OutOfMemory>
     ensures whole { IfOk result IsWhole }
 {
     match decode_store(alloc, store.as_slice()) {
         Ok(image) => {
+            let store = Some(store);
             let base = Box::new(alloc, Base { image, store })?;
             Ok(Start::From(base))
         }

@@ -14,25 +14,35 @@ use pie_codegen::compile;
 use pie_files::{Files, FilesError};
 use pie_incremental::put_digests;
 use pie_project::Project;
-use pie_store::{NoOffers, StoreImage};
+use pie_store::{Offers, StoreImage};
 use pie_topdown::topdown;
+use pie_value::Task;
 use pie_vm::Runs;
 use std::alloc::Global;
 
-/// Settles the roots of a project from the records of a store. One of version 1 gets the digests of the functions where it is of this pipeline.
+/// What was made of the roots, and the tasks that were reused.
+#[derive(Drop)]
+pub(crate) struct Evaluated {
+    pub(crate) built: Box<Built>,
+    pub(crate) reused: Vec<Task>,
+}
+
+/// Settles the roots of a project from the records of a store, and from offers. One of version 1 gets the digests of the functions where it is of this pipeline.
 #[tactic(auto, using(pie_files::proofs::Reading::reads, crate::proofs::Making::image_kept))]
-pub(crate) fn evaluate<F: Files>(
+pub(crate) fn evaluate<F: Files, O: Offers>(
     alloc: Global,
     files: &mut F,
     project: &Project,
     image: StoreImage,
+    offers: &mut O,
     runs: &mut Runs,
-) -> Result<Box<Built>, FilesError>
+) -> Result<Evaluated, FilesError>
     requires image { IsImage image }
     requires names { HasNames project.now.typed project.now.digests.items }
     requires funcs { AreFuncs project.now.digests.items }
     requires roots { All IsEncodableTask project.now.roots.items }
-    ensures made { IfOk result (λ b. IsMade project.now.digests.items project.now.roots.items b.value) }
+    ensures made { IfOk result (λ e. IsMade project.now.digests.items project.now.roots.items e.built.value) }
+    ensures reused { IfOk result (λ e. All IsEncodableTask e.reused.items) }
     ensures started { Started runs.old runs.new }
     ensures few { length runs.new ≤ length runs.old + 50000 }
     ensures reads { ReadsOnly F.holds F.moment F.left_since F.images F.faults files.old files.new result }
@@ -40,24 +50,26 @@ pub(crate) fn evaluate<F: Files>(
     let mut image = Box::new(alloc, image)?;
     put_digests(alloc, files, &mut image, project.digests.as_slice())?;
     let code = compile(alloc, &project.typed)?;
-    settled(alloc, files, project, code.as_slice(), image, runs)
+    settled(alloc, files, project, code.as_slice(), image, offers, runs)
 }
 
 // The same with the code of the functions.
-#[tactic(auto, using(pie_files::proofs::Reading::reads))]
-fn settled<F: Files>(
+#[tactic(auto, using(pie_files::proofs::Reading::reads, crate::proofs::Making::added_encodable))]
+fn settled<F: Files, O: Offers>(
     alloc: Global,
     files: &mut F,
     project: &Project,
     code: &[Checked],
     image: Box<StoreImage>,
+    offers: &mut O,
     runs: &mut Runs,
-) -> Result<Box<Built>, FilesError>
+) -> Result<Evaluated, FilesError>
     requires image { IsImage image.value }
     requires names { HasNames project.now.typed project.now.digests.items }
     requires funcs { AreFuncs project.now.digests.items }
     requires roots { All IsEncodableTask project.now.roots.items }
-    ensures made { IfOk result (λ b. IsMade project.now.digests.items project.now.roots.items b.value) }
+    ensures made { IfOk result (λ e. IsMade project.now.digests.items project.now.roots.items e.built.value) }
+    ensures reused { IfOk result (λ e. All IsEncodableTask e.reused.items) }
     ensures started { Started runs.old runs.new }
     ensures few { length runs.new ≤ length runs.old + 50000 }
     ensures reads { ReadsOnly F.holds F.moment F.left_since F.images F.faults files.old files.new result }
@@ -70,11 +82,11 @@ fn settled<F: Files>(
         project.digests.as_slice(),
         Box::into_inner(image),
         project.roots.as_slice(),
-        &mut NoOffers,
+        offers,
         files,
         runs,
         &mut reused,
     )?;
     let built = Box::new(alloc, built)?;
-    Ok(built)
+    Ok(Evaluated { built, reused })
 }

@@ -1,10 +1,11 @@
 //! What stands under `out/`, and whether names are pending.
 ghost use Rattle.pie_files.specs.Reading.{ReadsOnly};
 
-use pie_base::Path;
+use pie_base::{OutOfMemory, Path};
 use pie_diff::Held;
 use pie_files::{Files, FilesError};
 use std::alloc::Global;
+use std::collections::BTreeSet;
 
 /// What stands under `out/`: every file is looked at.
 #[tactic(auto, using(pie_files::proofs::Reading::reads))]
@@ -16,6 +17,47 @@ pub(crate) fn held_under_out<F: Files>(alloc: Global, files: &mut F) -> Result<H
     let mut held = Held::new(alloc);
     look_at(&mut held, paths.as_slice(), files)?;
     Ok(held)
+}
+
+/// What stands under `out/` beside these files: every other file is looked at.
+#[tactic(auto, using(pie_files::proofs::Reading::reads))]
+pub(crate) fn held_beside<F: Files>(
+    alloc: Global,
+    files: &mut F,
+    contents: &[(Path, Vec<u8>)],
+) -> Result<Held, FilesError>
+    ensures reads { ReadsOnly F.holds F.moment F.left_since F.images F.faults files.old files.new result }
+{
+    let out = Path::known(alloc, "out")?;
+    let paths = files.all_under(&out)?;
+    let others = others_of(alloc, paths.as_slice(), contents)?;
+    let mut held = Held::new(alloc);
+    look_at(&mut held, others.as_slice(), files)?;
+    Ok(held)
+}
+
+// The paths that aren't those of these files.
+fn others_of(
+    alloc: Global,
+    paths: &[Path],
+    contents: &[(Path, Vec<u8>)],
+) -> Result<Vec<Path>, OutOfMemory> {
+    let known = known_in(alloc, contents)?;
+    let mut others = Vec::new(alloc);
+    for path in paths {
+        if !known.contains(path) {
+            others.push(path.copy()?)?;
+        }
+    }
+    Ok(others)
+}
+
+fn known_in(alloc: Global, contents: &[(Path, Vec<u8>)]) -> Result<BTreeSet<Path>, OutOfMemory> {
+    let mut known = BTreeSet::new(alloc);
+    for (path, _) in contents {
+        known.insert(path.copy()?)?;
+    }
+    Ok(known)
 }
 
 #[tactic(auto, using(pie_files::proofs::Reading::reads))]

@@ -5,6 +5,12 @@ mod accepting;
 mod base;
 mod building;
 mod evaluating;
+mod finishing;
 mod held;
+mod joining;
+mod news;
+mod offered;
+mod reusing;
 
-pub use building::build_topdown;
+pub use building::{build_offered, build_topdown};
+pub use offered::{NewOffer, Offered};

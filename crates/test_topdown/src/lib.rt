@@ -6,4 +6,8 @@ mod auto_tests;
 #[cfg(test)]
 mod cases;
 #[cfg(test)]
+mod offer_tests;
+#[cfg(test)]
+mod offers;
+#[cfg(test)]
 mod tests;

@@ -114,7 +114,7 @@ pub(crate) fn left(alloc: Global, files: &mut SureFiles) -> Result<Vec<u8>, Fail
     Ok(all)
 }
 
-fn first_line(text: &str) -> &str {
+pub(crate) fn first_line(text: &str) -> &str {
     match text.split_once("\n") {
         Some((first, _)) => first,
         None => text,

@@ -12,6 +12,7 @@ use Rattle.pie_running.specs.declared.frame.Caller.{Caller}
 use Rattle.pie_running.specs.declared.frame.RunningTask.{RunningTask}
 use Rattle.pie_running.specs.inner.Noted.{Noted, tasks_on}
 use Rattle.pie_running.specs.inner.Frames.{IsReady, IsWaiting}
+use Rattle.pie_store.specs.inner.Offers.{IsOffer}
 use Rattle.pie_topdown.specs.declared.ledger.Ledger.{Ledger}
 use Rattle.pie_topdown.specs.declared.builder.Builder.{Builder}
 use Rattle.pie_topdown.specs.declared.hand.Check.{Check}
@@ -19,6 +20,8 @@ use Rattle.pie_topdown.specs.declared.hand.Frame.{Frame}
 use Rattle.pie_topdown.specs.declared.hand.Frame.TheVariants as frames
 use Rattle.pie_topdown.specs.declared.hand.Hand.{Hand}
 use Rattle.pie_topdown.specs.declared.hand.Hand.TheVariants as hands
+use Rattle.pie_topdown.specs.declared.hand.Rest.{Rest}
+use Rattle.pie_topdown.specs.declared.hand.Rest.TheVariants as rests
 use Rattle.pie_topdown.specs.declared.plan.Plan.{Plan}
 use Rattle.pie_topdown.specs.inner.Ledgers.{HasOutput, IsLedger}
 
@@ -34,6 +37,11 @@ pub record IsCaller (l : Ledger) (c : Caller) : Type 0 where
   pub required : IsEncodableTask c.required
   pub noted : IsNoted l c.waiting.notes
 
+-- offers that have canonical bytes
+abbrev pub AreOffers : Rest → Type 0
+AreOffers rests.Unasked = Unit {0}
+AreOffers (rests.Asked offers) = All IsOffer offers.items
+
 -- a record of an entered task is checked: the tasks that its observations so far require have these numbers, in order, and outputs
 pub record IsCheck (l : Ledger) (c : Check) : Type 0 where
   pub named : slice_get l.tables.names c.no.0 ≡ Some c.rec.task
@@ -41,6 +49,7 @@ pub record IsCheck (l : Ledger) (c : Check) : Type 0 where
   pub storable : IsStorable c.rec
   pub needs : tasks_at l.tables.names (numbers c.required.items) ≡ map Some (needs_in (take c.at c.rec.deps))
   pub ended : All (HasOutput l.tables.records) (numbers c.required.items)
+  pub rest : AreOffers c.rest
 
 -- what waits for a required task
 abbrev pub IsFrame : Ledger → Frame → Type 0

@@ -16,7 +16,7 @@ pub record IsSettledRoot (l : Ledger) (t : Task) : Type 0 where
 abbrev pub AreSettled : Ledger → List Task → Type 0
 AreSettled l roots = All (IsSettledRoot l) roots
 
--- tasks were started, each of which has canonical bytes
+-- tasks were added to a list, each of which has canonical bytes
 pub record Started (old new : List Task) : Type 0 where
   pub gained : List Task
   pub is : new ≡ old ++ gained

@@ -6,10 +6,13 @@ use Rattle.pie_running.specs.declared.frame.Told.{Told}
 use Rattle.pie_running.specs.declared.frame.Told.TheVariants as tolds
 use Rattle.pie_running.specs.inner.Frames.{IsReady}
 use Rattle.pie_topdown.specs.declared.builder.Builder.{Builder}
+use Rattle.pie_topdown.specs.declared.hand.Check.{Check}
 use Rattle.pie_topdown.specs.declared.hand.Frame.{Frame}
 use Rattle.pie_topdown.specs.declared.hand.Frame.TheVariants as frames
 use Rattle.pie_topdown.specs.declared.hand.Hand.{Hand}
 use Rattle.pie_topdown.specs.declared.hand.Hand.TheVariants as hands
+use Rattle.pie_topdown.specs.declared.hand.Rest.{Rest}
+use Rattle.pie_topdown.specs.declared.hand.Rest.TheVariants as rests
 use Rattle.pie_topdown.specs.declared.hand.Turn.{Turn}
 use Rattle.pie_topdown.specs.declared.hand.Turn.TheVariants.{Goes, Rests, Many}
 use Rattle.pie_topdown.specs.inner.Frames.{IsHand, IsNoted, IsSite}
@@ -28,15 +31,24 @@ TurnsTo b Many = Unit {0}
 
 -- ---- what is left to do
 
+-- what may still be done for offers that can be tried: four where they weren't asked for
+abbrev pub rest_mass : Rest → ℕ
+rest_mass rests.Unasked = 4000012
+rest_mass (rests.Asked offers) = length offers.items * 1000003
+
+-- what may still be done for a check, and for the run of its task
+abbrev pub check_mass : Check → ℕ
+check_mass c = (1000001 - c.at) + 2000004 + rest_mass c.rest
+
 -- what a step of this may still do
 abbrev pub hand_mass : Hand → ℕ
-hand_mass (hands.Enters n code) = 3000006
-hand_mass (hands.Checks c) = (1000001 - c.value.at) + 2000004
+hand_mass (hands.Enters n code) = 7000018
+hand_mass (hands.Checks c) = check_mass c.value
 hand_mass (hands.Runs f) = 2 * f.notes.left + 1
 hand_mass hands.Ended = 0
 
 abbrev pub frame_mass : Frame → ℕ
-frame_mass (frames.Checks c) = (1000001 - c.value.at) + 2000005
+frame_mass (frames.Checks c) = check_mass c.value + 1
 frame_mass (frames.Waits c) = 2 * c.waiting.notes.left + 1
 
 abbrev pub stack_mass : List Frame → ℕ
@@ -45,7 +57,7 @@ stack_mass (e ∷ es) = frame_mass e + stack_mass es
 
 -- what may be done for tasks that can still be entered
 unfoldable pub still : ℕ → ℕ
-still entered = (50000 - entered) * 3000008
+still entered = (50000 - entered) * 7000020
 
 -- what a build may still do beside what it does next
 abbrev pub below : Builder → ℕ

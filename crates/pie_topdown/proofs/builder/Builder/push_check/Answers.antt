@@ -1,5 +1,6 @@
-use Rattle.std.proofs.Common.{[], ◌∷◌, ◌++◌, ◌+◌, ◌-◌, length, refl, ap, ◌∙◌, arith}
+use Rattle.std.proofs.Common.{[], ◌∷◌, ◌++◌, ◌+◌, length, refl, ap, ◌∙◌, arith}
 use Rattle.pie_topdown.specs.declared.hand.Frame.TheVariants as frames
+use Rattle.pie_topdown.specs.inner.Turns.{check_mass}
 use Rattle.pie_topdown.proofs.Growing.{check_grows}
 use Rattle.pie_topdown.proofs.Stacking.{pushed_site, pushed_nearer, pushed_room}
 use Rattle.pie_topdown.proofs.builder.Builder.push_check.Goals as goal
@@ -15,7 +16,7 @@ returns-clause-turns c = record {
 pub returns-clause-nearer : goal.returns-clause-nearer
 returns-clause-nearer c =
     pushed_nearer (length c.args.self.now.ledger.tables.names) (length c.enter.new.self.ledger.tables.names) c.args.self.now.stack.items
-    c.push.new.self.items (frames.Checks c.args.check) ((1000001 - c.args.check.value.at) + 2000004) c.requires.may.few c.in_ok-no.ensures.one
+    c.push.new.self.items (frames.Checks c.args.check) (check_mass c.args.check.value) c.requires.may.few c.in_ok-no.ensures.one
     (c.in_ok-push.ensures.items ∙ ap (λ v. v.items ++ frames.Checks c.args.check ∷ []) c.in_ok-no.ensures.stack) (omega arith)
 
 pub returns-clause-fits : goal.returns-clause-fits

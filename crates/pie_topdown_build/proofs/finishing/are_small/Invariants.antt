@@ -1,5 +1,5 @@
 use Rattle.pie_incremental.proofs.Joining.{AreSmall}
-use Rattle.pie_topdown_build.proofs.building.are_small.Given as goal
+use Rattle.pie_topdown_build.proofs.finishing.are_small.Given as goal
 
 abbrev pub invariant-loop-root : goal.invariant-loop-root
 invariant-loop-root l = AreSmall l.roots l.root-index

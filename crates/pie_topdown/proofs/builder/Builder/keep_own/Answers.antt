@@ -1,6 +1,6 @@
 use Rattle.std.proofs.Common.{refl}
 use Rattle.pie_topdown.proofs.Stacking.{grown_site}
-use Rattle.pie_topdown.proofs.builder.Builder.keep.Goals as goal
+use Rattle.pie_topdown.proofs.builder.Builder.keep_own.Goals as goal
 
 pub returns-clause-turns : goal.returns-clause-turns
 returns-clause-turns c = record {

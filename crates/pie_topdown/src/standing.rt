@@ -1,0 +1,118 @@
+//! Records that stand: their tasks end with them.
+ghost use Rattle.std.specs.Prelude.{◌≡◌, ◌≤◌, ◌+◌, length, map, All, Some, slice_get, IfOk, OnOk};
+ghost use Rattle.pie_graph.specs.Numbers.{numbers};
+ghost use Rattle.pie_old.specs.inner.Rows.{tasks_at};
+ghost use Rattle.pie_record.specs.Canonical.{IsStorable};
+ghost use Rattle.pie_store.specs.Canonical.{needs as needs_by};
+ghost use Rattle.pie_topdown.specs.inner.Frames.{IsCheck, IsSite};
+ghost use Rattle.pie_topdown.specs.inner.Ledgers.{HasOutput};
+ghost use Rattle.pie_topdown.specs.inner.Turns.{TurnsTo, below, Nearer, room, Fits, Keeps};
+
+use crate::builder::Builder;
+use crate::hand::{Check, Hand, Turn};
+use pie_base::{OutOfMemory, Path};
+use pie_graph::TaskNo;
+use pie_record::TaskRecord;
+use pie_view::Stage;
+
+impl<'a> Builder<'a> {
+    /// The record of a check stands: the task ends with it.
+    pub(crate) fn keep(&mut self, check: Box<Check<'a>>) -> Result<Turn<'a>, OutOfMemory>
+        requires site { IsSite self.old }
+        requires check { IsCheck self.old.ledger check.value }
+        requires over { length check.value.rec.deps ≤ check.value.at }
+        ensures turns { IfOk result (TurnsTo self.new) }
+        ensures nearer { IfOk result (Nearer (below self.old + 1) self.new) }
+        ensures fits { IfOk result (Fits (room self.old) self.new) }
+        ensures kept { OnOk result (Keeps self.old self.new) }
+    {
+        let Check {
+            no,
+            rec,
+            contents,
+            required,
+            ..
+        } = Box::into_inner(check);
+        match contents {
+            Some(contents) => self.keep_offered(no, rec, required, contents),
+            None => self.keep_own(no, rec, required),
+        }
+    }
+
+    // The same of the task's own record.
+    fn keep_own(
+        &mut self,
+        no: TaskNo,
+        rec: TaskRecord,
+        required: Vec<TaskNo>,
+    ) -> Result<Turn<'a>, OutOfMemory>
+        requires site { IsSite self.old }
+        requires named { slice_get self.old.ledger.tables.names no.0 ≡ Some rec.task }
+        requires storable { IsStorable rec }
+        requires needs { tasks_at self.old.ledger.tables.names (numbers required.items) ≡ map Some (needs_by rec) }
+        requires ended { All (HasOutput self.old.ledger.tables.records) (numbers required.items) }
+        ensures turns { IfOk result (TurnsTo self.new) }
+        ensures nearer { IfOk result (Nearer (below self.old + 1) self.new) }
+        ensures fits { IfOk result (Fits (room self.old) self.new) }
+        ensures kept { OnOk result (Keeps self.old self.new) }
+    {
+        self.ledger.end(no, rec, required)?;
+        Ok(Turn::Goes(Hand::Ended))
+    }
+
+    // The same of an offered record with these contents. As those of a task that ran, they are to be put into place.
+    fn keep_offered(
+        &mut self,
+        no: TaskNo,
+        rec: TaskRecord,
+        required: Vec<TaskNo>,
+        contents: Vec<Vec<u8>>,
+    ) -> Result<Turn<'a>, OutOfMemory>
+        requires site { IsSite self.old }
+        requires named { slice_get self.old.ledger.tables.names no.0 ≡ Some rec.task }
+        requires storable { IsStorable rec }
+        requires needs { tasks_at self.old.ledger.tables.names (numbers required.items) ≡ map Some (needs_by rec) }
+        requires ended { All (HasOutput self.old.ledger.tables.records) (numbers required.items) }
+        ensures turns { IfOk result (TurnsTo self.new) }
+        ensures nearer { IfOk result (Nearer (below self.old + 1) self.new) }
+        ensures fits { IfOk result (Fits (room self.old) self.new) }
+        ensures kept { OnOk result (Keeps self.old self.new) }
+    {
+        self.reuse(no, rec.writes.as_slice(), contents)?;
+        self.ledger.end(no, rec, required)?;
+        self.ledger.runs(no);
+        Ok(Turn::Goes(Hand::Ended))
+    }
+
+    // The contents of these writes are staged, and their task counts as reused.
+    fn reuse(
+        &mut self,
+        no: TaskNo,
+        writes: &[(Path, [u8; 32])],
+        contents: Vec<Vec<u8>>,
+    ) -> Result<(), OutOfMemory>
+        ensures same { self.new ≡ record self.old { stage = self.new.stage; reused = self.new.reused } }
+    {
+        stage_all(&mut self.stage, no, writes, contents)?;
+        self.reused.push(no)?;
+        Ok(())
+    }
+}
+
+// Stages the contents of writes, one for each.
+fn stage_all(
+    stage: &mut Stage,
+    no: TaskNo,
+    writes: &[(Path, [u8; 32])],
+    contents: Vec<Vec<u8>>,
+) -> Result<(), OutOfMemory> {
+    let mut contents = contents;
+    'contents: loop {
+        let Some(content) = contents.pop() else {
+            return Ok(());
+        };
+        if let Some((path, _)) = writes.get(contents.len()) {
+            stage.put(no, path.copy()?, content)?;
+        }
+    }
+}

@@ -1,0 +1,6 @@
+use Rattle.pie_topdown_build.proofs.Contents.{AreFirst}
+use Rattle.pie_topdown_build.proofs.news.Lookup.contents_of.Given as goal
+
+-- the contents of the writes so far
+abbrev pub invariant-loop-path : goal.invariant-loop-path
+invariant-loop-path l = AreFirst l.writes l.path-index l.contents.items

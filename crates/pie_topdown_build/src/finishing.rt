@@ -1,0 +1,90 @@
+//! The end of a build: what it made is put into place and reported.
+ghost use Rattle.std.specs.Prelude.{◌≡◌, ◌≤◌, length, drop, All, IfOk, IsTrue};
+ghost use Rattle.pie_build.specs.Left.{KeepsRest};
+ghost use Rattle.pie_files.specs.Streams.{Counted};
+ghost use Rattle.pie_incremental.specs.inner.Joined.{IsMade};
+ghost use Rattle.pie_value.specs.Canonical.{IsEncodableTask};
+ghost use Rattle.pie_topdown_build.specs.inner.Bases.{Quiet};
+
+use crate::accepting::{Made, accept};
+use pie_base::OutOfMemory;
+use pie_build::{copies_of_tasks, refused};
+use pie_checks::Built;
+use pie_files::{Files, FilesError};
+use pie_project::Project;
+use pie_report::Report;
+use pie_value::{Refusal, Task, Verdict};
+use pie_vm::Runs;
+use std::alloc::Global;
+
+/// Puts an accepted build into place, and reports it.
+#[tactic(auto, using(pie_build::proofs::OwnPaths::same_keeps))]
+pub(crate) fn finish<F: Files>(
+    alloc: Global,
+    files: &mut F,
+    project: &Project,
+    store: Option<Vec<u8>>,
+    built: Box<Built>,
+    ran: Vec<Task>,
+) -> Result<Box<Report>, FilesError>
+    requires { IsMade project.now.digests.items project.now.roots.items built.value }
+    ensures rest { KeepsRest (F.holds files.old) (F.holds files.new) }
+    ensures quiet { IfOk result (λ r. Quiet r.value.verdict (F.holds files.old) (F.holds files.new)) }
+    ensures ran { IfOk result (λ r. r.value.ran ≡ ran) }
+    ensures counted { Counted F.faults FilesError.Failed files.old files.new result }
+{
+    let Built {
+        verdict,
+        rows,
+        files: contents,
+        outputs,
+    } = Box::into_inner(built);
+    match verdict {
+        Verdict::Accepted => accept(
+            alloc,
+            files,
+            project,
+            store,
+            Made {
+                rows,
+                contents,
+                outputs,
+            },
+            ran,
+        ),
+        Verdict::Refused(refusal) => Ok(refused_report(alloc, refusal, ran)?),
+    }
+}
+
+fn refused_report(
+    alloc: Global,
+    refusal: Refusal,
+    ran: Vec<Task>,
+) -> Result<Box<Report>, OutOfMemory>
+    ensures ran { IfOk result (λ r. r.value.ran ≡ ran) }
+{
+    let report = Box::new(alloc, refused(alloc, refusal, ran))?;
+    Ok(report)
+}
+
+/// The tasks that were started after so many others.
+pub(crate) fn since(alloc: Global, runs: &Runs, before: usize) -> Result<Vec<Task>, OutOfMemory>
+    requires { before ≤ length runs.now }
+    ensures { IfOk result (λ ran. ran.items ≡ drop before runs.now) }
+{
+    let ran = copies_of_tasks(alloc, &runs.tasks()[before..])?;
+    Ok(ran)
+}
+
+/// Whether each root is within the limits of values.
+#[tactic(auto, using(pie_incremental::proofs::Joining::none_small, pie_incremental::proofs::Joining::small_more, pie_incremental::proofs::Joining::all_small))]
+pub(crate) fn are_small(roots: &[Task]) -> bool
+    ensures encodable { IsTrue result → All IsEncodableTask roots.now }
+{
+    for root in roots {
+        if !root.is_small() {
+            return false;
+        }
+    }
+    true
+}

@@ -1,0 +1,173 @@
+//! A build from a base, from its project to its report.
+ghost use Rattle.std.specs.Prelude.{◌≡◌, ◌≤◌, ◌+◌, ◌++◌, length, All, IfOk, IfSome};
+ghost use Rattle.pie_build.specs.Left.{KeepsRest};
+ghost use Rattle.pie_build.specs.inner.Rebuilt.{IsRefusal, Tells};
+ghost use Rattle.pie_digest.specs.Digests.{HasNames};
+ghost use Rattle.pie_files.specs.Streams.{Counted};
+ghost use Rattle.pie_incremental.specs.inner.Joined.{IsImage};
+ghost use Rattle.pie_record.specs.Canonical.{IsStorable};
+ghost use Rattle.pie_store.specs.Canonical.{AreFuncs};
+ghost use Rattle.pie_value.specs.Canonical.{IsEncodableTask};
+ghost use Rattle.pie_topdown_build.specs.Offered.{IsNew};
+ghost use Rattle.pie_topdown_build.specs.Refusals.{KeepsRefused};
+ghost use Rattle.pie_topdown_build.specs.inner.Bases.{Quiet};
+
+use crate::base::Base;
+use crate::evaluating::{Evaluated, evaluate};
+use crate::finishing::{are_small, finish, since};
+use crate::news::news_of;
+use crate::offered::{NewOffer, Offered};
+use crate::reusing::in_order;
+use pie_base::OutOfMemory;
+use pie_build::rebuild;
+use pie_checks::Built;
+use pie_files::{Files, FilesError};
+use pie_project::{BuildError, Project, read_project};
+use pie_store::Offers;
+use pie_value::Task;
+use pie_vm::Runs;
+use std::alloc::Global;
+
+/// Builds from what the build before left. What ran is told as new offers where it is asked for.
+#[tactic(auto, using(pie_build::proofs::OwnPaths::same_keeps, pie_incremental::proofs::Joining::rest_then))]
+pub(crate) fn from<F: Files, O: Offers>(
+    alloc: Global,
+    files: &mut F,
+    base: Box<Base>,
+    offers: &mut O,
+    tells: bool,
+    runs: &mut Runs,
+) -> Result<Offered, BuildError>
+    requires { IsImage base.value.image }
+    ensures rest { KeepsRest (F.holds files.old) (F.holds files.new) }
+    ensures refused { IsRefusal result → F.holds files.new ≡ F.holds files.old }
+    ensures kept { IfSome (F.holds files.old) (λ d. IfOk result (λ o. KeepsRefused o.report.value.verdict d (F.holds files.new))) }
+    ensures ran { IfOk result (λ o. runs.new ≡ runs.old ++ o.report.value.ran.items) }
+    ensures few { length runs.new ≤ length runs.old + 50000 }
+    ensures encodable { IfOk result (λ o. All IsEncodableTask o.report.value.ran.items) }
+    ensures reused { IfOk result (λ o. All IsEncodableTask o.reused.items) }
+    ensures new { IfOk result (λ o. All IsNew o.new.items) }
+    ensures told { Tells F.faults files.old files.new result }
+{
+    match read_project(alloc, files) {
+        Ok(project) => with_project(alloc, files, base, &project, offers, tells, runs),
+        Err(error) => Err(error),
+    }
+}
+
+// Builds a project from what the build before left. Roots beyond the limits of values are left to the clean build, which refuses them.
+#[tactic(auto, using(pie_build::proofs::OwnPaths::same_keeps, pie_incremental::proofs::Joining::rest_then))]
+fn with_project<F: Files, O: Offers>(
+    alloc: Global,
+    files: &mut F,
+    base: Box<Base>,
+    project: &Project,
+    offers: &mut O,
+    tells: bool,
+    runs: &mut Runs,
+) -> Result<Offered, BuildError>
+    requires base { IsImage base.value.image }
+    requires names { HasNames project.now.typed project.now.digests.items }
+    requires funcs { AreFuncs project.now.digests.items }
+    ensures rest { KeepsRest (F.holds files.old) (F.holds files.new) }
+    ensures refused { IsRefusal result → F.holds files.new ≡ F.holds files.old }
+    ensures kept { IfSome (F.holds files.old) (λ d. IfOk result (λ o. KeepsRefused o.report.value.verdict d (F.holds files.new))) }
+    ensures ran { IfOk result (λ o. runs.new ≡ runs.old ++ o.report.value.ran.items) }
+    ensures few { length runs.new ≤ length runs.old + 50000 }
+    ensures encodable { IfOk result (λ o. All IsEncodableTask o.report.value.ran.items) }
+    ensures reused { IfOk result (λ o. All IsEncodableTask o.reused.items) }
+    ensures new { IfOk result (λ o. All IsNew o.new.items) }
+    ensures told { Tells F.faults files.old files.new result }
+{
+    if !are_small(project.roots.as_slice()) {
+        return rebuilt(alloc, files, runs);
+    }
+    match run(alloc, files, base, project, offers, tells, runs) {
+        Ok(offered) => Ok(offered),
+        Err(FilesError::Failed) => Err(BuildError::Files),
+        Err(FilesError::OutOfMemory) => Err(BuildError::OutOfMemory),
+    }
+}
+
+// A clean build, which is offered nothing.
+fn rebuilt<F: Files>(alloc: Global, files: &mut F, runs: &mut Runs) -> Result<Offered, BuildError>
+    ensures rest { KeepsRest (F.holds files.old) (F.holds files.new) }
+    ensures refused { IsRefusal result → F.holds files.new ≡ F.holds files.old }
+    ensures kept { IfSome (F.holds files.old) (λ d. IfOk result (λ o. KeepsRefused o.report.value.verdict d (F.holds files.new))) }
+    ensures ran { IfOk result (λ o. runs.new ≡ runs.old ++ o.report.value.ran.items) }
+    ensures few { length runs.new ≤ length runs.old + 50000 }
+    ensures encodable { IfOk result (λ o. All IsEncodableTask o.report.value.ran.items) }
+    ensures reused { IfOk result (λ o. All IsEncodableTask o.reused.items) }
+    ensures new { IfOk result (λ o. All IsNew o.new.items) }
+    ensures told { Tells F.faults files.old files.new result }
+{
+    match rebuild(alloc, files, runs) {
+        Ok(report) => match Box::new(alloc, report) {
+            Ok(report) => Ok(Offered {
+                report,
+                reused: Vec::new(alloc),
+                new: Vec::new(alloc),
+            }),
+            Err(_) => Err(BuildError::OutOfMemory),
+        },
+        Err(error) => Err(error),
+    }
+}
+
+// Settles the roots, and puts into place what was made.
+#[tactic(auto, using(pie_build::proofs::OwnPaths::same_keeps, pie_incremental::proofs::Joining::rest_then, pie_incremental::proofs::Joining::still_there, pie_incremental::proofs::Joining::told_all, pie_incremental::proofs::Joining::told_encodable, crate::proofs::Making::quiet_then))]
+fn run<F: Files, O: Offers>(
+    alloc: Global,
+    files: &mut F,
+    base: Box<Base>,
+    project: &Project,
+    offers: &mut O,
+    tells: bool,
+    runs: &mut Runs,
+) -> Result<Offered, FilesError>
+    requires base { IsImage base.value.image }
+    requires names { HasNames project.now.typed project.now.digests.items }
+    requires funcs { AreFuncs project.now.digests.items }
+    requires roots { All IsEncodableTask project.now.roots.items }
+    ensures rest { KeepsRest (F.holds files.old) (F.holds files.new) }
+    ensures quiet { IfOk result (λ o. Quiet o.report.value.verdict (F.holds files.old) (F.holds files.new)) }
+    ensures ran { IfOk result (λ o. runs.new ≡ runs.old ++ o.report.value.ran.items) }
+    ensures few { length runs.new ≤ length runs.old + 50000 }
+    ensures encodable { IfOk result (λ o. All IsEncodableTask o.report.value.ran.items) }
+    ensures reused { IfOk result (λ o. All IsEncodableTask o.reused.items) }
+    ensures new { IfOk result (λ o. All IsNew o.new.items) }
+    ensures counted { Counted F.faults FilesError.Failed files.old files.new result }
+{
+    let Base { image, store } = Box::into_inner(base);
+    let before = runs.count();
+    let Evaluated { built, reused } = evaluate(alloc, files, project, image, offers, runs)?;
+    let ran = since(alloc, runs, before)?;
+    let reused = in_order(alloc, reused.as_slice())?;
+    let new = news_if(alloc, tells, project, &built, ran.as_slice())?;
+    match finish(alloc, files, project, store, built, ran) {
+        Ok(report) => Ok(Offered {
+            report,
+            reused,
+            new,
+        }),
+        Err(error) => Err(error),
+    }
+}
+
+// The new offers, where they are asked for.
+fn news_if(
+    alloc: Global,
+    tells: bool,
+    project: &Project,
+    built: &Built,
+    ran: &[Task],
+) -> Result<Vec<NewOffer>, OutOfMemory>
+    requires ran { All IsEncodableTask ran.now }
+    requires rows { All IsStorable built.now.rows.items }
+    ensures { IfOk result (λ found. All IsNew found.items) }
+{
+    if tells {
+        return news_of(alloc, project.digests.as_slice(), built, ran);
+    }
+    Ok(Vec::new(alloc))
+}
