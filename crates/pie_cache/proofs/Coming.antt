@@ -1,7 +1,7 @@
 -- Bytes that have a fault are refused with it.
 use Rattle.std.proofs.Common.{◌≡◌, ◌≢◌, ℕ, suc, ◌+◌, ◌-◌, ◌<◌, ◌≤◌, Bool, true, false, cond, List, [], ◌∷◌, ◌++◌, length, take, drop}
 use Rattle.std.proofs.Common.{Result, Ok, Err, refl, sym, ap, subst, ◌∙◌, arith, inl, inr, Vec, Global}
-use Rattle.std.specs.Prelude.{All, map, slice_index, ◌==◌, ◌⊎◌}
+use Rattle.std.specs.Prelude.{All, slice_index, ◌==◌, ◌⊎◌}
 use Rattle.std.specs.List.{flat_map}
 use Rattle.std.specs.Str.{bytes_eq}
 use Rattle.std.proofs.lemmas.Slice.Eq.{bytes_eq-Decides}

@@ -1,7 +1,7 @@
 -- The fault that is answered is one that the bytes have.
-use Rattle.std.proofs.Common.{◌≡◌, ◌≢◌, ℕ, ◌+◌, ◌-◌, ◌<◌, ◌≤◌, Bool, true, false, cond, List, [], ◌∷◌, ◌++◌, length, take, drop}
+use Rattle.std.proofs.Common.{◌≡◌, ◌≢◌, ℕ, ◌+◌, ◌-◌, ◌<◌, ◌≤◌, Bool, true, false, cond, List, [], ◌∷◌, length, take, drop}
 use Rattle.std.proofs.Common.{Result, Ok, Err, refl, sym, ap, subst, ◌∙◌, arith, inl, inr, Vec, Global}
-use Rattle.std.specs.Prelude.{All, map, nat_lt, slice_index, ◌==◌, ◌⊎◌}
+use Rattle.std.specs.Prelude.{nat_lt, slice_index, ◌==◌, ◌⊎◌}
 use Rattle.std.specs.List.{flat_map}
 use Rattle.std.specs.Str.{bytes_eq}
 use Rattle.std.proofs.lemmas.Slice.Eq.{bytes_eq-Decides}
@@ -13,7 +13,7 @@ use Rattle.pie_store.specs.declared.offers.Offer.{Offer}
 use Rattle.pie_store.specs.inner.Offers.{Offered}
 use Rattle.pie_cache.specs.declared.cache_fault.CacheFault.{CacheFault}
 use Rattle.pie_cache.specs.declared.cache_fault.CacheFault.TheVariants.{Short, Magic, Version, Digest, Count, Entry, Rest, OutOfMemory}
-use Rattle.pie_cache.specs.inner.Texts.{magic, enc_entry, IsCount, IsEntry}
+use Rattle.pie_cache.specs.inner.Texts.{magic, enc_entry, IsCount}
 use Rattle.pie_cache.specs.inner.Agreement.{AgreesWhole}
 use Rattle.pie_cache.specs.inner.Faults.{FaultInside, HasFault, TellsFault}
 use Rattle.pie_cache.specs.inner.Faults.{other_count, entry_unread, left_over}

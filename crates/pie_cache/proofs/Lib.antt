@@ -9,3 +9,7 @@ pub mod Writing
 pub mod Naming
 pub mod Fetching
 pub mod Changing
+pub mod Looking
+pub mod Clearing
+pub mod Kept
+pub mod Gating

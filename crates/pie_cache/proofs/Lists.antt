@@ -12,7 +12,7 @@ use Rattle.pie_cache.specs.inner.Texts.{enc_entry, IsEntry}
 use Rattle.pie_cache.specs.inner.Faults.{NoneInFront}
 use Rattle.pie_cache.specs.inner.Reading.{Parsed, then_on, placed, part_at, entry_part, some_at}
 use Rattle.pie_cache.proofs.Parts.{entry_codec}
-use Rattle.pie_cache.proofs.Steps.{pair, same_value, same_rest, then_ok, then_err, placed_ok, Named, placed_err}
+use Rattle.pie_cache.proofs.Steps.{same_value, same_rest, then_ok, then_err, placed_ok, Named, placed_err}
 
 module _ (end : ℕ) where
   -- ---- what was read

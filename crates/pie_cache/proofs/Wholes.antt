@@ -1,7 +1,7 @@
 -- A cache file as a whole: what is read is what these bytes are the text of, and its text is read again.
 use Rattle.std.proofs.Common.{◌≡◌, ℕ, suc, ◌+◌, ◌-◌, ◌<◌, ◌≤◌, Bool, true, false, cond, List, [], ◌∷◌, ◌++◌, length, take, drop}
 use Rattle.std.proofs.Common.{Result, Ok, Err, IfOk, refl, sym, ap, subst, ◌∙◌, append-nil, arith, inl, inr, Vec, Global}
-use Rattle.std.specs.Prelude.{All, map, ◌==◌, ◌&&◌, ◌⊎◌, nat_lt, nat_le, slice_index}
+use Rattle.std.specs.Prelude.{All, map, ◌==◌, ◌⊎◌, nat_lt, nat_le, slice_index}
 use Rattle.std.specs.List.{flat_map}
 use Rattle.std.specs.Str.{bytes_eq}
 use Rattle.std.proofs.lemmas.Slice.Eq.{bytes_eq-Decides}
@@ -18,7 +18,7 @@ use Rattle.pie_cache.specs.declared.cache_fault.CacheFault.TheVariants.{Short, M
 use Rattle.pie_cache.specs.inner.Texts.{magic, enc_entry, enc_body, IsCount, IsEntry, IsCacheText}
 use Rattle.pie_cache.specs.inner.Agreement.{AgreesWhole, Refuses}
 use Rattle.pie_cache.specs.inner.Frame.{framed, sealed}
-use Rattle.pie_cache.specs.inner.Reading.{Parsed, some_at, closed, then_closed, is_count, counted_says, body_says, on_body, cache_says}
+use Rattle.pie_cache.specs.inner.Reading.{Parsed, some_at, closed, then_closed, is_count, counted_says, on_body, cache_says}
 use Rattle.pie_cache.proofs.Lists.{some_taken, some_more}
 use Rattle.pie_cache.proofs.Steps.{pair}
 use Rattle.pie_cache.specs.inner.Contents.{IsKeptOffer}

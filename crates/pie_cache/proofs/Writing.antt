@@ -1,5 +1,5 @@
 -- Writing entries as the program holds them.
-use Rattle.std.proofs.Common.{◌≡◌, ℕ, ◌<◌, ◌^◌, List, [], ◌∷◌, ◌++◌, length, get_or, refl, sym, ap, ◌∙◌, append_assoc, Vec, Global}
+use Rattle.std.proofs.Common.{◌≡◌, ℕ, List, [], ◌∷◌, ◌++◌, length, get_or, refl, sym, ap, ◌∙◌, append_assoc, Vec, Global}
 use Rattle.std.specs.Prelude.{All, map}
 use Rattle.std.specs.List.{flat_map}
 use Rattle.std.proofs.lemmas.List.Elements.{All-nil, All-cons, All-head, All-tail, All-map}
@@ -7,7 +7,7 @@ use Rattle.std.proofs.lemmas.List.{length-map}
 use Rattle.pie_value.specs.Canonical.{counted}
 use Rattle.pie_record.specs.Canonical.{enc_record}
 use Rattle.pie_store.specs.declared.offers.Offer.{Offer}
-use Rattle.pie_store.specs.inner.Offers.{Offered, offered}
+use Rattle.pie_store.specs.inner.Offers.{offered}
 use Rattle.pie_cache.specs.inner.Texts.{magic, enc_entry, enc_body, AreContents, IsEntry}
 use Rattle.pie_cache.specs.inner.Contents.{enc_offer, IsKeptOffer, IsTrueOffer, IsShort}
 

@@ -8,7 +8,7 @@ use pie_store::{Offer, Offers};
 use pie_value::Task;
 use std::alloc::Global;
 
-/// The record cache of a project: files below `.pie/cache`, each with up to four entries of one task and one function. It is made by `open`.
+/// The record cache of a project: files below `.pie/cache`, each with up to four entries of one task and one function. It is made by `open`; what tasks gave joins it by `keep`.
 /// Rule: docs/FORMATS.md, "The cache".
 #[derive(Drop)]
 pub struct Cache {

@@ -4,7 +4,9 @@
 mod cache;
 mod cache_fault;
 mod decoding;
+mod drafting;
 mod frame;
+mod keeping;
 mod opening;
 mod places;
 mod reading;

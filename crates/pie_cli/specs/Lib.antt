@@ -1,5 +1,6 @@
 pub mod Auto
 pub mod Build
+pub mod Cached
 pub mod Check
 pub mod Demo
 pub mod Fresh

@@ -23,7 +23,7 @@ IsNoScript words = (json : Bool) → words ≢ words_of (commands.Replay json)
 
 -- no command that may change other files than those under `out/` and the builder's own three has these words
 abbrev pub StaysWithin : List (List ℕ) → Type 0
-StaysWithin words = IsNoScript words × (words ≢ words_of commands.Auto)
+StaysWithin words = IsNoScript words × (words ≢ words_of commands.Auto) × (words ≢ words_of commands.Cached)
 
 -- what is printed where a call on the files failed
 abbrev pub files_fault_text : List ℕ

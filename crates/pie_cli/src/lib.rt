@@ -1,6 +1,7 @@
 //! The program: words in, a report and a status out.
 #![tactic(auto)]
 
+mod cached;
 mod check;
 mod clean;
 mod demo;

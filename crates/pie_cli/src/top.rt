@@ -7,6 +7,7 @@ ghost use Rattle.pie_words.specs.Commands.{words_of, texts_of, is_allowed};
 ghost use Rattle.pie_words.specs.declared.command.Command.TheVariants as commands;
 ghost use Rattle.pie_cli.specs.Auto.{RunsAuto};
 ghost use Rattle.pie_cli.specs.Build.{RunsBuild};
+ghost use Rattle.pie_cli.specs.Cached.{RunsCached};
 ghost use Rattle.pie_cli.specs.Check.{RunsCheck};
 ghost use Rattle.pie_cli.specs.Demo.{RunsDemo, SaysDemo};
 ghost use Rattle.pie_cli.specs.Fresh.{RunsFresh};
@@ -22,6 +23,7 @@ ghost use Rattle.pie_replay.specs.Replays.{KeepsOthers};
 ghost use Rattle.pie_script.specs.Steps.{plain};
 ghost use Rattle.pie_report.specs.Refused.{bad_input_text};
 
+use crate::cached::cached;
 use crate::check::check;
 use crate::clean::fresh;
 use crate::demo::tell_demo;
@@ -63,6 +65,8 @@ pub fn run<F: Files, I: Source, K: Sink>(
         → RunsAuto F.holds F.faults I.left I.faults files.old files.new input.old input.new (K.held out.old) (K.held out.new) result }
     ensures topdown { (json : Bool) → texts_of words.now ≡ words_of (commands.Topdown json)
         → RunsTopdown F.holds F.faults json files.old files.new (K.held out.old) (K.held out.new) result }
+    ensures cached { texts_of words.now ≡ words_of commands.Cached
+        → RunsCached F.holds F.faults files.old files.new (K.held out.old) (K.held out.new) result }
     ensures demo { (seed size : ℕ) → is_allowed (commands.Demo seed size) ≡ true → texts_of words.now ≡ words_of (commands.Demo seed size)
         → RunsDemo files.old files.new (K.held out.old) (K.held out.new) result }
     ensures usage { IsUsage (texts_of words.now) → PrintsUsage files.old files.new (K.held out.old) (K.held out.new) result }
@@ -103,6 +107,8 @@ fn run_command<F: Files, I: Source, K: Sink>(
         → RunsAuto F.holds F.faults I.left I.faults files.old files.new input.old input.new (K.held out.old) (K.held out.new) result }
     ensures topdown { (json : Bool) → command ≡ commands.Topdown json
         → RunsTopdown F.holds F.faults json files.old files.new (K.held out.old) (K.held out.new) result }
+    ensures cached { command ≡ commands.Cached
+        → RunsCached F.holds F.faults files.old files.new (K.held out.old) (K.held out.new) result }
     ensures demo { (seed size : ℕ) → command ≡ commands.Demo seed size → RunsDemo files.old files.new (K.held out.old) (K.held out.new) result }
     ensures rest { ChangesWithin command → KeepsRest (F.holds files.old) (F.holds files.new) }
     ensures ends { Ends (HasNoScript command) (F.faults files.old) (F.faults files.new) (I.faults input.old) (I.faults input.new) (K.faults out.old) (K.faults out.new) (K.held out.old) (K.held out.new) result }
@@ -117,6 +123,7 @@ fn run_command<F: Files, I: Source, K: Sink>(
         Command::Scan => run_by_list(alloc, files, input, out, ByList::Scan),
         Command::Auto => run_by_list(alloc, files, input, out, ByList::Auto),
         Command::Topdown(json) => run_topdown(alloc, files, out, json),
+        Command::Cached => run_cached(alloc, files, out),
         Command::Replay(json) => run_replay(alloc, files, input, out, json),
         Command::Demo(seed, size) => run_demo(alloc, out, seed, size),
     }
@@ -204,6 +211,19 @@ fn run_topdown<F: Files, K: Sink>(alloc: Global, files: &mut F, out: &mut K, jso
     ensures infallible { StaysInfallible K.infallible K.faults out.old out.new }
 {
     match topdown(alloc, files, json) {
+        Ok(told) => show_told(out, told),
+        Err(FilesError::Failed) => show(out, "files fault\n", Status::Files),
+        Err(FilesError::OutOfMemory) => Status::Memory,
+    }
+}
+
+// A build with the record cache, with its report.
+fn run_cached<F: Files, K: Sink>(alloc: Global, files: &mut F, out: &mut K) -> Status
+    ensures cached { RunsCached F.holds F.faults files.old files.new (K.held out.old) (K.held out.new) result }
+    ensures ends { EndsUnread (F.faults files.old) (F.faults files.new) (K.faults out.old) (K.faults out.new) (K.held out.old) (K.held out.new) result }
+    ensures infallible { StaysInfallible K.infallible K.faults out.old out.new }
+{
+    match cached(alloc, files) {
         Ok(told) => show_told(out, told),
         Err(FilesError::Failed) => show(out, "files fault\n", Status::Files),
         Err(FilesError::OutOfMemory) => Status::Memory,

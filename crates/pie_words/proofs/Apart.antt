@@ -1,18 +1,18 @@
 -- Words ask for one command at most.
-use Rattle.std.proofs.Common.{◌≡◌, ◌==◌, ℕ, ◌<◌, ◌^◌, Bool, true, false, cond, List, [], ◌∷◌, Option, None, Some, length, decimal, refl, sym, ap, ap₂, ◌∙◌, arith, rules}
+use Rattle.std.proofs.Common.{◌≡◌, ◌==◌, ℕ, ◌+◌, ◌*◌, ◌<◌, ◌^◌, Bool, true, false, cond, List, [], ◌∷◌, Option, None, Some, length, decimal, refl, sym, ap, ap₂, ◌∙◌, arith, rules}
 use Rattle.std.proofs.lemmas.Fmt.{decimal_is_IsNumeral}
 use Rattle.std.specs.Str.Parse.{digits_value}
 use Rattle.pie_words.specs.declared.command.Command.{Command}
-use Rattle.pie_words.specs.declared.command.Command.TheVariants.{Check, Fresh, Build, Replay, Demo, Topdown, Scan, Auto}
+use Rattle.pie_words.specs.declared.command.Command.TheVariants.{Check, Fresh, Build, Replay, Demo, Topdown, Scan, Auto, Cached}
 use Rattle.std.proofs.lemmas.Bool.{false≢true}
 use Rattle.pie_words.specs.Commands.{words_of, is_allowed}
 use Rattle.pie_words.specs.inner.Commands.{is_plain}
 
--- the first byte of the first word, or 0
-abbrev first_byte : List (List ℕ) → ℕ
-first_byte [] = 0
-first_byte ([] ∷ words) = 0
-first_byte ((b ∷ bytes) ∷ words) = b
+-- a number that tells the first words apart, or 0
+abbrev mark : List (List ℕ) → ℕ
+mark [] = 0
+mark ([] ∷ words) = 0
+mark ((b ∷ bytes) ∷ words) = 10 * b + length bytes
 
 abbrev pub second : List (List ℕ) → List ℕ
 second [] = []
@@ -35,18 +35,19 @@ seed_small seed size is = grind (arith, rules)
 pub size_small : (seed size : ℕ) → is_allowed (Demo seed size) ≡ true → size < 2 ^ 64
 size_small seed size is = grind (arith, rules)
 
--- the command without numbers that has this first byte and so many words, if there is one
+-- the command without numbers that has this mark and so many words, if there is one
 abbrev plain_with : ℕ → ℕ → Option Command
-plain_with b many = cond (b == 99) (Some Check)
-    (cond (b == 102) (Some (Fresh (many == 2)))
-    (cond (b == 98) (Some (Build (many == 2)))
-    (cond (b == 114) (Some (Replay (many == 2)))
-    (cond (b == 116) (Some (Topdown (many == 2)))
-    (cond (b == 115) (Some Scan)
-    (cond (b == 97) (Some Auto) None))))))
+plain_with b many = cond (b == 994) (Some Check)
+    (cond (b == 1024) (Some (Fresh (many == 2)))
+    (cond (b == 984) (Some (Build (many == 2)))
+    (cond (b == 1145) (Some (Replay (many == 2)))
+    (cond (b == 1166) (Some (Topdown (many == 2)))
+    (cond (b == 1153) (Some Scan)
+    (cond (b == 995) (Some Cached)
+    (cond (b == 973) (Some Auto) None)))))))
 
 abbrev plain_in : List (List ℕ) → Option Command
-plain_in words = plain_with (first_byte words) (length words)
+plain_in words = plain_with (mark words) (length words)
 
 -- a command without numbers is found by its words
 abbrev if_plain : Command → Option Command
@@ -58,6 +59,7 @@ if_plain (Replay json) = Some (Replay json)
 if_plain (Topdown json) = Some (Topdown json)
 if_plain Scan = Some Scan
 if_plain Auto = Some Auto
+if_plain Cached = Some Cached
 
 found_by_words : (c : Command) → plain_in (words_of c) ≡ if_plain c
 found_by_words Check = refl
@@ -72,6 +74,7 @@ found_by_words (Topdown false) = refl
 found_by_words (Topdown true) = refl
 found_by_words Scan = refl
 found_by_words Auto = refl
+found_by_words Cached = refl
 
 same_found : (c e : Command) → words_of c ≡ words_of e → if_plain c ≡ if_plain e
 same_found c e is = sym (found_by_words c) ∙ (ap plain_in is ∙ found_by_words e)
@@ -89,6 +92,7 @@ found_plain (Replay json) = refl
 found_plain (Topdown json) = refl
 found_plain Scan = refl
 found_plain Auto = refl
+found_plain Cached = refl
 found_plain (Demo seed size) = refl
 
 plain_alike : (c e : Command) → words_of c ≡ words_of e → is_plain c ≡ is_plain e
@@ -107,6 +111,7 @@ plain_is other (Replay json) plain = refl
 plain_is other (Topdown json) plain = refl
 plain_is other Scan plain = refl
 plain_is other Auto plain = refl
+plain_is other Cached plain = refl
 plain_is other (Demo seed size) plain = absurd (false≢true plain)
 
 same_plain : (c e : Command) → is_plain c ≡ true → words_of c ≡ words_of e → c ≡ e
@@ -121,6 +126,7 @@ same_command (Replay json) e may also is = same_plain (Replay json) e refl is
 same_command (Topdown json) e may also is = same_plain (Topdown json) e refl is
 same_command Scan e may also is = same_plain Scan e refl is
 same_command Auto e may also is = same_plain Auto e refl is
+same_command Cached e may also is = same_plain Cached e refl is
 same_command (Demo seed size) Check may also is = sym (same_plain Check (Demo seed size) refl (sym is))
 same_command (Demo seed size) (Fresh json) may also is = sym (same_plain (Fresh json) (Demo seed size) refl (sym is))
 same_command (Demo seed size) (Build json) may also is = sym (same_plain (Build json) (Demo seed size) refl (sym is))
@@ -128,5 +134,6 @@ same_command (Demo seed size) (Replay json) may also is = sym (same_plain (Repla
 same_command (Demo seed size) (Topdown json) may also is = sym (same_plain (Topdown json) (Demo seed size) refl (sym is))
 same_command (Demo seed size) Scan may also is = sym (same_plain Scan (Demo seed size) refl (sym is))
 same_command (Demo seed size) Auto may also is = sym (same_plain Auto (Demo seed size) refl (sym is))
+same_command (Demo seed size) Cached may also is = sym (same_plain Cached (Demo seed size) refl (sym is))
 same_command (Demo seed size) (Demo other many) may also is = ap₂ Demo (same_number seed other (seed_small seed size may) (seed_small other many also) (ap second is))
     (same_number size many (size_small seed size may) (size_small other many also) (ap third is))

@@ -1,5 +1,5 @@
 -- What `clap` takes from the words of each command.
-use Rattle.std.proofs.Common.{◌≡◌, ◌==◌, ℕ, Bool, true, false, cond, List, [], ◌∷◌, Option, Some, None, option_map, codes, refl, sym, ap, ◌∙◌, rules}
+use Rattle.std.proofs.Common.{◌≡◌, ◌==◌, ℕ, ◌+◌, ◌*◌, length, Bool, true, false, cond, List, [], ◌∷◌, Option, Some, None, option_map, codes, refl, sym, ap, ◌∙◌, rules}
 use Rattle.std.proofs.lemmas.Bool.{false≢true}
 use Rattle.clap.specs.Walk.{Row, Text, one_of, rows_of}
 use Rattle.clap.specs.Simple.{subcommand_of, subcommand_rows_of}
@@ -16,7 +16,7 @@ use Rattle.pie_words.specs.Commands.{words_of}
 use Rattle.pie_words.specs.inner.Commands.{is_plain}
 use Rattle.pie_words.specs.inner.Grammar.{commands}
 use Rattle.pie_words.specs.declared.command.Command.{Command}
-use Rattle.pie_words.specs.declared.command.Command.TheVariants.{Check, Fresh, Build, Replay, Demo, Topdown, Scan, Auto}
+use Rattle.pie_words.specs.declared.command.Command.TheVariants.{Check, Fresh, Build, Replay, Demo, Topdown, Scan, Auto, Cached}
 
 -- the name of a command
 abbrev pub name_of : Command → Text
@@ -27,6 +27,7 @@ name_of (Replay json) = codes "replay"
 name_of (Topdown json) = codes "topdown"
 name_of Scan = codes "scan"
 name_of Auto = codes "auto"
+name_of Cached = codes "cached"
 name_of (Demo seed size) = codes "demo"
 
 -- a flag as text
@@ -56,6 +57,7 @@ named (Topdown false) plain = refl
 named (Topdown true) plain = refl
 named Scan plain = refl
 named Auto plain = refl
+named Cached plain = refl
 named (Demo seed size) plain = absurd (false≢true plain)
 
 pub met : (c : Command) → is_plain c ≡ true → subcommand_of commands (words_of c) ≡ Some (name_in (subcommand_of commands (words_of c)), rows_in (subcommand_of commands (words_of c)))
@@ -71,6 +73,7 @@ met (Topdown false) plain = refl
 met (Topdown true) plain = refl
 met Scan plain = refl
 met Auto plain = refl
+met Cached plain = refl
 met (Demo seed size) plain = absurd (false≢true plain)
 
 -- the flag that a command may have
@@ -82,6 +85,7 @@ flag_of (Replay json) = json
 flag_of (Topdown json) = json
 flag_of Scan = false
 flag_of Auto = false
+flag_of Cached = false
 flag_of (Demo seed size) = false
 
 -- a command with the flag
@@ -93,6 +97,7 @@ is_flagged (Replay json) = true
 is_flagged (Topdown json) = true
 is_flagged Scan = false
 is_flagged Auto = false
+is_flagged Cached = false
 is_flagged (Demo seed size) = false
 
 pub flagged : (c : Command) → is_flagged c ≡ true → one_of (codes "json") (rows_in (subcommand_of commands (words_of c))) ≡ Some (flag_text (flag_of c))
@@ -108,6 +113,7 @@ flagged (Topdown false) has = refl
 flagged (Topdown true) has = refl
 flagged Scan has = absurd (false≢true has)
 flagged Auto has = absurd (false≢true has)
+flagged Cached has = absurd (false≢true has)
 flagged (Demo seed size) has = absurd (false≢true has)
 
 pub flag_read : (f : Found) (c : Command) → is_flagged c ≡ true → rows_of f ≡ rows_in (subcommand_of commands (words_of c))
@@ -130,6 +136,7 @@ flag_is (Topdown false) read f has rows set unset = unset (flag_read f (Topdown 
 flag_is (Topdown true) read f has rows set unset = set (flag_read f (Topdown true) has rows)
 flag_is Scan read f has rows set unset = absurd (false≢true has)
 flag_is Auto read f has rows set unset = absurd (false≢true has)
+flag_is Cached read f has rows set unset = absurd (false≢true has)
 flag_is (Demo seed size) read f has rows set unset = absurd (false≢true has)
 
 pub taken : (c : Command) → is_plain c ≡ true → takes commands (words_of c) ≡ true
@@ -145,22 +152,25 @@ taken (Topdown false) plain = refl
 taken (Topdown true) plain = refl
 taken Scan plain = refl
 taken Auto plain = refl
+taken Cached plain = refl
 taken (Demo seed size) plain = absurd (false≢true plain)
 
-abbrev first_byte : Text → ℕ
-first_byte [] = 0
-first_byte (b ∷ bytes) = b
+-- a number that tells the names apart
+abbrev mark : Text → ℕ
+mark [] = 0
+mark (b ∷ bytes) = 10 * b + length bytes
 
--- the command without numbers whose name has this first byte, with this flag
+-- the command without numbers whose name has this mark, with this flag
 abbrev plain_at : ℕ → Bool → Command
-plain_at b json = cond (b == 99) Check
-    (cond (b == 102) (Fresh json)
-    (cond (b == 98) (Build json)
-    (cond (b == 114) (Replay json)
-    (cond (b == 116) (Topdown json)
-    (cond (b == 115) Scan Auto)))))
+plain_at b json = cond (b == 994) Check
+    (cond (b == 1024) (Fresh json)
+    (cond (b == 984) (Build json)
+    (cond (b == 1145) (Replay json)
+    (cond (b == 1166) (Topdown json)
+    (cond (b == 1153) Scan
+    (cond (b == 995) Cached Auto))))))
 
-is_at : (c : Command) → is_plain c ≡ true → plain_at (first_byte (name_of c)) (flag_of c) ≡ c
+is_at : (c : Command) → is_plain c ≡ true → plain_at (mark (name_of c)) (flag_of c) ≡ c
 is_at Check plain = refl
 is_at (Fresh json) plain = refl
 is_at (Build json) plain = refl
@@ -168,32 +178,34 @@ is_at (Replay json) plain = refl
 is_at (Topdown json) plain = refl
 is_at Scan plain = refl
 is_at Auto plain = refl
+is_at Cached plain = refl
 is_at (Demo seed size) plain = absurd (false≢true plain)
 
 -- a command is the one that has its name, with its flag
-pub by_name : (c : Command) (name : Text) → is_plain c ≡ true → name_of c ≡ name → plain_at (first_byte name) (flag_of c) ≡ c
-by_name c name plain is = ap (λ n. plain_at (first_byte n) (flag_of c)) (sym is) ∙ is_at c plain
+pub by_name : (c : Command) (name : Text) → is_plain c ≡ true → name_of c ≡ name → plain_at (mark name) (flag_of c) ≡ c
+by_name c name plain is = ap (λ n. plain_at (mark n) (flag_of c)) (sym is) ∙ is_at c plain
 
 -- and so it is with the flag that was read off its words, where it has one
-pub by_flag : (c : Command) (name : Text) (read : Bool) (f : Found) → is_plain c ≡ true → name_of c ≡ name → is_flagged (plain_at (first_byte name) (flag_of c)) ≡ true
+pub by_flag : (c : Command) (name : Text) (read : Bool) (f : Found) → is_plain c ≡ true → name_of c ≡ name → is_flagged (plain_at (mark name) (flag_of c)) ≡ true
     → rows_of f ≡ rows_in (subcommand_of commands (words_of c))
     → (one_text f (codes "json") ≡ Some (codes "true") → read ≡ true)
     → (one_text f (codes "json") ≡ Some (codes "false") → read ≡ false)
-    → plain_at (first_byte name) read ≡ c
+    → plain_at (mark name) read ≡ c
 by_flag c name read f plain is has rows set unset =
     let same = by_name c name plain is in
-    ap (plain_at (first_byte name)) (flag_is c read f (ap is_flagged (sym same) ∙ has) rows set unset) ∙ same
+    ap (plain_at (mark name)) (flag_is c read f (ap is_flagged (sym same) ∙ has) rows set unset) ∙ same
 
 pub is_named : (c : Command) → is_plain c ≡ true → (name_of c ≡ codes "check" → ⊥) → (name_of c ≡ codes "fresh" → ⊥) → (name_of c ≡ codes "build" → ⊥)
-    → (name_of c ≡ codes "replay" → ⊥) → (name_of c ≡ codes "topdown" → ⊥) → (name_of c ≡ codes "scan" → ⊥) → (name_of c ≡ codes "auto" → ⊥) → ⊥
-is_named Check plain check fresh build replay topdown scan auto = check refl
-is_named (Fresh json) plain check fresh build replay topdown scan auto = fresh refl
-is_named (Build json) plain check fresh build replay topdown scan auto = build refl
-is_named (Replay json) plain check fresh build replay topdown scan auto = replay refl
-is_named (Topdown json) plain check fresh build replay topdown scan auto = topdown refl
-is_named Scan plain check fresh build replay topdown scan auto = scan refl
-is_named Auto plain check fresh build replay topdown scan auto = auto refl
-is_named (Demo seed size) plain check fresh build replay topdown scan auto = absurd (false≢true plain)
+    → (name_of c ≡ codes "replay" → ⊥) → (name_of c ≡ codes "topdown" → ⊥) → (name_of c ≡ codes "scan" → ⊥) → (name_of c ≡ codes "auto" → ⊥) → (name_of c ≡ codes "cached" → ⊥) → ⊥
+is_named Check plain check fresh build replay topdown scan auto cached = check refl
+is_named (Fresh json) plain check fresh build replay topdown scan auto cached = fresh refl
+is_named (Build json) plain check fresh build replay topdown scan auto cached = build refl
+is_named (Replay json) plain check fresh build replay topdown scan auto cached = replay refl
+is_named (Topdown json) plain check fresh build replay topdown scan auto cached = topdown refl
+is_named Scan plain check fresh build replay topdown scan auto cached = scan refl
+is_named Auto plain check fresh build replay topdown scan auto cached = auto refl
+is_named Cached plain check fresh build replay topdown scan auto cached = cached refl
+is_named (Demo seed size) plain check fresh build replay topdown scan auto cached = absurd (false≢true plain)
 
 -- what was found, from its name and its matches apart
 pub paired : {A B X Y : Type 0} (f : X → A) (g : X → B) (h : Y → A) (k : Y → B) (r : Option X) (o : Option Y)

@@ -2,7 +2,7 @@
 use Rattle.std.specs.Prelude.{ℕ, ◌&&◌, nat_le, Bool, true, false, List, [], ◌∷◌, codes, map, String, string_bytes, decimal}
 use Rattle.std.specs.declared.alloc.Global.{Global}
 use Rattle.pie_words.specs.declared.command.Command.{Command}
-use Rattle.pie_words.specs.declared.command.Command.TheVariants.{Check, Fresh, Build, Replay, Demo, Topdown, Scan, Auto}
+use Rattle.pie_words.specs.declared.command.Command.TheVariants.{Check, Fresh, Build, Replay, Demo, Topdown, Scan, Auto, Cached}
 
 -- the words that ask for a command
 abbrev pub words_of : Command → List (List ℕ)
@@ -17,6 +17,7 @@ words_of (Topdown false) = codes "topdown" ∷ []
 words_of (Topdown true) = codes "topdown" ∷ codes "--json" ∷ []
 words_of Scan = codes "scan" ∷ []
 words_of Auto = codes "auto" ∷ []
+words_of Cached = codes "cached" ∷ []
 words_of (Demo seed size) = codes "demo" ∷ decimal seed ∷ decimal size ∷ []
 
 -- a command that words may ask for: the seed of a demo has 64 bits, and it has 1 to 1,000 files
@@ -28,6 +29,7 @@ is_allowed (Replay json) = true
 is_allowed (Topdown json) = true
 is_allowed Scan = true
 is_allowed Auto = true
+is_allowed Cached = true
 is_allowed (Demo seed size) = nat_le seed 18446744073709551615 && (nat_le 1 size && nat_le size 1000)
 
 -- words as lists of their bytes

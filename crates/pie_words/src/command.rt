@@ -19,4 +19,6 @@ pub enum Command {
     Scan,
     /// `auto`: build by the change list that scanning below the tops of the input finds.
     Auto,
+    /// `cached`: build as `topdown`, with records of earlier builds from the cache.
+    Cached,
 }

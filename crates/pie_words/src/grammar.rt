@@ -55,6 +55,7 @@ fn named(name: &str, flags: &ArgMatches<'_>) -> Result<Command, WordsFault>
         "topdown" => Ok(Command::Topdown(flags.get_flag("json"))),
         "scan" => Ok(Command::Scan),
         "auto" => Ok(Command::Auto),
+        "cached" => Ok(Command::Cached),
         _ => Err(WordsFault::Usage),
     }
 }
@@ -70,7 +71,8 @@ fn commands<'a>(alloc: Global) -> Result<clap::Command<'a>, AllocError>
     let topdowns = replays.subcommand(with_json(alloc, "replay")?)?;
     let scans = topdowns.subcommand(with_json(alloc, "topdown")?)?;
     let autos = scans.subcommand(clap::Command::new(alloc, "scan"))?;
-    autos.subcommand(clap::Command::new(alloc, "auto"))
+    let cacheds = autos.subcommand(clap::Command::new(alloc, "auto"))?;
+    cacheds.subcommand(clap::Command::new(alloc, "cached"))
 }
 
 // A command with the flag `--json`.

@@ -37,7 +37,7 @@ impl From<clap::Error> for WordsFault {
     }
 }
 
-/// What is printed where the words are no command: the commands of today, and those that are coming.
+/// What is printed where the words are no command: the commands.
 pub const USAGE: &str =
     "usage: pie check, fresh [--json], build [--json], replay [--json], demo SEED SIZE, topdown [--json], scan, auto, cached\n";
 
@@ -93,6 +93,7 @@ fn one_word(word: &str) -> bool
         "topdown" => true,
         "scan" => true,
         "auto" => true,
+        "cached" => true,
         _ => false,
     }
 }

@@ -4,6 +4,8 @@
 #[cfg(test)]
 mod build_tests;
 #[cfg(test)]
+mod cached_tests;
+#[cfg(test)]
 mod demo_tests;
 #[cfg(test)]
 mod input_tests;

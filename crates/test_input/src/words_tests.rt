@@ -15,7 +15,7 @@ fn read(alloc: Global, words: &[&str]) -> Result<Result<Command, WordsFault>, Fa
 #[test]
 fn each_command_is_read(rt: HostRuntime) -> Result<(), Fail> {
     let alloc = rt.alloc();
-    let cases: [(&[&str], Command); 11] = [
+    let cases: [(&[&str], Command); 12] = [
         (&["check"], Command::Check),
         (&["fresh"], Command::Fresh(false)),
         (&["fresh", "--json"], Command::Fresh(true)),
@@ -27,6 +27,7 @@ fn each_command_is_read(rt: HostRuntime) -> Result<(), Fail> {
         (&["topdown", "--json"], Command::Topdown(true)),
         (&["scan"], Command::Scan),
         (&["auto"], Command::Auto),
+        (&["cached"], Command::Cached),
     ];
     for (words, wanted) in cases {
         let answer = read(alloc, words)?;
@@ -89,7 +90,7 @@ fn other_words_are_refused(rt: HostRuntime) -> Result<(), Fail> {
         &["replay", "1"],
         &["scan", "--json"],
         &["auto", "--json"],
-        &["cached"],
+        &["cached", "--json"],
         &["--help"],
         &["demo"],
         &["demo", "7"],

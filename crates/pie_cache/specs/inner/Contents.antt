@@ -1,10 +1,10 @@
 -- Entries as the program holds them.
-use Rattle.std.specs.Prelude.{◌≡◌, ℕ, ◌<◌, ◌^◌, true, List, length, Vec}
+use Rattle.std.specs.Prelude.{ℕ, ◌<◌, ◌^◌, List, length, Vec, Box}
 use Rattle.std.specs.Global.{Global}
 use Rattle.pie_record.specs.Canonical.{IsTrueRecord}
 use Rattle.pie_store.specs.declared.offers.Offer.{Offer}
-use Rattle.pie_store.specs.inner.Offers.{offered}
-use Rattle.pie_cache.specs.inner.Places.{IsCachePath, is_in_cache}
+use Rattle.pie_store.specs.inner.Offers.{Offered, offered}
+use Rattle.pie_cache.specs.inner.Places.{IsCachePath}
 use Rattle.pie_cache.specs.inner.Texts.{enc_entry, IsKept}
 
 -- the bytes of an entry
@@ -24,9 +24,18 @@ abbrev pub IsShort : Vec ℕ Global → Type 0
 IsShort c = length c.items < 2 ^ 32
 
 -- what is to be kept: at the path of a cache file, an entry that can be
-abbrev pub IsNews : List ℕ × Offer → Type 0
-IsNews news = IsCachePath news.0 × IsKept (offered news.1)
+pub record IsNewsAt (path : List ℕ) (entry : Offered) : Type 0 where
+  pub place : IsCachePath path
+  pub kept : IsKept entry
 
--- a text that is written into the cache
+-- the same of an entry as the program holds it
+abbrev pub IsNews : List ℕ × Offer → Type 0
+IsNews news = IsNewsAt news.0 (offered news.1)
+
+-- the same of one that is held apart
+abbrev pub IsNewsIn : List ℕ × Box Offer Global → Type 0
+IsNewsIn news = IsNewsAt news.0 (offered news.1.value)
+
+-- a text that is written to the path of a cache file
 abbrev pub IsDraft : List ℕ × Vec ℕ Global → Type 0
-IsDraft draft = is_in_cache draft.0 ≡ true
+IsDraft draft = IsCachePath draft.0

@@ -23,7 +23,7 @@ HasNoScript command = (json : Bool) → command ≢ commands.Replay json
 
 -- a command that changes no other files than those under `out/` and the builder's own three
 abbrev pub ChangesWithin : Command → Type 0
-ChangesWithin command = HasNoScript command × (command ≢ commands.Auto)
+ChangesWithin command = HasNoScript command × (command ≢ commands.Auto) × (command ≢ commands.Cached)
 
 -- a command that reads no input
 abbrev pub HasNoInput : Command → Type 0

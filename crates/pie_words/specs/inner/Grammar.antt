@@ -24,10 +24,12 @@ commands = with_subcommand
     (with_subcommand
     (with_subcommand
     (with_subcommand
+    (with_subcommand
     (with_subcommand (unnamed (new_app (codes "pie"))) (new_app (codes "check")).top)
     (with_json (codes "fresh")).top)
     (with_json (codes "build")).top)
     (with_json (codes "replay")).top)
     (with_json (codes "topdown")).top)
     (new_app (codes "scan")).top)
-    (new_app (codes "auto")).top
+    (new_app (codes "auto")).top)
+    (new_app (codes "cached")).top

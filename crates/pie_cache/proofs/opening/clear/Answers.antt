@@ -1,27 +1,80 @@
+use Rattle.std.proofs.Common.{◌≡◌, ◌∷◌, ◌∙◌, [], ℕ, List, ap, subst}
+use Rattle.std.specs.Prelude.{IfSome, Ok, codes}
+use Rattle.std.specs.List.{filter}
+use Rattle.pie_commit.specs.Outcomes.{HasBrought}
+use Rattle.pie_commit.specs.inner.Plans.{Gone, at, later, removed}
+use Rattle.pie_commit.proofs.Bringing.{brought_both, brought_still, on_ok}
+use Rattle.pie_files.proofs.Reading.{if_each}
+use Rattle.pie_files.specs.Directory.{files_under}
+use Rattle.pie_cache.specs.inner.Clearing.{is_other}
+use Rattle.pie_cache.specs.inner.Places.{gate}
 use Rattle.pie_cache.proofs.Changing.{keeps_same, keeps_both, stays_leaves, both_leave}
+use Rattle.pie_cache.proofs.Clearing.{cleared}
+use Rattle.pie_commit.specs.inner.Steps.{Makes, Syncs, removing}
+use Rattle.pie_cache.specs.inner.Steps.{clearing, closing}
+use Rattle.pie_cache.proofs.Looking.{changes_both, changes_by, changes_made, clears, looks_all, looks_then}
 use Rattle.pie_cache.proofs.opening.clear.Goals as goal
 
 pub returns-clause-kept : goal.returns-clause-kept
 returns-clause-kept g c =
     let before = g.F.Files.holds c.args.files.now in
     let listed = g.F.Files.holds c.all_under.new.self in
-    let removed = g.F.Files.holds c.remove_others.new.files in
-    let last = g.F.Files.holds c.sync.new.self in
+    let removed = g.F.Files.holds c.remove_all.new.files in
+    let last = g.F.Files.holds c.make_last.new.files in
     let after = g.F.Files.holds c.close.new.files in
     keeps_both before listed after (keeps_same before listed c.in_ok-paths.ensures.same)
-    (keeps_both listed removed after c.in_ok-remove_others.ensures.kept
-    (keeps_both removed last after (keeps_same removed last c.in_ok-sync.ensures.same) c.close.ensures.kept))
+    (keeps_both listed removed after c.in_ok-remove_all.ensures.kept
+    (keeps_both removed last after c.in_ok-make_last.ensures.kept c.close.ensures.kept))
 
 pub returns-clause-crash : goal.returns-clause-crash
 returns-clause-crash g c =
     let F = g.F.Files in
     let before = c.args.files.now in
     let listed = c.all_under.new.self in
-    let removed = c.remove_others.new.files in
-    let last = c.sync.new.self in
+    let removed = c.remove_all.new.files in
+    let last = c.make_last.new.files in
     let after = c.close.new.files in
     both_leave F.holds F.moment F.left_since F.images before listed after (keeps_same (F.holds before) (F.holds listed) c.in_ok-paths.ensures.same)
     (stays_leaves F.holds F.moment F.left_since F.images before listed c.in_ok-paths.ensures.crash)
-    (both_leave F.holds F.moment F.left_since F.images listed removed after c.in_ok-remove_others.ensures.kept c.in_ok-remove_others.ensures.crash
-    (both_leave F.holds F.moment F.left_since F.images removed last after (keeps_same (F.holds removed) (F.holds last) c.in_ok-sync.ensures.same)
-    (stays_leaves F.holds F.moment F.left_since F.images removed last c.in_ok-sync.ensures.crash) c.close.ensures.crash))
+    (both_leave F.holds F.moment F.left_since F.images listed removed after c.in_ok-remove_all.ensures.kept c.in_ok-remove_all.ensures.crash
+    (both_leave F.holds F.moment F.left_since F.images removed last after c.in_ok-make_last.ensures.kept c.in_ok-make_last.ensures.crash c.close.ensures.crash))
+
+pub returns-clause-cleared : goal.returns-clause-cleared
+returns-clause-cleared g c =
+    let paths = c.in_ok-others.others.items in
+    let before = g.F.Files.holds c.args.files.now in
+    let listed = g.F.Files.holds c.all_under.new.self in
+    let gone = g.F.Files.holds c.remove_all.new.files in
+    let last = g.F.Files.holds c.make_last.new.files in
+    let after = g.F.Files.holds c.close.new.files in
+    let done : HasBrought (removed paths) listed gone =
+    subst (λ (l : List (List ℕ)). HasBrought (removed l) listed gone) c.as_slice.ensures.value c.in_ok-remove_all.ensures.done in
+    let there : IfSome before (λ d. paths ≡ filter is_other (files_under d (codes ".pie/cache"))) =
+    if_each (λ d. c.in_ok-paths.paths.items ≡ files_under d c.args.dir.now) (λ d. paths ≡ filter is_other (files_under d (codes ".pie/cache"))) before
+    (λ d is. c.in_ok-others.ensures.others ∙ ap (filter is_other) (is ∙ ap (files_under d) c.requires.dir)) c.in_ok-paths.ensures.listed in
+    on_ok c.close.result
+    (λ closed. cleared paths before after there
+    (subst (λ o. HasBrought (λ q. later (at gate Gone q) (removed paths q)) o after) c.in_ok-paths.ensures.same
+    (brought_both (removed paths) (at gate Gone) listed last after
+    (brought_still (removed paths) listed gone last c.in_ok-make_last.ensures.same done) closed))) c.close.ensures.done
+
+pub returns-clause-changes : goal.returns-clause-changes
+returns-clause-changes g c =
+    let A = g.F.Files.asked in
+    let paths = c.in_ok-others.others.items in
+    let before = g.F.Files.holds c.args.files.now in
+    let there : IfSome before (λ d. paths ≡ filter is_other (files_under d (codes ".pie/cache"))) =
+    if_each (λ d. c.in_ok-paths.paths.items ≡ files_under d c.args.dir.now) (λ d. paths ≡ filter is_other (files_under d (codes ".pie/cache"))) before
+    (λ d is. c.in_ok-others.ensures.others ∙ ap (filter is_other) (is ∙ ap (files_under d) c.requires.dir)) c.in_ok-paths.ensures.listed in
+    let gone : Makes A (removing paths) c.all_under.new.self c.remove_all.new.files (Ok c.in_ok-remove_all.field-0) =
+    subst (λ (l : List (List ℕ)). Makes {T = Unit {0}} A (removing l) c.all_under.new.self c.remove_all.new.files (Ok c.in_ok-remove_all.field-0)) c.as_slice.ensures.value
+    c.in_ok-remove_all.ensures.makes in
+    on_ok c.close.result
+    (λ closed. clears before (A c.args.files.now) (A c.close.new.files) paths there
+    (looks_then (clearing paths) (A c.args.files.now) (A c.all_under.new.self) (A c.close.new.files)
+    (looks_all A c.args.files.now c.all_under.new.self c.in_ok-paths.paths g.F.Files.faults c.args.dir.now c.in_ok-paths.ensures.called)
+    (changes_both (removing paths) (Syncs ∷ closing) (A c.all_under.new.self) (A c.remove_all.new.files) (A c.close.new.files)
+    (changes_made A c.all_under.new.self c.remove_all.new.files (removing paths) c.in_ok-remove_all.field-0 gone)
+    (changes_both (Syncs ∷ []) closing (A c.remove_all.new.files) (A c.make_last.new.files) (A c.close.new.files)
+    (changes_made A c.remove_all.new.files c.make_last.new.files (Syncs ∷ []) c.in_ok-make_last.field-0 c.in_ok-make_last.ensures.makes) closed))))
+    (changes_by A c.close.result closing c.make_last.new.files c.close.new.files c.close.ensures.makes)

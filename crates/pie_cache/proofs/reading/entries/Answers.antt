@@ -1,4 +1,4 @@
-use Rattle.std.proofs.Common.{List, Vec, Global, [], sym, ◌∙◌, ◌-◌, arith}
+use Rattle.std.proofs.Common.{Vec, Global, [], sym, ◌∙◌, arith}
 use Rattle.std.specs.Prelude.{map}
 use Rattle.pie_store.specs.declared.offers.Offer.{Offer}
 use Rattle.pie_store.specs.inner.Offers.{offered}

@@ -1,4 +1,4 @@
-use Rattle.std.proofs.Common.{◌≡◌, ℕ, sym, ◌∙◌, arith, rules}
+use Rattle.std.proofs.Common.{arith, rules}
 use Rattle.pie_cache.proofs.Writing.{body_written}
 use Rattle.pie_cache.proofs.writer.put_body.Goals as goal
 

@@ -1,4 +1,4 @@
-use Rattle.std.proofs.Common.{List, Vec, ℕ, Global, subst, sym}
+use Rattle.std.proofs.Common.{subst, sym}
 use Rattle.std.specs.Prelude.{All}
 use Rattle.pie_cache.specs.inner.Contents.{IsShort}
 use Rattle.pie_cache.proofs.Writing.{are_short, entry_written}

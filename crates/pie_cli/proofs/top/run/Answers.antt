@@ -13,7 +13,9 @@ use Rattle.pie_cli.specs.Check.{IsCheckText}
 use Rattle.pie_cli.specs.Fresh.{IsFreshText}
 use Rattle.pie_cli.specs.Build.{MakeSays}
 use Rattle.pie_auto.proofs.Finding.{outside_same}
+use Rattle.pie_cached.proofs.Others.{others_same}
 use Rattle.pie_cli.specs.Auto.{AutoSays}
+use Rattle.pie_cli.specs.Cached.{CachedSays}
 use Rattle.pie_cli.specs.Scan.{ScanSays}
 use Rattle.pie_cli.specs.Topdown.{TopdownSays}
 use Rattle.pie_cli.proofs.Making.{made_none}
@@ -92,6 +94,7 @@ pub returns-in-Ok-clause-rest : goal.returns-in-Ok-clause-rest
 returns-in-Ok-clause-rest g c = λ none. c.run_command.ensures.rest (
   λ json is. none.0 json (c.in-Ok.ensures.accepted ∙ ap words_of is),
   λ is. none.1 (c.in-Ok.ensures.accepted ∙ ap words_of is),
+  λ is. none.2 (c.in-Ok.ensures.accepted ∙ ap words_of is),
 )
 
 pub returns-in-Ok-clause-ends : goal.returns-in-Ok-clause-ends
@@ -182,3 +185,15 @@ returns-in-Err-Usage-clause-topdown g c = λ json is. absurd (c.in-Err-Usage.ens
 pub returns-in-Err-OutOfMemory-clause-topdown : goal.returns-in-Err-OutOfMemory-clause-topdown
 returns-in-Err-OutOfMemory-clause-topdown g c = λ json is.
     made_none (TopdownSays json) g.F.Files.holds g.F.Files.faults c.args.files.now c.args.files.now (g.K.Sink.held c.args.out.now)
+
+pub returns-in-Ok-clause-cached : goal.returns-in-Ok-clause-cached
+returns-in-Ok-clause-cached g c = λ is. c.run_command.ensures.cached (same_command _ _ c.in-Ok.ensures.allowed refl (sym c.in-Ok.ensures.accepted ∙ is))
+
+pub returns-in-Err-Usage-clause-cached : goal.returns-in-Err-Usage-clause-cached
+returns-in-Err-Usage-clause-cached g c = λ is. absurd (c.in-Err-Usage.ensures.refused (ap Err c.in-Err-Usage.field-0-is) commands.Cached refl is)
+
+pub returns-in-Err-OutOfMemory-clause-cached : goal.returns-in-Err-OutOfMemory-clause-cached
+returns-in-Err-OutOfMemory-clause-cached g c = λ is. record {
+  said = made_none CachedSays g.F.Files.holds g.F.Files.faults c.args.files.now c.args.files.now (g.K.Sink.held c.args.out.now);
+  rest = others_same (g.F.Files.holds c.args.files.now) (g.F.Files.holds c.args.files.now) refl;
+}

@@ -122,3 +122,14 @@ returns-in-Topdown-clause-ends g c =
 
 pub returns-in-Topdown-clause-input : goal.returns-in-Topdown-clause-input
 returns-in-Topdown-clause-input g c = λ none. (refl, c.run_topdown.ensures.ends.no_input)
+
+pub returns-in-Cached-clause-rest : goal.returns-in-Cached-clause-rest
+returns-in-Cached-clause-rest g c = λ none. absurd (none.2 c.in-Cached.is)
+
+pub returns-in-Cached-clause-ends : goal.returns-in-Cached-clause-ends
+returns-in-Cached-clause-ends g c =
+    ends_unread (HasNoScript c.args.command) _ _ (g.I.Source.faults c.args.input.now) (g.I.Source.faults c.args.input.now) _ _ (g.K.Sink.held c.args.out.now)
+    (g.K.Sink.held c.run_cached.new.out) c.run_cached.result c.run_cached.ensures.ends refl
+
+pub returns-in-Cached-clause-input : goal.returns-in-Cached-clause-input
+returns-in-Cached-clause-input g c = λ none. (refl, c.run_cached.ensures.ends.no_input)

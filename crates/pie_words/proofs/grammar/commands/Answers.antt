@@ -20,5 +20,7 @@ returns c =
     ∙ ap₂ with_subcommand fourth_is (ap (λ (a : App). a.top) c.in_ok-with_json-4.ensures.app) in
     let sixth_is = c.in_ok-autos.ensures.shape c.new-3.ensures.local
     ∙ ap₂ with_subcommand fifth_is (ap (λ (a : App). a.top) c.new-3.ensures.app) in
-    IfOk-weaker c.subcommand-7.result _ _ (λ made h. h.shape c.new-4.ensures.local
-    ∙ ap₂ with_subcommand sixth_is (ap (λ (a : App). a.top) c.new-4.ensures.app)) c.subcommand-7.ensures
+    let seventh_is = c.in_ok-cacheds.ensures.shape c.new-4.ensures.local
+    ∙ ap₂ with_subcommand sixth_is (ap (λ (a : App). a.top) c.new-4.ensures.app) in
+    IfOk-weaker c.subcommand-8.result _ _ (λ made h. h.shape c.new-5.ensures.local
+    ∙ ap₂ with_subcommand seventh_is (ap (λ (a : App). a.top) c.new-5.ensures.app)) c.subcommand-8.ensures

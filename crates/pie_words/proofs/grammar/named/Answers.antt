@@ -28,6 +28,9 @@ returns-in-scan c = λ command plain is. ap Ok (by_name command (codes "scan") p
 pub returns-in-auto : goal.returns-in-auto
 returns-in-auto c = λ command plain is. ap Ok (by_name command (codes "auto") plain (sym (ap name_in is ∙ named command plain) ∙ c.in-auto.is))
 
+pub returns-in-cached : goal.returns-in-cached
+returns-in-cached c = λ command plain is. ap Ok (by_name command (codes "cached") plain (sym (ap name_in is ∙ named command plain) ∙ c.in-cached.is))
+
 pub returns-in_default : goal.returns-in_default
 returns-in_default c = λ command plain is. let name = ap name_in is ∙ named command plain in absurd (is_named command plain
     (λ n. c.in_default.not-check (name ∙ n))
@@ -36,4 +39,5 @@ returns-in_default c = λ command plain is. let name = ap name_in is ∙ named c
     (λ n. c.in_default.not-replay (name ∙ n))
     (λ n. c.in_default.not-topdown (name ∙ n))
     (λ n. c.in_default.not-scan (name ∙ n))
-    (λ n. c.in_default.not-auto (name ∙ n)))
+    (λ n. c.in_default.not-auto (name ∙ n))
+    (λ n. c.in_default.not-cached (name ∙ n)))

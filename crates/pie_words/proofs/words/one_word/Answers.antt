@@ -1,5 +1,5 @@
 use Rattle.std.proofs.Common.{false, refl, rules}
-use Rattle.pie_words.specs.declared.command.Command.TheVariants.{Check, Fresh, Build, Replay, Topdown, Scan, Auto}
+use Rattle.pie_words.specs.declared.command.Command.TheVariants.{Check, Fresh, Build, Replay, Topdown, Scan, Auto, Cached}
 use Rattle.pie_words.proofs.words.one_word.Goals as goal
 
 pub returns-in-check-clause-accepted : goal.returns-in-check-clause-accepted
@@ -22,3 +22,6 @@ returns-in-scan-clause-accepted c = λ is. (Scan, refl, search rules)
 
 pub returns-in-auto-clause-accepted : goal.returns-in-auto-clause-accepted
 returns-in-auto-clause-accepted c = λ is. (Auto, refl, search rules)
+
+pub returns-in-cached-clause-accepted : goal.returns-in-cached-clause-accepted
+returns-in-cached-clause-accepted c = λ is. (Cached, refl, search rules)

@@ -1,0 +1,20 @@
+use Rattle.std.proofs.lemmas.Result.{IfOk-weaker}
+use Rattle.pie_cached.proofs.Others.{both, cache_both, of_cache, refused_then}
+use Rattle.pie_cached.proofs.building.build_cached.Goals as goal
+
+pub returns-in-Ok-clause-rest : goal.returns-in-Ok-clause-rest
+returns-in-Ok-clause-rest g c =
+    let before = g.F.Files.holds c.args.files.now in
+    let mid = g.F.Files.holds c.open.new.files in
+    both before mid (g.F.Files.holds c.with_cache.new.files) (of_cache before mid c.in-Ok.ensures.kept) c.with_cache.ensures.rest
+
+pub returns-in-Ok-clause-refused : goal.returns-in-Ok-clause-refused
+returns-in-Ok-clause-refused g c =
+    λ is. cache_both (g.F.Files.holds c.args.files.now) (g.F.Files.holds c.open.new.files) (g.F.Files.holds c.with_cache.new.files) c.in-Ok.ensures.kept
+    (c.with_cache.ensures.refused is)
+
+pub returns-in-Ok-clause-kept : goal.returns-in-Ok-clause-kept
+returns-in-Ok-clause-kept g c =
+    IfOk-weaker c.with_cache.result _ _
+    (λ r kept. refused_then r.0.verdict (g.F.Files.holds c.args.files.now) (g.F.Files.holds c.open.new.files) (g.F.Files.holds c.with_cache.new.files)
+    c.in-Ok.ensures.kept kept) c.with_cache.ensures.kept

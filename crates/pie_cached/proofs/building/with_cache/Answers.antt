@@ -1,0 +1,35 @@
+use Rattle.std.proofs.Common.{◌≡◌, ◌++◌, List, sym, subst}
+use Rattle.std.specs.Prelude.{All}
+use Rattle.std.proofs.lemmas.Result.{IfOk-weaker}
+use Rattle.pie_report.specs.declared.report.Report.{Report}
+use Rattle.pie_value.specs.Canonical.{IsEncodableTask}
+use Rattle.pie_value.specs.declared.task.Task.{Task}
+use Rattle.pie_cached.specs.Cached.{StaysIfRefused}
+use Rattle.pie_cached.proofs.Others.{both, if_refused, of_build, of_cache}
+use Rattle.pie_cached.proofs.building.with_cache.Goals as goal
+
+pub returns-in-Ok-clause-rest : goal.returns-in-Ok-clause-rest
+returns-in-Ok-clause-rest g c =
+    let before = g.F.Files.holds c.args.files.now in
+    let mid = g.F.Files.holds c.build_offered.new.files in
+    let after = g.F.Files.holds c.finish.new.files in
+    both before mid after (of_build before mid c.in-Ok.ensures.rest) (of_cache mid after c.finish.ensures.rest)
+
+pub returns-in-Ok-clause-kept : goal.returns-in-Ok-clause-kept
+returns-in-Ok-clause-kept g c =
+    let before = g.F.Files.holds c.args.files.now in
+    let mid = g.F.Files.holds c.build_offered.new.files in
+    let after = g.F.Files.holds c.finish.new.files in
+    let made = c.in-Ok.offered.report.value in
+    IfOk-weaker c.finish.result _ _
+    (λ r is. subst (λ (p : Report). StaysIfRefused p.verdict before after) (sym is)
+    (if_refused made.verdict before mid after c.in-Ok.ensures.kept c.finish.ensures.rest)) c.finish.ensures.report
+
+pub returns-in-Ok-clause-ran : goal.returns-in-Ok-clause-ran
+returns-in-Ok-clause-ran g c =
+    IfOk-weaker c.finish.result _ _
+    (λ r is. subst (λ (p : Report). c.build_offered.new.runs ≡ c.args.runs.now ++ p.ran.items) (sym is) c.in-Ok.ensures.ran) c.finish.ensures.report
+
+pub returns-in-Ok-clause-encodable : goal.returns-in-Ok-clause-encodable
+returns-in-Ok-clause-encodable g c =
+    IfOk-weaker c.finish.result _ _ (λ r is. subst (λ (p : Report). All IsEncodableTask p.ran.items) (sym is) c.in-Ok.ensures.encodable) c.finish.ensures.report

@@ -1,0 +1,159 @@
+//! A build with the record cache.
+ghost use Rattle.std.specs.Prelude.{◌≡◌, ◌≤◌, ◌+◌, ◌++◌, length, All, IfOk, OnOk};
+ghost use Rattle.pie_build.specs.inner.Rebuilt.{IsRefusal, Tells};
+ghost use Rattle.pie_cache.specs.inner.Contents.{IsNews};
+ghost use Rattle.pie_cache.specs.inner.Texts.{IsKept};
+ghost use Rattle.pie_files.specs.Streams.{Counted};
+ghost use Rattle.pie_store.specs.inner.Offers.{offered as offer_of};
+ghost use Rattle.pie_value.specs.Canonical.{IsEncodableTask};
+ghost use Rattle.pie_cached.specs.Cached.{KeepsAllButCache, KeepsOthers, StaysIfRefused};
+ghost use Rattle.pie_topdown_build.specs.Offered.{IsNew};
+
+use pie_base::{OutOfMemory, Path};
+use pie_cache::{Cache, cache_path};
+use pie_files::{Files, FilesError};
+use pie_project::BuildError;
+use pie_report::Report;
+use pie_store::Offer;
+use pie_topdown_build::{NewOffer, Offered, build_offered};
+use pie_value::{Task, Verdict};
+use pie_vm::Runs;
+use std::alloc::Global;
+
+/// Builds the project of a directory as `build_topdown` does, with the records of earlier builds that the cache has for its tasks; after an accepted
+/// build the cache keeps what the tasks gave that ran. Answers the report, and the live tasks whose records came from the cache. Where keeping fails, the
+/// build is in place, and its report is lost. The tasks that are started are added to the runs, and reported.
+/// Rule: docs/BUILDING.md, "The record cache".
+#[tactic(auto, using(crate::proofs::Others::others))]
+pub fn build_cached<F: Files>(
+    alloc: Global,
+    files: &mut F,
+    runs: &mut Runs,
+) -> Result<(Report, Vec<Task>), BuildError>
+    ensures rest { KeepsOthers (F.holds files.old) (F.holds files.new) }
+    ensures refused { IsRefusal result → KeepsAllButCache (F.holds files.old) (F.holds files.new) }
+    ensures kept { IfOk result (λ r. StaysIfRefused r.0.verdict (F.holds files.old) (F.holds files.new)) }
+    ensures ran { IfOk result (λ r. runs.new ≡ runs.old ++ r.0.ran.items) }
+    ensures few { length runs.new ≤ length runs.old + 50000 }
+    ensures encodable { IfOk result (λ r. All IsEncodableTask r.0.ran.items) }
+    ensures reused { IfOk result (λ r. All IsEncodableTask r.1.items) }
+    ensures told { Tells F.faults files.old files.new result }
+{
+    match Cache::open(alloc, files) {
+        Ok(cache) => with_cache(alloc, files, cache, runs),
+        Err(FilesError::Failed) => Err(BuildError::Files),
+        Err(FilesError::OutOfMemory) => Err(BuildError::OutOfMemory),
+    }
+}
+
+// Builds with a cache that was opened, and keeps what is new.
+#[tactic(auto, using(crate::proofs::Others::others))]
+fn with_cache<F: Files>(
+    alloc: Global,
+    files: &mut F,
+    cache: Cache,
+    runs: &mut Runs,
+) -> Result<(Report, Vec<Task>), BuildError>
+    ensures rest { KeepsOthers (F.holds files.old) (F.holds files.new) }
+    ensures refused { IsRefusal result → KeepsAllButCache (F.holds files.old) (F.holds files.new) }
+    ensures kept { IfOk result (λ r. StaysIfRefused r.0.verdict (F.holds files.old) (F.holds files.new)) }
+    ensures ran { IfOk result (λ r. runs.new ≡ runs.old ++ r.0.ran.items) }
+    ensures few { length runs.new ≤ length runs.old + 50000 }
+    ensures encodable { IfOk result (λ r. All IsEncodableTask r.0.ran.items) }
+    ensures reused { IfOk result (λ r. All IsEncodableTask r.1.items) }
+    ensures told { Tells F.faults files.old files.new result }
+{
+    let mut cache = cache;
+    match build_offered(alloc, files, &mut cache, runs) {
+        Ok(offered) => finish(alloc, files, cache, offered),
+        Err(error) => Err(error),
+    }
+}
+
+// Keeps what is new, if the build was accepted.
+#[tactic(auto, using(crate::proofs::Others::others))]
+fn finish<F: Files>(
+    alloc: Global,
+    files: &mut F,
+    cache: Cache,
+    offered: Offered,
+) -> Result<(Report, Vec<Task>), BuildError>
+    requires { All IsNew offered.new.items }
+    ensures report { IfOk result (λ r. r.0 ≡ offered.report.value) }
+    ensures reused { IfOk result (λ r. r.1 ≡ offered.reused) }
+    ensures rest { KeepsAllButCache (F.holds files.old) (F.holds files.new) }
+    ensures accepted { IsRefusal result → ⊥ }
+    ensures told { Tells F.faults files.old files.new result }
+{
+    let Offered {
+        report,
+        reused,
+        new,
+    } = offered;
+    match keep_if_accepted(alloc, files, cache, &report.verdict, new) {
+        Ok(()) => Ok((Box::into_inner(report), reused)),
+        Err(FilesError::Failed) => Err(BuildError::Files),
+        Err(FilesError::OutOfMemory) => Err(BuildError::OutOfMemory),
+    }
+}
+
+#[tactic(auto, using(crate::proofs::Others::others))]
+fn keep_if_accepted<F: Files>(
+    alloc: Global,
+    files: &mut F,
+    cache: Cache,
+    verdict: &Verdict,
+    new: Vec<NewOffer>,
+) -> Result<(), FilesError>
+    requires { All IsNew new.items }
+    ensures rest { KeepsAllButCache (F.holds files.old) (F.holds files.new) }
+    ensures counted { Counted F.faults FilesError.Failed files.old files.new result }
+{
+    match verdict {
+        Verdict::Accepted => keep(alloc, files, cache, new),
+        Verdict::Refused(_) => Ok(()),
+    }
+}
+
+#[tactic(auto, using(crate::proofs::Others::others))]
+fn keep<F: Files>(
+    alloc: Global,
+    files: &mut F,
+    cache: Cache,
+    new: Vec<NewOffer>,
+) -> Result<(), FilesError>
+    requires { All IsNew new.items }
+    ensures rest { KeepsAllButCache (F.holds files.old) (F.holds files.new) }
+    ensures counted { Counted F.faults FilesError.Failed files.old files.new result }
+{
+    let mut cache = cache;
+    let fresh = with_paths(alloc, new)?;
+    cache.keep(alloc, files, fresh)
+}
+
+// What is to be kept, with the paths of its files.
+fn with_paths(alloc: Global, new: Vec<NewOffer>) -> Result<Vec<(Path, Offer)>, OutOfMemory>
+    requires { All IsNew new.items }
+    ensures { IfOk result (λ fresh. All IsNews fresh.items) }
+{
+    let mut fresh = Vec::new(alloc);
+    for NewOffer { digest, offer } in new {
+        push_new(alloc, &mut fresh, &digest, offer)?;
+    }
+    Ok(fresh)
+}
+
+fn push_new(
+    alloc: Global,
+    fresh: &mut Vec<(Path, Offer)>,
+    digest: &[u8; 32],
+    offer: Offer,
+) -> Result<(), OutOfMemory>
+    requires new { IsKept (offer_of offer) }
+    requires fresh { All IsNews fresh.old.items }
+    ensures { OnOk result (All IsNews fresh.new.items) }
+{
+    let path = cache_path(alloc, &offer.row.task, digest)?;
+    fresh.push((path, offer))?;
+    Ok(())
+}
