@@ -1,0 +1,145 @@
+//! What is told of a pipeline that is refused.
+
+use crate::expected::{hint as hint_expected, tokens_around};
+use crate::place::place_of;
+use crate::types::{hint as hint_types, said as said_of_types};
+use pie_base::OutOfMemory;
+use pie_lexer::{LexError, Token, lex};
+use pie_parser::ParseError;
+use pie_project::PipelineFault;
+use pie_types::TypeFault;
+use std::alloc::Global;
+
+const FILE: &str = "pie.pipeline";
+
+/// What a person is told of a pipeline with this text that is refused so: the place by its line and its column, from 1, what was expected and found, the line with
+/// a mark below the place, and a hint where there is a usual cause. Rule: docs/ERRORS.md.
+pub fn explain_pipeline(
+    alloc: Global,
+    text: &str,
+    fault: &PipelineFault,
+) -> Result<String, OutOfMemory> {
+    match fault {
+        PipelineFault::Absent => whole(
+            alloc,
+            "there is no pie.pipeline here",
+            "it has the functions of the project: docs/LANGUAGE.md",
+        ),
+        PipelineFault::TooLong => whole(
+            alloc,
+            "pie.pipeline has more than 1,048,576 bytes",
+            "data belongs into files that tasks read",
+        ),
+        PipelineFault::NotText => whole(
+            alloc,
+            "pie.pipeline isn't UTF-8",
+            "store it as UTF-8, without a byte order mark",
+        ),
+        PipelineFault::Lex(error) => explain_lex(alloc, text, *error),
+        PipelineFault::Parse(error) => explain_parse(alloc, text, *error),
+        PipelineFault::Types(fault) => explain_types(alloc, text, fault),
+    }
+}
+
+// What is told of the whole file.
+fn whole(alloc: Global, said: &str, hint: &str) -> Result<String, OutOfMemory> {
+    let told = format!(in alloc; "{said}\nhint: {hint}\n")?;
+    Ok(told)
+}
+
+// What is told of a place.
+fn at(
+    alloc: Global,
+    text: &str,
+    at: usize,
+    said: &str,
+    hint: Option<&str>,
+) -> Result<String, OutOfMemory> {
+    let place = place_of(alloc, text, at)?;
+    let mut told = place.told(alloc, FILE, said)?;
+    if let Some(hint) = hint {
+        told.push_str("hint: ")?;
+        told.push_str(hint)?;
+        told.push_str("\n")?;
+    }
+    Ok(told)
+}
+
+fn explain_lex(alloc: Global, text: &str, error: LexError) -> Result<String, OutOfMemory> {
+    match error {
+        LexError::BadChar(place) => at(
+            alloc,
+            text,
+            place,
+            "no token begins with this character",
+            Some(
+                "texts stand between double quotes; names have ASCII letters, digits and `_`; and is `&&`, or is `||`",
+            ),
+        ),
+        LexError::OpenText(place) => at(
+            alloc,
+            text,
+            place,
+            "this text isn't closed on its line",
+            Some("a newline in a text is written `\\n`"),
+        ),
+        LexError::BadEscape(place) => at(
+            alloc,
+            text,
+            place,
+            "no escape begins so",
+            Some("a backslash is written `\\\\`; the other escapes are `\\\"`, `\\n` and `\\t`"),
+        ),
+        LexError::WideInt(place) => at(
+            alloc,
+            text,
+            place,
+            "this number is greater than 9223372036854775807",
+            Some("a number has 64 bits with its sign"),
+        ),
+        LexError::OutOfMemory => Err(OutOfMemory),
+    }
+}
+
+fn explain_parse(alloc: Global, text: &str, error: ParseError) -> Result<String, OutOfMemory> {
+    match error {
+        ParseError::Expected(place) => {
+            let tokens = tokens_of(alloc, text)?;
+            let found = tokens_around(tokens.as_slice(), place);
+            let said = if found.here.is_some() {
+                "nothing like this can stand here"
+            } else {
+                "something is missing at the end"
+            };
+            at(alloc, text, place, said, hint_expected(&found))
+        }
+        ParseError::TooDeep(place) => at(
+            alloc,
+            text,
+            place,
+            "this bracket stands inside 64 open ones",
+            Some("name parts of it by `val`"),
+        ),
+        ParseError::OutOfMemory => Err(OutOfMemory),
+    }
+}
+
+fn explain_types(alloc: Global, text: &str, fault: &TypeFault) -> Result<String, OutOfMemory> {
+    let tokens = tokens_of(alloc, text)?;
+    let said = said_of_types(alloc, fault)?;
+    let hint = hint_types(alloc, tokens.as_slice(), fault)?;
+    let told = match &hint {
+        Some(hint) => at(alloc, text, fault.at, said.as_str(), Some(hint.as_str()))?,
+        None => at(alloc, text, fault.at, said.as_str(), None)?,
+    };
+    Ok(told)
+}
+
+// The tokens of a pipeline, or none where it has none.
+fn tokens_of(alloc: Global, text: &str) -> Result<Vec<Token>, OutOfMemory> {
+    match lex(alloc, text) {
+        Ok(tokens) => Ok(tokens),
+        Err(LexError::OutOfMemory) => Err(OutOfMemory),
+        Err(_) => Ok(Vec::new(alloc)),
+    }
+}

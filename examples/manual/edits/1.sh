@@ -1,0 +1,1 @@
+echo 'New words.' >>docs/TASKS.md

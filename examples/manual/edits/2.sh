@@ -1,0 +1,1 @@
+sed -i '1s/.*/# All about tasks/' docs/TASKS.md

@@ -1,0 +1,1 @@
+printf '# Words\n\nSee docs/FIRST.md.\n' >docs/WORDS.md
