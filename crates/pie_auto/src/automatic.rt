@@ -2,6 +2,7 @@
 ghost use Rattle.std.specs.Prelude.{◌≡◌, ◌≤◌, ◌+◌, ◌++◌, length, All, IfOk, IfSome, OnOk};
 ghost use Rattle.pie_build.specs.Left.{KeepsRest};
 ghost use Rattle.pie_build.specs.inner.Rebuilt.{IsRefusal, Tells};
+ghost use Rattle.pie_incremental.specs.Refused.{RefusesRight};
 ghost use Rattle.pie_listing.specs.Listings.{IsListing};
 ghost use Rattle.pie_value.specs.Canonical.{IsEncodableTask};
 ghost use Rattle.pie_value.specs.declared.verdict.Verdict.TheVariants.{Accepted};
@@ -33,7 +34,7 @@ pub struct Automatic {
 /// without one where the manifest gives none. After an accepted build the manifest of what it left is written. Where that fails, the build is in
 /// place, and its report is lost. The tasks that are started are added to the runs, and reported.
 /// Rule: docs/BUILDING.md, "Builds that find what changed".
-#[tactic(auto, using(crate::proofs::Finding::outside))]
+#[tactic(auto, using(crate::proofs::Finding::outside, crate::proofs::Refusing::after, crate::proofs::Refusing::never))]
 pub fn auto<F: Files>(
     alloc: Global,
     files: &mut F,
@@ -46,6 +47,7 @@ pub fn auto<F: Files>(
     ensures ran { IfOk result (λ found. runs.new ≡ runs.old ++ found.report.ran.items) }
     ensures few { length runs.new ≤ length runs.old + 100000 }
     ensures encodable { IfOk result (λ found. All IsEncodableTask found.report.ran.items) }
+    ensures says { IfSome (F.holds files.old) (λ d. RefusesRight d result) }
     ensures told { Tells F.faults files.old files.new result }
 {
     match list(alloc, files, tops) {
@@ -56,7 +58,7 @@ pub fn auto<F: Files>(
 }
 
 // Builds by what was found, and keeps the manifest.
-#[tactic(auto, using(crate::proofs::Finding::outside))]
+#[tactic(auto, using(crate::proofs::Finding::outside, crate::proofs::Refusing::found, crate::proofs::Refusing::never))]
 fn with_listing<F: Files>(
     alloc: Global,
     files: &mut F,
@@ -71,6 +73,7 @@ fn with_listing<F: Files>(
     ensures ran { IfOk result (λ found. runs.new ≡ runs.old ++ found.report.ran.items) }
     ensures few { length runs.new ≤ length runs.old + 100000 }
     ensures encodable { IfOk result (λ found. All IsEncodableTask found.report.ran.items) }
+    ensures says { IfSome (F.holds files.old) (λ d. RefusesRight d result) }
     ensures told { Tells F.faults files.old files.new result }
 {
     match build_by(alloc, files, &listing, runs) {
@@ -92,6 +95,7 @@ fn build_by<F: Files>(
     ensures ran { IfOk result (λ r. runs.new ≡ runs.old ++ r.ran.items) }
     ensures few { length runs.new ≤ length runs.old + 100000 }
     ensures encodable { IfOk result (λ r. All IsEncodableTask r.ran.items) }
+    ensures says { IfSome (F.holds files.old) (λ d. RefusesRight d result) }
     ensures told { Tells F.faults files.old files.new result }
 {
     match listing {

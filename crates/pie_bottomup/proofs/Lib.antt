@@ -37,3 +37,4 @@ pub mod Sites
 pub mod Telling
 pub mod Twice
 pub mod Twofold
+pub mod Many

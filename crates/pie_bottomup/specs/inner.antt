@@ -4,6 +4,7 @@ pub mod Exact
 pub mod Fetched
 pub mod Loaded
 pub mod Made
+pub mod Many
 pub mod Ran
 pub mod Finished
 pub mod Going

@@ -3,6 +3,7 @@ ghost use Rattle.std.specs.Prelude.{◌≡◌, ◌⊎◌, ℕ, ◌<◌, ◌≤�
 ghost use Rattle.pie_bottomup.specs.declared.state.First.TheVariants.{Tests};
 ghost use Rattle.pie_files.specs.Reading.{ReadsOnly};
 ghost use Rattle.pie_bottomup.specs.inner.States.{StartsOne, IsAtRest, IsDue, IsTested, IsUntested, Keeps, TurnsTo, Nearer, Spends, rest, room};
+ghost use Rattle.pie_bottomup.specs.inner.Many.{StopsForMany};
 ghost use Rattle.pie_bottomup.specs.inner.Tested.{AreHeld, HasTested, HoldsBy, IsHeld, Learns, OnlySchedules, TaskWasHeld};
 ghost use Rattle.pie_bottomup.specs.inner.Loaded.{TestsExact};
 ghost use Rattle.pie_bottomup.specs.inner.Going.{StepsWhole, TestsWhole};
@@ -35,6 +36,7 @@ impl<'a> Core<'a> {
         ensures spends { OnOk result (Spends self.old self.new runs.old runs.new) }
         ensures few { length runs.new ≤ length runs.old + room self.old }
         ensures tested { self.old.first ≡ Tests → OnOk result (HasTested (F.holds files.old) self.old self.new) }
+        ensures many { IfOk result (StopsForMany self.old) }
         ensures whole { IfOk result (StepsWhole (F.holds files.old) self.old self.new) }
         ensures reasons { OnOk result (StepsFor (F.holds files.old) self.old self.new runs.old runs.new) }
         ensures reads { ReadsOnly F.holds F.moment F.left_since F.images F.faults files.old files.new result }

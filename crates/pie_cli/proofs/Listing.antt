@@ -21,7 +21,7 @@ use Rattle.pie_cli.specs.declared.listed.ByList.{ByList}
 use Rattle.pie_cli.specs.declared.listed.ByList.TheVariants.{Auto, Build, Scan}
 use Rattle.pie_auto.proofs.Finding.{outside_same}
 use Rattle.pie_cli.proofs.Rest.{keeps_same}
-use Rattle.pie_cli.specs.inner.ByList.{ChangesNone, KeepsBy}
+use Rattle.pie_cli.specs.inner.ByList.{ChangesNone, KeepsBy, LeavesRead, LeavesWith}
 use Rattle.pie_cli.specs.Run.{is_answer, input_fault_text, GainsAtMost, GainsPrefix, GainsSome, Shows}
 use Rattle.pie_cli.proofs.Statuses.{answer_is_told, memory_is_no_answer}
 
@@ -125,6 +125,21 @@ pub none_changed : {S : Type 0} (holds : S → Option Directory) (moment : S →
 none_changed holds moment left_since images (Build json) old = tt {0}
 none_changed holds moment left_since images Auto old = tt {0}
 none_changed holds moment left_since images Scan old = (refl, none_before holds moment left_since images old)
+
+-- what a crash leaves where nothing was asked of the files
+pub none_left : {S : Type 0} (holds : S → Option Directory) (moment : S → ℕ) (left_since : S → ℕ → Directory → Type 0) (images : S → Directory → Type 0)
+    (which : ByList) (old : S) (left after : Option (List ℕ)) → LeavesRead holds moment left_since images which old old left after
+none_left holds moment left_since images (Build json) old left after = inl refl
+none_left holds moment left_since images Auto old left after = tt {0}
+none_left holds moment left_since images Scan old left after = tt {0}
+
+-- and with the paths of the input
+pub read_left : {S : Type 0} (holds : S → Option Directory) (moment : S → ℕ) (left_since : S → ℕ → Directory → Type 0) (images : S → Directory → Type 0)
+    (which : ByList) (names : List (List ℕ)) (old new : S) (left after : Option (List ℕ)) → IsRead names left after
+    → LeavesWith holds moment left_since images which names old new → LeavesRead holds moment left_since images which old new left after
+read_left holds moment left_since images (Build json) names old new left after read h = inr (names, read, h)
+read_left holds moment left_since images Auto names old new left after read h = tt {0}
+read_left holds moment left_since images Scan names old new left after read h = tt {0}
 
 pub none_kept : (which : ByList) (before after : Option Directory) → after ≡ before → KeepsBy which before after
 none_kept (Build json) before after is = keeps_same before after is

@@ -1,20 +1,23 @@
 -- What `build` prints, and the status that it ends with.
-use Rattle.std.specs.Prelude.{◌≡◌, ◌⊎◌, ℕ, Bool, List, Option, IfSome}
+use Rattle.std.specs.Prelude.{◌≡◌, ◌⊎◌, ℕ, Bool, List, Option, IfSome, Err}
 use Rattle.pie_base.specs.declared.status.Status.{Status}
 use Rattle.pie_base.specs.declared.status.Status.TheVariants as status
 use Rattle.pie_files.specs.Directory.{Directory}
 use Rattle.pie_incremental.specs.Clean.{BuildsClean}
+use Rattle.pie_incremental.specs.Crashes.{MayStop}
 use Rattle.pie_incremental.specs.Runs.{TellsFew}
 use Rattle.pie_incremental.specs.Treated.{TreatsNames}
+use Rattle.pie_project.specs.Fronts.{ProjectSays}
 use Rattle.pie_project.specs.Refusals.{Refusal}
 use Rattle.pie_report.specs.declared.report.Report.{Report}
 use Rattle.pie_report.specs.Refused.{refusal_line}
 use Rattle.pie_cli.specs.Fresh.{IsPrinted, verdict_status}
-use Rattle.pie_cli.specs.Listed.{RunsByList}
+use Rattle.pie_cli.specs.Listed.{ListLeaves, RunsByList}
 
--- the project is refused: the line tells why, and the directory is as it was
+-- the project that is there is refused: the line tells why, and the directory is as it was
 abbrev pub RefusesProject : Option Directory → Option Directory → List ℕ → Status → Type 0
-RefusesProject before after text ended = (e : Refusal) × (after ≡ before) × (text ≡ refusal_line e) × (ended ≡ status.Pipeline)
+RefusesProject before after text ended =
+    (e : Refusal) × IfSome before (λ d. ProjectSays d (Err e)) × (after ≡ before) × (text ≡ refusal_line e) × (ended ≡ status.Pipeline)
 
 -- a build with these names came to this report: what it did with names, how many tasks it started, and that it is a clean build's
 pub record IsBuilt (names : List (List ℕ)) (before after : Option Directory) (report : Report) : Type 0 where
@@ -31,7 +34,9 @@ TellsReport json names before after text ended =
 abbrev pub MakeSays : Bool → List (List ℕ) → Option Directory → Option Directory → List ℕ → Status → Type 0
 MakeSays json names before after text ended = RefusesProject before after text ended ⊎ TellsReport json names before after text ended
 
--- what `build` says, whatever it ended with
-abbrev pub RunsBuild : {S I : Type 0} → (S → Option Directory) → (S → ℕ) → (I → Option (List ℕ)) → (I → ℕ) → Bool → S → S → I → I
-    → Option (List ℕ) → Option (List ℕ) → Status → Type 0
-RunsBuild holds faults left input_faults json = RunsByList (MakeSays json) holds faults left input_faults
+-- what `build` says, whatever it ended with, and what a crash leaves
+pub record RunsBuild {S I : Type 0} (holds : S → Option Directory) (moment : S → ℕ) (left_since : S → ℕ → Directory → Type 0) (images : S → Directory → Type 0)
+    (faults : S → ℕ) (left : I → Option (List ℕ)) (input_faults : I → ℕ) (json : Bool) (old new : S) (input after : I) (held gained : Option (List ℕ))
+    (ended : Status) : Type 0 where
+  pub built : RunsByList (MakeSays json) holds faults left input_faults old new input after held gained ended
+  pub crash : ListLeaves MayStop holds moment left_since images old new (left input) (left after)

@@ -2,6 +2,7 @@
 use Rattle.std.specs.Prelude.{◌≡◌, ◌⊎◌, ℕ, true, List, [], Option, Some, IfSome}
 use Rattle.pie_base.specs.declared.status.Status.{Status}
 use Rattle.pie_base.specs.declared.status.Status.TheVariants as status
+use Rattle.pie_commit.specs.Outcomes.{LeavesFromRest}
 use Rattle.pie_files.specs.Directory.{Directory}
 use Rattle.pie_files.specs.Faults.{Rose}
 use Rattle.pie_input.specs.Names.{AreNames, IsBad}
@@ -36,6 +37,13 @@ abbrev pub IsListText : {S : Type 0} → (List (List ℕ) → Option Directory �
     → S → S → Option (List ℕ) → Option (List ℕ) → Type 0 → List ℕ → Type 0
 IsListText says holds old new left after InputFailed text =
     ((ended : Status) × ListSays says holds old new left after text ended) ⊎ (InputFailed × (text ≡ input_fault_text))
+
+-- where nothing was pending, what a crash leaves of such a command: nothing was asked of the files; or the list was read, and it leaves only what has P of its
+-- paths
+abbrev pub ListLeaves : {S : Type 0} → (List (List ℕ) → Directory → Directory → Type 0) → (S → Option Directory) → (S → ℕ) → (S → ℕ → Directory → Type 0)
+    → (S → Directory → Type 0) → S → S → Option (List ℕ) → Option (List ℕ) → Type 0
+ListLeaves P holds moment left_since images old new left after =
+    (new ≡ old) ⊎ ((names : List (List ℕ)) × IsRead names left after × LeavesFromRest holds moment left_since images (P names) old new)
 
 -- what such a command says, whatever it ended with: an answer, what the output gained of one, and that a list that is refused, or an input that fails,
 -- leaves the files alone

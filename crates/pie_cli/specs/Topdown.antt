@@ -1,20 +1,24 @@
 -- What `topdown` prints, and the status that it ends with.
-use Rattle.std.specs.Prelude.{◌≡◌, ◌⊎◌, ◌≤◌, ℕ, Bool, List, length, Option}
+use Rattle.std.specs.Prelude.{◌≡◌, ◌⊎◌, ◌≤◌, ℕ, Bool, List, length, Option, IfSome}
 use Rattle.pie_base.specs.declared.status.Status.{Status}
 use Rattle.pie_files.specs.Directory.{Directory}
 use Rattle.pie_report.specs.declared.report.Report.{Report}
+use Rattle.pie_topdown_build.specs.Refusals.{KeepsRefused}
 use Rattle.pie_cli.specs.Build.{RefusesProject}
 use Rattle.pie_cli.specs.Fresh.{IsPrinted, verdict_status}
 use Rattle.pie_cli.specs.Listed.{RunsSaying}
 
--- there is a report of at most 50,000 tasks, and the text is that of the report
-abbrev pub TellsTopdown : Bool → List ℕ → Status → Type 0
-TellsTopdown json text ended =
-    (report : Report) × (length report.ran.items ≤ 50000) × IsPrinted json report text × (ended ≡ verdict_status report.verdict)
+-- there is a report of at most 50,000 tasks, a refused build left the directory as it was, and the text is that of the report
+pub record TellsTopdown (json : Bool) (before after : Option Directory) (text : List ℕ) (ended : Status) : Type 0 where
+  pub report : Report
+  pub few : length report.ran.items ≤ 50000
+  pub kept : IfSome before (λ d. KeepsRefused report.verdict d after)
+  pub is : IsPrinted json report text
+  pub status : ended ≡ verdict_status report.verdict
 
 -- what a build without a list says
 abbrev pub TopdownSays : Bool → Option Directory → Option Directory → List ℕ → Status → Type 0
-TopdownSays json before after text ended = RefusesProject before after text ended ⊎ TellsTopdown json text ended
+TopdownSays json before after text ended = RefusesProject before after text ended ⊎ TellsTopdown json before after text ended
 
 -- what `topdown` says, whatever it ended with
 abbrev pub RunsTopdown : {S : Type 0} → (S → Option Directory) → (S → ℕ) → Bool → S → S → Option (List ℕ) → Option (List ℕ) → Status → Type 0

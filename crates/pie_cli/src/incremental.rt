@@ -1,7 +1,9 @@
 //! An incremental build, and what is told of it.
 ghost use Rattle.std.specs.Prelude.{◌≡◌, true, IfOk, string_bytes};
 ghost use Rattle.pie_build.specs.Left.{KeepsRest};
+ghost use Rattle.pie_commit.specs.Outcomes.{LeavesFromRest};
 ghost use Rattle.pie_files.specs.Streams.{Counted};
+ghost use Rattle.pie_incremental.specs.Crashes.{MayStop};
 ghost use Rattle.pie_report.specs.Refused as refused;
 ghost use Rattle.pie_cli.specs.Build.{MakeSays};
 ghost use Rattle.pie_cli.specs.Run.{is_answer};
@@ -26,6 +28,7 @@ pub(crate) fn build<F: Files>(
     ensures says { IfOk result (λ told. MakeSays json changes.now (F.holds files.old) (F.holds files.new) (string_bytes told.text) told.status) }
     ensures answer { IfOk result (λ told. is_answer told.status ≡ true) }
     ensures rest { KeepsRest (F.holds files.old) (F.holds files.new) }
+    ensures crash { LeavesFromRest F.holds F.moment F.left_since F.images (MayStop changes.now) files.old files.new }
     ensures counted { Counted F.faults FilesError.Failed files.old files.new result }
 {
     let mut runs = Runs::new(alloc);

@@ -2,7 +2,7 @@
 ghost use Rattle.std.specs.Prelude.{◌≡◌, true, IfOk, string_bytes};
 ghost use Rattle.pie_files.specs.Streams.{Counted};
 ghost use Rattle.pie_cli.specs.Run.{is_answer};
-ghost use Rattle.pie_cli.specs.inner.ByList.{says_of, ChangesNone, KeepsBy};
+ghost use Rattle.pie_cli.specs.inner.ByList.{says_of, ChangesNone, KeepsBy, LeavesWith};
 
 use crate::finding::auto;
 use crate::incremental::build;
@@ -35,6 +35,7 @@ pub(crate) fn with_list<F: Files>(
     ensures answer { IfOk result (λ told. is_answer told.status ≡ true) }
     ensures rest { KeepsBy which (F.holds files.old) (F.holds files.new) }
     ensures none { ChangesNone F.holds F.moment F.left_since F.images which files.old files.new }
+    ensures crash { LeavesWith F.holds F.moment F.left_since F.images which paths.now files.old files.new }
     ensures counted { Counted F.faults FilesError.Failed files.old files.new result }
 {
     match which {

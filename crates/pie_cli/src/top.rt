@@ -16,7 +16,7 @@ ghost use Rattle.pie_cli.specs.Listed.{RunsByList, RunsSaying};
 ghost use Rattle.pie_cli.specs.Run.{is_answer, is_told, Ends, GainsPrefix, IsNoScript, IsUsage, NeedsNoInput, PrintsUsage, Shows, StaysWithin};
 ghost use Rattle.pie_cli.specs.Scan.{RunsScan};
 ghost use Rattle.pie_cli.specs.Topdown.{RunsTopdown};
-ghost use Rattle.pie_cli.specs.inner.ByList.{says_of, ChangesNone, KeepsBy};
+ghost use Rattle.pie_cli.specs.inner.ByList.{says_of, ChangesNone, KeepsBy, LeavesRead, LeavesWith};
 ghost use Rattle.pie_cli.specs.inner.Played.{ChangesWithin, HasNoInput, HasNoScript, Plays};
 ghost use Rattle.pie_cli.specs.inner.Unread.{EndsUnread};
 ghost use Rattle.pie_replay.specs.Replays.{KeepsOthers};
@@ -56,7 +56,7 @@ pub fn run<F: Files, I: Source, K: Sink>(
     ensures check { texts_of words.now ≡ words_of commands.Check
         → RunsCheck F.holds F.moment F.left_since F.images F.asked F.faults files.old files.new (K.held out.old) (K.held out.new) result }
     ensures build { (json : Bool) → texts_of words.now ≡ words_of (commands.Build json)
-        → RunsBuild F.holds F.faults I.left I.faults json files.old files.new input.old input.new (K.held out.old) (K.held out.new) result }
+        → RunsBuild F.holds F.moment F.left_since F.images F.faults I.left I.faults json files.old files.new input.old input.new (K.held out.old) (K.held out.new) result }
     ensures replay { (json : Bool) → texts_of words.now ≡ words_of (commands.Replay json)
         → RunsReplay F.holds F.faults I.left I.faults json files.old files.new input.old input.new (K.held out.old) (K.held out.new) result }
     ensures scan { texts_of words.now ≡ words_of commands.Scan
@@ -98,7 +98,7 @@ fn run_command<F: Files, I: Source, K: Sink>(
     ensures check { command ≡ commands.Check
         → RunsCheck F.holds F.moment F.left_since F.images F.asked F.faults files.old files.new (K.held out.old) (K.held out.new) result }
     ensures build { (json : Bool) → command ≡ commands.Build json
-        → RunsBuild F.holds F.faults I.left I.faults json files.old files.new input.old input.new (K.held out.old) (K.held out.new) result }
+        → RunsBuild F.holds F.moment F.left_since F.images F.faults I.left I.faults json files.old files.new input.old input.new (K.held out.old) (K.held out.new) result }
     ensures replay { (json : Bool) → command ≡ commands.Replay json
         → RunsReplay F.holds F.faults I.left I.faults json files.old files.new input.old input.new (K.held out.old) (K.held out.new) result }
     ensures scan { command ≡ commands.Scan
@@ -169,6 +169,7 @@ fn run_by_list<F: Files, I: Source, K: Sink>(
 ) -> Status
     ensures lists { RunsByList (says_of which) F.holds F.faults I.left I.faults files.old files.new input.old input.new (K.held out.old) (K.held out.new) result }
     ensures none { ChangesNone F.holds F.moment F.left_since F.images which files.old files.new }
+    ensures crash { LeavesRead F.holds F.moment F.left_since F.images which files.old files.new (I.left input.old) (I.left input.new) }
     ensures rest { KeepsBy which (F.holds files.old) (F.holds files.new) }
     ensures ends { Ends (Unit {0}) (F.faults files.old) (F.faults files.new) (I.faults input.old) (I.faults input.new) (K.faults out.old) (K.faults out.new) (K.held out.old) (K.held out.new) result }
     ensures infallible { StaysInfallible K.infallible K.faults out.old out.new }
@@ -192,6 +193,7 @@ fn do_by_list<F: Files, K: Sink>(
 ) -> Status
     ensures says { RunsSaying (says_of which paths.now) F.holds F.faults files.old files.new (K.held out.old) (K.held out.new) result }
     ensures none { ChangesNone F.holds F.moment F.left_since F.images which files.old files.new }
+    ensures crash { LeavesWith F.holds F.moment F.left_since F.images which paths.now files.old files.new }
     ensures rest { KeepsBy which (F.holds files.old) (F.holds files.new) }
     ensures ends { EndsUnread (F.faults files.old) (F.faults files.new) (K.faults out.old) (K.faults out.new) (K.held out.old) (K.held out.new) result }
     ensures infallible { StaysInfallible K.infallible K.faults out.old out.new }

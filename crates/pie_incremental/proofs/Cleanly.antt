@@ -1,9 +1,10 @@
 -- A build of a directory by a list, as a clean build.
-use Rattle.std.proofs.Common.{◌≡◌, ℕ, ◌≤◌, List, [], ◌++◌, length, drop, map, Option, None, Some, Result, Ok, Err, Global, refl, sym, ap, subst, ◌∙◌}
-use Rattle.std.specs.Prelude.{Box, IfOk, IfSome, IsSome}
+use Rattle.std.proofs.Common.{◌≡◌, ℕ, ◌≤◌, Bool, true, false, cond, List, [], ◌++◌, length, drop, map, Option, None, Some, Result, Ok, Err, Global, refl, sym, ap, subst, ◌∙◌}
+use Rattle.std.specs.Prelude.{All, Box, IfOk, IfSome, IsSome}
 use Rattle.std.proofs.lemmas.List.{drop-append-le}
 use Rattle.pie_build.specs.Left.{Leaves}
 use Rattle.pie_core_laws.specs.Update.{Update, IsUpdate}
+use Rattle.pie_diff.specs.Hashes.{hash_in, is_hash}
 use Rattle.pie_digest.specs.Digests.{HasNames}
 use Rattle.pie_files.proofs.Reading.{if_always, if_each, if_two}
 use Rattle.pie_files.specs.Directory.{Directory}
@@ -11,6 +12,7 @@ use Rattle.pie_left_laws.specs.Reported.{IsOther as IsOtherOf, IsStray as IsStra
 use Rattle.pie_model_pipeline.specs.Clean.{output_bytes}
 use Rattle.pie_project.specs.Digested.{HasDigests}
 use Rattle.pie_project.specs.Fronts.{ProjectSays}
+use Rattle.pie_project.specs.Looking.{pipeline_path}
 use Rattle.pie_project.specs.declared.fault.BuildError.{BuildError}
 use Rattle.pie_project.specs.declared.project.Project.{Project}
 use Rattle.pie_project.specs.inner.Projects.{front_of}
@@ -29,9 +31,12 @@ use Rattle.pie_incremental.specs.declared.base.Start.{Start}
 use Rattle.pie_incremental.specs.declared.base.Start.TheVariants.{Afresh, From}
 use Rattle.pie_incremental.specs.Clean.{BuildsClean, IsAfresh, IsAsClean, IsOther, IsStray, LeavesClean}
 use Rattle.pie_incremental.specs.Earlier.{AreSeparate, Earlier, GoesOnFrom, live_of}
+use Rattle.pie_incremental.specs.Ran.{HasReason, RanFor, digests_by, kept_digests}
 use Rattle.pie_incremental.specs.Starts.{IsBase, StartsFrom}
 use Rattle.pie_incremental.specs.inner.Clean.{BuildsCleanOf, LeavesAsClean}
+use Rattle.pie_incremental.specs.inner.Digested.{digested, with_digests}
 use Rattle.pie_incremental.specs.inner.Joined.{IsRetold, KeepsAfter}
+use Rattle.pie_incremental.specs.inner.Ran.{HaveReasons}
 use Rattle.pie_incremental.specs.inner.Updated.{FromClean, IsUpdateFrom, RunsCleanOnce}
 use Rattle.pie_incremental.proofs.Meaning.{means_same}
 use Rattle.pie_incremental.proofs.Updating.{no_cause}
@@ -111,6 +116,29 @@ module _ (e : Earlier) (list : List (List ℕ)) (d : Directory) (b : Base) (p : 
     left = λ accepted. leaves_clean r after (builds.left accepted);
   }
 
+  -- the digests by which it goes
+  kept_is : (digested d p.digests.items b.image).funcs ≡ kept_digests d p.digests.items b.image
+  kept_is = by b.image.pipeline
+    where
+      either : (t : Bool) → (cond t (record b.image { funcs = p.digests.items }) b.image).funcs ≡ cond t p.digests.items b.image.funcs
+      either true = refl
+      either false = refl
+
+      by : (o : Option (List ℕ)) → (with_digests d p.digests.items b.image o).funcs ≡ digests_by d p.digests.items b.image.funcs o
+      by None = refl
+      by (Some hash) = either (is_hash (hash_in d pipeline_path) hash)
+
+  ran_for : (ran : List Task) → HaveReasons update_of (digested d p.digests.items b.image).funcs p.digests.items ran → RanFor e d ran
+  ran_for ran h = record {
+    funcs = p.digests.items;
+    roots = p.roots.items;
+    found = record { functions = p.typed; says = says; names = names; digests = has };
+    base = b;
+    is = base;
+    once = h.once;
+    reasons = subst (λ kept. All (HasReason e d p.typed kept p.digests.items) ran) kept_is h.reasons;
+  }
+
 from_clean : (b : Base) (p : Project) (list : List (List ℕ)) (before mid after : Option Directory) (r : Report) → mid ≡ before
     → IfSome before (λ d. ProjectSays d (Ok (front_of p))) → IfSome before (λ d. HasDigests d p.digests.items) → HasNames p.typed p.digests.items
     → AreFuncs p.digests.items → RunsCleanOnce b p list mid after r → FromClean b list before after r
@@ -122,6 +150,10 @@ from_clean b p list before mid after r same says has names funcs runs = record {
         goes_on = λ none e from.
             as_clean e list d b p from base project digests names funcs r after
             ((runs.once d (same ∙ told) none).each (update_of e list d b p from base project digests names funcs)
+            (is_update e list d b p from base project digests names funcs mid (same ∙ told)));
+        ran = λ none e from.
+            ran_for e list d b p from base project digests names funcs r.ran.items
+            ((runs.once d (same ∙ told) none).ran (update_of e list d b p from base project digests names funcs)
             (is_update e list d b p from base project digests names funcs mid (same ∙ told)));
         afresh = λ some. runs.afresh d (same ∙ told) some;
       };
@@ -188,7 +220,11 @@ pub afresh_cleans : (list : List (List ℕ)) (cause : Cause) (before mid after :
 afresh_cleans list cause before mid after (Err e) same is why = if_always before (tt {0})
 afresh_cleans list cause before mid after (Ok r) same is why =
     if_each (λ d. IsAfresh d r after) (λ d. BuildsClean list d r after) before
-    (λ d afresh. record { goes_on = λ none. absurd (differs (sym why ∙ none)); afresh = λ some. afresh })
+    (λ d afresh. record {
+      goes_on = λ none. absurd (differs (sym why ∙ none));
+      ran = λ none. absurd (differs (sym why ∙ none));
+      afresh = λ some. afresh;
+    })
     (subst (λ m. IfSome m (λ d. IsAfresh d r after)) same is)
   where
     differs : Some cause ≡ None → ⊥

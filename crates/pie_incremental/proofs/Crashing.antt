@@ -43,10 +43,11 @@ use Rattle.pie_incremental.specs.Earlier.{Earlier, GoesOnFrom}
 use Rattle.pie_incremental.specs.Kept.{is_builders, HasNames, IsOfNames, IsUnderway}
 use Rattle.pie_incremental.specs.Own.{bytes_at, open_path, pending_path}
 use Rattle.pie_incremental.specs.Starts.{IsBase, StartsFrom}
-use Rattle.pie_incremental.specs.inner.Built.{IsBegun, IsKnown}
+use Rattle.pie_incremental.specs.inner.Built.{IsKnown}
 use Rattle.pie_incremental.specs.inner.Changes.{bytes_of}
 use Rattle.pie_incremental.specs.inner.Cleaned.{IsClean, KnowsWhere, MayLeaveBy}
-use Rattle.pie_incremental.specs.inner.Crashed.{IsCleanBuilt, IsCleanOf, KeepsList, MayBuild, MayFrom, MayGo, MayLeaveOf, MayRestart, MayRun, MayStop, StaysBefore}
+use Rattle.pie_incremental.specs.Crashes.{IsBegun, IsCleanBuilt, KeepsList, MayStop}
+use Rattle.pie_incremental.specs.inner.Crashed.{IsCleanOf, MayBuild, MayFrom, MayGo, MayLeaveOf, MayRestart, MayRun, StaysBefore}
 use Rattle.pie_incremental.specs.inner.Digested.{digested}
 use Rattle.pie_incremental.specs.inner.Evaluated.{IsResultOf, IsUpdateHere, MakesExact}
 use Rattle.pie_incremental.specs.inner.Joined.{IsAsBefore, IsEndingOf, TreatsIn}

@@ -17,12 +17,13 @@ use Rattle.pie_value.specs.declared.task.Task.{Task}
 use Rattle.pie_value.specs.Canonical.{IsEncodableTask}
 use Rattle.pie_value.specs.Limits.{is_small_task}
 use Rattle.pie_bottomup.specs.declared.state.Core.{Core}
-use Rattle.pie_bottomup.specs.inner.States.{Spends, StartsOne, room}
+use Rattle.pie_bottomup.specs.inner.States.{KeepsTasks, Spends, StartsOne, room}
 use Rattle.pie_build.specs.Left.{KeepsRest, may_change}
 use Rattle.pie_build.proofs.OwnPaths.{or_left, or_right, plan_keeps}
 use Rattle.pie_commit.specs.declared.plan.Plan.{Plan}
 use Rattle.pie_commit.specs.Outcomes.{KeepsOthers}
 use Rattle.pie_store.specs.declared.cause.Cause.{Cause}
+use Rattle.pie_tables.specs.declared.tables.Tables.{Tables}
 use Rattle.pie_incremental.specs.Runs.{TellsFew}
 use Rattle.pie_incremental.specs.Kept.{KeepsAllFiles, is_builders}
 use Rattle.pie_incremental.specs.inner.Joined.{Started, ChangesOut}
@@ -72,11 +73,25 @@ started_behind old mid new more s is all = record {
 
 -- ---- how many may be
 
+tasks_stay : (t : Tables) → KeepsTasks t t
+tasks_stay t = record { names = λ n task is. is; recorded = λ n is. is; ran = λ n is. is }
+
+tasks_more : (a b c : Tables) → KeepsTasks a b → KeepsTasks b c → KeepsTasks a c
+tasks_more a b c f g = record {
+  names = λ n task is. g.names n task (f.names n task is);
+  recorded = λ n is. g.recorded n (f.recorded n is);
+  ran = λ n is. g.ran n (f.ran n is);
+}
+
 pub spends_none : (c : Core) (runs : List Task) → Spends c c runs runs
-spends_none c runs = record { plan = refl; room = omega arith }
+spends_none c runs = record { plan = refl; room = omega arith; tasks = tasks_stay c.tables }
 
 pub spends_more : (a b c : Core) (r s t : List Task) → Spends a b r s → Spends b c s t → Spends a c r t
-spends_more a b c r s t f g = record { plan = g.plan ∙ f.plan; room = omega (arith, f.room, g.room) }
+spends_more a b c r s t f g = record {
+  plan = g.plan ∙ f.plan;
+  room = omega (arith, f.room, g.room);
+  tasks = tasks_more a.tables b.tables c.tables f.tasks g.tasks;
+}
 
 pub spends_plan : (a b c : Core) (r s t : List Task) → Spends a b r s → Spends b c s t → c.plan ≡ a.plan
 spends_plan a b c r s t f g = g.plan ∙ f.plan

@@ -40,7 +40,8 @@ use Rattle.pie_left_laws.proofs.Changing.{new_other, other_new, removed_stray, s
 use Rattle.pie_incremental.specs.declared.base.Base.{Base}
 use Rattle.pie_incremental.specs.declared.base.OwnFiles.{OwnFiles}
 use Rattle.pie_incremental.specs.declared.ending.Ending.{Ending}
-use Rattle.pie_incremental.specs.inner.Built.{AreFilesOf, IsBegun, IsKnown}
+use Rattle.pie_incremental.specs.Crashes.{IsBegun}
+use Rattle.pie_incremental.specs.inner.Built.{AreFilesOf, IsKnown}
 use Rattle.pie_incremental.specs.inner.Cleaned.{IsClean, IsExactBuild, KnowsWhere, LeavesCleanOf, LeavesWhere, LeavesBy, MayLeave, MayLeaveBy, HasParts, IsPlanFor, TellsPlan}
 use Rattle.pie_incremental.specs.inner.Plans.{IsChangesPlan, MayPlace, Places}
 use Rattle.pie_incremental.specs.Kept.{IsOfNames}

@@ -7,6 +7,7 @@ pub mod Starting
 pub mod Stopping
 pub mod Joining
 pub mod Evaluating
+pub mod Running
 pub mod Storing
 pub mod Treating
 pub mod Placing
@@ -15,3 +16,4 @@ pub mod Updating
 pub mod Meaning
 pub mod Cleanly
 pub mod Crashing
+pub mod Refusing

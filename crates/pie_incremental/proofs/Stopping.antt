@@ -17,7 +17,8 @@ use Rattle.pie_record.specs.declared.task_record.TaskRecord.{TaskRecord}
 use Rattle.pie_results.specs.inner.Files.{contents_in}
 use Rattle.pie_left_laws.specs.Placed.{IsPlaced}
 use Rattle.pie_incremental.specs.declared.base.OwnFiles.{OwnFiles}
-use Rattle.pie_incremental.specs.inner.Built.{AreFilesOf, IsBegun, IsKnown, IsOfBuild, IsPut}
+use Rattle.pie_incremental.specs.Crashes.{IsBegun}
+use Rattle.pie_incremental.specs.inner.Built.{AreFilesOf, IsKnown, IsOfBuild, IsPut}
 use Rattle.pie_incremental.specs.Kept.{is_builders}
 use Rattle.pie_incremental.specs.Own.{open_path, store_path, pending_path}
 use Rattle.pie_incremental.specs.inner.Plans.{IsChangesPlan, Marks, MayPlace, MayPut}

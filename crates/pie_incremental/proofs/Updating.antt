@@ -38,6 +38,7 @@ use Rattle.pie_incremental.specs.inner.Cleaned.{KnowsWhere, LeavesBy}
 use Rattle.pie_incremental.specs.inner.Digested.{digested, with_digests}
 use Rattle.pie_incremental.specs.inner.Evaluated.{IsResultOf, IsUpdateHere, MakesExact}
 use Rattle.pie_incremental.specs.inner.Joined.{IsAsBefore, IsEndingOf}
+use Rattle.pie_incremental.specs.inner.Ran.{HaveReasons}
 use Rattle.pie_incremental.specs.inner.Updated.{GoesClean, GoesOn, IsUpdateFrom, RunsClean, RunsCleanOnce, RunsOrStops}
 
 -- ---- the end
@@ -69,10 +70,12 @@ module _ (s : StoreImage) (e : Ending) (p : Project) (before mid after : Option 
 pub goes_clean : (s : StoreImage) (e : Ending) (p : Project) (before mid after : Option Directory) (b : Built) (r : Report) → mid ≡ before
     → MakesExact before p.typed p.digests.items p.roots.items s e.names.items b
     → IfSome mid (λ d. LeavesBy b.verdict e.own e.held p.digests.items p.roots.items b d r after) → r.verdict ≡ b.verdict → r.fresh ≡ None
-    → GoesClean s e p before after r
-goes_clean s e p before mid after b r same makes leaves is none = record {
+    → ((u : Update) → IsUpdateHere u before p.typed p.roots.items → IsStoredIn u s.funcs p.digests.items s.rows e.names.items
+    → HaveReasons u s.funcs p.digests.items r.ran.items) → GoesClean s e p before after r
+goes_clean s e p before mid after b r same makes leaves is none ran = record {
   none = none;
   each = λ u here stored known. builds_clean s e p before mid after b r same makes leaves is u here stored known;
+  ran = ran;
 }
 
 -- ---- the beginning
@@ -94,7 +97,7 @@ begun_digested before mid digests ds s t image same are is h =
 module _ (b : Base) (e : Ending) (p : Project) (list : List (List ℕ)) (s : StoreImage) (held : Option Directory) (u : Update) (ending : IsEndingOf b list e)
     (knows : IfSome held (λ d. KnowsWhere b d e)) (image : IfSome held (λ d. s ≡ digested d p.digests.items b.image)) (from : IsUpdateFrom u held b p list)
   where
-    is_digested : s ≡ digested u.directory p.digests.items b.image
+    pub is_digested : s ≡ digested u.directory p.digests.items b.image
     is_digested = subst (λ o. IfSome o (λ x. s ≡ digested x p.digests.items b.image)) from.here.holds image
 
     pub begun_stored : IsStoredIn u s.funcs p.digests.items s.rows e.names.items
@@ -121,6 +124,9 @@ runs_clean b e p list s before mid after r same ending knows image goes = record
   each = λ u from.
       goes.each u (subst (λ m. IsUpdateHere u m p.typed p.roots.items) (sym same) from.here)
       (begun_stored b e p list s before u ending knows image from) (begun_known b e p list s before u ending knows image from);
+  ran = λ u from.
+      subst (λ (x : StoreImage). HaveReasons u x.funcs p.digests.items r.ran.items) (is_digested b e p list s before u ending knows image from)
+      (goes.ran u (subst (λ m. IsUpdateHere u m p.typed p.roots.items) (sym same) from.here) (begun_stored b e p list s before u ending knows image from));
 }
 
 runs_then : (b : Base) (e : Ending) (p : Project) (list : List (List ℕ)) (s : StoreImage) (before mid after : Option Directory) (done : Done)

@@ -20,6 +20,7 @@ use Rattle.pie_value.specs.declared.task.Task.{Task}
 use Rattle.pie_value.specs.declared.verdict.Verdict.TheVariants.{Accepted}
 use Rattle.pie_incremental.specs.Earlier.{live_of, Earlier, GoesOnFrom}
 use Rattle.pie_incremental.specs.Own.{bytes_at}
+use Rattle.pie_incremental.specs.Ran.{RanFor}
 
 -- a path where live tasks provide bytes that the directory hasn't there
 pub record IsOther (live : List Node) (d : Directory) (path : List ℕ) : Type 0 where
@@ -69,7 +70,8 @@ pub record IsAfresh (d : Directory) (r : Report) (after : Option Directory) : Ty
   pub after_is : r.verdict ≡ Accepted → after ≡ left
 
 -- what a build with this list came to: a report that tells no cause to start afresh is as that of a clean build, where the directory goes on from an earlier
--- one; a report that tells one is of a clean build, whatever was there
+-- one, and tells no task twice that ran, and each that had a reason to; a report that tells one is of a clean build, whatever was there
 pub record BuildsClean (list : List (List ℕ)) (d : Directory) (r : Report) (after : Option Directory) : Type 0 where
   pub goes_on : r.fresh ≡ None → (e : Earlier) → GoesOnFrom e list d → IsAsClean d r after
+  pub ran : r.fresh ≡ None → (e : Earlier) → GoesOnFrom e list d → RanFor e d r.ran.items
   pub afresh : IsSome r.fresh → IsAfresh d r after

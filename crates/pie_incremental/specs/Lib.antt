@@ -2,8 +2,11 @@ pub mod Own
 pub mod Starts
 pub mod Names
 pub mod Kept
+pub mod Crashes
 pub mod Treated
 pub mod Runs
 pub mod Earlier
+pub mod Ran
 pub mod Clean
+pub mod Refused
 pub mod inner

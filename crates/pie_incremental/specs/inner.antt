@@ -9,4 +9,5 @@ pub mod Digested
 pub mod Evaluated
 pub mod Joined
 pub mod Plans
+pub mod Ran
 pub mod Updated

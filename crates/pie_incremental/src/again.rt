@@ -10,6 +10,7 @@ ghost use Rattle.pie_build.specs.inner.Rebuilt.{IsRefusal, Tells};
 ghost use Rattle.pie_value.specs.Canonical.{IsEncodableTask};
 ghost use Rattle.pie_value.specs.declared.task.Task.{Task as TaskOf};
 ghost use Rattle.pie_incremental.specs.Clean.{IsAfresh};
+ghost use Rattle.pie_incremental.specs.Refused.{RefusesRight};
 ghost use Rattle.pie_incremental.specs.inner.Joined.{IsRetold, KeepsAfter, Treats};
 
 use crate::cause::put_cause;
@@ -25,7 +26,7 @@ use pie_vm::Runs;
 use std::alloc::Global;
 
 /// Builds afresh. All tasks that were started after so many others are reported.
-#[tactic(auto, using(crate::proofs::Joining::rest_both, crate::proofs::Joining::behind_encodable))]
+#[tactic(auto, using(crate::proofs::Refusing::rebuilt, crate::proofs::Refusing::never, crate::proofs::Joining::rest_both, crate::proofs::Joining::behind_encodable))]
 pub(crate) fn again<F: Files>(
     alloc: Global,
     files: &mut F,
@@ -45,6 +46,7 @@ pub(crate) fn again<F: Files>(
     ensures grows { IfOk result (λ r. (more : List TaskOf) × (runs.new ≡ runs.old ++ more)) }
     ensures few { length runs.new ≤ length runs.old + 50000 }
     ensures encodable { IfOk result (λ r. All IsEncodableTask r.ran.items) }
+    ensures says { IfSome (F.holds files.old) (λ d. RefusesRight d result) }
     ensures told { Tells F.faults files.old files.new result }
 {
     match rebuild(alloc, files, runs) {

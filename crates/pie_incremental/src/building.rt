@@ -4,7 +4,8 @@ ghost use Rattle.pie_build.specs.Left.{KeepsRest, Leaves};
 ghost use Rattle.pie_build.specs.inner.Projects.{IsReady};
 ghost use Rattle.pie_build.specs.Crashes.{IsOfThree};
 ghost use Rattle.pie_commit.specs.Outcomes.{LeavesFromRest};
-ghost use Rattle.pie_incremental.specs.inner.Crashed.{MayBuild, MayFrom, MayStop};
+ghost use Rattle.pie_incremental.specs.Crashes.{MayStop};
+ghost use Rattle.pie_incremental.specs.inner.Crashed.{MayBuild, MayFrom};
 ghost use Rattle.pie_build.specs.inner.Rebuilt.{IsRefusal, Tells};
 ghost use Rattle.pie_digest.specs.Digests.{HasNames};
 ghost use Rattle.pie_value.specs.Canonical.{IsEncodableTask};
@@ -12,6 +13,7 @@ ghost use Rattle.pie_value.specs.Limits.{is_small_task};
 ghost use Rattle.pie_store.specs.Canonical.{AreFuncs};
 ghost use Rattle.pie_store.specs.inner.Pending.{in_order};
 ghost use Rattle.pie_incremental.specs.Clean.{BuildsClean, IsAfresh};
+ghost use Rattle.pie_incremental.specs.Refused.{RefusesRight};
 ghost use Rattle.pie_incremental.specs.Runs.{TellsFew};
 ghost use Rattle.pie_incremental.specs.Treated.{AfreshBy, TreatsNames};
 ghost use Rattle.pie_incremental.specs.inner.Joined.{IsBase, Treats};
@@ -36,7 +38,7 @@ use std::alloc::Global;
 /// An accepted build leaves what a clean build would; a refused one keeps the names for the next one. The whole plan and the report are made before
 /// the first write. The tasks that are started are added to the runs, and reported.
 /// Rule: docs/BUILDING.md, "A build by what changed".
-#[tactic(auto, using(pie_build::proofs::OwnPaths::same_keeps, crate::proofs::Joining::rest_then, crate::proofs::Joining::few))]
+#[tactic(auto, using(crate::proofs::Refusing::after, crate::proofs::Refusing::never, pie_build::proofs::OwnPaths::same_keeps, crate::proofs::Joining::rest_then, crate::proofs::Joining::few))]
 pub fn build<F: Files>(
     alloc: Global,
     files: &mut F,
@@ -52,6 +54,7 @@ pub fn build<F: Files>(
     ensures few { length runs.new ≤ length runs.old + 100000 }
     ensures most { IfOk result TellsFew }
     ensures encodable { IfOk result (λ r. All IsEncodableTask r.ran.items) }
+    ensures says { IfSome (F.holds files.old) (λ d. RefusesRight d result) }
     ensures told { Tells F.faults files.old files.new result }
 {
     match find_start(alloc, files) {
@@ -63,6 +66,7 @@ pub fn build<F: Files>(
 }
 
 // Builds afresh, for this cause.
+#[tactic(auto, using(crate::proofs::Refusing::rebuilt))]
 fn afresh<F: Files>(
     alloc: Global,
     files: &mut F,
@@ -78,6 +82,7 @@ fn afresh<F: Files>(
     ensures ran { IfOk result (λ r. runs.new ≡ runs.old ++ r.ran.items) }
     ensures few { length runs.new ≤ length runs.old + 50000 }
     ensures encodable { IfOk result (λ r. All IsEncodableTask r.ran.items) }
+    ensures says { IfSome (F.holds files.old) (λ d. RefusesRight d result) }
     ensures told { Tells F.faults files.old files.new result }
 {
     match rebuild(alloc, files, runs) {
@@ -90,7 +95,7 @@ fn afresh<F: Files>(
 }
 
 // Builds from what the build before left.
-#[tactic(auto, using(pie_build::proofs::OwnPaths::same_keeps, crate::proofs::Joining::rest_then))]
+#[tactic(auto, using(crate::proofs::Refusing::read, crate::proofs::Refusing::after, pie_build::proofs::OwnPaths::same_keeps, crate::proofs::Joining::rest_then))]
 fn from<F: Files>(
     alloc: Global,
     files: &mut F,
@@ -108,6 +113,7 @@ fn from<F: Files>(
     ensures few { length runs.new ≤ length runs.old + 100000 }
     ensures once { IfOk result (λ r. r.fresh ≡ None → length runs.new ≤ length runs.old + 50000) }
     ensures encodable { IfOk result (λ r. All IsEncodableTask r.ran.items) }
+    ensures says { IfSome (F.holds files.old) (λ d. RefusesRight d result) }
     ensures told { Tells F.faults files.old files.new result }
 {
     match read_project(alloc, files) {
@@ -117,7 +123,7 @@ fn from<F: Files>(
 }
 
 // Builds a project from what the build before left. Roots beyond the limits of values are left to the clean build, which refuses them.
-#[tactic(auto, using(pie_build::proofs::OwnPaths::same_keeps, crate::proofs::Joining::rest_then, crate::proofs::Joining::rest_both, crate::proofs::Joining::few))]
+#[tactic(auto, using(crate::proofs::Refusing::rebuilt, crate::proofs::Refusing::after, crate::proofs::Refusing::never, pie_build::proofs::OwnPaths::same_keeps, crate::proofs::Joining::rest_then, crate::proofs::Joining::rest_both, crate::proofs::Joining::few))]
 fn with_project<F: Files>(
     alloc: Global,
     files: &mut F,
@@ -139,6 +145,7 @@ fn with_project<F: Files>(
     ensures few { length runs.new ≤ length runs.old + 100000 }
     ensures once { IfOk result (λ r. r.fresh ≡ None → length runs.new ≤ length runs.old + 50000) }
     ensures encodable { IfOk result (λ r. All IsEncodableTask r.ran.items) }
+    ensures says { IfSome (F.holds files.old) (λ d. RefusesRight d result) }
     ensures told { Tells F.faults files.old files.new result }
 {
     if !are_small(project.roots.as_slice()) {

@@ -4,9 +4,12 @@ ghost use Rattle.pie_digest.specs.Digests.{HasNames};
 ghost use Rattle.pie_files.specs.Reading.{ReadsOnly};
 ghost use Rattle.pie_store.specs.Canonical.{AreFuncs};
 ghost use Rattle.pie_value.specs.Canonical.{IsEncodableTask};
+ghost use Rattle.pie_bottomup.specs.declared.state.First.TheVariants.{Done};
+ghost use Rattle.pie_bottomup.specs.inner.Ran.{BeginsKnowing};
 ghost use Rattle.pie_bottomup.specs.inner.States.{HasSettled, IsCore, IsPlanOf, Spends, room};
 ghost use Rattle.pie_incremental.specs.inner.Evaluated.{BeginsNow, EvaluatesExact, ResultsExact, SettlesExact};
 ghost use Rattle.pie_incremental.specs.inner.Joined.{IsImage, IsEnded, IsMade, Settles, Started};
+ghost use Rattle.pie_incremental.specs.inner.Ran.{RunsWhere, SettlesRuns};
 
 use pie_base::{MAX_TASKS, OutOfMemory, Path};
 use pie_bottomup::{Core, Turn};
@@ -42,6 +45,7 @@ pub(crate) fn evaluate<F: Files>(
     requires funcs { AreFuncs project.now.digests.items }
     requires roots { All IsEncodableTask project.now.roots.items }
     ensures exact { IfOk result (EvaluatesExact (F.holds files.old) project.now.typed project.now.digests.items project.now.roots.items image.value names.now) }
+    ensures ran { IfOk result (RunsWhere (F.holds files.old) project.now.typed project.now.digests.items project.now.roots.items image.value names.now runs.old runs.new) }
     ensures ended { IfOk result (IsEnded project.now.digests.items project.now.roots.items) }
     ensures started { Started runs.old runs.new }
     ensures few { length runs.new ≤ length runs.old + 50000 }
@@ -71,7 +75,9 @@ fn core_of<'a>(
     ensures core { IfOk result (λ c. IsCore c.value) }
     ensures plan { IfOk result (λ c. IsPlanOf project.now.typed project.now.digests.items project.now.roots.items c.value.plan) }
     ensures room { IfOk result (λ c. room c.value ≤ MAX_TASKS) }
+    ensures first { IfOk result (λ c. c.value.first ≡ Done → ⊥) }
     ensures exact { IfOk result (λ c. BeginsNow project.now.typed code.now project.now.roots.items image.value.funcs project.now.digests.items image.value.rows names.now c.value) }
+    ensures knows { IfOk result (λ c. BeginsKnowing image.value.funcs project.now.digests.items image.value.rows names.now c.value) }
 {
     let core = Core::new(
         alloc,
@@ -87,7 +93,7 @@ fn core_of<'a>(
 }
 
 // Goes on until the roots are settled, or the build has to start afresh: for this cause.
-#[tactic(auto, using(pie_files::proofs::Reading::reads, crate::proofs::Joining::started_none, crate::proofs::Joining::started_more, crate::proofs::Joining::spends, crate::proofs::Evaluating::stands_first))]
+#[tactic(auto, using(pie_files::proofs::Reading::reads, crate::proofs::Joining::started_none, crate::proofs::Joining::started_more, crate::proofs::Joining::spends, crate::proofs::Evaluating::stands_first, crate::proofs::Running::runs_first, crate::proofs::Running::many_first))]
 fn settle<'a, F: Files>(
     core: &mut Core<'a>,
     files: &mut F,
@@ -97,6 +103,7 @@ fn settle<'a, F: Files>(
     ensures settled { IfOk result (Settles core.new) }
     ensures plan { OnOk result (core.new.plan ≡ core.old.plan) }
     ensures exact { IfOk result (SettlesExact (F.holds files.old) core.old core.new) }
+    ensures ran { IfOk result (SettlesRuns (F.holds files.old) core.old runs.old runs.new) }
     ensures started { Started runs.old runs.new }
     ensures few { length runs.new ≤ length runs.old + room core.old }
     ensures reads { ReadsOnly F.holds F.moment F.left_since F.images F.faults files.old files.new result }

@@ -7,8 +7,11 @@ use Rattle.pie_cli.specs.declared.listed.ByList.{ByList}
 use Rattle.pie_cli.specs.declared.listed.ByList.TheVariants.{Auto, Build, Scan}
 use Rattle.pie_auto.specs.Found.{KeepsOutside}
 use Rattle.pie_build.specs.Left.{KeepsRest}
+use Rattle.pie_commit.specs.Outcomes.{LeavesFromRest}
+use Rattle.pie_incremental.specs.Crashes.{MayStop}
 use Rattle.pie_cli.specs.Auto.{AutoSays}
 use Rattle.pie_cli.specs.Build.{MakeSays}
+use Rattle.pie_cli.specs.Listed.{ListLeaves}
 use Rattle.pie_cli.specs.Scan.{ScanSays}
 
 -- what a command says of its paths
@@ -22,6 +25,20 @@ abbrev pub ChangesNone : {S : Type 0} → (S → Option Directory) → (S → �
 ChangesNone holds moment left_since images (Build json) old new = Unit {0}
 ChangesNone holds moment left_since images Auto old new = Unit {0}
 ChangesNone holds moment left_since images Scan old new = (holds new ≡ holds old) × LeavesAsBefore holds moment left_since images old new
+
+-- what a crash leaves of a build with these paths
+abbrev pub LeavesWith : {S : Type 0} → (S → Option Directory) → (S → ℕ) → (S → ℕ → Directory → Type 0) → (S → Directory → Type 0) → ByList → List (List ℕ)
+    → S → S → Type 0
+LeavesWith holds moment left_since images (Build json) paths old new = LeavesFromRest holds moment left_since images (MayStop paths) old new
+LeavesWith holds moment left_since images Scan paths old new = Unit {0}
+LeavesWith holds moment left_since images Auto paths old new = Unit {0}
+
+-- and of one with the paths of its input
+abbrev pub LeavesRead : {S : Type 0} → (S → Option Directory) → (S → ℕ) → (S → ℕ → Directory → Type 0) → (S → Directory → Type 0) → ByList → S → S
+    → Option (List ℕ) → Option (List ℕ) → Type 0
+LeavesRead holds moment left_since images (Build json) old new left after = ListLeaves MayStop holds moment left_since images old new left after
+LeavesRead holds moment left_since images Scan old new left after = Unit {0}
+LeavesRead holds moment left_since images Auto old new left after = Unit {0}
 
 -- the paths that have the files that they had
 abbrev pub KeepsBy : ByList → Option Directory → Option Directory → Type 0

@@ -13,6 +13,7 @@ use Rattle.pie_record.specs.declared.task_record.TaskRecord.{TaskRecord}
 use Rattle.pie_diff.specs.Hashes.{files_paths, hash_in, held_at}
 use Rattle.pie_diff.specs.Removals.{written_by}
 use Rattle.pie_incremental.specs.declared.base.OwnFiles.{OwnFiles}
+use Rattle.pie_incremental.specs.Crashes.{IsBegun}
 use Rattle.pie_incremental.specs.Kept.{is_builders}
 use Rattle.pie_incremental.specs.Own.{bytes_at, open_path, store_path, pending_path, IsClosed}
 use Rattle.pie_incremental.specs.inner.Changes.{bytes_of}
@@ -42,11 +43,6 @@ pub record IsPut (rows : List TaskRecord) (contents : List (List ℕ × Vec ℕ 
   pub store : bytes_at left store_path ≡ Some text
   pub no_names : bytes_at left pending_path ≡ None
   pub closed : IsClosed left
-
--- the marker stands, and each path that isn't under `out/` and isn't one of the builder's own has the file that it had
-pub record IsBegun (d c : Directory) : Type 0 where
-  pub marked : HasFile c open_path
-  pub rest : (q : List ℕ) → (is_out q || is_builders q) ≡ false → file_at c q ≡ file_at d q
 
 -- what a crash leaves of the commit of an accepted build: it has begun, it changed nothing yet, or it is done, with or without the marker
 abbrev pub IsOfBuild : List TaskRecord → List (List ℕ × Vec ℕ Global) → List ℕ → Directory → Directory → Type 0

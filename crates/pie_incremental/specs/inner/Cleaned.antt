@@ -31,7 +31,8 @@ use Rattle.pie_incremental.specs.declared.ending.Ending.{Ending}
 use Rattle.pie_incremental.specs.Kept.{IsOfNames}
 use Rattle.pie_incremental.specs.Own.{open_path}
 use Rattle.pie_incremental.specs.Starts.{IsBase}
-use Rattle.pie_incremental.specs.inner.Built.{IsBegun, IsKnown}
+use Rattle.pie_incremental.specs.Crashes.{IsBegun}
+use Rattle.pie_incremental.specs.inner.Built.{IsKnown}
 use Rattle.pie_incremental.specs.inner.Changes.{bytes_of}
 use Rattle.pie_incremental.specs.inner.Plans.{IsChangesPlan}
 

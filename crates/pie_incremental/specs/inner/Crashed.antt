@@ -2,30 +2,28 @@
 use Rattle.std.specs.Prelude.{◌≡◌, ◌⊎◌, ℕ, List, ◌++◌, map, Option, Some}
 use Rattle.pie_bottomup.specs.inner.Loaded.{IsStoredIn}
 use Rattle.pie_build.specs.Crashes.{IsDone}
-use Rattle.pie_build.specs.Left.{IsProjectOf, Leaves}
-use Rattle.pie_build.specs.Stored.{IsStoreOf}
+use Rattle.pie_build.specs.Left.{Leaves}
 use Rattle.pie_core_laws.specs.Update.{Update, present}
 use Rattle.pie_files.specs.Directory.{Directory, without_file}
 use Rattle.pie_files.specs.Reading.{LeavesAsBefore}
-use Rattle.pie_model.specs.Built.{store_rows, IsBuilt}
+use Rattle.pie_model.specs.Built.{store_rows}
 use Rattle.pie_model_pipeline.specs.Rows.{record_of}
 use Rattle.pie_model_pipeline.specs.World.{world, project}
 use Rattle.pie_project.specs.declared.project.Project.{Project}
 use Rattle.pie_record.specs.declared.task_record.TaskRecord.{TaskRecord}
 use Rattle.pie_store.specs.declared.image.StoreImage.{StoreImage}
 use Rattle.pie_store.specs.inner.Pending.{in_order}
-use Rattle.pie_value.specs.Canonical.{enc_task}
 use Rattle.pie_value.specs.declared.task.Task.{Task}
 use Rattle.pie_incremental.specs.declared.base.Base.{Base}
 use Rattle.pie_incremental.specs.declared.base.OwnFiles.{OwnFiles}
 use Rattle.pie_incremental.specs.declared.ending.Ending.{Ending}
 use Rattle.pie_incremental.specs.declared.run.Done.{Done}
 use Rattle.pie_incremental.specs.declared.run.Done.TheVariants.{Reported, Stopped}
-use Rattle.pie_incremental.specs.Earlier.{live_of, Earlier, GoesOnFrom}
 use Rattle.pie_incremental.specs.Kept.{HasNames, IsOfNames}
 use Rattle.pie_incremental.specs.Own.{open_path}
 use Rattle.pie_incremental.specs.Starts.{IsBase}
-use Rattle.pie_incremental.specs.inner.Built.{IsBegun, IsKnown}
+use Rattle.pie_incremental.specs.Crashes.{IsBegun, MayStop}
+use Rattle.pie_incremental.specs.inner.Built.{IsKnown}
 use Rattle.pie_incremental.specs.inner.Changes.{bytes_of}
 use Rattle.pie_incremental.specs.inner.Cleaned.{IsClean}
 use Rattle.pie_incremental.specs.inner.Evaluated.{IsUpdateHere}
@@ -71,29 +69,6 @@ MayBuild b p list d c = (u : Update) → IsUpdateFrom u (Some d) b p list
     ⊎ (IsDone Leaves d c ⊎ IsCleanOf u p.digests.items p.roots.items d (without_file c open_path))))
 
 -- ---- of a build
-
--- a directory is that of the clean build of the project of another one, with its store
-pub record IsCleanBuilt (d e : Directory) : Type 0 where
-  pub funcs : List (List ℕ × List ℕ)
-  pub roots : List Task
-  pub found : IsProjectOf d funcs roots
-  pub text : List ℕ
-  pub rows : List TaskRecord
-  pub built : IsBuilt text d e (live_of found.functions d roots)
-  pub records : map record_of rows ≡ store_rows world (project found.functions d) (map enc_task roots)
-  pub store : IsStoreOf funcs roots rows text
-
--- names of this list and the pending ones are kept
-pub record KeepsList (list : List (List ℕ)) (d c : Directory) : Type 0 where
-  pub base : Base
-  pub is : IsBase d base
-  pub names : HasNames (in_order (list ++ base.names.items)) d c
-
--- a build that goes on from an earlier one has begun, it changed nothing yet, its names are kept, or it is done, with or without the marker: as a build that
--- started afresh, or as one that didn't
-abbrev pub MayStop : List (List ℕ) → Directory → Directory → Type 0
-MayStop list d c = (e : Earlier) → GoesOnFrom e list d
-    → IsBegun d c ⊎ ((c ≡ d) ⊎ (KeepsList list d c ⊎ (IsDone Leaves d c ⊎ IsCleanBuilt d (without_file c open_path))))
 
 -- so it is from the base that is there
 abbrev pub MayFrom : Base → List (List ℕ) → Directory → Directory → Type 0

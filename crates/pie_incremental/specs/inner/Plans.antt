@@ -14,7 +14,8 @@ use Rattle.pie_record.specs.declared.task_record.TaskRecord.{TaskRecord}
 use Rattle.pie_results.specs.inner.Files.{contents_in}
 use Rattle.pie_left_laws.specs.Placed.{IsPlaced}
 use Rattle.pie_incremental.specs.declared.base.OwnFiles.{OwnFiles}
-use Rattle.pie_incremental.specs.inner.Built.{AreFilesOf, IsBegun, IsKnown, IsMarked, IsOfBuild, IsPut}
+use Rattle.pie_incremental.specs.Crashes.{IsBegun}
+use Rattle.pie_incremental.specs.inner.Built.{AreFilesOf, IsKnown, IsMarked, IsOfBuild, IsPut}
 use Rattle.pie_incremental.specs.Names.{kept_names}
 use Rattle.pie_incremental.specs.Own.{open_path, IsClosed}
 use Rattle.pie_incremental.specs.inner.Changes.{bytes_of, Changes}

@@ -17,12 +17,16 @@ use Rattle.pie_incremental.specs.inner.Built.{IsKnown}
 use Rattle.pie_incremental.specs.inner.Clean.{BuildsCleanOf}
 use Rattle.pie_incremental.specs.inner.Digested.{digested}
 use Rattle.pie_incremental.specs.inner.Evaluated.{IsUpdateHere}
+use Rattle.pie_incremental.specs.inner.Ran.{HaveReasons}
 
--- a build from this store, with what its end needs, tells no cause to start afresh, and is that of each update to this project of which that is known
+-- a build from this store, with what its end needs, tells no cause to start afresh, and is that of each update to this project of which that is known; the
+-- tasks that it tells ran once and for a reason
 pub record GoesClean (s : StoreImage) (e : Ending) (p : Project) (before after : Option Directory) (r : Report) : Type 0 where
   pub none : r.fresh ≡ None
   pub each : (u : Update) → IsUpdateHere u before p.typed p.roots.items → IsStoredIn u s.funcs p.digests.items s.rows e.names.items
       → IsKnown e.own e.held u.directory → BuildsCleanOf u p.digests.items p.roots.items r after
+  pub ran : (u : Update) → IsUpdateHere u before p.typed p.roots.items → IsStoredIn u s.funcs p.digests.items s.rows e.names.items
+      → HaveReasons u s.funcs p.digests.items r.ran.items
 
 -- so it is unless it has to start afresh
 abbrev pub GoesOn : StoreImage → Ending → Project → Option Directory → Option Directory → Done → Type 0
@@ -35,10 +39,11 @@ pub record IsUpdateFrom (u : Update) (held : Option Directory) (b : Base) (p : P
   pub base : IsBase u.directory b
   pub stored : IsStoredIn u (digested u.directory p.digests.items b.image).funcs p.digests.items b.image.rows (in_order (list ++ b.names.items))
 
--- a build of this project from this base tells no cause to start afresh, and is that of each such update
+-- a build of this project from this base tells no cause to start afresh, and is that of each such update, with the tasks that it tells
 pub record RunsClean (b : Base) (p : Project) (list : List (List ℕ)) (before after : Option Directory) (r : Report) : Type 0 where
   pub none : r.fresh ≡ None
   pub each : (u : Update) → IsUpdateFrom u before b p list → BuildsCleanOf u p.digests.items p.roots.items r after
+  pub ran : (u : Update) → IsUpdateFrom u before b p list → HaveReasons u (digested u.directory p.digests.items b.image).funcs p.digests.items r.ran.items
 
 -- so it is unless it has to start afresh
 abbrev pub RunsOrStops : Base → Project → List (List ℕ) → Option Directory → Option Directory → Done → Type 0

@@ -1,27 +1,29 @@
 use Rattle.std.proofs.Common.{inl, inr}
 use Rattle.pie_project.specs.Refusals.{OfPipeline, OfRoots, plain}
-use Rattle.pie_cli.proofs.Making.{few_of, pipeline_refused, roots_refused}
+use Rattle.pie_report.specs.declared.report.Report.{Report}
+use Rattle.pie_cli.proofs.Making.{few_of, pipeline_refused, pipeline_says, roots_refused, roots_say}
 use Rattle.pie_cli.proofs.finding.topdown.Goals as goal
 
 pub returns-in-Err-Pipeline-clause-says : goal.returns-in-Err-Pipeline-clause-says
 returns-in-Err-Pipeline-clause-says g c =
     let told = c.in_ok-bad_pipeline-in-Err-Pipeline in
     let e = c.in-Err-Pipeline in
-    inl (OfPipeline (plain e.fault), e.ensures.refused (pipeline_refused e.field-0 e.fault e.field-0-is), told.ensures.text, told.ensures.status)
+    inl (OfPipeline (plain e.fault), pipeline_says {A = Report} (g.F.Files.holds c.args.files.now) e.field-0 e.fault e.field-0-is e.ensures.says, e.ensures.refused (pipeline_refused e.field-0 e.fault e.field-0-is), told.ensures.text, told.ensures.status)
 
 pub returns-in-Err-Roots-clause-says : goal.returns-in-Err-Roots-clause-says
 returns-in-Err-Roots-clause-says g c =
     let told = c.in_ok-bad_roots-in-Err-Roots in
     let e = c.in-Err-Roots in
-    inl (OfRoots e.reason, e.ensures.refused (roots_refused e.field-0 e.reason e.field-0-is), told.ensures.text, told.ensures.status)
+    inl (OfRoots e.reason, roots_say {A = Report} (g.F.Files.holds c.args.files.now) e.field-0 e.reason e.field-0-is e.ensures.says, e.ensures.refused (roots_refused e.field-0 e.reason e.field-0-is), told.ensures.text, told.ensures.status)
 
 pub returns-in-Ok-clause-says : goal.returns-in-Ok-clause-says
 returns-in-Ok-clause-says g c =
     let told = c.in_ok-of_report-in-Ok in
     let report = c.in-Ok.report in
-    inr (
-      report,
-      few_of 50000 c.new-runs.result c.build_topdown.new.runs report.ran.items c.in-Ok.ensures.ran c.in-Ok.ensures.few,
-      told.ensures.text,
-      told.ensures.status,
-    )
+    inr (record {
+      report = report;
+      few = few_of 50000 c.new-runs.result c.build_topdown.new.runs report.ran.items c.in-Ok.ensures.ran c.in-Ok.ensures.few;
+      kept = c.in-Ok.ensures.kept;
+      is = told.ensures.text;
+      status = told.ensures.status;
+    })

@@ -1,4 +1,4 @@
-use Rattle.std.proofs.Common.{Err, refl, sym, ap, ◌∙◌}
+use Rattle.std.proofs.Common.{Err, inl, refl, sym, ap, ◌∙◌}
 use Rattle.pie_build.proofs.Changing.{untouched}
 use Rattle.pie_build.proofs.Crashing.{withstands_none}
 use Rattle.pie_build.specs.Left.{Leaves}
@@ -122,9 +122,11 @@ returns-in-Err-Usage-clause-input g c = λ none. (
 )
 
 pub returns-in-Err-OutOfMemory-clause-build : goal.returns-in-Err-OutOfMemory-clause-build
-returns-in-Err-OutOfMemory-clause-build g c = λ json is.
-    runs_memory (MakeSays json) g.F.Files.holds g.F.Files.faults g.I.Source.left g.I.Source.faults c.args.files.now c.args.input.now c.args.input.now
-    (g.K.Sink.held c.args.out.now)
+returns-in-Err-OutOfMemory-clause-build g c = λ json is. record {
+  built = runs_memory (MakeSays json) g.F.Files.holds g.F.Files.faults g.I.Source.left g.I.Source.faults c.args.files.now c.args.input.now c.args.input.now
+      (g.K.Sink.held c.args.out.now);
+  crash = inl refl;
+}
 
 pub returns-in-Err-OutOfMemory-clause-input : goal.returns-in-Err-OutOfMemory-clause-input
 returns-in-Err-OutOfMemory-clause-input g c = λ none. (refl, λ is. absurd (cc))

@@ -4,7 +4,7 @@ use Rattle.pie_report.specs.Refused.{bad_input_text}
 use Rattle.pie_cli.specs.Listed.{IsRead}
 use Rattle.pie_cli.specs.Run.{GainsPrefix, Shows}
 use Rattle.pie_cli.specs.inner.ByList.{says_of}
-use Rattle.pie_cli.proofs.Listing.{bad_read, bad_told, none_changed, none_kept, runs_bad, runs_failed, runs_made, runs_memory}
+use Rattle.pie_cli.proofs.Listing.{bad_read, bad_told, none_changed, none_kept, none_left, read_left, runs_bad, runs_failed, runs_made, runs_memory}
 use Rattle.pie_cli.proofs.Ending.{ends_failed, ends_memory, ends_shown, ends_unread}
 use Rattle.pie_cli.proofs.top.run_by_list.Goals as goal
 
@@ -79,3 +79,22 @@ returns-in-Err-Failed-clause-rest g c = none_kept c.args.which (g.F.Files.holds 
 
 pub returns-in-Err-OutOfMemory-clause-rest : goal.returns-in-Err-OutOfMemory-clause-rest
 returns-in-Err-OutOfMemory-clause-rest g c = none_kept c.args.which (g.F.Files.holds c.args.files.now) (g.F.Files.holds c.args.files.now) refl
+
+pub returns-in-Ok-clause-crash : goal.returns-in-Ok-clause-crash
+returns-in-Ok-clause-crash g c =
+    read_left g.F.Files.holds g.F.Files.moment g.F.Files.left_since g.F.Files.images c.args.which c.as_slice.result.now c.args.files.now c.do_by_list.new.files
+    (g.I.Source.left c.args.input.now) (g.I.Source.left c.read_names.new.input)
+    (subst (λ (names : List (List ℕ)). IsRead names (g.I.Source.left c.args.input.now) (g.I.Source.left c.read_names.new.input)) (sym c.as_slice.ensures.value)
+    c.in-Ok.ensures.read) c.do_by_list.ensures.crash
+
+pub returns-in-Err-Bad-clause-crash : goal.returns-in-Err-Bad-clause-crash
+returns-in-Err-Bad-clause-crash g c = none_left g.F.Files.holds g.F.Files.moment g.F.Files.left_since g.F.Files.images c.args.which c.args.files.now
+    (g.I.Source.left c.args.input.now) (g.I.Source.left c.read_names.new.input)
+
+pub returns-in-Err-Failed-clause-crash : goal.returns-in-Err-Failed-clause-crash
+returns-in-Err-Failed-clause-crash g c = none_left g.F.Files.holds g.F.Files.moment g.F.Files.left_since g.F.Files.images c.args.which c.args.files.now
+    (g.I.Source.left c.args.input.now) (g.I.Source.left c.read_names.new.input)
+
+pub returns-in-Err-OutOfMemory-clause-crash : goal.returns-in-Err-OutOfMemory-clause-crash
+returns-in-Err-OutOfMemory-clause-crash g c = none_left g.F.Files.holds g.F.Files.moment g.F.Files.left_since g.F.Files.images c.args.which c.args.files.now
+    (g.I.Source.left c.args.input.now) (g.I.Source.left c.read_names.new.input)

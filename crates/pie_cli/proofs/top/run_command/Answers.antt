@@ -21,9 +21,10 @@ returns-in-Fresh-clause-fresh g c = λ json is.
 pub returns-in-Build-clause-build : goal.returns-in-Build-clause-build
 returns-in-Build-clause-build g c = λ json is.
     at_build_flag
-    (λ b. RunsBuild g.F.Files.holds g.F.Files.faults g.I.Source.left g.I.Source.faults b c.args.files.now c.run_by_list.new.files c.args.input.now
-    c.run_by_list.new.input (g.K.Sink.held c.args.out.now) (g.K.Sink.held c.run_by_list.new.out) c.run_by_list.result)
-    c.args.command c.in-Build.json json c.in-Build.is is c.run_by_list.ensures.lists
+    (λ b. RunsBuild g.F.Files.holds g.F.Files.moment g.F.Files.left_since g.F.Files.images g.F.Files.faults g.I.Source.left g.I.Source.faults b
+    c.args.files.now c.run_by_list.new.files c.args.input.now c.run_by_list.new.input (g.K.Sink.held c.args.out.now) (g.K.Sink.held c.run_by_list.new.out)
+    c.run_by_list.result)
+    c.args.command c.in-Build.json json c.in-Build.is is (record { built = c.run_by_list.ensures.lists; crash = c.run_by_list.ensures.crash })
 
 pub returns-in-Build-clause-input : goal.returns-in-Build-clause-input
 returns-in-Build-clause-input g c = λ none. absurd ((none.0 c.in-Build.json).0 c.in-Build.is)

@@ -3,7 +3,7 @@ use Rattle.pie_incremental.proofs.Cleanly.{afresh_cleans, from_cleans}
 use Rattle.pie_incremental.proofs.Joining.{few_told, few_once}
 use Rattle.pie_incremental.proofs.Treating.{afresh_names, from_names}
 use Rattle.pie_commit.proofs.Reading.{before_rest}
-use Rattle.pie_incremental.specs.inner.Crashed.{MayStop}
+use Rattle.pie_incremental.specs.Crashes.{MayStop}
 use Rattle.pie_incremental.proofs.Crashing.{crash_afresh, crash_based, stop_first}
 use Rattle.std.proofs.Common.{subst}
 use Rattle.pie_incremental.specs.Starts.{IsWhole}

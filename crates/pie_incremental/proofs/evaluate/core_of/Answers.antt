@@ -1,5 +1,6 @@
 use Rattle.std.proofs.Common.{◌≡◌, sym, subst}
 use Rattle.pie_bottomup.specs.inner.Loaded.{BeginsExact}
+use Rattle.pie_bottomup.specs.inner.Ran.{BeginsKnowing}
 use Rattle.pie_bottomup.specs.inner.States.{IsPlanOf}
 use Rattle.pie_store.specs.declared.image.StoreImage.{StoreImage}
 use Rattle.pie_incremental.specs.inner.Evaluated.{BeginsNow}
@@ -20,3 +21,13 @@ returns-clause-exact c =
     c.as_slice-2.ensures.value
     (begins_now p.typed c.args.code.now c.args.image.value.funcs p.digests.items c.args.image.value.rows c.args.names.now c.as_slice-2.result.now core
     (subst (λ ds. IsPlanOf p.typed ds c.as_slice-2.result.now core.plan) digests c.in_ok-core.ensures.plan) c.in_ok-core.ensures.first c.in_ok-core.ensures.code begins))
+
+pub returns-clause-knows : goal.returns-clause-knows
+returns-clause-knows c =
+    let p = c.args.project.now in
+    let s = c.args.image.value in
+    let core = c.in_ok-core.core in
+    let begins : BeginsKnowing s.funcs p.digests.items s.rows c.args.names.now core =
+    subst (λ ds. BeginsKnowing s.funcs ds s.rows c.args.names.now core) c.as_slice.ensures.value
+    (subst (λ (x : StoreImage). BeginsKnowing x.funcs c.as_slice.result.now x.rows c.args.names.now core) c.into_inner.ensures c.in_ok-core.ensures.knows) in
+    subst (BeginsKnowing s.funcs p.digests.items s.rows c.args.names.now) (sym c.in_ok-core-2.ensures.ok) begins

@@ -3,6 +3,8 @@ use Rattle.std.specs.Prelude.{IfSome}
 use Rattle.pie_incremental.specs.declared.ending.Ending.{Ending}
 use Rattle.pie_incremental.specs.inner.Cleaned.{LeavesBy, MayLeaveBy}
 use Rattle.pie_incremental.specs.inner.Evaluated.{EvaluatesExact, MakesExact}
+use Rattle.pie_incremental.specs.inner.Ran.{RunsEach, RunsWhere}
+use Rattle.pie_incremental.proofs.Running.{told_reasons}
 use Rattle.pie_incremental.proofs.Updating.{goes_clean}
 use Rattle.pie_commit.proofs.Reading.{before_rest}
 use Rattle.pie_commit.specs.Outcomes.{LeavesFromRest}
@@ -29,7 +31,13 @@ returns-in_ok-report-in-Built-clause-clean g c =
     subst (λ ns. MakesExact before p.typed p.digests.items p.roots.items s ns b) names evaluated in
     let leaves : IfSome mid (λ d. LeavesBy b.verdict e.own e.held p.digests.items p.roots.items b d r after) =
     subst (λ (x : Ending). IfSome mid (λ d. LeavesBy b.verdict x.own x.held p.digests.items p.roots.items b d r after)) ending report.ensures.left in
+    let runs : RunsEach before p.typed p.digests.items p.roots.items s e.names.items c.args.runs.now c.evaluate.new.runs =
+    subst (λ ns. RunsEach before p.typed p.digests.items p.roots.items s ns c.args.runs.now c.evaluate.new.runs) names
+    (subst (RunsWhere before p.typed p.digests.items p.roots.items s c.as_slice.result.now c.args.runs.now c.evaluate.new.runs) c.in-Built.is
+    c.in_ok-built.ensures.ran) in
     goes_clean s e p before mid after b r c.in_ok-built.ensures.reads.same makes leaves report.ensures.verdict report.ensures.fresh
+    (told_reasons before p.typed p.digests.items p.roots.items s e.names.items c.count.result c.args.runs.now c.evaluate.new.runs c.in_ok-ran-in-Built.ran r
+    c.count.ensures runs c.in_ok-ran-in-Built.ensures report.ensures.ran)
 
 pub returns-in_err-built-clause-crash : goal.returns-in_err-built-clause-crash
 returns-in_err-built-clause-crash g c =

@@ -4,6 +4,7 @@ use Rattle.pie_bottomup.proofs.GoingFirst.{test_whole, walk_whole}
 use Rattle.std.proofs.Common.{inl, refl}
 use Rattle.pie_bottomup.specs.inner.Ran.{StepsFor}
 use Rattle.pie_bottomup.proofs.Reasoning.{on_ok, steps_for}
+use Rattle.pie_bottomup.proofs.Many.{done_many, tests_many}
 use Rattle.pie_bottomup.proofs.state.Core.go_on.Goals as goal
 
 pub returns-in_ok-walk_on-in-Done-clause-whole : goal.returns-in_ok-walk_on-in-Done-clause-whole
@@ -24,3 +25,10 @@ pub returns-in-Tests-clause-reasons : goal.returns-in-Tests-clause-reasons
 returns-in-Tests-clause-reasons g c =
     on_ok (StepsFor (g.F.Files.holds c.args.files.now) c.args.self.now c.begin_tested.new.self c.args.runs.now c.args.runs.now) c.begin_tested.result
     (λ u funcs digests now site stands knows. inl refl)
+
+pub returns-in_ok-walk_on-in-Done-clause-many : goal.returns-in_ok-walk_on-in-Done-clause-many
+returns-in_ok-walk_on-in-Done-clause-many g c =
+    done_many {E = FilesError} c.args.self.now (Ok c.in_ok-walk_on-in-Done.field-0) c.in-Done.is
+
+pub returns-in-Tests-clause-many : goal.returns-in-Tests-clause-many
+returns-in-Tests-clause-many g c = tests_many c.args.self.now c.begin_tested.result c.in-Tests.is

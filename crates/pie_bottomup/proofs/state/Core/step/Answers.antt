@@ -7,6 +7,7 @@ use Rattle.pie_bottomup.proofs.GoingFirst.{free_whole}
 use Rattle.std.proofs.Common.{inl, refl}
 use Rattle.pie_bottomup.specs.inner.Ran.{StepsFor}
 use Rattle.pie_bottomup.proofs.Reasoning.{on_ok, free_for}
+use Rattle.pie_bottomup.proofs.Many.{hand_many}
 use Rattle.pie_bottomup.proofs.state.Core.step.Goals as goal
 
 pub returns-in-Some-clause-whole : goal.returns-in-Some-clause-whole
@@ -35,3 +36,7 @@ returns-in-None-clause-reasons g c =
     free_for held c.args.self.now c.go_on.new.self c.args.runs.now c.go_on.new.runs c.go_on.result (sym c.take.ensures.value ∙ c.in-None.is)
     (subst (λ (h : Option InHand). OnOk c.go_on.result (StepsFor held (record c.args.self.now { hand = h }) c.go_on.new.self c.args.runs.now c.go_on.new.runs))
     c.take.ensures.after c.go_on.ensures.reasons)
+
+pub returns-in-Some-clause-many : goal.returns-in-Some-clause-many
+returns-in-Some-clause-many g c =
+    hand_many c.args.self.now c.in-Some.hand c.event.result c.requires (sym c.take.ensures.value ∙ c.in-Some.is)

@@ -1,0 +1,210 @@
+-- Which tasks an evaluation runs, and why.
+use Rattle.std.proofs.Common.{◌≡◌, ◌≢◌, inl, inr, ℕ, ◌<◌, ◌≤◌, Bool, true, false, List, [], ◌∷◌, ◌++◌, length, get_or, drop, Option, Some, Vec, Global, refl, sym, ap, subst, ◌∙◌, arith}
+use Rattle.std.specs.Prelude.{slice_get, slice_index_or}
+use Rattle.std.proofs.lemmas.Bool.{false≢true}
+use Rattle.std.proofs.Math.Seq.{drop-append_seam}
+use Rattle.std.proofs.lemmas.List.{append_assoc}
+use Rattle.std.proofs.lemmas.List.Elements.{All-push, All-weaker}
+use Rattle.std.proofs.lemmas.List.Quantifiers.{all_pairs_push}
+use Rattle.std.proofs.lemmas.Option.{slice_get-get_or, slice_get_within}
+use Rattle.pie_bottomup.specs.declared.plan.Plan.{Plan}
+use Rattle.pie_bottomup.specs.declared.state.Core.{Core}
+use Rattle.pie_bottomup.specs.declared.state.First.{First}
+use Rattle.pie_bottomup.specs.declared.state.First.TheVariants.{Tests, TooMany, Done}
+use Rattle.pie_bottomup.specs.declared.state.Turn.{Turn}
+use Rattle.pie_bottomup.specs.declared.state.Turn.TheVariants.{Went, Settled, StartAfresh}
+use Rattle.pie_bottomup.specs.inner.Exact.{IsSiteNow}
+use Rattle.pie_bottomup.specs.inner.Going.{IsBuildNow, IsWhole, StandsWhole, StepsWhole, TurnIsWhole}
+use Rattle.pie_bottomup.specs.inner.Loaded.{IsStoredIn}
+use Rattle.pie_bottomup.specs.inner.Ran.{BeginsKnowing, HasReason, IsKnownAs, KnowsCode, RunsFor, StartsFor, StepsFor}
+use Rattle.pie_bottomup.specs.inner.States.{KeepsTasks}
+use Rattle.pie_builder_laws.specs.Events.{AreCompiled}
+use Rattle.pie_builder_laws.specs.Names.{AreTasks}
+use Rattle.pie_builder_laws.proofs.Naming.{one_place}
+use Rattle.pie_code.specs.declared.code.Code.{Code}
+use Rattle.pie_core_laws.specs.Update.{Update}
+use Rattle.pie_files.specs.Directory.{Directory}
+use Rattle.pie_graph.specs.Numbers.{IsMarked}
+use Rattle.pie_old.specs.inner.Code.{is_same_code}
+use Rattle.pie_parser.specs.FunctionTrees.{FunctionTree}
+use Rattle.pie_report.specs.declared.report.Report.{Report}
+use Rattle.pie_store.specs.declared.cause.Cause.{Cause}
+use Rattle.pie_store.specs.declared.cause.Cause.TheVariants.{UnionMany}
+use Rattle.pie_store.specs.declared.image.StoreImage.{StoreImage}
+use Rattle.pie_tables.specs.declared.tables.Tables.{Tables}
+use Rattle.pie_value.specs.declared.task.Task.{Task}
+use Rattle.pie_incremental.specs.inner.Evaluated.{BeginsNow, IsUpdateHere, StaysStanding}
+use Rattle.pie_incremental.specs.inner.Ran.{HasRun, HaveReasons, HaveRun, Knows, RunsEach, RunsOn, RunsWhole, StaysMany}
+
+-- ---- more tasks
+
+names_longer : (old new : List Task) → ((n : ℕ) (t : Task) → slice_get old n ≡ Some t → slice_get new n ≡ Some t) → length old ≤ length new
+names_longer [] new keeps = omega arith
+names_longer (t ∷ ts) new keeps =
+    let last : slice_get (t ∷ ts) (length ts) ≡ Some (get_or (t ∷ ts) (length ts) t) = slice_get-get_or (t ∷ ts) (length ts) t (omega arith) in
+    let within : length ts < length new = slice_get_within new (length ts) (get_or (t ∷ ts) (length ts) t) (keeps (length ts) (get_or (t ∷ ts) (length ts) t) last) in
+    omega (arith, within)
+
+module _ (u : Update) (funcs digests : List (List ℕ × List ℕ)) (same : List Bool) (a b : Tables) (k : KeepsTasks a b) (knows : KnowsCode u funcs digests same a) where
+  known_as : (bytes : List ℕ) → IsKnownAs a (length same) bytes → IsKnownAs b (length same) bytes
+  known_as bytes is = record {
+    number = is.number;
+    task = is.task;
+    old = is.old;
+    named = k.names is.number is.task is.named;
+    is = is.is;
+    recorded = k.recorded is.number is.recorded;
+  }
+
+  each_same : (n : ℕ) (task : Task) → n < length same → slice_get b.names n ≡ Some task → slice_index_or same n false ≡ is_same_code funcs digests task.func
+  each_same n task old named =
+      let few : length same ≤ length a.names = knows.few in
+      let t : Task = get_or a.names n task in
+      let at : slice_get a.names n ≡ Some t = slice_get-get_or a.names n task (omega (arith, old, few)) in
+      let both : Some t ≡ Some task = sym (k.names n t at) ∙ named in
+      let is : t ≡ task = cc in
+      knows.each n t old at ∙ ap (λ (x : Task). is_same_code funcs digests x.func) is
+
+  -- it is still known of each old task whether its code is as it was
+  pub still_known : KnowsCode u funcs digests same b
+  still_known = record {
+    few = let longer : length a.names ≤ length b.names = names_longer a.names b.names k.names in omega (arith, longer, knows.few);
+    each = each_same;
+    olds = λ bytes some. known_as bytes (knows.olds bytes some);
+  }
+
+-- ---- the tasks that ran
+
+run_still : (a b : Tables) → KeepsTasks a b → (task : Task) → HasRun a task → HasRun b task
+run_still a b k task r = record { number = r.number; named = k.names r.number task r.named; marked = k.ran r.number r.marked }
+
+none_ran : (u : Update) (funcs digests : List (List ℕ × List ℕ)) → HaveReasons u funcs digests []
+none_ran u funcs digests = record { once = λ i j d lt within. absurd (omega (arith, within)); reasons = λ i d within. absurd (omega (arith, within)) }
+
+module _ (u : Update) (funcs digests : List (List ℕ × List ℕ)) (a b : Tables) (k : KeepsTasks a b) (tasks : AreTasks b.names) (before mid after : List Task)
+    (h : HaveRun u funcs digests a before mid) where
+  -- none more
+  same_run : after ≡ mid → HaveRun u funcs digests b before after
+  same_run same = record { gained = h.gained; is = same ∙ h.is; ran = h.ran; marked = All-weaker (HasRun a) (HasRun b) (run_still a b k) h.gained h.marked }
+
+  -- a task that starts hadn't run
+  other : (s : StartsFor u funcs digests a b mid after) (task : Task) → HasRun a task → task ≢ s.task
+  other s task r is =
+      let here : slice_get b.names r.number ≡ Some task = k.names r.number task r.named in
+      let there : slice_get b.names s.number ≡ Some task = k.names s.number s.task s.named ∙ ap Some (sym is) in
+      let one : r.number ≡ s.number = one_place b.names tasks r.number s.number task here there in
+      false≢true (sym s.rested ∙ subst (IsMarked a.ran.items) one r.marked)
+
+  one_run : StartsFor u funcs digests a b mid after → HaveRun u funcs digests b before after
+  one_run s = record {
+    gained = h.gained ++ s.task ∷ [];
+    is = s.added ∙ ap (λ (ts : List Task). ts ++ s.task ∷ []) h.is ∙ append_assoc before h.gained (s.task ∷ []);
+    ran = record {
+      once = all_pairs_push (λ (t v : Task). t ≢ v) h.gained s.task h.ran.once (λ i d within. other s (get_or h.gained i d) (h.marked i d within));
+      reasons = All-push (HasReason u funcs digests) h.gained s.task h.ran.reasons s.reason;
+    };
+    marked = All-push (HasRun b) h.gained s.task (All-weaker (HasRun a) (HasRun b) (run_still a b k) h.gained h.marked)
+        (record { number = s.number; named = k.names s.number s.task s.named; marked = s.ran });
+  }
+
+  more_run : RunsFor u funcs digests a b mid after → HaveRun u funcs digests b before after
+  more_run (inl same) = same_run same
+  more_run (inr s) = one_run s
+
+-- ---- steps
+
+pub runs_first : (held : Option Directory) (c : Core) (runs : List Task) → RunsOn held c c runs runs
+runs_first held c runs u funcs digests site now stands knows =
+    (knows, record { gained = []; is = none_more runs; ran = none_ran u funcs digests; marked = λ i d within. absurd (omega (arith, within)) })
+  where
+    none_more : (ts : List Task) → ts ≡ ts ++ []
+    none_more [] = refl
+    none_more (t ∷ ts) = ap (λ (xs : List Task). t ∷ xs) (none_more ts)
+
+module _ (held mid : Option Directory) (a b c : Core) (turn : Turn) (r s t : List Task) (same : mid ≡ held) (first : b.plan ≡ a.plan) (then : c.plan ≡ b.plan)
+    (tasks : KeepsTasks b.tables c.tables) (stands : StaysStanding held a b) (before : RunsOn held a b r s) (whole : StepsWhole mid b c turn)
+    (step : StepsFor mid b c s t) where
+  module _ (u : Update) (funcs digests : List (List ℕ × List ℕ)) (site : IsSiteNow u held) (now : IsBuildNow u a.plan) (begins : StandsWhole u a)
+      (knows : Knows u funcs digests a) where
+    at : IsBuildNow u b.plan
+    at = subst (λ (p : Plan). IsBuildNow u p) (sym first) now
+
+    turned : TurnIsWhole u c turn
+    turned = subst (λ m. StepsWhole m b c turn) same whole u at site (stands u site now begins)
+
+    so_far : Knows u funcs digests b × HaveRun u funcs digests b.tables r s
+    so_far = before u funcs digests site now begins knows
+
+    runs : RunsFor u funcs digests b.tables c.tables s t
+    runs = subst (λ m. StepsFor m b c s t) same step u funcs digests at site (stands u site now begins) so_far.0
+
+    knows_on : Knows u funcs digests c
+    knows_on = subst (λ (p : Plan). KnowsCode u funcs digests p.same.items c.tables) (sym then)
+        (still_known u funcs digests b.plan.same.items b.tables c.tables tasks so_far.0)
+
+    ran_on : IsWhole u c → Knows u funcs digests c × HaveRun u funcs digests c.tables r t
+    ran_on w = (knows_on, more_run u funcs digests b.tables c.tables tasks w.exact.are.tables.tasks r s t so_far.1 runs)
+
+  pub runs_on : turn ≡ Went → RunsOn held a c r t
+  runs_on went u funcs digests site now begins knows =
+      ran_on u funcs digests site now begins knows (subst (TurnIsWhole u c) went (turned u funcs digests site now begins knows))
+
+  pub runs_end : turn ≡ Settled → RunsOn held a c r t
+  runs_end settled u funcs digests site now begins knows =
+      ran_on u funcs digests site now begins knows (subst (TurnIsWhole u c) settled (turned u funcs digests site now begins knows))
+
+  -- of a core that isn't of too many old tasks, once the roots are settled
+  pub settles_runs : turn ≡ Settled → StaysMany a b → ((task : Task) → b.first ≡ TooMany task → turn ≡ StartAfresh (UnionMany 50000 0 task))
+      → RunsWhole held a r t
+  settles_runs settled stays many = record {
+    few = λ task is. absurd (never (sym settled ∙ many task (stays task is)));
+    each = λ u funcs digests site now begins knows.
+        let h = (runs_end settled u funcs digests site now begins knows).1 in record { gained = h.gained; is = h.is; ran = h.ran };
+  }
+    where
+      never : {cause : Cause} → Settled ≡ StartAfresh cause → ⊥
+      never e = cc
+
+-- ---- too many old tasks
+
+pub many_first : (c : Core) → StaysMany c c
+many_first c task is = is
+
+pub many_on : (a b c : Core) (turn : Turn) → StaysMany a b → ((task : Task) → b.first ≡ TooMany task → turn ≡ StartAfresh (UnionMany 50000 0 task))
+    → turn ≡ Went → StaysMany a c
+many_on a b c turn stays many went task is = absurd (never (sym went ∙ many task (stays task is)))
+  where
+    never : {cause : Cause} → Went ≡ StartAfresh cause → ⊥
+    never e = cc
+
+-- ---- an evaluation
+
+begins_by : (c : Core) → (c.first ≡ Done → ⊥) → ((task : Task) → c.first ≡ TooMany task → ⊥) → c.first ≡ Tests
+begins_by c fresh few = by c.first refl
+  where
+    by : (f : First) → c.first ≡ f → c.first ≡ Tests
+    by Tests is = is
+    by (TooMany task) is = absurd (few task is)
+    by Done is = absurd (fresh is)
+
+pub runs_each : (held : Option Directory) (fs : List FunctionTree) (codes : List Code) (digests : List (List ℕ × List ℕ)) (roots : List Task) (s : StoreImage)
+    (names : List (List ℕ)) (c : Core) (before after : List Task) → AreCompiled fs codes → BeginsNow fs codes roots s.funcs digests s.rows names c
+    → (c.first ≡ Done → ⊥) → BeginsKnowing s.funcs digests s.rows names c → RunsWhole held c before after
+    → RunsEach held fs digests roots s names before after
+runs_each held fs codes digests roots s names c before after compiled begins fresh knows runs = record {
+  each = λ u here stored.
+      let begun = begins.each u held here compiled stored in
+      let site : IsSiteNow u held = record { holds = here.holds; apart = here.separates; besides = here.met } in
+      runs.each u s.funcs digests site begun.0 begun.1 (knows u stored (begins_by c fresh runs.few));
+}
+
+-- what a report tells of them
+pub told_reasons : (held : Option Directory) (fs : List FunctionTree) (digests : List (List ℕ × List ℕ)) (roots : List Task) (s : StoreImage)
+    (names : List (List ℕ)) (n : ℕ) (old new : List Task) (ran : Vec Task Global) (r : Report) → n ≡ length old
+    → RunsEach held fs digests roots s names old new → ran.items ≡ drop n new → r.ran ≡ ran
+    → (u : Update) → IsUpdateHere u held fs roots → IsStoredIn u s.funcs digests s.rows names → HaveReasons u s.funcs digests r.ran.items
+told_reasons held fs digests roots s names n old new ran r is runs behind same u here stored =
+    let h = runs.each u here stored in
+    let gained : drop n new ≡ h.gained = ap (λ k. drop k new) is ∙ ap (drop (length old)) h.is ∙ drop-append_seam old h.gained in
+    let these : r.ran.items ≡ h.gained = ap (λ (v : Vec Task Global). v.items) same ∙ behind ∙ gained in
+    subst (HaveReasons u s.funcs digests) (sym these) h.ran

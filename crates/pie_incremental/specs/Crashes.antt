@@ -1,0 +1,48 @@
+-- What a crash leaves of a build by what changed.
+use Rattle.std.specs.Prelude.{◌≡◌, ◌⊎◌, ◌||◌, ℕ, false, List, ◌++◌, map}
+use Rattle.pie_base.specs.Path.{is_out}
+use Rattle.pie_build.specs.Crashes.{IsDone}
+use Rattle.pie_build.specs.Left.{IsProjectOf, Leaves}
+use Rattle.pie_build.specs.Stored.{IsStoreOf}
+use Rattle.pie_commit.specs.Outcomes.{HasFile}
+use Rattle.pie_files.specs.Directory.{Directory, file_at, without_file}
+use Rattle.pie_model.specs.Built.{store_rows, IsBuilt}
+use Rattle.pie_model_pipeline.specs.Rows.{record_of}
+use Rattle.pie_model_pipeline.specs.World.{world, project}
+use Rattle.pie_record.specs.declared.task_record.TaskRecord.{TaskRecord}
+use Rattle.pie_store.specs.inner.Pending.{in_order}
+use Rattle.pie_value.specs.Canonical.{enc_task}
+use Rattle.pie_value.specs.declared.task.Task.{Task}
+use Rattle.pie_incremental.specs.declared.base.Base.{Base}
+use Rattle.pie_incremental.specs.Earlier.{live_of, Earlier, GoesOnFrom}
+use Rattle.pie_incremental.specs.Kept.{is_builders, HasNames}
+use Rattle.pie_incremental.specs.Own.{open_path}
+use Rattle.pie_incremental.specs.Starts.{IsBase}
+
+-- the marker stands, and each path that isn't under `out/` and isn't one of the builder's own has the file that it had
+pub record IsBegun (d c : Directory) : Type 0 where
+  pub marked : HasFile c open_path
+  pub rest : (q : List ℕ) → (is_out q || is_builders q) ≡ false → file_at c q ≡ file_at d q
+
+-- a directory is that of the clean build of the project of another one, with its store
+pub record IsCleanBuilt (d e : Directory) : Type 0 where
+  pub funcs : List (List ℕ × List ℕ)
+  pub roots : List Task
+  pub found : IsProjectOf d funcs roots
+  pub text : List ℕ
+  pub rows : List TaskRecord
+  pub built : IsBuilt text d e (live_of found.functions d roots)
+  pub records : map record_of rows ≡ store_rows world (project found.functions d) (map enc_task roots)
+  pub store : IsStoreOf funcs roots rows text
+
+-- names of this list and the pending ones are kept
+pub record KeepsList (list : List (List ℕ)) (d c : Directory) : Type 0 where
+  pub base : Base
+  pub is : IsBase d base
+  pub names : HasNames (in_order (list ++ base.names.items)) d c
+
+-- a build that goes on from an earlier one has begun, it changed nothing yet, its names are kept, or it is done, with or without the marker: as a build that
+-- started afresh, or as one that didn't
+abbrev pub MayStop : List (List ℕ) → Directory → Directory → Type 0
+MayStop list d c = (e : Earlier) → GoesOnFrom e list d
+    → IsBegun d c ⊎ ((c ≡ d) ⊎ (KeepsList list d c ⊎ (IsDone Leaves d c ⊎ IsCleanBuilt d (without_file c open_path))))

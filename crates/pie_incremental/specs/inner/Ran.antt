@@ -1,0 +1,84 @@
+-- Which tasks an evaluation runs, and why.
+use Rattle.std.specs.Prelude.{◌≡◌, ◌≢◌, ℕ, List, ◌++◌, All, Option, Some, None, slice_get}
+use Rattle.std.specs.List.{AllPairs}
+use Rattle.pie_bottomup.specs.declared.state.Core.{Core}
+use Rattle.pie_bottomup.specs.declared.state.First.TheVariants.{TooMany}
+use Rattle.pie_bottomup.specs.inner.Exact.{IsSiteNow}
+use Rattle.pie_bottomup.specs.inner.Going.{IsBuildNow, StandsWhole}
+use Rattle.pie_bottomup.specs.inner.Loaded.{IsStoredIn}
+use Rattle.pie_bottomup.specs.inner.Ran.{HasReason, KnowsCode}
+use Rattle.pie_core_laws.specs.Update.{Update}
+use Rattle.pie_files.specs.Directory.{Directory}
+use Rattle.pie_graph.specs.Numbers.{IsMarked}
+use Rattle.pie_parser.specs.FunctionTrees.{FunctionTree}
+use Rattle.pie_store.specs.declared.cause.Cause.{Cause}
+use Rattle.pie_store.specs.declared.image.StoreImage.{StoreImage}
+use Rattle.pie_tables.specs.declared.tables.Tables.{Tables}
+use Rattle.pie_value.specs.declared.task.Task.{Task}
+use Rattle.pie_incremental.specs.declared.evaluate.Ended.{Ended}
+use Rattle.pie_incremental.specs.declared.evaluate.Ended.TheVariants.{Built, Afresh}
+use Rattle.pie_incremental.specs.inner.Evaluated.{IsUpdateHere}
+
+-- no task stands twice among those that ran in a build of an update, and each has a reason to run, by the digests that the store kept and those of now
+pub record HaveReasons (u : Update) (funcs digests : List (List ℕ × List ℕ)) (ran : List Task) : Type 0 where
+  pub once : AllPairs (λ t v. t ≢ v) ran
+  pub reasons : All (HasReason u funcs digests) ran
+
+-- ---- between two steps
+
+-- a task has run under its number
+pub record HasRun (t : Tables) (task : Task) : Type 0 where
+  pub number : ℕ
+  pub named : slice_get t.names number ≡ Some task
+  pub marked : IsMarked t.ran.items number
+
+-- the tasks that were started have run in these tables, each once and for a reason
+pub record HaveRun (u : Update) (funcs digests : List (List ℕ × List ℕ)) (t : Tables) (before after : List Task) : Type 0 where
+  pub gained : List Task
+  pub is : after ≡ before ++ gained
+  pub ran : HaveReasons u funcs digests gained
+  pub marked : All (HasRun t) gained
+
+-- a core knows of each old task whether its code is as it was
+abbrev pub Knows : Update → List (List ℕ × List ℕ) → List (List ℕ × List ℕ) → Core → Type 0
+Knows u funcs digests c = KnowsCode u funcs digests c.plan.same.items c.tables
+
+-- over files that hold the directory of an update, a core that knew that knows it still, and so it is with the tasks that were started
+abbrev pub RunsOn : Option Directory → Core → Core → List Task → List Task → Type 0
+RunsOn held old new before after = (u : Update) (funcs digests : List (List ℕ × List ℕ)) → IsSiteNow u held → IsBuildNow u old.plan → StandsWhole u old
+    → Knows u funcs digests old → Knows u funcs digests new × HaveRun u funcs digests new.tables before after
+
+-- where there were too many old tasks, there are still
+abbrev pub StaysMany : Core → Core → Type 0
+StaysMany old new = (task : Task) → old.first ≡ TooMany task → new.first ≡ TooMany task
+
+-- ---- once the roots are settled
+
+-- the tasks that were started ran each once and for a reason, where the old ones are known
+pub record HaveStarted (u : Update) (funcs digests : List (List ℕ × List ℕ)) (before after : List Task) : Type 0 where
+  pub gained : List Task
+  pub is : after ≡ before ++ gained
+  pub ran : HaveReasons u funcs digests gained
+
+-- so it is over files that hold the directory of an update; there weren't too many old tasks
+pub record RunsWhole (held : Option Directory) (c : Core) (before after : List Task) : Type 0 where
+  pub few : (task : Task) → c.first ≡ TooMany task → ⊥
+  pub each : (u : Update) (funcs digests : List (List ℕ × List ℕ)) → IsSiteNow u held → IsBuildNow u c.plan → StandsWhole u c → Knows u funcs digests c
+      → HaveStarted u funcs digests before after
+
+abbrev pub SettlesRuns : Option Directory → Core → List Task → List Task → Option Cause → Type 0
+SettlesRuns held c before after None = RunsWhole held c before after
+SettlesRuns held c before after (Some cause) = Unit {0}
+
+-- ---- an evaluation
+
+-- of each update to these functions and roots from this store, with these names, the tasks that were started ran each once and for a reason
+pub record RunsEach (held : Option Directory) (fs : List FunctionTree) (digests : List (List ℕ × List ℕ)) (roots : List Task) (s : StoreImage)
+    (names : List (List ℕ)) (before after : List Task) : Type 0 where
+  pub each : (u : Update) → IsUpdateHere u held fs roots → IsStoredIn u s.funcs digests s.rows names → HaveStarted u s.funcs digests before after
+
+-- so it is unless it has to start afresh
+abbrev pub RunsWhere : Option Directory → List FunctionTree → List (List ℕ × List ℕ) → List Task → StoreImage → List (List ℕ) → List Task → List Task → Ended
+    → Type 0
+RunsWhere held fs digests roots s names before after (Built b) = RunsEach held fs digests roots s names before after
+RunsWhere held fs digests roots s names before after (Afresh cause) = Unit {0}

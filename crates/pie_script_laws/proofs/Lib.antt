@@ -1,0 +1,5 @@
+pub mod Members
+pub mod Going
+pub mod Cleaning
+pub mod Refusing
+pub mod Scripting

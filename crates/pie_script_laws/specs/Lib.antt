@@ -1,0 +1,2 @@
+pub mod Basing
+pub mod Scripts
