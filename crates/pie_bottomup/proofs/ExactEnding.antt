@@ -142,9 +142,12 @@ module _ (s after : WalkState) (n : ℕ) (one : SettlesOne s after n) where
 -- what the row of another task begins with stays
 begins_apart : (t new : Tables) (old rows : List Row) (n from : ℕ) → new.names ≡ t.names → kept_of new.records n ≡ kept_of t.records n
     → row_at rows n ≡ row_at old n → BeginsAsOld t old n from → BeginsAsOld new rows n from
-begins_apart t new old rows n from names records row begins rec kept =
-    subst (λ (ns : List Task). AreNumbersOf ns (take from (row_at rows n).needs) (called_in rec.deps)) (sym names)
-    (subst (λ (r : Row). AreNumbersOf t.names (take from r.needs) (called_in rec.deps)) (sym row) (begins rec (sym records ∙ kept)))
+begins_apart t new old rows n from names records row begins = record {
+  old = λ rec kept.
+      subst (λ (ns : List Task). AreNumbersOf ns (take from (row_at rows n).needs) (called_in rec.deps)) (sym names)
+      (subst (λ (r : Row). AreNumbersOf t.names (take from r.needs) (called_in rec.deps)) (sym row) (begins.old rec (sym records ∙ kept)));
+  new = λ none. ap (λ (r : Row). take from r.needs) row ∙ begins.new (sym records ∙ none);
+}
 
 pub waits_apart : (t new : Tables) (f : Frames) (task : TaskNo) (rows : List Row) → Holds task f → new.names ≡ t.names
     → ((k : ℕ) → (k ≡ task.0 → ⊥) → kept_of new.records k ≡ kept_of t.records k) → ((k : ℕ) → (k ≡ task.0 → ⊥) → row_at rows k ≡ row_at f.walk.rows k)
@@ -253,7 +256,7 @@ module _ (u : Update) (c : Core) (f : Frames) (t : Tables) (task : TaskNo) (from
 
   others : (was : TaskRecord) → kept_of c.tables.records task.0 ≡ Some was
       → told.TellsOthers f.walk task.0 (row_at c.frames.walk.rows task.0) from was rec → TellsOthers f.walk task.0 was rec
-  others was kept (inl same) = inl (edges_shape c.tables.names (row_at c.frames.walk.rows task.0) from was rec (begins was kept) row.0 same)
+  others was kept (inl same) = inl (edges_shape c.tables.names (row_at c.frames.walk.rows task.0) from was rec (begins.old was kept) row.0 same)
   others was kept (inr swept) = inr swept
 
   pub finishes : Finishes c.tables.records c.frames.walk f.walk task.0 (end_row c.frames.walk task.0 from rec) rec

@@ -99,10 +99,13 @@ module _ (u : Update) (c : Core) (f : Frames) (t : Tables) (task : Task) (e : Is
       by false is = refl
 
   begins_grown : (n from : ℕ) → BeginsAsOld c.tables c.frames.walk.rows n from → BeginsAsOld t f.walk.rows n from
-  begins_grown n from begins rec kept =
-      subst (λ (ns : List Task). AreNumbersOf ns (take from (row_at f.walk.rows n).needs) (called_in rec.deps)) (sym names)
-      (subst (λ (r : Row). AreNumbersOf (c.tables.names ++ task ∷ []) (take from r.needs) (called_in rec.deps)) (sym (rows_same n))
-      (numbers_stay c.tables.names task (take from (row_at c.frames.walk.rows n).needs) (called_in rec.deps) (begins rec (sym (kept_same n) ∙ kept))))
+  begins_grown n from begins = record {
+    old = λ rec kept.
+        subst (λ (ns : List Task). AreNumbersOf ns (take from (row_at f.walk.rows n).needs) (called_in rec.deps)) (sym names)
+        (subst (λ (r : Row). AreNumbersOf (c.tables.names ++ task ∷ []) (take from r.needs) (called_in rec.deps)) (sym (rows_same n))
+        (numbers_stay c.tables.names task (take from (row_at c.frames.walk.rows n).needs) (called_in rec.deps) (begins.old rec (sym (kept_same n) ∙ kept))));
+    new = λ none. ap (λ (r : Row). take from r.needs) (rows_same n) ∙ begins.new (sym (kept_same n) ∙ none);
+  }
 
   hand_grown : (h : Option InHand) → HoldsAsOld c.tables c.frames.walk.rows h → HoldsAsOld t f.walk.rows h
   hand_grown None is = tt
@@ -156,12 +159,16 @@ module _ (u : Update) (c : Core) (f : Frames) (t : Tables) (task : Task) (e : Is
 -- the row of a task in hand begins as it did
 pub begins_still : (c : Core) (f : Frames) (t : Tables) (task : Task) → f.walk ≡ with_one_more c.frames.walk → t.names ≡ c.tables.names ++ task ∷ []
     → t.records ≡ c.tables.records → (n from : ℕ) → BeginsAsOld c.tables c.frames.walk.rows n from → BeginsAsOld t f.walk.rows n from
-begins_still c f t task walk names records n from begins rec kept =
+begins_still c f t task walk names records n from begins =
     let same : row_at f.walk.rows n ≡ row_at c.frames.walk.rows n = ap (λ (z : WalkState). row_at z.rows n) walk ∙ grown_rows c.frames.walk.rows n in
-    subst (λ (ns : List Task). AreNumbersOf ns (take from (row_at f.walk.rows n).needs) (called_in rec.deps)) (sym names)
-    (subst (λ (r : Row). AreNumbersOf (c.tables.names ++ task ∷ []) (take from r.needs) (called_in rec.deps)) (sym same)
-    (numbers_stay c.tables.names task (take from (row_at c.frames.walk.rows n).needs) (called_in rec.deps)
-    (begins rec (sym (ap (λ (rs : Records). kept_of rs n) records) ∙ kept))))
+    record {
+      old = λ rec kept.
+          subst (λ (ns : List Task). AreNumbersOf ns (take from (row_at f.walk.rows n).needs) (called_in rec.deps)) (sym names)
+          (subst (λ (r : Row). AreNumbersOf (c.tables.names ++ task ∷ []) (take from r.needs) (called_in rec.deps)) (sym same)
+          (numbers_stay c.tables.names task (take from (row_at c.frames.walk.rows n).needs) (called_in rec.deps)
+          (begins.old rec (sym (ap (λ (rs : Records). kept_of rs n) records) ∙ kept))));
+      new = λ none. ap (λ (r : Row). take from r.needs) same ∙ begins.new (sym (ap (λ (rs : Records). kept_of rs n) records) ∙ none);
+    }
 
 -- ---- the task in hand waits
 
@@ -176,10 +183,12 @@ parked_exact u c f task p e holds has number callee within begins free =
     let rows = required_rows s f.walk f.walk.places task.0 p.callee has.walk in
     let here : row_at f.walk.rows task.0 ≡ requiring row p.callee.0 =
     ap (λ (rs : List Row). row_at rs task.0) rows ∙ get_or-set_same s.rows task.0 (requiring row p.callee.0) no_edges inside in
-    let own : BeginsAsOld c.tables f.walk.rows task.0 p.from = λ rec kept.
-    subst (λ (r : Row). AreNumbersOf c.tables.names (take p.from r.needs) (called_in rec.deps)) (sym here)
-    (subst (λ (ns : List ℕ). AreNumbersOf c.tables.names ns (called_in rec.deps)) (sym (take-append-le p.from row.needs (p.callee.0 ∷ []) within))
-    (begins rec kept)) in
+    let front : take p.from (row_at f.walk.rows task.0).needs ≡ take p.from row.needs =
+    ap (λ (r : Row). take p.from r.needs) here ∙ take-append-le p.from row.needs (p.callee.0 ∷ []) within in
+    let own : BeginsAsOld c.tables f.walk.rows task.0 p.from = record {
+      old = λ rec kept. subst (λ (ns : List ℕ). AreNumbersOf c.tables.names ns (called_in rec.deps)) (sym front) (begins.old rec kept);
+      new = λ none. front ∙ begins.new none;
+    } in
     record {
       tested = e.tested;
       are = are_moved u c.named c.plan.same.items c.tables s f.walk c.stage e.are w has.rests.stands
@@ -194,7 +203,8 @@ parked_exact u c f task p e holds has number callee within begins free =
 
 -- ---- a task that was taken begins to run
 
-module _ (u : Update) (c : Core) (t : Tables) (task : TaskNo) (h : InHand) (taken : IsTakenExact u c task.0) (holds : Holds task c.frames)
+module _ (u : Update) (c : Core) (t : Tables) (task : TaskNo) (h : InHand) (taken : IsTakenExact u c task.0)
+    (bare : kept_of c.tables.records task.0 ≡ None → (row_at c.frames.walk.rows task.0).needs ≡ []) (holds : Holds task c.frames)
     (names : t.names ≡ c.tables.names) (records : t.records ≡ c.tables.records) (ran : t.ran.items ≡ slice_set c.tables.ran.items task.0 true) where
   run : mark_of c.frames.walk.marks task.0 ≡ Runs
   run = top_runs c.frames.walk task holds.top holds.taken.stands.holds
@@ -219,14 +229,21 @@ module _ (u : Update) (c : Core) (t : Tables) (task : TaskNo) (h : InHand) (take
       let clash : true ≡ false = sym (ap (λ m. runs (mark_of c.frames.walk.marks m)) e ∙ ap runs run) ∙ rests in cc
 
   begins_as : (n from : ℕ) → BeginsAsOld c.tables c.frames.walk.rows n from → BeginsAsOld t c.frames.walk.rows n from
-  begins_as n from begins rec kept =
-      subst (λ (ns : List Task). AreNumbersOf ns (take from (row_at c.frames.walk.rows n).needs) (called_in rec.deps)) (sym names)
-      (begins rec (sym (kept_as n) ∙ kept))
+  begins_as n from begins = record {
+    old = λ rec kept.
+        subst (λ (ns : List Task). AreNumbersOf ns (take from (row_at c.frames.walk.rows n).needs) (called_in rec.deps)) (sym names)
+        (begins.old rec (sym (kept_as n) ∙ kept));
+    new = λ none. begins.new (sym (kept_as n) ∙ none);
+  }
 
   begins_whole : (from : ℕ) → from ≡ length (row_at c.frames.walk.rows task.0).needs → BeginsAsOld c.tables c.frames.walk.rows task.0 from
-  begins_whole from e rec kept =
-      subst (λ (ns : List ℕ). AreNumbersOf c.tables.names ns (called_in rec.deps))
-      (sym (take_all from (row_at c.frames.walk.rows task.0).needs (omega (arith, e)))) (taken.rests rec kept).row.0
+  begins_whole from e =
+      let all : take from (row_at c.frames.walk.rows task.0).needs ≡ (row_at c.frames.walk.rows task.0).needs =
+      take_all from (row_at c.frames.walk.rows task.0).needs (omega (arith, e)) in
+      record {
+        old = λ rec kept. subst (λ (ns : List ℕ). AreNumbersOf c.tables.names ns (called_in rec.deps)) (sym all) (taken.rests rec kept).row.0;
+        new = λ none. all ∙ bare none;
+      }
 
   written_started : AreWritten u t c.frames.walk c.stage
   written_started = record {

@@ -1,6 +1,7 @@
 -- The rows of tasks that end with what they noted, and of one that is lost.
 use Rattle.std.proofs.Common.{◌≡◌, ℕ, ◌<◌, List, [], ◌∷◌, ◌++◌, map, Option, None, Some, Result, Ok, Err, length, refl, sym, ap, ◌∙◌, subst, arith}
-use Rattle.std.specs.Prelude.{slice_get, drop, IfOk}
+use Rattle.std.specs.Prelude.{slice_get, take, drop, IfOk}
+use Rattle.pie_record.specs.inner.Records.{record_of as kept_of}
 use Rattle.std.specs.List.{flat_map}
 use Rattle.std.proofs.lemmas.List.{take_all, drop_all, map-append}
 use Rattle.std.proofs.lemmas.Option.{slice_get_within}
@@ -120,10 +121,16 @@ module _ (old new : Core) (task : TaskNo) (from : ℕ) (t : Task) (rec : TaskRec
     refl,
   )
 
-  pub lost_begins : (u : Update) → IsTakenExact u old task.0 → BeginsAsOld old.tables old.frames.walk.rows task.0 from
-  lost_begins u taken was kept =
-      subst (λ (ns : List ℕ). AreNumbersOf old.tables.names ns (called_in was.deps))
-      (sym (take_all from (row_at old.frames.walk.rows task.0).needs (omega (arith, whole)))) (taken.rests was kept).row.0
+  pub lost_begins : (u : Update) → IsTakenExact u old task.0
+      → (kept_of old.tables.records task.0 ≡ None → (row_at old.frames.walk.rows task.0).needs ≡ [])
+      → BeginsAsOld old.tables old.frames.walk.rows task.0 from
+  lost_begins u taken bare =
+      let all : take from (row_at old.frames.walk.rows task.0).needs ≡ (row_at old.frames.walk.rows task.0).needs =
+      take_all from (row_at old.frames.walk.rows task.0).needs (omega (arith, whole)) in
+      record {
+        old = λ was kept. subst (λ (ns : List ℕ). AreNumbersOf old.tables.names ns (called_in was.deps)) (sym all) (taken.rests was kept).row.0;
+        new = λ none. all ∙ bare none;
+      }
 
 -- a task that has a number
 pub numbered_inside : (names : List Task) (t : Task) (o : Option TaskNo) (number : TaskNo) → o ≡ Some number → Numbers names t o

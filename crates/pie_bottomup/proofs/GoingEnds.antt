@@ -124,7 +124,7 @@ module _ (u : Update) (c : Core) (t : Tables) (task : TaskNo) (h : InHand) (befo
       → HasFunction u.functions c.plan.code.now from.task h.task.code.now → IsStarted h.task.code.now from.task task.0 h.task
       → IsWhole u (record c { tables = t; hand = Some h })
   started_whole number place function started = record {
-    exact = started_exact u c t task h from.taken holds names records ran number place;
+    exact = started_exact u c t task h from.taken from.bare holds names records ran number place;
     going = record {
       work = subst (λ (ns : List Task). IsAtWork (site_of u c) (record (build_of c) { names = ns; records = t.records })
           (callers_up c.frames.parked.items) h.task) (sym names)

@@ -16,7 +16,7 @@ use Rattle.pie_bottomup.specs.declared.state.Core.{Core}
 use Rattle.pie_bottomup.specs.declared.state.First.TheVariants.{Tests, Done}
 use Rattle.pie_bottomup.specs.declared.state.InHand.{InHand}
 use Rattle.pie_bottomup.specs.declared.state.Turn.{Turn}
-use Rattle.pie_bottomup.specs.declared.state.Turn.TheVariants.{Went, Settled, StartAfresh}
+use Rattle.pie_bottomup.specs.declared.state.Turn.TheVariants.{Went}
 use Rattle.pie_bottomup.specs.inner.Exact.{IsLoadedCore, IsExactCore}
 use Rattle.pie_bottomup.specs.inner.Going.{site_of, build_of, callers_up, IsResting, Goes, IsWhole, TurnIsWhole, IsBuildNow}
 use Rattle.pie_bottomup.specs.inner.Going.{WalksWhole, StandsWhole, TestsWhole, StepsWhole}
@@ -64,23 +64,17 @@ module _ (u : Update) (old c : Core) (loaded : IsLoadedCore u old) (tables : c.t
 
 -- ---- a step where no task runs
 
--- a whole build is, however the step ends
-turn_whole : (u : Update) (c : Core) (t : Turn) → IsWhole u c → TurnIsWhole u c t
-turn_whole u c Went whole = whole
-turn_whole u c Settled whole = whole
-turn_whole u c (StartAfresh cause) whole = tt
-
 module _ {E : Type 0} (held : Option Directory) (old new : Core) (r : Result Turn E) where
-  pub test_whole : old.first ≡ Tests → OnOk r (TestsWhole held old new) → IfOk r (StepsWhole held old new)
-  test_whole first tests = all r tests
+  pub test_whole : old.first ≡ Tests → OnOk r (TestsWhole held old new) → IfOk r (λ t. t ≡ Went) → IfOk r (StepsWhole held old new)
+  test_whole first tests went = all r tests went
     where
-      by : (t : Turn) (u : Update) → IsBuildNow u old.plan → held ≡ Some u.directory → TestsWhole held old new → StandsWhole u old → TurnIsWhole u new t
-      by t u now holds tests (inl loaded) = turn_whole u new t (tests u now holds (loaded.1 first))
-      by t u now holds tests (inr whole) = absurd (apart_firsts old.first first whole.exact.tested)
+      by : (u : Update) → IsBuildNow u old.plan → held ≡ Some u.directory → TestsWhole held old new → StandsWhole u old → IsWhole u new
+      by u now holds tests (inl loaded) = tests u now holds (loaded.1 first)
+      by u now holds tests (inr whole) = absurd (apart_firsts old.first first whole.exact.tested)
 
-      all : (s : Result Turn E) → OnOk s (TestsWhole held old new) → IfOk s (StepsWhole held old new)
-      all (Ok t) tests = λ u now site stands. by t u now site.holds tests stands
-      all (Err x) tests = tt
+      all : (s : Result Turn E) → OnOk s (TestsWhole held old new) → IfOk s (λ t. t ≡ Went) → IfOk s (StepsWhole held old new)
+      all (Ok t) tests went = λ u now site stands. subst (TurnIsWhole u new) (sym went) (by u now site.holds tests stands)
+      all (Err x) tests went = tt
 
   pub walk_whole : old.hand ≡ None → old.first ≡ Done → IfOk r (WalksWhole old new) → IfOk r (StepsWhole held old new)
   walk_whole free done =

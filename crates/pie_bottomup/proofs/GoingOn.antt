@@ -174,6 +174,10 @@ module _ (u : Update) (c : Core) (f : Frames) (plan : IsPlanNow u c.plan) (e : I
         old = λ rec kept. base rec kept;
       };
       rest = subst (λ ps. AreAtRest (site_of u c) (build_of c) (callers_up ps.items)) (sym has.parked) going.rest;
+      bare = λ none.
+          let new : IsNew (build_of c) task.0 =
+          record { task = t; named = named; unrecorded = none; idle = idle_not_runs c.frames.walk.marks task.0 idle } in
+          ap (λ (rs : List Row). (row_at rs task.0).needs) rows ∙ (going.bare task.0 new).alone;
       marked = λ k run apart. going.marked k (ran_before k run apart);
     }
       where

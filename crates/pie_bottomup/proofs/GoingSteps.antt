@@ -37,7 +37,7 @@ lost_goes old new task from t rec r holds named canonical is none whole =
     if_ok_more (EndsWhole old task.0 from rec new) (TakesWhole old task.0 new)
     (λ turn ends u before now taken.
     ends (lost_row old new task from t rec holds named canonical is none whole) u now taken.taken.exact
-    (lost_begins old new task from t rec holds named canonical is none whole u taken.taken)
+    (lost_begins old new task from t rec holds named canonical is none whole u taken.taken taken.bare)
     (lost_ends u old task before taken t rec named canonical (no_function u old.plan t now.plan none) is) (lost_alone u old task before taken)) r
 
 pub known_goes : {E : Type 0} (old new : Core) (n : ℕ) (code : Code) (t : Task) (r : Result Turn E) → slice_get old.tables.names n ≡ Some t

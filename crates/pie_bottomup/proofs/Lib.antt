@@ -3,6 +3,7 @@ pub mod Beginning
 pub mod Calling
 pub mod Closing
 pub mod Cycles
+pub mod Edging
 pub mod Exactly
 pub mod ExactAsking
 pub mod ExactBeginning
@@ -31,6 +32,7 @@ pub mod Moving
 pub mod Owning
 pub mod Parts
 pub mod Reasoning
+pub mod Rings
 pub mod Settling
 pub mod Shown
 pub mod Sites

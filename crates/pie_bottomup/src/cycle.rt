@@ -1,6 +1,7 @@
 //! Cycles of tasks, the least task first.
-ghost use Rattle.std.specs.Prelude.{◌<◌, ◌≤◌, length, All, IfOk};
+ghost use Rattle.std.specs.Prelude.{◌≡◌, ◌<◌, ◌≤◌, ◌++◌, length, All, IfOk, OnOk};
 ghost use Rattle.pie_value.specs.Canonical.{IsEncodableTask};
+ghost use Rattle.pie_bottomup.specs.inner.Causes.{IsTurned};
 
 use pie_base::OutOfMemory;
 use pie_value::{Task, encode_task};
@@ -9,6 +10,7 @@ use std::alloc::Global;
 /// A cycle of tasks that begins with the least of them, by canonical bytes.
 pub(crate) fn turned(alloc: Global, tasks: Vec<Task>) -> Result<Vec<Task>, OutOfMemory>
     requires { All IsEncodableTask tasks.items }
+    ensures { IfOk result (λ turned. IsTurned tasks.items turned.items) }
 {
     let at = least(alloc, tasks.as_slice())?;
     let mut turned = Vec::new(alloc);
@@ -17,7 +19,9 @@ pub(crate) fn turned(alloc: Global, tasks: Vec<Task>) -> Result<Vec<Task>, OutOf
     Ok(turned)
 }
 
-fn push_all(turned: &mut Vec<Task>, tasks: &[Task]) -> Result<(), OutOfMemory> {
+fn push_all(turned: &mut Vec<Task>, tasks: &[Task]) -> Result<(), OutOfMemory>
+    ensures { OnOk result (turned.new.items ≡ turned.old.items ++ tasks.now) }
+{
     for task in tasks {
         turned.push(task.copy()?)?;
     }

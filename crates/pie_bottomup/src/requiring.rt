@@ -1,5 +1,5 @@
 //! Tasks that the task that runs requires.
-ghost use Rattle.std.specs.Prelude.{◌≡◌, ◌<◌, ◌+◌, ◌*◌, true, length, None, Some, All, slice_get, IfOk, OnOk};
+ghost use Rattle.std.specs.Prelude.{◌≡◌, ◌<◌, ◌+◌, ◌*◌, true, [], ◌∷◌, ◌++◌, map, length, None, Some, All, slice_get, IfOk, OnOk};
 ghost use Rattle.std.specs.List.{Contains};
 ghost use Rattle.pie_graph.specs.Numbers.{numbers, AllBelow};
 ghost use Rattle.pie_value.specs.Canonical.{IsEncodableTask};
@@ -7,6 +7,7 @@ ghost use Rattle.pie_running.specs.inner.Frames.{IsWaiting};
 ghost use Rattle.pie_frames.specs.inner.Standing.{Holds};
 ghost use Rattle.pie_value.specs.Limits.{is_small_task};
 ghost use Rattle.pie_task_laws.specs.Beginning.{calling};
+ghost use Rattle.pie_bottomup.specs.inner.Causes.{AreTurned};
 ghost use Rattle.pie_bottomup.specs.inner.Going.{ParksWhole, RequiresWhole};
 ghost use Rattle.pie_bottomup.specs.inner.States.{IsOwn, IsSite, GoesTo, Keeps, Nearer, rest};
 
@@ -108,6 +109,7 @@ impl<'a> Core<'a> {
     #[tactic(auto, using(crate::proofs::Cycles::number_below))]
     fn tasks_of(&self, cycle: &[TaskNo]) -> Result<Tasks, OutOfMemory>
         requires { AllBelow (length self.now.tables.names) (numbers cycle.now) }
+        ensures { IfOk result (AreTurned self.now.tables.names (numbers cycle.now)) }
     {
         let mut tasks = Vec::new(self.alloc);
         for no in cycle {
@@ -122,7 +124,8 @@ impl<'a> Core<'a> {
     fn push_task(&self, tasks: &mut Vec<Task>, no: TaskNo) -> Result<(), OutOfMemory>
         requires number { no.0 < length self.now.tables.names }
         requires tasks { All IsEncodableTask tasks.old.items }
-        ensures { OnOk result (All IsEncodableTask tasks.new.items) }
+        ensures encodable { OnOk result (All IsEncodableTask tasks.new.items) }
+        ensures named { OnOk result (map Some tasks.new.items ≡ map Some tasks.old.items ++ slice_get self.now.tables.names no.0 ∷ []) }
     {
         let _names = self.tables.names.as_slice();
         let task = self.tables.names.task(no).copy()?;

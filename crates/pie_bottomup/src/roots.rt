@@ -1,5 +1,5 @@
 //! The roots, one after another.
-ghost use Rattle.std.specs.Prelude.{◌≡◌, ℕ, ◌<◌, ◌≤◌, true, [], length, None, Some, IsSome, nat_le, slice_get, slice_index_or, IfOk, OnOk};
+ghost use Rattle.std.specs.Prelude.{◌≡◌, ℕ, ◌<◌, ◌≤◌, ◌-◌, true, [], length, None, Some, IsSome, nat_le, slice_get, slice_index_or, IfOk, OnOk};
 ghost use Rattle.std.specs.List.{Contains};
 ghost use Rattle.pie_value.specs.Canonical.{IsEncodableTask};
 ghost use Rattle.pie_graph.specs.declared.edges.TaskNo.{TaskNo};
@@ -7,6 +7,7 @@ ghost use Rattle.pie_walk.specs.Standing.{Stands};
 ghost use Rattle.pie_frames.specs.inner.Standing.{Holds, Rests};
 ghost use Rattle.pie_value.specs.declared.task.Task.{Task};
 ghost use Rattle.pie_record.specs.inner.Records.{record_of};
+ghost use Rattle.pie_store.specs.declared.cause.Cause.TheVariants.{UnionMany};
 ghost use Rattle.pie_results.specs.inner.Failures.{refusal_by, refusal_in};
 ghost use Rattle.pie_running.specs.inner.Noted.{Noted};
 ghost use Rattle.pie_bottomup.specs.inner.Going.{HasGrown, MeetsWhole, RootsWhole};
@@ -112,7 +113,9 @@ impl<'a> Core<'a> {
     }
 
     /// The cause where this task would be one too many.
-    pub(crate) fn too_many(&self, task: Task) -> Cause {
+    pub(crate) fn too_many(&self, task: Task) -> Cause
+        ensures { result ≡ UnionMany self.now.earlier (length self.now.frames.walk.rows - self.now.earlier) task }
+    {
         let new = self.frames.walk().count().saturating_sub(self.earlier);
         Cause::UnionMany(self.earlier, new, task)
     }

@@ -1,6 +1,7 @@
 //! The first step: old records are held against what changed.
 ghost use Rattle.std.specs.Prelude.{◌≡◌, ◌⊎◌, ℕ, ◌<◌, ◌≤◌, ◌+◌, false, true, length, None, slice_index_or, IfOk, OnOk};
 ghost use Rattle.pie_bottomup.specs.declared.state.First.TheVariants.{Tests};
+ghost use Rattle.pie_bottomup.specs.declared.state.Turn.TheVariants.{Went};
 ghost use Rattle.pie_files.specs.Reading.{ReadsOnly};
 ghost use Rattle.pie_bottomup.specs.inner.States.{StartsOne, IsAtRest, IsDue, IsTested, IsUntested, Keeps, TurnsTo, Nearer, Spends, rest, room};
 ghost use Rattle.pie_bottomup.specs.inner.Many.{StopsForMany};
@@ -65,6 +66,7 @@ impl<'a> Core<'a> {
         ensures tested { OnOk result (HasTested (F.holds files.old) self.old self.new) }
         ensures exact { OnOk result (TestsExact (F.holds files.old) self.old self.new) }
         ensures whole { OnOk result (TestsWhole (F.holds files.old) self.old self.new) }
+        ensures went { IfOk result (λ turn. turn ≡ Went) }
         ensures reads { ReadsOnly F.holds F.moment F.left_since F.images F.faults files.old files.new result }
     {
         self.test_all(files)?;

@@ -96,10 +96,10 @@ pub record AreWritten (u : Update) (t : Tables) (s : WalkState) (staged : Staged
 
 -- ---- the rows of the tasks that run
 
--- the row of a task begins, up to a place, with what its old record requires
-abbrev pub BeginsAsOld : Tables → List Row → ℕ → ℕ → Type 0
-BeginsAsOld t rows n from =
-    (rec : TaskRecord) → kept_of t.records n ≡ Some rec → AreNumbersOf t.names (take from (row_at rows n).needs) (called_in rec.deps)
+-- the row of a task begins, up to a place, with what its old record requires, and with nothing where it has none
+pub record BeginsAsOld (t : Tables) (rows : List Row) (n from : ℕ) : Type 0 where
+  pub old : (rec : TaskRecord) → kept_of t.records n ≡ Some rec → AreNumbersOf t.names (take from (row_at rows n).needs) (called_in rec.deps)
+  pub new : kept_of t.records n ≡ None → take from (row_at rows n).needs ≡ []
 
 -- so it is with a task that waits
 abbrev pub WaitsAsOld : Tables → List Row → Parked → Type 0

@@ -9,6 +9,7 @@ use Rattle.pie_graph.specs.declared.edges.TaskNo.{TaskNo}
 use Rattle.pie_graph.specs.Numbers.{IsMarked}
 use Rattle.pie_graph.specs.Rows.{row_at}
 use Rattle.pie_record.specs.declared.records.Records.{Records}
+use Rattle.pie_record.specs.inner.Records.{record_of as kept_of}
 use Rattle.pie_record.specs.declared.task_record.Outcome.{Outcome}
 use Rattle.pie_record.specs.declared.task_record.TaskRecord.{TaskRecord}
 use Rattle.pie_walk.specs.declared.marks.Mark.TheVariants.{New}
@@ -39,6 +40,7 @@ use Rattle.pie_bottomup.specs.declared.state.First.TheVariants.{Tests, Done}
 use Rattle.pie_bottomup.specs.declared.state.InHand.{InHand}
 use Rattle.pie_bottomup.specs.declared.state.Turn.{Turn}
 use Rattle.pie_bottomup.specs.declared.state.Turn.TheVariants.{Went, Settled, StartAfresh}
+use Rattle.pie_bottomup.specs.inner.Causes.{IsCauseOf}
 use Rattle.pie_bottomup.specs.inner.Exact.{IsPlanNow, IsTakenExact, IsLoadedCore, IsExactCore, BeginsAsOld, EndedRight, IsWaitingFor, OwnsTold, IsSiteNow, lost_task}
 use Rattle.pie_bottomup.specs.inner.Finished.{end_row}
 use Rattle.pie_bottomup.specs.inner.Sights.{SeenIsStaged}
@@ -77,6 +79,7 @@ pub record IsTakenFrom (u : Update) (c : Core) (before : WalkState) (n : ℕ) : 
   pub task : Task
   pub takes : TakesOne (site_of u c) (record (build_of c) { walk = before }) c.frames.walk n task
   pub rest : AreAtRest (site_of u c) (record (build_of c) { walk = before }) (callers_up c.frames.parked.items)
+  pub bare : kept_of c.tables.records n ≡ None → (row_at c.frames.walk.rows n).needs ≡ []
   pub marked : (k : ℕ) → runs (mark_of c.frames.walk.marks k) ≡ true → k ≢ n → IsMarked c.tables.ran.items k
 
 -- no task is in hand, and a new one, which alone may be, is about to be met
@@ -103,10 +106,11 @@ pub record IsWhole (u : Update) (c : Core) : Type 0 where
   pub exact : IsExactCore u c
   pub going : Goes u c c.hand
 
+-- a step leaves it so, or starts afresh for a cause that is so
 abbrev pub TurnIsWhole : Update → Core → Turn → Type 0
 TurnIsWhole u c Went = IsWhole u c
 TurnIsWhole u c Settled = IsWhole u c
-TurnIsWhole u c (StartAfresh cause) = Unit {0}
+TurnIsWhole u c (StartAfresh cause) = IsCauseOf u c cause
 
 -- a plan is that of an update, with its roots; what is met is separate
 pub record IsBuildNow (u : Update) (p : Plan) : Type 0 where

@@ -15,6 +15,7 @@ returns-in_ok-walk_on-in-Done-clause-whole g c =
 pub returns-in-Tests-clause-whole : goal.returns-in-Tests-clause-whole
 returns-in-Tests-clause-whole g c =
     test_whole (g.F.Files.holds c.args.files.now) c.args.self.now c.begin_tested.new.self c.begin_tested.result c.in-Tests.is c.begin_tested.ensures.whole
+    c.begin_tested.ensures.went
 
 pub returns-in_ok-walk_on-in-Done-clause-reasons : goal.returns-in_ok-walk_on-in-Done-clause-reasons
 returns-in_ok-walk_on-in-Done-clause-reasons g c =
