@@ -36,8 +36,8 @@ returns-in_ok-report-in-Built-clause-clean g c =
     (subst (RunsWhere before p.typed p.digests.items p.roots.items s c.as_slice.result.now c.args.runs.now c.evaluate.new.runs) c.in-Built.is
     c.in_ok-built.ensures.ran) in
     goes_clean s e p before mid after b r c.in_ok-built.ensures.reads.same makes leaves report.ensures.verdict report.ensures.fresh
-    (told_reasons before p.typed p.digests.items p.roots.items s e.names.items c.count.result c.args.runs.now c.evaluate.new.runs c.in_ok-ran-in-Built.ran r
-    c.count.ensures runs c.in_ok-ran-in-Built.ensures report.ensures.ran)
+    (told_reasons before p.typed p.digests.items p.roots.items s e.names.items c.count-before.result c.args.runs.now c.evaluate.new.runs c.in_ok-ran-in-Built.ran r
+    c.count-before.ensures runs c.in_ok-ran-in-Built.ensures report.ensures.ran)
 
 pub returns-in_err-built-clause-crash : goal.returns-in_err-built-clause-crash
 returns-in_err-built-clause-crash g c =
