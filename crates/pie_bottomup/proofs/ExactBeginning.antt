@@ -107,6 +107,7 @@ loaded_core funcs digests kept changes c storable parts loaded unmet informed = 
         rested = ap (λ (flags : List Bool). slice_index_or flags n false) from.tables.ran ∙ unflagged (length kept) n;
         unstaged = λ path. ap (λ staged. content staged n path) unmet.stage;
       };
+      counted = from.counted ∙ from.rows.as_many ∙ sym (length-map kept model_record) ∙ ap length stored.rows;
     }
 
 -- one name more
@@ -217,6 +218,7 @@ module _ (u : Update) (old new : Core) (plan : IsPlanNow u old.plan) (l : IsLoad
   pub tested_exact : new.frames.parked.items ≡ [] → new.hand ≡ None → IsExactCore u (record new { first = Done })
   tested_exact parked free = record {
     tested = refl;
+    counted = learns.earlier ∙ l.counted;
     are = are_now;
     parked = subst (All (WaitsAsOld new.tables new.frames.walk.rows)) (sym parked) (All-nil (WaitsAsOld new.tables new.frames.walk.rows));
     hand = subst (HoldsAsOld new.tables new.frames.walk.rows) (sym free) tt;

@@ -201,6 +201,7 @@ kept_exact u c f task plan taken holds flag stands same parked rests =
     let rows : f.walk.rows ≡ s.rows = ap (λ (z : WalkState). z.rows) same in
     record {
       tested = e.tested;
+      counted = e.counted;
       are = subst (λ (z : WalkState). AreExact u c.named c.plan.same.items t z c.stage) (sym same) (record {
         tables = stays.0.exact;
         known = known_one s (settled s task.0) task.0 one u c.named c.plan.same.items t t refl (λ k d. refl) e.are.known;
@@ -288,6 +289,7 @@ module _ (u : Update) (c : Core) (f : Frames) (t : Tables) (task : TaskNo) (from
   pub ended_exact : EndedRight u (record c { frames = f; tables = t }) task.0 rec → IsExactCore u (record c { frames = f; tables = t })
   ended_exact right = record {
     tested = e.tested;
+    counted = e.counted;
     are = record {
       tables = tables_after right;
       known = known_one c.frames.walk f.walk task.0 one u c.named c.plan.same.items c.tables t names put_there e.are.known;

@@ -53,6 +53,7 @@ pub staged_exact : (u : Update) (c : Core) (later : Staged) (n : ℕ) → runs (
     → IsExactCore u c → IsExactCore u (record c { stage = later })
 staged_exact u c later n run same e = record {
   tested = e.tested;
+  counted = e.counted;
   are = record {
     tables = e.are.tables;
     known = e.are.known;
@@ -228,6 +229,7 @@ module _ (u : Update) (c : Core) (later : Staged) (writer : ℕ) (path bytes : L
   pub file_exact : IsExactCore u (record c { stage = later })
   file_exact = record {
     tested = e.tested;
+    counted = e.counted;
     are = record {
       tables = e.are.tables;
       known = e.are.known;

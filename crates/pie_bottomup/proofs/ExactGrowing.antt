@@ -141,6 +141,7 @@ module _ (u : Update) (c : Core) (f : Frames) (t : Tables) (task : Task) (e : Is
       → length c.frames.walk.rows < 50000 → f.parked ≡ c.frames.parked → IsExactCore u (record c { frames = f; tables = t })
   grown_exact tables v tasks sized few parked = record {
     tested = e.tested;
+    counted = e.counted;
     are = record {
       tables = subst (λ (ns : List Task). IsExact u ns t.records f.walk) (sym names)
           (subst (λ (rs : Records). IsExact u (c.tables.names ++ task ∷ []) rs f.walk) (sym records)
@@ -191,6 +192,7 @@ parked_exact u c f task p e holds has number callee within begins free =
     } in
     record {
       tested = e.tested;
+      counted = e.counted;
       are = are_moved u c.named c.plan.same.items c.tables s f.walk c.stage e.are w has.rests.stands
           (subst (Moves s) (sym has.walk) (requires_move s f.walk.places task.0 p.callee w (ap runs (top_runs s task holds.top w.holds)) callee));
       parked = subst (All (WaitsAsOld c.tables f.walk.rows)) (sym has.parked)
@@ -274,6 +276,7 @@ module _ (u : Update) (c : Core) (t : Tables) (task : TaskNo) (h : InHand) (take
   pub started_exact : h.no ≡ task → h.from ≡ length (row_at c.frames.walk.rows task.0).needs → IsExactCore u (record c { tables = t; hand = Some h })
   started_exact number from = record {
     tested = taken.exact.tested;
+    counted = taken.exact.counted;
     are = record {
       tables = subst (λ (ns : List Task). IsExact u ns t.records c.frames.walk) (sym names)
           (subst (λ (rs : Records). IsExact u c.tables.names rs c.frames.walk) (sym records) taken.exact.are.tables);

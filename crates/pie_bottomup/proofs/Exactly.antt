@@ -101,6 +101,7 @@ pub core_moved : (u : Update) (c : Core) (f : Frames) → IsExactCore u c → St
     → f.walk.rows ≡ c.frames.walk.rows → f.parked.items ≡ c.frames.parked.items → IsExactCore u (record c { frames = f })
 core_moved u c f e w v m rows parked = record {
   tested = e.tested;
+  counted = e.counted;
   are = are_moved u c.named c.plan.same.items c.tables c.frames.walk f.walk c.stage e.are w v m;
   parked = subst (All (WaitsAsOld c.tables f.walk.rows)) (sym parked)
       (waits_on_rows c.tables c.frames.walk.rows f.walk.rows rows c.frames.parked.items e.parked);
@@ -116,6 +117,7 @@ core_unparked u c f p e w v m rows parked =
     (waits_on_rows c.tables c.frames.walk.rows f.walk.rows rows c.frames.parked.items e.parked) in (
       record {
         tested = e.tested;
+        counted = e.counted;
         are = are_moved u c.named c.plan.same.items c.tables c.frames.walk f.walk c.stage e.are w v m;
         parked = all.0;
         hand = hand_on_rows c.tables c.frames.walk.rows f.walk.rows rows c.hand e.hand;

@@ -212,7 +212,7 @@ done_goes c new task from n v b o r same is = subst (λ (x : Outcome). IfOk r (N
 pub told_whole : (u : Update) (c : Core) (task : TaskNo) (from : ℕ) (f : RunningTask) → IsExactCore u c → BeginsAsOld c.tables c.frames.walk.rows task.0 from
     → GoesOn u c task.0 (GoesOnAs f) → IsWhole u (record c { hand = Some (record { no = task; from = from; task = f }) })
 told_whole u c task from f e begins on = record {
-  exact = record { tested = e.tested; are = e.are; parked = e.parked; hand = begins };
+  exact = record { tested = e.tested; counted = e.counted; are = e.are; parked = e.parked; hand = begins };
   going = record {
     work = record { runs = on.goes; none = on.alone.none };
     marked = λ n is. by n is (same_or_not task.0 n);
@@ -373,5 +373,5 @@ event_whole held old new h r core some =
     (λ turn goes u now site stands.
     let whole = in_hand_whole u old h some core stands in
     let working = subst (Goes u old) some whole.going in
-    goes u now site (record { tested = whole.exact.tested; are = whole.exact.are; parked = whole.exact.parked; hand = tt })
+    goes u now site (record { tested = whole.exact.tested; counted = whole.exact.counted; are = whole.exact.are; parked = whole.exact.parked; hand = tt })
     (subst (HoldsAsOld old.tables old.frames.walk.rows) some whole.exact.hand) (record { work = working.work; marked = working.marked })) r

@@ -75,6 +75,7 @@ pub learns_on : (a b c : Core) → Learns a b → Learns b c → Learns a c
 learns_on a b c one two = record {
   plan = two.plan ∙ one.plan;
   tables = two.tables ∙ one.tables;
+  earlier = two.earlier ∙ one.earlier;
   scheduled = λ n flag. two.scheduled n (one.scheduled n flag);
   names = names_stay a.named b.named c.named one.names two.names;
   stays = stays_on a.named b.named c.named one.stays two.stays;
@@ -129,7 +130,7 @@ only_on a b c one two = record {
 }
 
 pub learns_named : (c : Core) (m : Named) → SameNames c.named m → StaysKnown c.named m → Learns c (record c { named = m })
-learns_named c m names stays = record { plan = refl; tables = refl; scheduled = λ n flag. flag; names = names; stays = stays }
+learns_named c m names stays = record { plan = refl; tables = refl; earlier = refl; scheduled = λ n flag. flag; names = names; stays = stays }
 
 pub learns_none : (c : Core) → Learns c c
 learns_none c = learns_named c c.named (record { named = λ q. refl; above = λ q. refl }) (λ kind p stamp found. found)
@@ -152,6 +153,7 @@ learns_flag : (c : Core) (f : Frames) (n : ℕ) → n < length c.frames.walk.sch
 learns_flag c f n l e = record {
   plan = refl;
   tables = refl;
+  earlier = refl;
   scheduled = λ k flag. subst (λ (s : WalkState). IsMarked s.scheduled k) (sym e) (flag_kept c.frames.walk.scheduled n k l flag);
   names = record { named = λ q. refl; above = λ q. refl };
   stays = λ kind p stamp found. found;

@@ -2,6 +2,7 @@ pub mod Agreeing
 pub mod Beginning
 pub mod Calling
 pub mod Closing
+pub mod Counting
 pub mod Cycles
 pub mod Edging
 pub mod Exactly

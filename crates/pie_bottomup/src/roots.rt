@@ -107,7 +107,8 @@ impl<'a> Core<'a> {
 
     /// Whether no task may get a number any more.
     pub(crate) fn is_full(&self) -> bool
-        ensures { result ≡ nat_le MAX_TASKS (length self.now.frames.walk.rows) }
+        ensures full { result ≡ nat_le MAX_TASKS (length self.now.frames.walk.rows) }
+        ensures most { length self.now.frames.walk.rows ≤ MAX_TASKS }
     {
         self.frames.walk().count() >= MAX_TASKS
     }

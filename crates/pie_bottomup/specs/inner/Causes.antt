@@ -1,14 +1,15 @@
 -- For which causes a build by what changed starts afresh.
-use Rattle.std.specs.Prelude.{◌≡◌, ◌⊎◌, ℕ, ◌≤◌, ◌-◌, List, [], ◌∷◌, ◌++◌, drop, take, length}
+use Rattle.std.specs.Prelude.{◌≡◌, ◌⊎◌, ℕ, ◌-◌, List, [], ◌∷◌, ◌++◌, drop, take, length}
 use Rattle.std.specs.List.{Contains}
 use Rattle.pie_value.specs.declared.task.Task.{Task}
 use Rattle.pie_value.specs.Canonical.{enc_task}
 use Rattle.pie_store.specs.declared.cause.Cause.{Cause}
 use Rattle.pie_store.specs.declared.cause.Cause.TheVariants as causes
+use Rattle.pie_model.specs.Built.{store_rows}
 use Rattle.pie_model.specs.inner.Changes.{IsUnionEdge}
 use Rattle.pie_model_pipeline.specs.World.{world}
 use Rattle.pie_builder_laws.specs.Views.{AreNumbersOf}
-use Rattle.pie_core_laws.specs.Update.{Update, present, old_record}
+use Rattle.pie_core_laws.specs.Update.{Update, earlier, present, old_record}
 use Rattle.pie_bottomup.specs.declared.state.Core.{Core}
 use Rattle.pie_bottomup.specs.declared.state.First.TheVariants.{TooMany}
 
@@ -41,17 +42,21 @@ pub record AreTurned (names : List Task) (numbers : List ℕ) (turned : List Tas
 abbrev pub HasUnionEdge : Update → Task → Task → Type 0
 HasUnionEdge u t v = IsUnionEdge world (present u) (old_record u) (enc_task t) (enc_task v)
 
+-- how many tasks the earlier build left records of
+abbrev pub count_old : Update → ℕ
+count_old u = length (store_rows world (earlier u) u.old_roots)
+
 -- a build has as many tasks as may be: so many old ones, and so many that came; this one has no number
-pub record HasAllTasks (c : Core) (earlier new : ℕ) (t : Task) : Type 0 where
-  pub many : 50000 ≤ length c.frames.walk.rows
-  pub old : earlier ≡ c.earlier
-  pub came : new ≡ length c.frames.walk.rows - c.earlier
+pub record HasAllTasks (u : Update) (c : Core) (old new : ℕ) (t : Task) : Type 0 where
+  pub many : length c.frames.walk.rows ≡ 50000
+  pub left : old ≡ count_old u
+  pub came : new ≡ 50000 - count_old u
   pub none : Contains c.tables.names t → ⊥
 
 -- there were more old tasks than may be, and this one was past the limit
-pub record HadTooMany (c : Core) (earlier new : ℕ) (t : Task) : Type 0 where
+pub record HadTooMany (c : Core) (old new : ℕ) (t : Task) : Type 0 where
   pub first : c.first ≡ TooMany t
-  pub all : earlier ≡ 50000
+  pub all : old ≡ 50000
   pub none : new ≡ 0
 
 -- a build starts afresh where tasks have union edges in a ring, or where there are too many
@@ -61,4 +66,4 @@ IsCauseOf u c causes.NoStore = ⊥
 IsCauseOf u c (causes.Damaged fault) = ⊥
 IsCauseOf u c causes.BadPending = ⊥
 IsCauseOf u c (causes.UnionCycle tasks) = IsRing (HasUnionEdge u) tasks
-IsCauseOf u c (causes.UnionMany earlier new task) = HasAllTasks c earlier new task ⊎ HadTooMany c earlier new task
+IsCauseOf u c (causes.UnionMany old new task) = HasAllTasks u c old new task ⊎ HadTooMany c old new task

@@ -52,6 +52,7 @@ use Rattle.pie_bottomup.specs.declared.plan.Plan.{Plan}
 use Rattle.pie_bottomup.specs.declared.state.Core.{Core}
 use Rattle.pie_bottomup.specs.declared.state.First.TheVariants.{Done}
 use Rattle.pie_bottomup.specs.declared.state.InHand.{InHand}
+use Rattle.pie_bottomup.specs.inner.Causes.{count_old}
 use Rattle.pie_bottomup.specs.inner.States.{IsOwn}
 
 -- ---- what never changes
@@ -118,9 +119,10 @@ pub record AreExact (u : Update) (named : Named) (same : List Bool) (t : Tables)
   pub known : KnowsTouched u named same t s.marks
   pub written : AreWritten u t s staged
 
--- a build is exact, after its first step
+-- a build is exact, after its first step, and knows how many old tasks there are
 pub record IsExactCore (u : Update) (c : Core) : Type 0 where
   pub tested : c.first ≡ Done
+  pub counted : c.earlier ≡ count_old u
   pub are : AreExact u c.named c.plan.same.items c.tables c.frames.walk c.stage
   pub parked : All (WaitsAsOld c.tables c.frames.walk.rows) c.frames.parked.items
   pub hand : HoldsAsOld c.tables c.frames.walk.rows c.hand
@@ -134,6 +136,7 @@ pub record IsLoadedCore (u : Update) (c : Core) : Type 0 where
   pub meaning : KeepsMeaning u c.plan.same.items c.tables.names
   pub parts : (n : ℕ) (rec : TaskRecord) → kept_of c.tables.records n ≡ Some rec → IsTrueRecord rec
   pub unstarted : (n : ℕ) → IsUnstarted c.tables c.stage n
+  pub counted : c.earlier ≡ count_old u
 
 -- ---- steps
 

@@ -1,5 +1,5 @@
 -- How a build by what changed begins, as the model of building knows it.
-use Rattle.std.specs.Prelude.{◌≡◌, ℕ, List, [], map, Option, Some}
+use Rattle.std.specs.Prelude.{◌≡◌, ℕ, List, [], length, map, Option, Some}
 use Rattle.pie_value.specs.declared.task.Task.{Task}
 use Rattle.pie_value.specs.Canonical.{enc_task, IsCanonicalTask}
 use Rattle.pie_files.specs.Directory.{Directory}
@@ -31,6 +31,7 @@ pub record IsLoadedFrom (kept : List TaskRecord) (c : Core) : Type 0 where
   pub tables : AreTablesOf kept c.tables
   pub rows : AreRowsOf (tasks_in kept) kept c.frames.walk.rows
   pub looks : c.frames.walk.looks_out ≡ map looks_out kept
+  pub counted : c.earlier ≡ length c.frames.walk.rows
 
 -- the tasks are distinct, none was met, and nothing is staged
 pub record IsUnmet (c : Core) : Type 0 where

@@ -52,10 +52,11 @@ pub record OnlySchedules (old new : Core) : Type 0 where
   pub walk : new.frames.walk ≡ record old.frames.walk { scheduled = new.frames.walk.scheduled }
   pub stage : new.stage ≡ old.stage
 
--- the plan and the tables stay, more tasks may be scheduled, and of the same names more may be known
+-- the plan, the tables and the number of old tasks stay, more tasks may be scheduled, and of the same names more may be known
 pub record Learns (old new : Core) : Type 0 where
   pub plan : new.plan ≡ old.plan
   pub tables : new.tables ≡ old.tables
+  pub earlier : new.earlier ≡ old.earlier
   pub scheduled : (n : ℕ) → IsMarked old.frames.walk.scheduled n → IsMarked new.frames.walk.scheduled n
   pub names : SameNames old.named new.named
   pub stays : StaysKnown old.named new.named

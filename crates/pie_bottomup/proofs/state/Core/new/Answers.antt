@@ -64,6 +64,7 @@ returns-clause-exact c =
       tables = is.tables;
       rows = subst (AreRowsOf (tasks_in kept) kept) (sym (ap (λ (s : WalkState). s.rows) walk)) is.rows;
       looks = ap (λ (s : WalkState). s.looks_out) walk ∙ is.looks_out;
+      counted = c.count-earlier.ensures.count ∙ sym (ap (λ (s : WalkState). length s.rows) c.new-2.ensures.walk);
     })
     (record {
       tasks = record { distinct = c.as_slice.ensures.distinct; canonical = c.as_slice.ensures.canonical };

@@ -1,6 +1,8 @@
-use Rattle.std.proofs.Common.{subst}
+use Rattle.std.proofs.Common.{sym, subst}
+use Rattle.std.specs.List.{Contains}
 use Rattle.pie_value.specs.declared.task.Task.{Task}
 use Rattle.pie_bottomup.specs.inner.Going.{HasGrown}
+use Rattle.pie_bottomup.proofs.Counting.{full_cause}
 use Rattle.pie_bottomup.proofs.GoingEvents.{grows_goes}
 use Rattle.pie_bottomup.specs.inner.States.{Keeps}
 use Rattle.pie_bottomup.proofs.ExactSteps.{if_ok_more}
@@ -25,3 +27,9 @@ pub returns-clause-kept : goal.returns-clause-kept
 returns-clause-kept c =
     if_ok_more (λ turn. Keeps c.add.new.self c.park.new.self) (λ turn. Keeps c.args.self.now c.park.new.self)
     (λ turn kept. keeps_then c.args.self.now c.add.new.self c.park.new.self c.in_ok-callee.ensures.kept kept) c.park.result c.park.ensures.kept
+
+pub returns-then-is_full-clause-whole : goal.returns-then-is_full-clause-whole
+returns-then-is_full-clause-whole c = λ small u now e begins asks.
+    full_cause u c.args.self.now c.in_ok-required.required c.too_many.result c.is_full.result e c.is_full.ensures.full c.if-is_full.true
+    c.is_full.ensures.most (subst (λ (t : Task). Contains c.args.self.now.tables.names t → ⊥) (sym c.in_ok-required.ensures) c.requires.absent)
+    c.too_many.ensures
