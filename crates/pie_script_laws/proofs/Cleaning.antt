@@ -148,15 +148,15 @@ content_none (f ∷ fs) q b h i = by (content_at fs q) refl (same_text q f.0) re
 
 module _ (fs : List FunctionTree) (d : Directory) (roots : List (List ℕ)) (files : List (List ℕ × Vec ℕ Global)) (provides : AreProvided fs d roots (contents_in files))
   where
-  -- what is found at a path is the content that it has there
-  provided_content : (q : List ℕ) → content_at files q ≡ provided_at (live_evaluations world (project fs d) roots) q
-  provided_content q = by (content_at files q) refl (provided_at (live_evaluations world (project fs d) roots) q) refl
-    where
-      by : (x : Option (List ℕ)) → content_at files q ≡ x → (y : Option (List ℕ)) → provided_at (live_evaluations world (project fs d) roots) q ≡ y
-          → content_at files q ≡ provided_at (live_evaluations world (project fs d) roots) q
-      by (Some b) e y f = e ∙ sym ((provides q b).0 (content_found files q b e))
-      by None e (Some b) f = absurd (content_none files q b e ((provides q b).1 f))
-      by None e None f = e ∙ sym f
+    -- what is found at a path is the content that it has there
+    provided_content : (q : List ℕ) → content_at files q ≡ provided_at (live_evaluations world (project fs d) roots) q
+    provided_content q = by (content_at files q) refl (provided_at (live_evaluations world (project fs d) roots) q) refl
+      where
+        by : (x : Option (List ℕ)) → content_at files q ≡ x → (y : Option (List ℕ)) → provided_at (live_evaluations world (project fs d) roots) q ≡ y
+            → content_at files q ≡ provided_at (live_evaluations world (project fs d) roots) q
+        by (Some b) e y f = e ∙ sym ((provides q b).0 (content_found files q b e))
+        by None e (Some b) f = absurd (content_none files q b e ((provides q b).1 f))
+        by None e None f = e ∙ sym f
 
 kept_store : kind_of store_path ≡ Kept
 unfolding kind_of

@@ -150,10 +150,16 @@ fn tell_call(alloc: Global, call: &Logged, said: &mut String) -> Result<(), Fail
         Logged::Asked(Call::AllUnder(path)) => line(alloc, "all", path)?,
         Logged::Wrote(path, _, _) => line(alloc, "write", path)?,
         Logged::Removed(path) => line(alloc, "remove", path)?,
-        Logged::Synced => String::from_str(alloc, "sync
-")?,
-        _ => String::from_str(alloc, "another
-")?,
+        Logged::Synced => String::from_str(
+            alloc,
+            "sync
+",
+        )?,
+        _ => String::from_str(
+            alloc,
+            "another
+",
+        )?,
     };
     Ok(said.push_str(told.as_str())?)
 }
