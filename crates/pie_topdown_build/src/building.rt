@@ -2,6 +2,7 @@
 ghost use Rattle.std.specs.Prelude.{◌≡◌, ◌≤◌, ◌+◌, ◌++◌, Some, length, All, IfOk, IfSome};
 ghost use Rattle.pie_build.specs.Left.{KeepsRest};
 ghost use Rattle.pie_build.specs.inner.Rebuilt.{IsRefusal, Tells};
+ghost use Rattle.pie_incremental.specs.Refused.{RefusesRight};
 ghost use Rattle.pie_incremental.specs.inner.Joined.{IsImage};
 ghost use Rattle.pie_value.specs.Canonical.{IsEncodableTask};
 ghost use Rattle.pie_topdown_build.specs.Offered.{IsNew};
@@ -23,7 +24,7 @@ use std::alloc::Global;
 /// clean build would, and no pending names; a refused one changes no file. The whole plan and the report are made before the first write. The tasks
 /// that are started are added to the runs, and reported.
 /// Rule: docs/BUILDING.md, "A build without a list".
-#[tactic(auto, using(pie_build::proofs::OwnPaths::same_keeps, pie_incremental::proofs::Joining::rest_then))]
+#[tactic(auto, using(crate::proofs::Refusing::after, crate::proofs::Refusing::faulty, pie_build::proofs::OwnPaths::same_keeps, pie_incremental::proofs::Joining::rest_then))]
 pub fn build_topdown<F: Files>(
     alloc: Global,
     files: &mut F,
@@ -35,6 +36,7 @@ pub fn build_topdown<F: Files>(
     ensures ran { IfOk result (λ r. runs.new ≡ runs.old ++ r.ran.items) }
     ensures few { length runs.new ≤ length runs.old + 50000 }
     ensures encodable { IfOk result (λ r. All IsEncodableTask r.ran.items) }
+    ensures says { IfSome (F.holds files.old) (λ d. RefusesRight d result) }
     ensures told { Tells F.faults files.old files.new result }
 {
     match find_base(alloc, files) {
@@ -48,7 +50,7 @@ pub fn build_topdown<F: Files>(
 /// The same build with offers: a task whose own record doesn't stand may have another one, which is kept where it stands. They serve also where there is
 /// nothing to build from: then it builds from an empty store, and the report tells the cause. Of an accepted build, what the live tasks that ran recorded
 /// and wrote is told, as later builds may be offered it.
-#[tactic(auto, using(pie_build::proofs::OwnPaths::same_keeps, pie_incremental::proofs::Joining::rest_then))]
+#[tactic(auto, using(crate::proofs::Refusing::after_offered, crate::proofs::Refusing::faulty_offered, pie_build::proofs::OwnPaths::same_keeps, pie_incremental::proofs::Joining::rest_then))]
 pub fn build_offered<F: Files, O: Offers>(
     alloc: Global,
     files: &mut F,
@@ -63,6 +65,7 @@ pub fn build_offered<F: Files, O: Offers>(
     ensures encodable { IfOk result (λ o. All IsEncodableTask o.report.value.ran.items) }
     ensures reused { IfOk result (λ o. All IsEncodableTask o.reused.items) }
     ensures new { IfOk result (λ o. All IsNew o.new.items) }
+    ensures says { IfSome (F.holds files.old) (λ d. RefusesRight d result) }
     ensures told { Tells F.faults files.old files.new result }
 {
     match find_base(alloc, files) {
@@ -74,6 +77,7 @@ pub fn build_offered<F: Files, O: Offers>(
 }
 
 // Builds from what the build before left.
+#[tactic(auto, using(crate::proofs::Refusing::reported, crate::proofs::Refusing::told))]
 fn from_store<F: Files>(
     alloc: Global,
     files: &mut F,
@@ -87,6 +91,7 @@ fn from_store<F: Files>(
     ensures ran { IfOk result (λ r. runs.new ≡ runs.old ++ r.ran.items) }
     ensures few { length runs.new ≤ length runs.old + 50000 }
     ensures encodable { IfOk result (λ r. All IsEncodableTask r.ran.items) }
+    ensures says { IfSome (F.holds files.old) (λ d. RefusesRight d result) }
     ensures told { Tells F.faults files.old files.new result }
 {
     match from(alloc, files, base, &mut NoOffers, false, runs) {
@@ -96,6 +101,7 @@ fn from_store<F: Files>(
 }
 
 // Builds afresh, for this cause.
+#[tactic(auto, using(crate::proofs::Refusing::rebuilt, crate::proofs::Refusing::reported))]
 fn afresh<F: Files>(
     alloc: Global,
     files: &mut F,
@@ -109,6 +115,7 @@ fn afresh<F: Files>(
     ensures ran { IfOk result (λ r. runs.new ≡ runs.old ++ r.ran.items) }
     ensures few { length runs.new ≤ length runs.old + 50000 }
     ensures encodable { IfOk result (λ r. All IsEncodableTask r.ran.items) }
+    ensures says { IfSome (F.holds files.old) (λ d. RefusesRight d result) }
     ensures told { Tells F.faults files.old files.new result }
 {
     match rebuild(alloc, files, runs) {
@@ -121,7 +128,7 @@ fn afresh<F: Files>(
 }
 
 // Builds from an empty store with offers, for this cause.
-#[tactic(auto, using(pie_build::proofs::OwnPaths::same_keeps, pie_incremental::proofs::Joining::rest_then))]
+#[tactic(auto, using(crate::proofs::Refusing::offered, crate::proofs::Refusing::faulty_offered, pie_build::proofs::OwnPaths::same_keeps, pie_incremental::proofs::Joining::rest_then))]
 fn anew<F: Files, O: Offers>(
     alloc: Global,
     files: &mut F,
@@ -137,6 +144,7 @@ fn anew<F: Files, O: Offers>(
     ensures encodable { IfOk result (λ o. All IsEncodableTask o.report.value.ran.items) }
     ensures reused { IfOk result (λ o. All IsEncodableTask o.reused.items) }
     ensures new { IfOk result (λ o. All IsNew o.new.items) }
+    ensures says { IfSome (F.holds files.old) (λ d. RefusesRight d result) }
     ensures told { Tells F.faults files.old files.new result }
 {
     let Ok(base) = no_base(alloc) else {

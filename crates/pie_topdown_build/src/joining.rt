@@ -4,6 +4,7 @@ ghost use Rattle.pie_build.specs.Left.{KeepsRest};
 ghost use Rattle.pie_build.specs.inner.Rebuilt.{IsRefusal, Tells};
 ghost use Rattle.pie_digest.specs.Digests.{HasNames};
 ghost use Rattle.pie_files.specs.Streams.{Counted};
+ghost use Rattle.pie_incremental.specs.Refused.{RefusesRight};
 ghost use Rattle.pie_incremental.specs.inner.Joined.{IsImage};
 ghost use Rattle.pie_record.specs.Canonical.{IsStorable};
 ghost use Rattle.pie_store.specs.Canonical.{AreFuncs};
@@ -29,7 +30,7 @@ use pie_vm::Runs;
 use std::alloc::Global;
 
 /// Builds from what the build before left. What ran is told as new offers where it is asked for.
-#[tactic(auto, using(pie_build::proofs::OwnPaths::same_keeps, pie_incremental::proofs::Joining::rest_then))]
+#[tactic(auto, using(crate::proofs::Refusing::read, crate::proofs::Refusing::after_offered, pie_build::proofs::OwnPaths::same_keeps, pie_incremental::proofs::Joining::rest_then))]
 pub(crate) fn from<F: Files, O: Offers>(
     alloc: Global,
     files: &mut F,
@@ -47,6 +48,7 @@ pub(crate) fn from<F: Files, O: Offers>(
     ensures encodable { IfOk result (λ o. All IsEncodableTask o.report.value.ran.items) }
     ensures reused { IfOk result (λ o. All IsEncodableTask o.reused.items) }
     ensures new { IfOk result (λ o. All IsNew o.new.items) }
+    ensures says { IfSome (F.holds files.old) (λ d. RefusesRight d result) }
     ensures told { Tells F.faults files.old files.new result }
 {
     match read_project(alloc, files) {
@@ -56,7 +58,7 @@ pub(crate) fn from<F: Files, O: Offers>(
 }
 
 // Builds a project from what the build before left. Roots beyond the limits of values are left to the clean build, which refuses them.
-#[tactic(auto, using(pie_build::proofs::OwnPaths::same_keeps, pie_incremental::proofs::Joining::rest_then))]
+#[tactic(auto, using(crate::proofs::Refusing::offered, crate::proofs::Refusing::faulty_offered, crate::proofs::Refusing::after_offered, pie_build::proofs::OwnPaths::same_keeps, pie_incremental::proofs::Joining::rest_then))]
 fn with_project<F: Files, O: Offers>(
     alloc: Global,
     files: &mut F,
@@ -77,6 +79,7 @@ fn with_project<F: Files, O: Offers>(
     ensures encodable { IfOk result (λ o. All IsEncodableTask o.report.value.ran.items) }
     ensures reused { IfOk result (λ o. All IsEncodableTask o.reused.items) }
     ensures new { IfOk result (λ o. All IsNew o.new.items) }
+    ensures says { IfSome (F.holds files.old) (λ d. RefusesRight d result) }
     ensures told { Tells F.faults files.old files.new result }
 {
     if !are_small(project.roots.as_slice()) {
@@ -90,6 +93,7 @@ fn with_project<F: Files, O: Offers>(
 }
 
 // A clean build, which is offered nothing.
+#[tactic(auto, using(crate::proofs::Refusing::rebuilt_offered, crate::proofs::Refusing::offered, crate::proofs::Refusing::faulty_offered))]
 fn rebuilt<F: Files>(alloc: Global, files: &mut F, runs: &mut Runs) -> Result<Offered, BuildError>
     ensures rest { KeepsRest (F.holds files.old) (F.holds files.new) }
     ensures refused { IsRefusal result → F.holds files.new ≡ F.holds files.old }
@@ -99,6 +103,7 @@ fn rebuilt<F: Files>(alloc: Global, files: &mut F, runs: &mut Runs) -> Result<Of
     ensures encodable { IfOk result (λ o. All IsEncodableTask o.report.value.ran.items) }
     ensures reused { IfOk result (λ o. All IsEncodableTask o.reused.items) }
     ensures new { IfOk result (λ o. All IsNew o.new.items) }
+    ensures says { IfSome (F.holds files.old) (λ d. RefusesRight d result) }
     ensures told { Tells F.faults files.old files.new result }
 {
     match rebuild(alloc, files, runs) {
