@@ -109,6 +109,7 @@ module _ (d left : Directory) (r : Report) (c : IsAsClean d r (Some left)) (acce
   }
 
   pub clean_base : IsBaseOfNext d left
+  unfolding this
   clean_base = record {
     earlier = this;
     built = refl;
@@ -124,27 +125,28 @@ none_is_some b e = cc
 
 content_found : (fs : List (List ℕ × Vec ℕ Global)) (q b : List ℕ) → content_at fs q ≡ Some b → Contains (contents_in fs) (q, b)
 content_found [] q b h = cc
-content_found (f ∷ fs) q b h = by (content_at fs q) refl (same_text q f.0) refl h
+content_found (f ∷ fs) q b h = by (content_at fs q) refl (same_text q f.0) refl h (λ e. content_found fs q b e)
   where
     by : (x : Option (List ℕ)) → content_at fs q ≡ x → (s : Bool) → same_text q f.0 ≡ s → or_earlier x (cond s (Some f.1.items) None) ≡ Some b
-        → Contains (contents_in (f ∷ fs)) (q, b)
-    by (Some a) e s t k = there (f.0, f.1.items) (q, b) (contents_in fs) (content_found fs q b (e ∙ k))
-    by None e true t k =
+        → (content_at fs q ≡ Some b → Contains (contents_in fs) (q, b)) → Contains (contents_in (f ∷ fs)) (q, b)
+    by (Some a) e s t k rest = there (f.0, f.1.items) (q, b) (contents_in fs) (rest (e ∙ k))
+    by None e true t k rest =
         let bytes : f.1.items ≡ b = cc in
         subst (λ (x : List ℕ × List ℕ). Contains (contents_in (f ∷ fs)) x) (ap₂ (λ (x y : List ℕ). (x, y)) (sym (same_bytes q f.0 t)) bytes)
         (here (f.0, f.1.items) (contents_in fs))
-    by None e false t k = absurd (none_is_some b k)
+    by None e false t k rest = absurd (none_is_some b k)
 
 content_none : (fs : List (List ℕ × Vec ℕ Global)) (q b : List ℕ) → content_at fs q ≡ None → Contains (contents_in fs) (q, b) → ⊥
 content_none [] q b h i = none_in (q, b) i
-content_none (f ∷ fs) q b h i = by (content_at fs q) refl (same_text q f.0) refl h (here_or_there (f.0, f.1.items) (q, b) (contents_in fs) i)
+content_none (f ∷ fs) q b h i =
+    by (content_at fs q) refl (same_text q f.0) refl h (here_or_there (f.0, f.1.items) (q, b) (contents_in fs) i) (λ e j. content_none fs q b e j)
   where
     by : (x : Option (List ℕ)) → content_at fs q ≡ x → (s : Bool) → same_text q f.0 ≡ s → or_earlier x (cond s (Some f.1.items) None) ≡ None
-        → ((f.0, f.1.items) ≡ (q, b)) ⊎ Contains (contents_in fs) (q, b) → ⊥
-    by (Some a) e s t k j = cc
-    by None e true t k j = cc
-    by None e false t k (inl same) = clash (same_text q f.0) (subst (λ (x : List ℕ × List ℕ). same_text x.0 f.0 ≡ true) same (bytes_same f.0)) t
-    by None e false t k (inr j) = content_none fs q b e j
+        → ((f.0, f.1.items) ≡ (q, b)) ⊎ Contains (contents_in fs) (q, b) → (content_at fs q ≡ None → Contains (contents_in fs) (q, b) → ⊥) → ⊥
+    by (Some a) e s t k j rest = cc
+    by None e true t k j rest = cc
+    by None e false t k (inl same) rest = clash (same_text q f.0) (subst (λ (x : List ℕ × List ℕ). same_text x.0 f.0 ≡ true) same (bytes_same f.0)) t
+    by None e false t k (inr j) rest = rest e j
 
 module _ (fs : List FunctionTree) (d : Directory) (roots : List (List ℕ)) (files : List (List ℕ × Vec ℕ Global)) (provides : AreProvided fs d roots (contents_in files))
   where
@@ -178,7 +180,11 @@ source_rests p k =
     off q kept = is_false (same_text p q) (λ e. kept_source (sym kept ∙ ap kind_of (sym (same_bytes p q e)) ∙ k))
 
     ors : (a b c e : Bool) → a ≡ false → b ≡ false → c ≡ false → e ≡ false → (a || b || c || e) ≡ false
-    ors a b c e refl refl refl refl = refl
+    ors false false false false h i j k = refl
+    ors false false false true h i j k = cc
+    ors false false true e h i j k = cc
+    ors false true c e h i j k = cc
+    ors true b c e h i j k = cc
 
 module _ (d left : Directory) (r : Report) (fs : List FunctionTree) (funcs : List (List ℕ × List ℕ)) (roots : List Task) (project_is : IsProjectOf d funcs roots)
     (leaves : LeavesBuilt project_is.functions funcs roots d r (Some left)) where
@@ -214,9 +220,9 @@ pub afresh_base : (d left : Directory) (r : Report) → IsAfresh d r (Some left)
 afresh_base d left r a accepted =
     let clean_accepted : a.clean.verdict ≡ Accepted = sym (ap (λ (x : Report). x.verdict) a.is) ∙ accepted in
     let leaves = a.leaves in
-    let built : LeavesBuilt leaves.2.0.functions leaves.0 leaves.1 d a.clean a.left = by_verdict leaves.0 leaves.1 leaves.2.0 a.clean.verdict clean_accepted leaves.3.1 in
-    rebuilt_base d left a.clean leaves.2.0.functions leaves.0 leaves.1 leaves.2.0
-    (subst (λ o. LeavesBuilt leaves.2.0.functions leaves.0 leaves.1 d a.clean o) (sym (a.after_is accepted)) built)
+    let built : LeavesBuilt leaves.2.functions leaves.0 leaves.1 d a.clean a.left = by_verdict leaves.0 leaves.1 leaves.2 a.clean.verdict clean_accepted leaves.3.1 in
+    rebuilt_base d left a.clean leaves.2.functions leaves.0 leaves.1 leaves.2
+    (subst (λ o. LeavesBuilt leaves.2.functions leaves.0 leaves.1 d a.clean o) (sym (a.after_is accepted)) built)
   where
     by_verdict : (funcs : List (List ℕ × List ℕ)) (roots : List Task) (p : IsProjectOf d funcs roots) (v : Verdict) → v ≡ Accepted
         → LeavesBy p.functions funcs roots v d a.clean a.left → LeavesBuilt p.functions funcs roots d a.clean a.left

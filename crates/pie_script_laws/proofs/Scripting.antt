@@ -6,7 +6,7 @@ use Rattle.pie_files.specs.Directory.{Directory}
 use Rattle.pie_report.specs.declared.report.Report.{Report}
 use Rattle.pie_store.specs.declared.cause.Cause.{Cause}
 use Rattle.pie_store.specs.declared.cause.Cause.TheVariants as causes
-use Rattle.pie_store.specs.declared.fault.StoreFault.{StoreFault}
+use Rattle.pie_store.specs.declared.store_fault.StoreFault.{StoreFault}
 use Rattle.pie_store.specs.declared.image.StoreImage.{StoreImage}
 use Rattle.pie_store.specs.inner.Faults.{HasFault}
 use Rattle.pie_store.specs.inner.Pending.{in_order, IsName}
