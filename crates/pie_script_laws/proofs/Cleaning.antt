@@ -1,16 +1,16 @@
 -- An accepted build is the base of the next one.
-use Rattle.std.proofs.Common.{ℕ, ◌≡◌, Bool, true, false, cond, List, [], ◌∷◌, map, Option, Some, None, option_map, inl, inr, refl, sym, ap, ap₂, subst, ◌∙◌}
+use Rattle.std.proofs.Common.{ℕ, ◌≡◌, Bool, true, false, cond, List, [], ◌∷◌, map, Option, Some, None, inl, inr, refl, sym, ap, ap₂, subst, ◌∙◌}
 use Rattle.std.specs.Prelude.{◌||◌, ◌⊎◌, Vec}
 use Rattle.std.specs.List.{Contains}
 use Rattle.std.specs.declared.alloc.Global.{Global}
 use Rattle.pie_base.specs.Path.{is_out, same_text}
-use Rattle.pie_build.specs.Left.{or_earlier, content_at, may_change, IsInPlace, LeavesBuilt, LeavesBy, LeavesOf, Leaves, IsProjectOf}
+use Rattle.pie_build.specs.Left.{or_earlier, content_at, may_change, LeavesBuilt, LeavesBy, IsProjectOf}
 use Rattle.pie_build.specs.Stored.{IsStoreOf}
 use Rattle.pie_check_laws.proofs.Members.{none_in, here_or_there, here, there}
 use Rattle.pie_earlier_laws.proofs.Leaving.{accepted_is_earlier}
 use Rattle.pie_earlier_laws.proofs.Pipelines.{kind_out, out_kind}
 use Rattle.pie_earlier_laws.specs.Left.{IsEarlierBuild}
-use Rattle.pie_files.specs.Directory.{Directory, file_at}
+use Rattle.pie_files.specs.Directory.{Directory}
 use Rattle.pie_fresh.specs.Cleans.{contents_in}
 use Rattle.pie_model.specs.Built.{built_directory, provided_at, store_rows}
 use Rattle.pie_model.specs.Forest.{live_evaluations}
@@ -32,12 +32,10 @@ use Rattle.pie_value.specs.Canonical.{enc_task}
 use Rattle.pie_value.specs.declared.task.Task.{Task}
 use Rattle.pie_value.specs.declared.verdict.Verdict.{Verdict}
 use Rattle.pie_value.specs.declared.verdict.Verdict.TheVariants.{Accepted}
-use Rattle.pie_incremental.specs.declared.base.Base.{Base}
 use Rattle.pie_incremental.specs.Clean.{IsAfresh, IsAsClean, LeavesClean}
 use Rattle.pie_incremental.specs.Earlier.{Earlier, IsStoreOfEarlier, TellsFunctions, live_of}
 use Rattle.pie_incremental.specs.Own.{bytes_at, open_path, pending_path, store_path}
 use Rattle.pie_left_laws.proofs.Putting.{is_false, kept_open, kept_pending}
-use Rattle.pie_incremental.specs.Starts.{IsBase}
 use Rattle.pie_script_laws.specs.Basing.{IsBaseOfNext, IsBasedOn}
 
 -- ---- the store
@@ -142,7 +140,7 @@ content_none (f ∷ fs) q b h i =
     by (content_at fs q) refl (same_text q f.0) refl h (here_or_there (f.0, f.1.items) (q, b) (contents_in fs) i) (λ e j. content_none fs q b e j)
   where
     by : (x : Option (List ℕ)) → content_at fs q ≡ x → (s : Bool) → same_text q f.0 ≡ s → or_earlier x (cond s (Some f.1.items) None) ≡ None
-        → ((f.0, f.1.items) ≡ (q, b)) ⊎ Contains (contents_in fs) (q, b) → (content_at fs q ≡ None → Contains (contents_in fs) (q, b) → ⊥) → ⊥
+        → (◌≡◌ {A = List ℕ × List ℕ} (f.0, f.1.items) (q, b)) ⊎ Contains (contents_in fs) (q, b) → (content_at fs q ≡ None → Contains (contents_in fs) (q, b) → ⊥) → ⊥
     by (Some a) e s t k j rest = cc
     by None e true t k j rest = cc
     by None e false t k (inl same) rest = clash (same_text q f.0) (subst (λ (x : List ℕ × List ℕ). same_text x.0 f.0 ≡ true) same (bytes_same f.0)) t
@@ -209,6 +207,7 @@ module _ (d left : Directory) (r : Report) (fs : List FunctionTree) (funcs : Lis
   }
 
   rebuilt_base : IsBaseOfNext d left
+  unfolding afresh
   rebuilt_base = record {
     earlier = afresh;
     built = refl;

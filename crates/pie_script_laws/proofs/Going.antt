@@ -1,5 +1,5 @@
 -- A directory goes on from its base after an edit.
-use Rattle.std.proofs.Common.{ℕ, ◌≡◌, ◌⊎◌, inl, inr, true, List, ◌++◌, Option, Some, None, refl, sym, ap, subst, ◌∙◌}
+use Rattle.std.proofs.Common.{ℕ, ◌≡◌, ◌⊎◌, inl, inr, true, List, ◌++◌, refl, sym, ◌∙◌}
 use Rattle.pie_files.specs.Directory.{Directory}
 use Rattle.pie_model.specs.Paths.{Path, among}
 use Rattle.pie_model.specs.inner.Changes.{NamesAllChanges}

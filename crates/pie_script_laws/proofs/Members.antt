@@ -1,11 +1,10 @@
 -- Paths in a list, and the paths of the builder's own files.
-use Rattle.std.proofs.Common.{ℕ, ◌≡◌, ◌⊎◌, inl, inr, true, false, List, [], ◌∷◌, All, refl, sym, ap, subst, ◌∙◌}
+use Rattle.std.proofs.Common.{ℕ, ◌≡◌, ◌⊎◌, inl, inr, true, List, [], ◌∷◌, sym, subst}
 use Rattle.std.specs.List.{Contains}
 use Rattle.std.proofs.lemmas.List.Elements.{All-contains}
-use Rattle.pie_base.specs.Path.{same_text}
 use Rattle.pie_check_laws.proofs.Members.{none_in, here_or_there, here, there}
 use Rattle.pie_model.specs.Paths.{among}
-use Rattle.pie_model.proofs.Basics.{same_bytes, among_here, among_there, among_split}
+use Rattle.pie_model.proofs.Basics.{among_here, among_there, among_split}
 use Rattle.pie_store.specs.inner.Pending.{in_order}
 use Rattle.pie_store.proofs.InOrder.{in_path_order}
 

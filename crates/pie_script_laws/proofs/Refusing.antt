@@ -4,24 +4,22 @@ use Rattle.std.specs.Prelude.{nat_lt}
 use Rattle.std.proofs.lemmas.Bool.{ltb-false}
 use Rattle.std.proofs.lemmas.List.Elements.{All-append, All-contains, All-nil, All-weaker}
 use Rattle.std.specs.List.{Contains}
-use Rattle.pie_files.specs.Directory.{Directory, file_at}
+use Rattle.pie_files.specs.Directory.{Directory}
 use Rattle.pie_earlier_laws.proofs.Leaving.{names_join, more_names, agreeing}
 use Rattle.pie_left_laws.proofs.Going.{own_files_kept}
 use Rattle.pie_model.specs.Paths.{Path, among}
 use Rattle.pie_model.specs.inner.Changes.{NamesAllChanges}
-use Rattle.pie_store.specs.declared.image.StoreImage.{StoreImage}
 use Rattle.pie_store.specs.inner.Pending.{in_order, lines, IsName, IsPending}
-use Rattle.pie_store.specs.Texts.{IsStoreText}
 use Rattle.pie_store.proofs.InOrder.{in_path_order, pending_is}
 use Rattle.pie_store.proofs.PendingLemmas.{no_names, same_names}
 use Rattle.pie_incremental.specs.declared.base.Base.{Base}
 use Rattle.pie_incremental.specs.Earlier.{Earlier, GoesOnFrom, IsStoreOfEarlier}
 use Rattle.pie_incremental.specs.Kept.{KeepsNames}
 use Rattle.pie_incremental.specs.Names.{kept_names, kept_text}
-use Rattle.pie_incremental.specs.Own.{bytes_at, open_path, pending_path, store_path}
+use Rattle.pie_incremental.specs.Own.{bytes_at, store_path}
 use Rattle.pie_incremental.specs.Starts.{AreNames, IsBase}
 use Rattle.pie_script_laws.specs.Basing.{IsBasedOn}
-use Rattle.pie_script_laws.proofs.Members.{among_in, in_among, among_ordered}
+use Rattle.pie_script_laws.proofs.Members.{among_ordered}
 use Rattle.pie_script_laws.proofs.Cleaning.{one_store}
 
 -- ---- names that were kept

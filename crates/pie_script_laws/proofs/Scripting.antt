@@ -1,13 +1,11 @@
 -- Each build of a script is as a clean build.
-use Rattle.std.proofs.Common.{ℕ, ◌≡◌, Bool, List, [], ◌∷◌, ◌++◌, All, Option, Some, None, option_map, refl, sym, ap, subst, ◌∙◌}
+use Rattle.std.proofs.Common.{ℕ, ◌≡◌, List, [], ◌∷◌, ◌++◌, All, Option, Some, None, Ok, false, true, refl, sym, subst, ◌∙◌}
 use Rattle.std.proofs.lemmas.List.Elements.{All-nil, All-cons}
 use Rattle.std.specs.Prelude.{IsSome}
 use Rattle.pie_files.specs.Directory.{Directory}
-use Rattle.pie_report.specs.declared.report.Report.{Report}
 use Rattle.pie_store.specs.declared.cause.Cause.{Cause}
 use Rattle.pie_store.specs.declared.cause.Cause.TheVariants as causes
 use Rattle.pie_store.specs.declared.store_fault.StoreFault.{StoreFault}
-use Rattle.pie_store.specs.declared.image.StoreImage.{StoreImage}
 use Rattle.pie_store.specs.inner.Faults.{HasFault}
 use Rattle.pie_store.specs.inner.Pending.{in_order, IsName}
 use Rattle.pie_store.specs.Texts.{IsStoreText}
@@ -20,7 +18,6 @@ use Rattle.pie_value.specs.declared.verdict.Verdict.TheVariants.{Accepted, Refus
 use Rattle.pie_incremental.specs.declared.base.Base.{Base}
 use Rattle.pie_incremental.specs.declared.base.Start.{Start}
 use Rattle.pie_incremental.specs.declared.base.Start.TheVariants.{Afresh, From}
-use Rattle.pie_incremental.specs.Clean.{IsAfresh, IsAsClean}
 use Rattle.pie_incremental.specs.Earlier.{Earlier, GoesOnFrom}
 use Rattle.pie_incremental.specs.Own.{bytes_at, open_path, pending_path, store_path}
 use Rattle.pie_incremental.specs.Starts.{AreNames, IsBase, IsCause, StartsFrom}
@@ -35,7 +32,10 @@ use Rattle.pie_script_laws.proofs.Refusing.{refused_base}
 
 module _ (d : Directory) (b : Base) (is : IsBase d b) (bytes : (q text : List ℕ) → bytes_at d q ≡ Some text → IsBytes text) where
   closed : IsSome (bytes_at d open_path) → ⊥
-  closed h = subst IsSome is.readable.stored.closed h
+  closed h = untrue (subst IsSome is.readable.stored.closed h)
+    where
+      untrue : false ≡ true → ⊥
+      untrue e = cc
 
   stored : bytes_at d store_path ≡ None → ⊥
   stored e = none_some (sym e ∙ is.readable.stored.text_is)
@@ -77,7 +77,7 @@ module _ (e : Earlier) (s : Step) (goes : GoesOnFrom e s.list s.now) (paths : Al
     where
       by : (o : Option Cause) → s.report.fresh ≡ o → IsBaseOfNext s.now s.left
       by None e = clean_base s.now s.left s.report (clean_step.goes_on e) is
-      by (Some cause) e = afresh_base s.now s.left s.report (clean_step.afresh (subst IsSome (sym e) tt)) is
+      by (Some cause) e = afresh_base s.now s.left s.report (clean_step.afresh (subst IsSome (sym e) refl)) is
 
   -- a refused one that began from what the build before left, or afresh
   refused_by : (x : Refusal) (start : Start) → s.report.verdict ≡ Refused x → StartsFrom s.now start → NamesFrom start s.list s.now s.report (Some s.left)

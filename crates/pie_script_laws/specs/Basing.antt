@@ -1,5 +1,5 @@
 -- A directory between two builds, and the earlier build that it is based on.
-use Rattle.std.specs.Prelude.{◌≡◌, ℕ, true, List, ◌++◌, All, Some, None, Ok}
+use Rattle.std.specs.Prelude.{◌≡◌, ℕ, true, List, ◌++◌, All, Some, Ok}
 use Rattle.pie_base.specs.Path.{is_out}
 use Rattle.pie_files.specs.Directory.{Directory}
 use Rattle.pie_model.specs.Paths.{among}

@@ -1,5 +1,5 @@
 -- A script: edits of a directory, and a build by a change list after each.
-use Rattle.std.specs.Prelude.{◌≡◌, ℕ, List, [], ◌∷◌, All, Option, Some, None, IsSome}
+use Rattle.std.specs.Prelude.{◌≡◌, ℕ, List, [], ◌∷◌, All, Some, None, IsSome}
 use Rattle.pie_files.specs.Directory.{Directory}
 use Rattle.pie_report.specs.declared.report.Report.{Report}
 use Rattle.pie_store.specs.inner.Pending.{IsName}
