@@ -139,6 +139,35 @@ fn anew<F: Files, O: Offers>(
     ensures rest { KeepsRest (F.holds files.old) (F.holds files.new) }
     ensures refused { IsRefusal result → F.holds files.new ≡ F.holds files.old }
     ensures kept { IfSome (F.holds files.old) (λ d. IfOk result (λ o. KeepsRefused o.report.value.verdict d (F.holds files.new))) }
+    ensures fresh { IfOk result (λ o. o.report.value.fresh ≡ Some cause) }
+    ensures ran { IfOk result (λ o. runs.new ≡ runs.old ++ o.report.value.ran.items) }
+    ensures few { length runs.new ≤ length runs.old + 50000 }
+    ensures encodable { IfOk result (λ o. All IsEncodableTask o.report.value.ran.items) }
+    ensures reused { IfOk result (λ o. All IsEncodableTask o.reused.items) }
+    ensures new { IfOk result (λ o. All IsNew o.new.items) }
+    ensures told { Tells F.faults files.old files.new result }
+{
+    match no_base(alloc) {
+        Ok(base) => anew_from(alloc, files, base, offers, cause, runs),
+        Err(_) => Err(BuildError::OutOfMemory),
+    }
+}
+
+// The same with the empty store.
+#[tactic(auto, using(pie_build::proofs::OwnPaths::same_keeps, pie_incremental::proofs::Joining::rest_then))]
+fn anew_from<F: Files, O: Offers>(
+    alloc: Global,
+    files: &mut F,
+    base: Box<Base>,
+    offers: &mut O,
+    cause: Cause,
+    runs: &mut Runs,
+) -> Result<Offered, BuildError>
+    requires { IsImage base.value.image }
+    ensures rest { KeepsRest (F.holds files.old) (F.holds files.new) }
+    ensures refused { IsRefusal result → F.holds files.new ≡ F.holds files.old }
+    ensures kept { IfSome (F.holds files.old) (λ d. IfOk result (λ o. KeepsRefused o.report.value.verdict d (F.holds files.new))) }
+    ensures fresh { IfOk result (λ o. o.report.value.fresh ≡ Some cause) }
     ensures ran { IfOk result (λ o. runs.new ≡ runs.old ++ o.report.value.ran.items) }
     ensures few { length runs.new ≤ length runs.old + 50000 }
     ensures encodable { IfOk result (λ o. All IsEncodableTask o.report.value.ran.items) }
@@ -147,9 +176,6 @@ fn anew<F: Files, O: Offers>(
     ensures says { IfSome (F.holds files.old) (λ d. RefusesRight d result) }
     ensures told { Tells F.faults files.old files.new result }
 {
-    let Ok(base) = no_base(alloc) else {
-        return Err(BuildError::OutOfMemory);
-    };
     match from(alloc, files, base, offers, true, runs) {
         Ok(mut offered) => {
             offered.report.fresh = Some(cause);

@@ -1,5 +1,5 @@
 //! Offers for tests: they don't look at the files.
-ghost use Rattle.std.specs.Prelude.{◌≡◌, map, All, IfOk};
+ghost use Rattle.std.specs.Prelude.{◌≡◌, ◌++◌, map, All, IfOk};
 ghost use Rattle.pie_store.specs.inner.Offers.{offered, IsOffer};
 ghost use Rattle.pie_cache.specs.inner.Reading.{cache_says};
 ghost use Rattle.pie_cache.specs.inner.Stored.{or_none};
@@ -56,9 +56,7 @@ impl Offers for Texts {
         _task: &Task,
         _digest: &[u8; 32],
     ) -> Result<Vec<Offer>, FilesError> {
-        let mut all = entries(alloc, self.first.as_slice())?;
-        let mut more = entries(alloc, self.second.as_slice())?;
-        all.append(&mut more)?;
+        let all = joined(alloc, self.first.as_slice(), self.second.as_slice())?;
         Ok(all)
     }
 }
@@ -85,13 +83,35 @@ impl Offers for Swapped {
         _task: &Task,
         _digest: &[u8; 32],
     ) -> Result<Vec<Offer>, FilesError> {
-        let entries = entries(alloc, self.text.as_slice())?;
-        let swapped = all_swapped(alloc, entries.as_slice(), self.content.as_slice())?;
+        let swapped = with_contents(alloc, self.text.as_slice(), self.content.as_slice())?;
         Ok(swapped)
     }
 }
 
+// The entries of two cache files, one after the other.
+#[tactic(auto, using(crate::proofs::Swapping::joined_offers, crate::proofs::Swapping::joined_rows))]
+fn joined(alloc: Global, first: &[u8], second: &[u8]) -> Result<Vec<Offer>, OutOfMemory>
+    ensures offers { IfOk result (λ os. map offered os.items ≡ or_none (cache_says first.now) ++ or_none (cache_says second.now)) }
+    ensures rows { IfOk result (λ os. All IsOffer os.items) }
+{
+    let mut all = entries(alloc, first)?;
+    let mut more = entries(alloc, second)?;
+    all.append(&mut more)?;
+    Ok(all)
+}
+
+// The entries of a cache file, each with this one content.
+fn with_contents(alloc: Global, text: &[u8], content: &[u8]) -> Result<Vec<Offer>, OutOfMemory>
+    ensures offers { IfOk result (λ os. map offered os.items ≡ map (swapped_by content.now) (or_none (cache_says text.now))) }
+    ensures rows { IfOk result (λ os. All IsOffer os.items) }
+{
+    let entries = entries(alloc, text)?;
+    let swapped = all_swapped(alloc, entries.as_slice(), content)?;
+    Ok(swapped)
+}
+
 // These entries, each with this one content.
+#[tactic(auto, using(crate::proofs::Swapping::swapped_all))]
 fn all_swapped(alloc: Global, entries: &[Offer], content: &[u8]) -> Result<Vec<Offer>, OutOfMemory>
     requires { All IsOffer entries.now }
     ensures offers { IfOk result (λ os. map offered os.items ≡ map (swapped_by content.now) (map offered entries.now)) }
