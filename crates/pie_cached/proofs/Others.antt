@@ -1,12 +1,12 @@
 -- Paths that a build with the record cache leaves as they were.
-use Rattle.std.proofs.Common.{◌≡◌, ℕ, Bool, true, false, List, refl, sym, subst, ◌∙◌}
+use Rattle.std.proofs.Common.{◌≡◌, Bool, true, false, refl, subst, ◌∙◌}
 use Rattle.std.specs.Prelude.{◌||◌, Option, None, Some, IfSome}
 use Rattle.pie_build.specs.Left.{may_change, KeepsRest}
-use Rattle.pie_files.specs.Directory.{Directory, file_at}
+use Rattle.pie_files.specs.Directory.{Directory}
 use Rattle.pie_topdown_build.specs.Refusals.{KeepsRefused}
 use Rattle.pie_value.specs.declared.verdict.Verdict.{Verdict}
 use Rattle.pie_value.specs.declared.verdict.Verdict.TheVariants.{Accepted, Refused}
-use Rattle.pie_cached.specs.Cached.{is_cached, may_touch, KeepsAllButCache, KeepsOthers, StaysIfRefused}
+use Rattle.pie_cached.specs.Cached.{is_cached, KeepsAllButCache, KeepsOthers, StaysIfRefused}
 
 left : (a b : Bool) → (a || b) ≡ false → a ≡ false
 left true b e = absurd (cc)

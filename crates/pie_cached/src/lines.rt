@@ -1,17 +1,30 @@
-//! The lines of what a build took from the record cache.
+//! The text of a build with the record cache.
 ghost use Rattle.std.specs.Prelude.{◌≡◌, ◌++◌, ◌∷◌, [], codes, map, All, IfOk, OnOk, string_bytes};
 ghost use Rattle.pie_report.specs.Order.{InTaskOrder};
 ghost use Rattle.pie_report.specs.inner.Keys.{key_of, plain_key, InKeyOrder};
 ghost use Rattle.pie_value.specs.Canonical.{IsEncodableTask};
-ghost use Rattle.pie_cached.specs.Lines.{IsReusedText, reused_lines};
+ghost use Rattle.pie_cached.specs.Lines.{IsCachedText, IsReusedText, reused_lines};
 
 use pie_base::OutOfMemory;
+use pie_report::{Report, print};
 use pie_value::{Task, encode_task, show_task};
 use std::alloc::Global;
 
-/// A line for each of these tasks, in task order: `reused` and the task.
+/// What is printed of a build with the record cache: its report, and then a line for each of these tasks, in task order: `reused` and the task.
 /// Rule: docs/BUILDING.md, "What is printed".
-pub fn print_reused(alloc: Global, tasks: &[Task]) -> Result<String, OutOfMemory>
+pub fn print_cached(alloc: Global, report: &Report, reused: &[Task]) -> Result<String, OutOfMemory>
+    requires ran { All IsEncodableTask report.now.ran.items }
+    requires reused { All IsEncodableTask reused.now }
+    ensures { IfOk result (λ text. IsCachedText report.now reused.now (string_bytes text)) }
+{
+    let mut text = print(alloc, report)?;
+    let lines = print_reused(alloc, reused)?;
+    text.push_str(lines.as_str())?;
+    Ok(text)
+}
+
+// A line for each of these tasks, in task order.
+fn print_reused(alloc: Global, tasks: &[Task]) -> Result<String, OutOfMemory>
     requires { All IsEncodableTask tasks.now }
     ensures { IfOk result (λ text. IsReusedText tasks.now (string_bytes text)) }
 {

@@ -1,26 +1,21 @@
 -- What `cached` prints, the status that it ends with, and what it leaves.
-use Rattle.std.specs.Prelude.{◌≡◌, ◌⊎◌, ◌≤◌, ℕ, false, List, ◌++◌, length, Option}
+use Rattle.std.specs.Prelude.{◌≡◌, ◌⊎◌, ◌≤◌, ℕ, List, length, Option}
 use Rattle.pie_base.specs.declared.status.Status.{Status}
 use Rattle.pie_base.specs.declared.status.Status.TheVariants as status
 use Rattle.pie_cached.specs.Cached.{KeepsAllButCache, KeepsOthers, StaysIfRefused}
-use Rattle.pie_cached.specs.Lines.{IsReusedText}
+use Rattle.pie_cached.specs.Lines.{IsCachedText}
 use Rattle.pie_files.specs.Directory.{Directory}
 use Rattle.pie_project.specs.Refusals.{Refusal}
 use Rattle.pie_report.specs.declared.report.Report.{Report}
 use Rattle.pie_report.specs.Refused.{refusal_line}
 use Rattle.pie_value.specs.declared.task.Task.{Task}
-use Rattle.pie_cli.specs.Fresh.{IsPrinted, verdict_status}
+use Rattle.pie_cli.specs.Fresh.{verdict_status}
 use Rattle.pie_cli.specs.Listed.{RunsSaying}
 
 -- the project is refused: the line tells why, and outside the cache the directory is as it was
 abbrev pub RefusesOutsideCache : Option Directory → Option Directory → List ℕ → Status → Type 0
 RefusesOutsideCache before after text ended =
     (e : Refusal) × KeepsAllButCache before after × (text ≡ refusal_line e) × (ended ≡ status.Pipeline)
-
--- a text is that of a report and of the tasks whose records came from the cache
-abbrev pub IsCachedText : Report → List Task → List ℕ → Type 0
-IsCachedText report reused text =
-    (lines : List ℕ) × (more : List ℕ) × IsPrinted false report lines × IsReusedText reused more × (text ≡ lines ++ more)
 
 -- there is a report of at most 50,000 tasks, with the tasks whose records came from the cache; the text is that of both; and where the build is refused
 -- every file outside the cache is as it was

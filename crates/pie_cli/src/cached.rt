@@ -1,16 +1,17 @@
 //! A build with the record cache, and what is told of it.
 ghost use Rattle.std.specs.Prelude.{◌≡◌, true, All, IfOk, string_bytes};
 ghost use Rattle.pie_cached.specs.Cached.{KeepsOthers};
+ghost use Rattle.pie_cached.specs.Lines.{IsCachedText};
 ghost use Rattle.pie_files.specs.Streams.{Counted};
 ghost use Rattle.pie_value.specs.Canonical.{IsEncodableTask};
-ghost use Rattle.pie_cli.specs.Cached.{CachedSays, IsCachedText};
+ghost use Rattle.pie_cli.specs.Cached.{CachedSays};
 ghost use Rattle.pie_cli.specs.Fresh.{verdict_status};
 ghost use Rattle.pie_cli.specs.Run.{is_answer};
 
 use crate::check::{bad_pipeline, bad_roots};
-use crate::told::{CommandResult, printed, status_of};
+use crate::told::{CommandResult, status_of};
 use pie_base::OutOfMemory;
-use pie_cached::{build_cached, print_reused};
+use pie_cached::{build_cached, print_cached};
 use pie_files::{Files, FilesError};
 use pie_project::BuildError;
 use pie_report::Report;
@@ -44,9 +45,7 @@ fn of_cached(alloc: Global, report: &Report, reused: &[Task]) -> Result<CommandR
     ensures status { IfOk result (λ told. told.status ≡ verdict_status report.now.verdict) }
     ensures answer { IfOk result (λ told. is_answer told.status ≡ true) }
 {
-    let mut text = printed(alloc, report, false)?;
-    let lines = print_reused(alloc, reused)?;
-    text.push_str(lines.as_str())?;
+    let text = print_cached(alloc, report, reused)?;
     let status = status_of(&report.verdict);
     Ok(CommandResult { text, status })
 }

@@ -32,6 +32,9 @@ fn put(alloc: Global, files: &mut MemFiles, at: &str, bytes: &[u8]) -> Result<()
 // The text of a cache file whose entries say that `f()` gave these numbers.
 fn text(alloc: Global, numbers: &[u8]) -> Result<Vec<u8>, Fail> {
     let mut bytes = b"PIEC\x01".to_vec(alloc)?;
+    if numbers.len() > 4 {
+        Err("too many")?;
+    }
     bytes.push(numbers.len() as u8)?;
     for n in numbers {
         bytes.extend_from_slice(

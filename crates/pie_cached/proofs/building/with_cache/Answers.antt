@@ -1,9 +1,8 @@
-use Rattle.std.proofs.Common.{◌≡◌, ◌++◌, List, sym, subst}
+use Rattle.std.proofs.Common.{◌≡◌, ◌++◌, sym, subst}
 use Rattle.std.specs.Prelude.{All}
 use Rattle.std.proofs.lemmas.Result.{IfOk-weaker}
 use Rattle.pie_report.specs.declared.report.Report.{Report}
 use Rattle.pie_value.specs.Canonical.{IsEncodableTask}
-use Rattle.pie_value.specs.declared.task.Task.{Task}
 use Rattle.pie_cached.specs.Cached.{StaysIfRefused}
 use Rattle.pie_cached.proofs.Others.{both, if_refused, of_build, of_cache}
 use Rattle.pie_cached.proofs.building.with_cache.Goals as goal

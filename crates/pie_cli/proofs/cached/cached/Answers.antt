@@ -21,7 +21,7 @@ returns-in-Ok-clause-says g c =
     let report = c.in-Ok.report in
     inr (record {
       report = report;
-      reused = c.in-Ok.reused.items;
+      reused = c.as_slice.result.now;
       few = few_of 50000 c.new-runs.result c.build_cached.new.runs report.ran.items c.in-Ok.ensures.ran c.in-Ok.ensures.few;
       kept = c.in-Ok.ensures.kept;
       is = told.ensures.text;
