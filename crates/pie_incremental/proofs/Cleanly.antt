@@ -1,24 +1,36 @@
 -- A build of a directory by a list, as a clean build.
-use Rattle.std.proofs.Common.{◌≡◌, ℕ, ◌≤◌, Bool, true, false, cond, List, [], ◌++◌, length, drop, map, Option, None, Some, Result, Ok, Err, Global, refl, sym, ap, subst, ◌∙◌}
-use Rattle.std.specs.Prelude.{All, Box, IfOk, IfSome, IsSome}
+use Rattle.std.proofs.Common.{◌≡◌, inl, inr, ℕ, ◌≤◌, Bool, true, false, cond, List, [], ◌∷◌, ◌++◌, length, drop, map, Option, None, Some, Result, Ok, Err, Global, refl, sym, ap, subst, ◌∙◌}
+use Rattle.std.specs.Prelude.{All, Box, IfOk, IfSome, IsSome, bytes_eq}
+use Rattle.std.specs.Option.{option_map}
 use Rattle.std.proofs.lemmas.List.{drop-append-le}
+use Rattle.std.proofs.lemmas.List.Elements.{All-weaker}
+use Rattle.sha2.specs.Sha256.{sha256}
+use Rattle.pie_bottomup.specs.inner.Causes.{HasUnionEdge as HasUnionEdgeOf, IsRing as IsRingOf, Leads as LeadsOf}
+use Rattle.pie_bottomup.specs.inner.Ran.{HasReason as HasReasonOf}
 use Rattle.pie_build.specs.Left.{Leaves}
 use Rattle.pie_core_laws.specs.Update.{Update, IsUpdate}
-use Rattle.pie_diff.specs.Hashes.{hash_in, is_hash}
+use Rattle.pie_diff.specs.Hashes.{is_hash}
+use Rattle.pie_earlier_laws.specs.Functions.{digest_under}
+use Rattle.pie_earlier_laws.specs.Rows.{record_among}
 use Rattle.pie_digest.specs.Digests.{HasNames}
 use Rattle.pie_files.proofs.Reading.{if_always, if_each, if_two}
-use Rattle.pie_files.specs.Directory.{Directory}
+use Rattle.pie_files.specs.Directory.{Directory, file_at}
 use Rattle.pie_left_laws.specs.Reported.{IsOther as IsOtherOf, IsStray as IsStrayOf}
+use Rattle.pie_model.specs.Built.{store_rows}
+use Rattle.pie_model.specs.Records.{Record}
+use Rattle.pie_model.specs.inner.Reasons.{RunReason}
 use Rattle.pie_model_pipeline.specs.Clean.{output_bytes}
+use Rattle.pie_model_pipeline.specs.World.{world, project}
 use Rattle.pie_project.specs.Digested.{HasDigests}
 use Rattle.pie_project.specs.Fronts.{ProjectSays}
-use Rattle.pie_project.specs.Looking.{pipeline_path}
+use Rattle.pie_project.specs.Looking.{file_bytes, pipeline_path}
 use Rattle.pie_project.specs.declared.fault.BuildError.{BuildError}
 use Rattle.pie_project.specs.declared.project.Project.{Project}
 use Rattle.pie_project.specs.inner.Projects.{front_of}
 use Rattle.pie_report.specs.declared.report.Report.{Report}
 use Rattle.pie_store.specs.Canonical.{AreFuncs}
 use Rattle.pie_store.specs.declared.cause.Cause.{Cause}
+use Rattle.pie_store.specs.declared.cause.Cause.TheVariants as causes
 use Rattle.pie_store.specs.inner.Pending.{in_order}
 use Rattle.pie_value.specs.Canonical.{enc_task}
 use Rattle.pie_value.specs.declared.task.Task.{Task}
@@ -29,17 +41,44 @@ use Rattle.pie_incremental.specs.declared.base.Base.{Base}
 use Rattle.pie_incremental.specs.declared.base.OwnFiles.{OwnFiles}
 use Rattle.pie_incremental.specs.declared.base.Start.{Start}
 use Rattle.pie_incremental.specs.declared.base.Start.TheVariants.{Afresh, From}
+use Rattle.pie_incremental.specs.Causes.{HasUnionEdge, IsCauseFor, IsRing, Leads}
 use Rattle.pie_incremental.specs.Clean.{BuildsClean, IsAfresh, IsAsClean, IsOther, IsStray, LeavesClean}
 use Rattle.pie_incremental.specs.Earlier.{AreSeparate, Earlier, GoesOnFrom, live_of}
-use Rattle.pie_incremental.specs.Ran.{HasReason, RanFor, digests_by, kept_digests}
-use Rattle.pie_incremental.specs.Starts.{IsBase, StartsFrom}
+use Rattle.pie_incremental.specs.Ran.{HasReason, RanFor, digest_in, digests_by, earlier_rows, is_hash_of, kept_digests, record_in}
+use Rattle.pie_incremental.specs.Starts.{IsBase, IsCause, StartsFrom}
+use Rattle.pie_incremental.specs.inner.Causes.{IsCauseNow}
 use Rattle.pie_incremental.specs.inner.Clean.{BuildsCleanOf, LeavesAsClean}
 use Rattle.pie_incremental.specs.inner.Digested.{digested, with_digests}
 use Rattle.pie_incremental.specs.inner.Joined.{IsRetold, KeepsAfter}
 use Rattle.pie_incremental.specs.inner.Ran.{HaveReasons}
 use Rattle.pie_incremental.specs.inner.Updated.{FromClean, IsUpdateFrom, RunsCleanOnce}
 use Rattle.pie_incremental.proofs.Meaning.{means_same}
-use Rattle.pie_incremental.proofs.Updating.{no_cause}
+
+-- ---- records, digests and hashes of one, by both their definitions
+
+same_record : (rows : List Record) (t : List ℕ) → record_among rows t ≡ record_in rows t
+same_record [] t = refl
+same_record (r ∷ rows) t = ap (λ o. cond (bytes_eq t r.task) (Some r) o) (same_record rows t)
+
+same_digest : (rows : List (List ℕ × List ℕ)) (n : List ℕ) → digest_under rows n ≡ digest_in rows n
+same_digest [] n = refl
+same_digest (row ∷ rows) n = ap (λ o. cond (bytes_eq n row.0) (Some row.1) o) (same_digest rows n)
+
+same_hash : (file : Option (List ℕ × ℕ)) (hash : List ℕ)
+    → is_hash (option_map (λ f. sha256 f.0) file) hash ≡ is_hash_of (option_map (λ f. f.0) file) hash
+same_hash None hash = refl
+same_hash (Some file) hash = refl
+
+-- ---- rings by both their definitions
+
+leads_same : (a b : Task → Task → Type 0) → ((t v : Task) → a t v → b t v) → (t : Task) (tasks : List Task) (last : Task) → LeadsOf a t tasks last
+    → Leads b t tasks last
+leads_same a b f t [] last goes = f t last goes
+leads_same a b f t (v ∷ tasks) last goes = (f t v goes.0, leads_same a b f v tasks last goes.1)
+
+ring_same : (a b : Task → Task → Type 0) → ((t v : Task) → a t v → b t v) → (tasks : List Task) → IsRingOf a tasks → IsRing b tasks
+ring_same a b f [] ring = absurd ring
+ring_same a b f (t ∷ tasks) ring = leads_same a b f t tasks t ring
 
 -- ---- one that goes on from an earlier build
 
@@ -116,6 +155,14 @@ module _ (e : Earlier) (list : List (List ℕ)) (d : Directory) (b : Base) (p : 
     left = λ accepted. leaves_clean r after (builds.left accepted);
   }
 
+  -- a reason in the words of the update
+  reason_of : (kept : List (List ℕ × List ℕ)) (t : Task) → HasReasonOf update_of kept p.digests.items t → HasReason e d p.typed kept p.digests.items t
+  reason_of kept t r =
+      let before = store_rows world (project e.found.functions e.built) (map enc_task e.roots) in
+      subst (λ o. RunReason world (project p.typed d) d o (digest_in kept t.func) (digest_in p.digests.items t.func)) (same_record before (enc_task t))
+      (subst (λ o. RunReason world (project p.typed d) d (record_among before (enc_task t)) o (digest_in p.digests.items t.func)) (same_digest kept t.func)
+      (subst (λ o. RunReason world (project p.typed d) d (record_among before (enc_task t)) (digest_under kept t.func) o) (same_digest p.digests.items t.func) r))
+
   -- the digests by which it goes
   kept_is : (digested d p.digests.items b.image).funcs ≡ kept_digests d p.digests.items b.image
   kept_is = by b.image.pipeline
@@ -126,7 +173,9 @@ module _ (e : Earlier) (list : List (List ℕ)) (d : Directory) (b : Base) (p : 
 
       by : (o : Option (List ℕ)) → (with_digests d p.digests.items b.image o).funcs ≡ digests_by d p.digests.items b.image.funcs o
       by None = refl
-      by (Some hash) = either (is_hash (hash_in d pipeline_path) hash)
+      by (Some hash) =
+          ap (λ (t : Bool). (cond t (record b.image { funcs = p.digests.items }) b.image).funcs) (same_hash (file_at d pipeline_path) hash)
+          ∙ either (is_hash_of (file_bytes d pipeline_path) hash)
 
   ran_for : (ran : List Task) → HaveReasons update_of (digested d p.digests.items b.image).funcs p.digests.items ran → RanFor e d ran
   ran_for ran h = record {
@@ -136,8 +185,29 @@ module _ (e : Earlier) (list : List (List ℕ)) (d : Directory) (b : Base) (p : 
     base = b;
     is = base;
     once = h.once;
-    reasons = subst (λ kept. All (HasReason e d p.typed kept p.digests.items) ran) kept_is h.reasons;
+    reasons = subst (λ kept. All (HasReason e d p.typed kept p.digests.items) ran) kept_is
+        (All-weaker (HasReasonOf update_of (digested d p.digests.items b.image).funcs p.digests.items)
+        (HasReason e d p.typed (digested d p.digests.items b.image).funcs p.digests.items) (λ t r. reason_of (digested d p.digests.items b.image).funcs t r) ran
+        h.reasons);
   }
+
+  -- a union edge in the words of the update
+  edge_of : (t v : Task) → HasUnionEdgeOf update_of t v → HasUnionEdge e d p.typed t v
+  edge_of t v (inl was) = inl (was.0, sym (same_record (earlier_rows e) (enc_task t)) ∙ was.1, was.2)
+  edge_of t v (inr now) = inr now
+
+  cause_for : (c : Cause) → IsCauseNow update_of c → IsCauseFor e d c
+  cause_for causes.Interrupted is = absurd is
+  cause_for causes.NoStore is = absurd is
+  cause_for (causes.Damaged fault) is = absurd is
+  cause_for causes.BadPending is = absurd is
+  cause_for (causes.UnionCycle tasks) ring = record {
+    funcs = p.digests.items;
+    roots = p.roots.items;
+    found = record { functions = p.typed; says = says; names = names; digests = has };
+    ring = ring_same (HasUnionEdgeOf update_of) (HasUnionEdge e d p.typed) edge_of tasks ring;
+  }
+  cause_for (causes.UnionMany old entered task) counts = counts
 
 from_clean : (b : Base) (p : Project) (list : List (List ℕ)) (before mid after : Option Directory) (r : Report) → mid ≡ before
     → IfSome before (λ d. ProjectSays d (Ok (front_of p))) → IfSome before (λ d. HasDigests d p.digests.items) → HasNames p.typed p.digests.items
@@ -156,6 +226,10 @@ from_clean b p list before mid after r same says has names funcs runs = record {
             ((runs.once d (same ∙ told) none).ran (update_of e list d b p from base project digests names funcs)
             (is_update e list d b p from base project digests names funcs mid (same ∙ told)));
         afresh = λ some. runs.afresh d (same ∙ told) some;
+        cause = λ c fresh e from.
+            cause_for e list d b p from base project digests names funcs c
+            ((runs.cause d (same ∙ told) c fresh).each (update_of e list d b p from base project digests names funcs)
+            (is_update e list d b p from base project digests names funcs mid (same ∙ told)));
       };
 }
 
@@ -214,21 +288,34 @@ again_afresh own names before mid after report (Ok r) n old new l more leaves to
 
 -- ---- the whole build
 
-pub afresh_cleans : (list : List (List ℕ)) (cause : Cause) (before mid after : Option Directory) (result : Result Report BuildError) → mid ≡ before
-    → IfSome mid (λ d. IfOk result (λ r. IsAfresh d r after)) → IfOk result (λ r. r.fresh ≡ Some cause)
-    → IfSome before (λ d. IfOk result (λ r. BuildsClean list d r after))
-afresh_cleans list cause before mid after (Err e) same is why = if_always before (tt {0})
-afresh_cleans list cause before mid after (Ok r) same is why =
-    if_each (λ d. IsAfresh d r after) (λ d. BuildsClean list d r after) before
-    (λ d afresh. record {
+-- the first cause that holds of a directory
+first_cause : (e : Earlier) (d : Directory) (c : Cause) → IsCause d c → IsCauseFor e d c
+first_cause e d causes.Interrupted is = is
+first_cause e d causes.NoStore is = is
+first_cause e d (causes.Damaged fault) is = is
+first_cause e d causes.BadPending is = is
+first_cause e d (causes.UnionCycle tasks) is = absurd is
+first_cause e d (causes.UnionMany old entered task) is = absurd is
+
+pub afresh_cleans : (list : List (List ℕ)) (start : Start) (cause : Cause) (before mid after : Option Directory) (result : Result Report BuildError)
+    → start ≡ Afresh cause → IfSome before (λ d. StartsFrom d start) → mid ≡ before → IfSome mid (λ d. IfOk result (λ r. IsAfresh d r after))
+    → IfOk result (λ r. r.fresh ≡ Some cause) → IfSome before (λ d. IfOk result (λ r. BuildsClean list d r after))
+afresh_cleans list start cause before mid after (Err e) starts begins same is why = if_always before (tt {0})
+afresh_cleans list start cause before mid after (Ok r) starts begins same is why =
+    if_two (λ d. StartsFrom d start) (λ d. IsAfresh d r after) (λ d. BuildsClean list d r after) before
+    (λ d begun afresh. record {
       goes_on = λ none. absurd (differs (sym why ∙ none));
       ran = λ none. absurd (differs (sym why ∙ none));
       afresh = λ some. afresh;
+      cause = λ c told e from. first_cause e d c (subst (IsCause d) (one c (sym why ∙ told)) (subst (StartsFrom d) starts begun));
     })
-    (subst (λ m. IfSome m (λ d. IsAfresh d r after)) same is)
+    begins (subst (λ m. IfSome m (λ d. IsAfresh d r after)) same is)
   where
     differs : Some cause ≡ None → ⊥
     differs h = cc
+
+    one : (c : Cause) → Some cause ≡ Some c → cause ≡ c
+    one c both = cc
 
 pub from_cleans : (list : List (List ℕ)) (start : Start) (b : Box Base Global) (before mid after : Option Directory) (result : Result Report BuildError)
     → start ≡ From b → IfSome before (λ d. StartsFrom d start) → mid ≡ before → IfOk result (FromClean b.value list mid after)

@@ -4,7 +4,8 @@ use Rattle.pie_bottomup.specs.declared.plan.Plan.{Plan}
 use Rattle.pie_bottomup.specs.declared.state.Core.{Core}
 use Rattle.pie_bottomup.specs.declared.state.First.TheVariants.{Done}
 use Rattle.pie_bottomup.specs.declared.state.Turn.{Turn}
-use Rattle.pie_bottomup.specs.declared.state.Turn.TheVariants.{Went, Settled}
+use Rattle.pie_bottomup.specs.declared.state.Turn.TheVariants.{Went, Settled, StartAfresh}
+use Rattle.pie_bottomup.specs.inner.Causes.{IsCauseOf}
 use Rattle.pie_bottomup.specs.inner.Exact.{IsExactCore, IsSiteNow}
 use Rattle.pie_bottomup.specs.inner.Going.{IsBuildNow, IsWhole, StandsWhole, StepsWhole, TurnIsWhole}
 use Rattle.pie_bottomup.specs.inner.Loaded.{BeginsExact}
@@ -25,10 +26,13 @@ use Rattle.pie_model_pipeline.specs.Rows.{verdict_of}
 use Rattle.pie_model_pipeline.specs.World.{world}
 use Rattle.pie_parser.specs.FunctionTrees.{FunctionTree}
 use Rattle.pie_record.specs.declared.task_record.TaskRecord.{TaskRecord}
+use Rattle.pie_store.specs.declared.cause.Cause.{Cause}
+use Rattle.pie_store.specs.declared.cause.Cause.TheVariants as causes
 use Rattle.pie_store.specs.declared.image.StoreImage.{StoreImage}
 use Rattle.pie_value.specs.Canonical.{enc_task}
 use Rattle.pie_value.specs.declared.task.Task.{Task}
-use Rattle.pie_incremental.specs.inner.Evaluated.{BeginsNow, EndsStanding, IsResultOf, MakesExact, ResultsExact, StaysStanding}
+use Rattle.pie_incremental.specs.inner.Causes.{IsCauseNow}
+use Rattle.pie_incremental.specs.inner.Evaluated.{BeginsNow, EndsStanding, IsResultOf, MakesExact, ResultsExact, StaysStanding, StopsFor, StopsWhere}
 
 -- ---- how it begins
 
@@ -52,6 +56,16 @@ begins_now fs codes funcs digests rows names roots c plan fresh code begins = re
 
 -- ---- its steps
 
+-- a cause to start afresh holds, whatever became of the core
+cause_now : (u : Update) (c : Core) (cause : Cause) → IsCauseOf u c cause → IsCauseNow u cause
+cause_now u c causes.Interrupted is = is
+cause_now u c causes.NoStore is = is
+cause_now u c (causes.Damaged fault) is = is
+cause_now u c causes.BadPending is = is
+cause_now u c (causes.UnionCycle tasks) ring = ring
+cause_now u c (causes.UnionMany old new task) (inl all) = inl (all.left, all.came)
+cause_now u c (causes.UnionMany old new task) (inr many) = inr (many.all, many.none)
+
 pub stands_first : (held : Option Directory) (c : Core) → StaysStanding held c c
 stands_first held c u site now stands = stands
 
@@ -68,6 +82,9 @@ module _ (held mid : Option Directory) (a b c : Core) (turn : Turn) (same : mid 
   stands_end settled u site now stands =
       let whole : IsWhole u c = subst (TurnIsWhole u c) settled (turned u site now stands) in
       whole.exact
+
+  pub stops_for : (cause : Cause) → turn ≡ StartAfresh cause → StopsFor held a cause
+  stops_for cause stops u site now stands = cause_now u c cause (subst (TurnIsWhole u c) stops (turned u site now stands))
 
 -- ---- what it makes
 
@@ -107,4 +124,15 @@ evaluated held fs codes digests roots s names old new b compiled begins settles 
       let begun = begins.each u held here compiled stored in
       let site : IsSiteNow u held = record { holds = here.holds; apart = here.separates; besides = here.met } in
       makes.each u (settles u site begun.0 begun.1) here.separates here.met here.roots_are;
+}
+
+-- where it has to start afresh
+pub evaluated_stops : (held : Option Directory) (fs : List FunctionTree) (codes : List Code) (digests : List (List ℕ × List ℕ)) (roots : List Task)
+    (s : StoreImage) (names : List (List ℕ)) (c : Core) (cause : Cause) → AreCompiled fs codes → BeginsNow fs codes roots s.funcs digests s.rows names c
+    → StopsFor held c cause → StopsWhere held fs digests roots s names cause
+evaluated_stops held fs codes digests roots s names c cause compiled begins stops = record {
+  each = λ u here stored.
+      let begun = begins.each u held here compiled stored in
+      let site : IsSiteNow u held = record { holds = here.holds; apart = here.separates; besides = here.met } in
+      stops u site begun.0 begun.1;
 }

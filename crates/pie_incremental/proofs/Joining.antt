@@ -1,6 +1,6 @@
 -- The parts of a build by what changed, one after another.
 use Rattle.std.proofs.Common.{◌≡◌, ℕ, ◌+◌, ◌≤◌, Bool, true, false, ◌||◌, List, [], ◌∷◌, ◌++◌, length, drop, Vec, Global, refl, sym, ap, subst, ◌∙◌, inl, inr, arith}
-use Rattle.std.specs.Prelude.{All, Option, None, Some, IfSome, IsSome, IfOk, Result, Ok, Err, codes}
+use Rattle.std.specs.Prelude.{All, Option, None, Some, IfSome, IfOk, Result, Ok, Err, codes}
 use Rattle.pie_report.specs.declared.report.Report.{Report}
 use Rattle.pie_project.specs.declared.fault.BuildError.{BuildError}
 use Rattle.std.proofs.lemmas.Bool.{false≢true}
@@ -126,14 +126,13 @@ few_told old new (Ok r) is few once =
     record { most = omega (arith, few, l); once = λ none. omega (arith, once none, l) }
 
 -- a build that tells why it started afresh
-pub few_again : (old mid new : List Task) (result : Result Report BuildError) → length mid ≤ length old + 50000 → length new ≤ length mid + 50000
-    → IfOk result (λ r. IsSome r.fresh) → IfOk result (λ r. r.fresh ≡ None → length new ≤ length old + 50000)
-few_again old mid new (Err e) first second why = tt
-few_again old mid new (Ok r) first second why = λ none. absurd (no_cause r.fresh why none)
+pub few_again : (old mid new : List Task) (cause : Cause) (result : Result Report BuildError) → length mid ≤ length old + 50000
+    → length new ≤ length mid + 50000 → IfOk result (λ r. r.fresh ≡ Some cause) → IfOk result (λ r. r.fresh ≡ None → length new ≤ length old + 50000)
+few_again old mid new cause (Err e) first second why = tt
+few_again old mid new cause (Ok r) first second why = λ none. absurd (apart (sym why ∙ none))
   where
-    no_cause : (o : Option Cause) → IsSome o → o ≡ None → ⊥
-    no_cause None some is = cc
-    no_cause (Some c) some is = cc
+    apart : Some cause ≡ None → ⊥
+    apart differ = cc
 
 -- and of a build that started afresh at once
 pub few_once : (old new : List Task) (result : Result Report BuildError) → length new ≤ length old + 50000

@@ -36,10 +36,10 @@ use Rattle.pie_incremental.specs.inner.Built.{IsKnown}
 use Rattle.pie_incremental.specs.inner.Clean.{BuildsCleanOf, LeavesAsClean}
 use Rattle.pie_incremental.specs.inner.Cleaned.{KnowsWhere, LeavesBy}
 use Rattle.pie_incremental.specs.inner.Digested.{digested, with_digests}
-use Rattle.pie_incremental.specs.inner.Evaluated.{IsResultOf, IsUpdateHere, MakesExact}
+use Rattle.pie_incremental.specs.inner.Evaluated.{IsResultOf, IsUpdateHere, MakesExact, StopsWhere}
 use Rattle.pie_incremental.specs.inner.Joined.{IsAsBefore, IsEndingOf}
 use Rattle.pie_incremental.specs.inner.Ran.{HaveReasons}
-use Rattle.pie_incremental.specs.inner.Updated.{GoesClean, GoesOn, IsUpdateFrom, RunsClean, RunsCleanOnce, RunsOrStops}
+use Rattle.pie_incremental.specs.inner.Updated.{GoesClean, GoesOn, IsUpdateFrom, RunsClean, RunsCleanOnce, RunsOrStops, StopsFrom}
 
 -- ---- the end
 
@@ -129,12 +129,21 @@ runs_clean b e p list s before mid after r same ending knows image goes = record
       (goes.ran u (subst (λ m. IsUpdateHere u m p.typed p.roots.items) (sym same) from.here) (begun_stored b e p list s before u ending knows image from));
 }
 
+stops_from : (b : Base) (e : Ending) (p : Project) (list : List (List ℕ)) (s : StoreImage) (before mid : Option Directory) (cause : Cause) → mid ≡ before
+    → IsEndingOf b list e → IfSome before (λ d. KnowsWhere b d e) → IfSome before (λ d. s ≡ digested d p.digests.items b.image)
+    → StopsWhere mid p.typed p.digests.items p.roots.items s e.names.items cause → StopsFrom b p list before cause
+stops_from b e p list s before mid cause same ending knows image stops = record {
+  each = λ u from.
+      stops.each u (subst (λ m. IsUpdateHere u m p.typed p.roots.items) (sym same) from.here) (begun_stored b e p list s before u ending knows image from);
+}
+
 runs_then : (b : Base) (e : Ending) (p : Project) (list : List (List ℕ)) (s : StoreImage) (before mid after : Option Directory) (done : Done)
     → mid ≡ before → IsEndingOf b list e → IfSome before (λ d. KnowsWhere b d e) → IfSome before (λ d. s ≡ digested d p.digests.items b.image)
     → GoesOn s e p mid after done → RunsOrStops b p list before after done
 runs_then b e p list s before mid after (Reported r) same ending knows image goes =
     runs_clean b e p list s before mid after r.value same ending knows image goes
-runs_then b e p list s before mid after (Stopped stop) same ending knows image goes = tt
+runs_then b e p list s before mid after (Stopped stop) same ending knows image goes =
+    stops_from b e p list s before mid stop.value.cause same ending knows image goes
 
 pub runs_ok : (b : Base) (e : Ending) (p : Project) (list : List (List ℕ)) (s : StoreImage) (before mid after : Option Directory)
     (result : Result Done FilesError) → mid ≡ before → IsEndingOf b list e → IfSome before (λ d. KnowsWhere b d e)
@@ -151,7 +160,11 @@ pub large_runs : (b : Base) (p : Project) (list : List (List ℕ)) (before after
     → IfOk result (RunsCleanOnce b p list before after)
 large_runs b p list before after (Err e) ready large = tt
 large_runs b p list before after (Ok r) ready large =
-    record { once = λ d told none. absurd (never d told); afresh = λ d told some. absurd (never d told) }
+    record {
+      once = λ d told none. absurd (never d told);
+      afresh = λ d told some. absurd (never d told);
+      cause = λ d told c is. absurd (never d told);
+    }
   where
     never : (d : Directory) → before ≡ Some d → ⊥
     never d told =
@@ -166,17 +179,33 @@ pub reported_runs : (b : Base) (p : Project) (list : List (List ℕ)) (before af
     → done ≡ Reported report → r ≡ report.value → RunsOrStops b p list before after done → RunsCleanOnce b p list before after r
 reported_runs b p list before after done report r is same h =
     let runs : RunsClean b p list before after r = subst (RunsClean b p list before after) (sym same) (subst (RunsOrStops b p list before after) is h) in
-    record { once = λ d told none. runs; afresh = λ d told some. absurd (no_cause r.fresh some runs.none) }
+    record {
+      once = λ d told none. runs;
+      afresh = λ d told some. absurd (no_cause r.fresh some runs.none);
+      cause = λ d told c caused. absurd (apart c (sym runs.none ∙ caused));
+    }
+  where
+    apart : (c : Cause) → None ≡ Some c → ⊥
+    apart c differ = cc
 
 -- one that has to start afresh has changed nothing
 pub as_before : (before mid : Option Directory) (done : Done) (stop : Box Stop Global) → done ≡ Stopped stop → IsAsBefore before mid done → mid ≡ before
 as_before before mid done stop is h = subst (IsAsBefore before mid) is h
 
 -- and one that tells why it did
-pub again_runs : (b : Base) (p : Project) (list : List (List ℕ)) (before mid after : Option Directory) (result : Result Report BuildError) → mid ≡ before
-    → IfOk result (λ r. IsSome r.fresh) → IfSome mid (λ d. IfOk result (λ r. IsAfresh d r after)) → IfOk result (RunsCleanOnce b p list before after)
-again_runs b p list before mid after (Err e) same why is = tt
-again_runs b p list before mid after (Ok r) same why is = record {
-  once = λ d told none. absurd (no_cause r.fresh why none);
+pub again_runs : (b : Base) (p : Project) (list : List (List ℕ)) (before mid after : Option Directory) (done : Done) (stop : Box Stop Global)
+    (result : Result Report BuildError) → mid ≡ before → done ≡ Stopped stop → RunsOrStops b p list before mid done
+    → IfOk result (λ r. r.fresh ≡ Some stop.value.cause) → IfSome mid (λ d. IfOk result (λ r. IsAfresh d r after))
+    → IfOk result (RunsCleanOnce b p list before after)
+again_runs b p list before mid after done stop (Err e) same stopped stops why is = tt
+again_runs b p list before mid after done stop (Ok r) same stopped stops why is = record {
+  once = λ d told none. absurd (apart (sym why ∙ none));
   afresh = λ d told some. subst (λ m. IfSome m (λ x. IsAfresh x r after)) (same ∙ told) is;
+  cause = λ d told c caused. subst (StopsFrom b p list before) (one c (sym why ∙ caused)) (subst (RunsOrStops b p list before mid) stopped stops);
 }
+  where
+    apart : Some stop.value.cause ≡ None → ⊥
+    apart differ = cc
+
+    one : (c : Cause) → Some stop.value.cause ≡ Some c → stop.value.cause ≡ c
+    one c both = cc

@@ -15,9 +15,11 @@ use Rattle.pie_parser.specs.FunctionTrees.{FunctionTree}
 use Rattle.pie_reach.specs.Plan.{path_cmp}
 use Rattle.pie_record.specs.declared.task_record.TaskRecord.{TaskRecord}
 use Rattle.pie_report.specs.declared.report.Report.{Report}
+use Rattle.pie_store.specs.declared.cause.Cause.{Cause}
 use Rattle.pie_value.specs.Canonical.{enc_task}
 use Rattle.pie_value.specs.declared.task.Task.{Task}
 use Rattle.pie_value.specs.declared.verdict.Verdict.TheVariants.{Accepted}
+use Rattle.pie_incremental.specs.Causes.{IsCauseFor}
 use Rattle.pie_incremental.specs.Earlier.{live_of, Earlier, GoesOnFrom}
 use Rattle.pie_incremental.specs.Own.{bytes_at}
 use Rattle.pie_incremental.specs.Ran.{RanFor}
@@ -70,8 +72,10 @@ pub record IsAfresh (d : Directory) (r : Report) (after : Option Directory) : Ty
   pub after_is : r.verdict ≡ Accepted → after ≡ left
 
 -- what a build with this list came to: a report that tells no cause to start afresh is as that of a clean build, where the directory goes on from an earlier
--- one, and tells no task twice that ran, and each that had a reason to; a report that tells one is of a clean build, whatever was there
+-- one, and tells no task twice that ran, and each that had a reason to; a report that tells one is of a clean build, whatever was there, and where the
+-- directory goes on from an earlier one, the cause holds
 pub record BuildsClean (list : List (List ℕ)) (d : Directory) (r : Report) (after : Option Directory) : Type 0 where
   pub goes_on : r.fresh ≡ None → (e : Earlier) → GoesOnFrom e list d → IsAsClean d r after
   pub ran : r.fresh ≡ None → (e : Earlier) → GoesOnFrom e list d → RanFor e d r.ran.items
   pub afresh : IsSome r.fresh → IsAfresh d r after
+  pub cause : (c : Cause) → r.fresh ≡ Some c → (e : Earlier) → GoesOnFrom e list d → IsCauseFor e d c

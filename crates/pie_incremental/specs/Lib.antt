@@ -7,6 +7,7 @@ pub mod Treated
 pub mod Runs
 pub mod Earlier
 pub mod Ran
+pub mod Causes
 pub mod Clean
 pub mod Refused
 pub mod inner

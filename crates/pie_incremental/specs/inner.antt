@@ -1,6 +1,7 @@
 -- Definitions that no clause of `pie_cli::run` rests on: invariants, and what crates say to each other.
 pub mod Bases
 pub mod Built
+pub mod Causes
 pub mod Changes
 pub mod Clean
 pub mod Cleaned

@@ -1,5 +1,5 @@
 //! A build that starts afresh after tasks ran.
-ghost use Rattle.std.specs.Prelude.{◌≡◌, ◌≤◌, ◌+◌, ◌++◌, drop, length, All, List, IfOk, IfSome, OnOk, IsSome};
+ghost use Rattle.std.specs.Prelude.{◌≡◌, ◌≤◌, ◌+◌, ◌++◌, drop, length, All, List, Some, IfOk, IfSome, OnOk};
 ghost use Rattle.pie_build.specs.Left.{KeepsRest};
 ghost use Rattle.pie_commit.specs.Outcomes.{LeavesFromRest};
 ghost use Rattle.pie_incremental.specs.Kept.{IsOfNames};
@@ -25,7 +25,7 @@ use pie_value::Verdict;
 use pie_vm::Runs;
 use std::alloc::Global;
 
-/// Builds afresh. All tasks that were started after so many others are reported.
+/// Builds afresh, for the cause of this stop. All tasks that were started after so many others are reported.
 #[tactic(auto, using(crate::proofs::Refusing::rebuilt, crate::proofs::Refusing::never, crate::proofs::Joining::rest_both, crate::proofs::Joining::behind_encodable))]
 pub(crate) fn again<F: Files>(
     alloc: Global,
@@ -41,7 +41,7 @@ pub(crate) fn again<F: Files>(
     ensures names { IfOk result (λ r. Treats stop.value.ending.value.own stop.value.ending.value.names.items r.verdict (F.holds files.old) (F.holds files.new)) }
     ensures afresh { IfSome (F.holds files.old) (λ d. IfOk result (λ r. IsAfresh d r (F.holds files.new))) }
     ensures crash { LeavesFromRest F.holds F.moment F.left_since F.images (MayRestart stop.value.ending.value.own stop.value.ending.value.names.items) files.old files.new }
-    ensures fresh { IfOk result (λ r. IsSome r.fresh) }
+    ensures fresh { IfOk result (λ r. r.fresh ≡ Some stop.value.cause) }
     ensures ran { IfOk result (λ r. r.ran.items ≡ drop before runs.new) }
     ensures grows { IfOk result (λ r. (more : List TaskOf) × (runs.new ≡ runs.old ++ more)) }
     ensures few { length runs.new ≤ length runs.old + 50000 }
@@ -72,7 +72,7 @@ fn retell<F: Files>(
     ensures crash { LeavesFromRest F.holds F.moment F.left_since F.images (IsOfNames stop.value.ending.value.names.items (bytes_of stop.value.ending.value.own.pending)) files.old files.new }
     ensures verdict { IfOk result (λ r. r.verdict ≡ report.verdict) }
     ensures retold { IfOk result (IsRetold report) }
-    ensures fresh { IfOk result (λ r. IsSome r.fresh) }
+    ensures fresh { IfOk result (λ r. r.fresh ≡ Some stop.value.cause) }
     ensures ran { IfOk result (λ r. r.ran.items ≡ drop before runs.now) }
     ensures told { Tells F.faults files.old files.new result }
 {
@@ -100,7 +100,7 @@ fn complete<F: Files>(
     ensures crash { LeavesFromRest F.holds F.moment F.left_since F.images (IsOfNames stop.value.ending.value.names.items (bytes_of stop.value.ending.value.own.pending)) files.old files.new }
     ensures verdict { report.new.verdict ≡ report.old.verdict }
     ensures retold { OnOk result (IsRetold report.old report.new) }
-    ensures fresh { OnOk result (IsSome report.new.fresh) }
+    ensures fresh { OnOk result (report.new.fresh ≡ Some stop.value.cause) }
     ensures ran { OnOk result (report.new.ran.items ≡ drop before runs.now) }
     ensures told { Tells F.faults files.old files.new result }
 {

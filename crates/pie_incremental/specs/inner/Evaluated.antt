@@ -25,6 +25,7 @@ use Rattle.pie_value.specs.declared.task.Task.{Task}
 use Rattle.pie_value.specs.declared.verdict.Verdict.TheVariants.{Accepted}
 use Rattle.pie_incremental.specs.declared.evaluate.Ended.{Ended}
 use Rattle.pie_incremental.specs.declared.evaluate.Ended.TheVariants.{Built, Afresh}
+use Rattle.pie_incremental.specs.inner.Causes.{IsCauseNow}
 
 -- what is made has the verdict of the clean build; where that accepts, it is an accepted build with the outputs of the clean one
 pub record IsResultOf (u : Update) (b : Result) : Type 0 where
@@ -55,10 +56,14 @@ StaysStanding held old new = (u : Update) → IsSiteNow u held → IsBuildNow u 
 abbrev pub EndsStanding : Option Directory → Core → Core → Type 0
 EndsStanding held old new = (u : Update) → IsSiteNow u held → IsBuildNow u old.plan → StandsWhole u old → IsExactCore u new
 
--- so it is once it is settled
+-- a core that stands has to start afresh for a cause that is so
+abbrev pub StopsFor : Option Directory → Core → Cause → Type 0
+StopsFor held c cause = (u : Update) → IsSiteNow u held → IsBuildNow u c.plan → StandsWhole u c → IsCauseNow u cause
+
+-- it is exact once it is settled, or has to start afresh for such a cause
 abbrev pub SettlesExact : Option Directory → Core → Core → Option Cause → Type 0
 SettlesExact held old new None = EndsStanding held old new
-SettlesExact held old new (Some cause) = Unit {0}
+SettlesExact held old new (Some cause) = StopsFor held old cause
 
 -- what an exact core makes of these roots
 pub record ResultsExact (c : Core) (roots : List Task) (b : Result) : Type 0 where
@@ -69,6 +74,11 @@ pub record MakesExact (held : Option Directory) (fs : List FunctionTree) (digest
     (names : List (List ℕ)) (b : Result) : Type 0 where
   pub each : (u : Update) → IsUpdateHere u held fs roots → IsStoredIn u s.funcs digests s.rows names → IsResultOf u b
 
+-- of each of them, an evaluation has to start afresh for a cause that is so
+pub record StopsWhere (held : Option Directory) (fs : List FunctionTree) (digests : List (List ℕ × List ℕ)) (roots : List Task) (s : StoreImage)
+    (names : List (List ℕ)) (cause : Cause) : Type 0 where
+  pub each : (u : Update) → IsUpdateHere u held fs roots → IsStoredIn u s.funcs digests s.rows names → IsCauseNow u cause
+
 abbrev pub EvaluatesExact : Option Directory → List FunctionTree → List (List ℕ × List ℕ) → List Task → StoreImage → List (List ℕ) → Ended → Type 0
 EvaluatesExact held fs digests roots s names (Built b) = MakesExact held fs digests roots s names b.value
-EvaluatesExact held fs digests roots s names (Afresh cause) = Unit {0}
+EvaluatesExact held fs digests roots s names (Afresh cause) = StopsWhere held fs digests roots s names cause

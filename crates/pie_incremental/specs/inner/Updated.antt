@@ -5,6 +5,7 @@ use Rattle.pie_core_laws.specs.Update.{Update}
 use Rattle.pie_files.specs.Directory.{Directory}
 use Rattle.pie_project.specs.declared.project.Project.{Project}
 use Rattle.pie_report.specs.declared.report.Report.{Report}
+use Rattle.pie_store.specs.declared.cause.Cause.{Cause}
 use Rattle.pie_store.specs.declared.image.StoreImage.{StoreImage}
 use Rattle.pie_store.specs.inner.Pending.{in_order}
 use Rattle.pie_incremental.specs.declared.base.Base.{Base}
@@ -14,9 +15,10 @@ use Rattle.pie_incremental.specs.declared.run.Done.TheVariants.{Reported, Stoppe
 use Rattle.pie_incremental.specs.Clean.{BuildsClean, IsAfresh}
 use Rattle.pie_incremental.specs.Starts.{IsBase}
 use Rattle.pie_incremental.specs.inner.Built.{IsKnown}
+use Rattle.pie_incremental.specs.inner.Causes.{IsCauseNow}
 use Rattle.pie_incremental.specs.inner.Clean.{BuildsCleanOf}
 use Rattle.pie_incremental.specs.inner.Digested.{digested}
-use Rattle.pie_incremental.specs.inner.Evaluated.{IsUpdateHere}
+use Rattle.pie_incremental.specs.inner.Evaluated.{IsUpdateHere, StopsWhere}
 use Rattle.pie_incremental.specs.inner.Ran.{HaveReasons}
 
 -- a build from this store, with what its end needs, tells no cause to start afresh, and is that of each update to this project of which that is known; the
@@ -28,10 +30,10 @@ pub record GoesClean (s : StoreImage) (e : Ending) (p : Project) (before after :
   pub ran : (u : Update) → IsUpdateHere u before p.typed p.roots.items → IsStoredIn u s.funcs p.digests.items s.rows e.names.items
       → HaveReasons u s.funcs p.digests.items r.ran.items
 
--- so it is unless it has to start afresh
+-- so it is unless it has to start afresh, for a cause that is so
 abbrev pub GoesOn : StoreImage → Ending → Project → Option Directory → Option Directory → Done → Type 0
 GoesOn s e p before after (Reported r) = GoesClean s e p before after r.value
-GoesOn s e p before after (Stopped stop) = Unit {0}
+GoesOn s e p before after (Stopped stop) = StopsWhere before p.typed p.digests.items p.roots.items s e.names.items stop.value.cause
 
 -- an update to this project in what the files hold, where the store of this base is that of the earlier build, and what changed is in a list or pending
 pub record IsUpdateFrom (u : Update) (held : Option Directory) (b : Base) (p : Project) (list : List (List ℕ)) : Type 0 where
@@ -45,15 +47,21 @@ pub record RunsClean (b : Base) (p : Project) (list : List (List ℕ)) (before a
   pub each : (u : Update) → IsUpdateFrom u before b p list → BuildsCleanOf u p.digests.items p.roots.items r after
   pub ran : (u : Update) → IsUpdateFrom u before b p list → HaveReasons u (digested u.directory p.digests.items b.image).funcs p.digests.items r.ran.items
 
--- so it is unless it has to start afresh
+-- of each such update, a cause to start afresh is so
+pub record StopsFrom (b : Base) (p : Project) (list : List (List ℕ)) (before : Option Directory) (cause : Cause) : Type 0 where
+  pub each : (u : Update) → IsUpdateFrom u before b p list → IsCauseNow u cause
+
+-- so it is unless it has to start afresh, for such a cause
 abbrev pub RunsOrStops : Base → Project → List (List ℕ) → Option Directory → Option Directory → Done → Type 0
 RunsOrStops b p list before after (Reported r) = RunsClean b p list before after r.value
-RunsOrStops b p list before after (Stopped stop) = Unit {0}
+RunsOrStops b p list before after (Stopped stop) = StopsFrom b p list before stop.value.cause
 
--- over files that tell their directory, a report that tells no cause to start afresh is that of such a build, and another one that of a clean build
+-- over files that tell their directory, a report that tells no cause to start afresh is that of such a build, and another one that of a clean build, and tells
+-- a cause that is so
 pub record RunsCleanOnce (b : Base) (p : Project) (list : List (List ℕ)) (before after : Option Directory) (r : Report) : Type 0 where
   pub once : (d : Directory) → before ≡ Some d → r.fresh ≡ None → RunsClean b p list before after r
   pub afresh : (d : Directory) → before ≡ Some d → IsSome r.fresh → IsAfresh d r after
+  pub cause : (d : Directory) → before ≡ Some d → (c : Cause) → r.fresh ≡ Some c → StopsFrom b p list before c
 
 -- a build from the base that is there came to what a build with this list does
 pub record FromClean (b : Base) (list : List (List ℕ)) (before after : Option Directory) (r : Report) : Type 0 where

@@ -34,8 +34,8 @@ returns-in-Ok-From-clause-most g c =
 pub returns-in-Ok-Afresh-clause-clean : goal.returns-in-Ok-Afresh-clause-clean
 returns-in-Ok-Afresh-clause-clean g c =
     let e = c.in-Ok-Afresh in
-    afresh_cleans c.args.changes.now e.cause (g.F.Files.holds c.args.files.now) (g.F.Files.holds c.find_start.new.files) (g.F.Files.holds c.afresh.new.files)
-    c.afresh.result e.ensures.reads.same c.afresh.ensures.afresh c.afresh.ensures.fresh
+    afresh_cleans c.args.changes.now e.field-0 e.cause (g.F.Files.holds c.args.files.now) (g.F.Files.holds c.find_start.new.files)
+    (g.F.Files.holds c.afresh.new.files) c.afresh.result e.field-0-is e.ensures.starts e.ensures.reads.same c.afresh.ensures.afresh c.afresh.ensures.fresh
 
 pub returns-in-Ok-From-clause-clean : goal.returns-in-Ok-From-clause-clean
 returns-in-Ok-From-clause-clean g c =

@@ -38,7 +38,7 @@ returns-in-Ok-Stopped-clause-names g c =
 
 pub returns-in-Ok-Stopped-clause-once : goal.returns-in-Ok-Stopped-clause-once
 returns-in-Ok-Stopped-clause-once g c =
-    few_again c.args.runs.now c.run.new.runs c.again.new.runs c.again.result c.run.ensures.few c.again.ensures.few c.again.ensures.fresh
+    few_again c.args.runs.now c.run.new.runs c.again.new.runs c.in-Ok-Stopped.stop.value.cause c.again.result c.run.ensures.few c.again.ensures.few c.again.ensures.fresh
 
 pub returns-then-not-are_small-clause-clean : goal.returns-then-not-are_small-clause-clean
 returns-then-not-are_small-clause-clean g c =
@@ -57,8 +57,8 @@ pub returns-in-Ok-Stopped-clause-clean : goal.returns-in-Ok-Stopped-clause-clean
 returns-in-Ok-Stopped-clause-clean g c =
     let e = c.in-Ok-Stopped in
     again_runs c.args.base.value c.args.project.now c.args.changes.now (g.F.Files.holds c.args.files.now) (g.F.Files.holds c.run.new.files)
-    (g.F.Files.holds c.again.new.files) c.again.result (as_before (g.F.Files.holds c.args.files.now) (g.F.Files.holds c.run.new.files) e.field-0 e.stop
-    e.field-0-is e.ensures.stopped) c.again.ensures.fresh c.again.ensures.afresh
+    (g.F.Files.holds c.again.new.files) e.field-0 e.stop c.again.result (as_before (g.F.Files.holds c.args.files.now) (g.F.Files.holds c.run.new.files)
+    e.field-0 e.stop e.field-0-is e.ensures.stopped) e.field-0-is e.ensures.clean c.again.ensures.fresh c.again.ensures.afresh
 
 pub returns-then-not-are_small-clause-crash : goal.returns-then-not-are_small-clause-crash
 returns-then-not-are_small-clause-crash g c =

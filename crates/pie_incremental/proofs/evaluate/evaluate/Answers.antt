@@ -3,9 +3,9 @@ use Rattle.pie_bottomup.specs.declared.state.Core.{Core}
 use Rattle.pie_bottomup.specs.declared.state.First.TheVariants.{Done}
 use Rattle.pie_bottomup.specs.inner.Ran.{BeginsKnowing}
 use Rattle.pie_builder_laws.specs.Events.{AreCompiled}
-use Rattle.pie_incremental.specs.inner.Evaluated.{BeginsNow, EndsStanding, ResultsExact, SettlesExact}
+use Rattle.pie_incremental.specs.inner.Evaluated.{BeginsNow, EndsStanding, ResultsExact, SettlesExact, StopsFor}
 use Rattle.pie_incremental.specs.inner.Ran.{RunsWhole, SettlesRuns}
-use Rattle.pie_incremental.proofs.Evaluating.{evaluated}
+use Rattle.pie_incremental.proofs.Evaluating.{evaluated, evaluated_stops}
 use Rattle.pie_incremental.proofs.Running.{runs_each}
 use Rattle.pie_incremental.proofs.evaluate.evaluate.Goals as goal
 
@@ -25,6 +25,21 @@ returns-clause-exact g c =
     subst (AreCompiled p.typed) (sym c.as_slice.ensures.value) (record { compiled = c.in_ok-code.ensures.codes; means = c.in_ok-code.ensures.means }) in
     evaluated held p.typed codes p.digests.items p.roots.items s c.args.names.now old c.settle.new.core c.in_ok-built-in-None.built.value compiled begins ends
     makes
+
+pub returns-in-Some-clause-exact : goal.returns-in-Some-clause-exact
+returns-in-Some-clause-exact g c =
+    let held = g.F.Files.holds c.args.files.now in
+    let p = c.args.project.now in
+    let s = c.args.image.value in
+    let old = c.deref_mut.result.now in
+    let codes = c.as_slice.result.now in
+    let first : old ≡ c.in_ok-core.core.value = search rules in
+    let begins : BeginsNow p.typed codes p.roots.items s.funcs p.digests.items s.rows c.args.names.now old =
+    subst (λ (x : Core). BeginsNow p.typed codes p.roots.items s.funcs p.digests.items s.rows c.args.names.now x) (sym first) c.in_ok-core.ensures.exact in
+    let stops : StopsFor held old c.in-Some.cause = subst (SettlesExact held old c.settle.new.core) c.in-Some.is c.in_ok-cause.ensures.exact in
+    let compiled : AreCompiled p.typed codes =
+    subst (AreCompiled p.typed) (sym c.as_slice.ensures.value) (record { compiled = c.in_ok-code.ensures.codes; means = c.in_ok-code.ensures.means }) in
+    evaluated_stops held p.typed codes p.digests.items p.roots.items s c.args.names.now old c.in-Some.cause compiled begins stops
 
 pub returns-clause-ran : goal.returns-clause-ran
 returns-clause-ran g c =

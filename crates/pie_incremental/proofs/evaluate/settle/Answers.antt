@@ -1,7 +1,7 @@
 use Rattle.std.proofs.Common.{subst, ◌∙◌}
 use Rattle.pie_bottomup.specs.inner.States.{TurnsTo}
 use Rattle.pie_files.proofs.Reading.{both_before}
-use Rattle.pie_incremental.proofs.Evaluating.{stands_end, stands_on}
+use Rattle.pie_incremental.proofs.Evaluating.{stands_end, stands_on, stops_for}
 use Rattle.pie_incremental.proofs.Joining.{spends_more, started_more}
 use Rattle.pie_incremental.proofs.Running.{many_on, runs_on, settles_runs}
 use Rattle.pie_incremental.proofs.evaluate.settle.Goals as goal
@@ -27,6 +27,11 @@ pub returns-in-Settled-clause-exact : goal.returns-in-Settled-clause-exact
 returns-in-Settled-clause-exact g c =
     stands_end (g.F.Files.holds c.args.files.now) (g.F.Files.holds c.steps.files) c.args.core.now c.steps.core c.step.new.self c.in_ok-step.field-0
     c.steps.invariant.3 c.steps.invariant.2.plan c.steps.invariant.5 c.in_ok-step.ensures.whole c.in-Settled.is
+
+pub returns-in-StartAfresh-clause-exact : goal.returns-in-StartAfresh-clause-exact
+returns-in-StartAfresh-clause-exact g c =
+    stops_for (g.F.Files.holds c.args.files.now) (g.F.Files.holds c.steps.files) c.args.core.now c.steps.core c.step.new.self c.in_ok-step.field-0
+    c.steps.invariant.3 c.steps.invariant.2.plan c.steps.invariant.5 c.in_ok-step.ensures.whole c.in-StartAfresh.cause c.in-StartAfresh.is
 
 pub returns-in-Settled-clause-ran : goal.returns-in-Settled-clause-ran
 returns-in-Settled-clause-ran g c =

@@ -2,7 +2,7 @@ use Rattle.std.proofs.Common.{rules, ◌≡◌, subst}
 use Rattle.std.specs.Prelude.{IfSome}
 use Rattle.pie_incremental.specs.declared.ending.Ending.{Ending}
 use Rattle.pie_incremental.specs.inner.Cleaned.{LeavesBy, MayLeaveBy}
-use Rattle.pie_incremental.specs.inner.Evaluated.{EvaluatesExact, MakesExact}
+use Rattle.pie_incremental.specs.inner.Evaluated.{EvaluatesExact, MakesExact, StopsWhere}
 use Rattle.pie_incremental.specs.inner.Ran.{RunsEach, RunsWhere}
 use Rattle.pie_incremental.proofs.Running.{told_reasons}
 use Rattle.pie_incremental.proofs.Updating.{goes_clean}
@@ -38,6 +38,20 @@ returns-in_ok-report-in-Built-clause-clean g c =
     goes_clean s e p before mid after b r c.in_ok-built.ensures.reads.same makes leaves report.ensures.verdict report.ensures.fresh
     (told_reasons before p.typed p.digests.items p.roots.items s e.names.items c.count-before.result c.args.runs.now c.evaluate.new.runs c.in_ok-ran-in-Built.ran r
     c.count-before.ensures runs c.in_ok-ran-in-Built.ensures report.ensures.ran)
+
+pub returns-in_ok-stop-in-Afresh-clause-clean : goal.returns-in_ok-stop-in-Afresh-clause-clean
+returns-in_ok-stop-in-Afresh-clause-clean g c =
+    let s = c.args.begun.image.value in
+    let e = c.args.begun.ending.value in
+    let p = c.args.project.now in
+    let before = g.F.Files.holds c.args.files.now in
+    let cause = c.in-Afresh.cause in
+    let names : c.as_slice.result.now ≡ e.names.items = search rules in
+    let same : cause ≡ c.in_ok-stop-in-Afresh.stop.value.cause = search rules in
+    let stops : StopsWhere before p.typed p.digests.items p.roots.items s c.as_slice.result.now cause =
+    subst (EvaluatesExact before p.typed p.digests.items p.roots.items s c.as_slice.result.now) c.in-Afresh.is c.in_ok-built.ensures.exact in
+    subst (StopsWhere before p.typed p.digests.items p.roots.items s e.names.items) same
+    (subst (λ ns. StopsWhere before p.typed p.digests.items p.roots.items s ns cause) names stops)
 
 pub returns-in_err-built-clause-crash : goal.returns-in_err-built-clause-crash
 returns-in_err-built-clause-crash g c =
