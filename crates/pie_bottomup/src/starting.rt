@@ -9,7 +9,7 @@ ghost use Rattle.pie_old.specs.inner.Loaded.{IsOld};
 ghost use Rattle.pie_core_laws.specs.Joins.{HasNames};
 ghost use Rattle.pie_bottomup.specs.declared.state.First.TheVariants.{Tests, Done};
 ghost use Rattle.pie_bottomup.specs.inner.States.{IsCore, IsPlanOf, MayBegin, room};
-ghost use Rattle.pie_bottomup.specs.inner.Loaded.{BeginsExact};
+ghost use Rattle.pie_bottomup.specs.inner.Loaded.{BeginsExact, IsPastLimit};
 ghost use Rattle.pie_bottomup.specs.inner.Ran.{BeginsKnowing};
 
 use crate::plan::Plan;
@@ -51,6 +51,7 @@ impl<'a> Core<'a> {
         ensures first { IfOk result (λ c. c.first ≡ Done → ⊥) }
         ensures code { IfOk result (λ c. c.plan.code.now ≡ code.now) }
         ensures exact { IfOk result (BeginsExact image.funcs digests.now image.rows changes.now) }
+        ensures many { IfOk result (λ c. IsPastLimit image.rows c.first) }
         ensures knows { IfOk result (BeginsKnowing image.funcs digests.now image.rows changes.now) }
     {
         let named = names_of(alloc, changes)?;
@@ -100,6 +101,7 @@ fn loaded(alloc: Global, rows: Rows) -> Result<(Old, First), OutOfMemory>
     ensures begins { IfOk result (λ o. MayBegin o.0) }
     ensures first { IfOk result (λ o. o.1 ≡ Done → ⊥) }
     ensures loaded { IfOk result (λ o. o.1 ≡ Tests → IsOld rows o.0) }
+    ensures many { IfOk result (λ o. IsPastLimit rows o.1) }
 {
     match load(alloc, rows)? {
         Loaded::Whole(old) => Ok((old, First::Tests)),

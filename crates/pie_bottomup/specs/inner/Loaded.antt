@@ -1,5 +1,5 @@
 -- How a build by what changed begins, as the model of building knows it.
-use Rattle.std.specs.Prelude.{◌≡◌, ℕ, List, [], length, map, Option, Some}
+use Rattle.std.specs.Prelude.{◌≡◌, ℕ, List, [], length, map, Option, Some, slice_get}
 use Rattle.pie_value.specs.declared.task.Task.{Task}
 use Rattle.pie_value.specs.Canonical.{enc_task, IsCanonicalTask}
 use Rattle.pie_files.specs.Directory.{Directory}
@@ -21,7 +21,8 @@ use Rattle.pie_earlier_laws.specs.Functions.{digest_under}
 use Rattle.pie_core_laws.specs.Update.{Update, earlier}
 use Rattle.pie_core_laws.specs.Joins.{HasNames}
 use Rattle.pie_bottomup.specs.declared.state.Core.{Core}
-use Rattle.pie_bottomup.specs.declared.state.First.TheVariants.{Tests}
+use Rattle.pie_bottomup.specs.declared.state.First.{First}
+use Rattle.pie_bottomup.specs.declared.state.First.TheVariants.{Tests, TooMany, Done}
 use Rattle.pie_bottomup.specs.inner.Exact.{IsPlanNow, IsLoadedCore, IsExactCore}
 
 -- ---- what a build begins with
@@ -44,6 +45,12 @@ pub record IsInformedOf (funcs digests : List (List ℕ × List ℕ)) (changes :
   pub names : HasNames c.named changes
   pub known : (d : Directory) → IsTrueOf d c.named
   pub same : c.plan.same.items ≡ map (λ (t : Task). is_same_code funcs digests t.func) c.tables.names
+
+-- where there are too many records, the build starts afresh for the first task past the limit
+abbrev pub IsPastLimit : List TaskRecord → First → Type 0
+IsPastLimit kept Tests = Unit {0}
+IsPastLimit kept Done = Unit {0}
+IsPastLimit kept (TooMany t) = slice_get (tasks_in kept) 50000 ≡ Some t
 
 -- ---- of an update
 
