@@ -145,6 +145,7 @@ fn anew<F: Files, O: Offers>(
     ensures encodable { IfOk result (λ o. All IsEncodableTask o.report.value.ran.items) }
     ensures reused { IfOk result (λ o. All IsEncodableTask o.reused.items) }
     ensures new { IfOk result (λ o. All IsNew o.new.items) }
+    ensures says { IfSome (F.holds files.old) (λ d. RefusesRight d result) }
     ensures told { Tells F.faults files.old files.new result }
 {
     match no_base(alloc) {
@@ -154,7 +155,7 @@ fn anew<F: Files, O: Offers>(
 }
 
 // The same with the empty store.
-#[tactic(auto, using(pie_build::proofs::OwnPaths::same_keeps, pie_incremental::proofs::Joining::rest_then))]
+#[tactic(auto, using(crate::proofs::Refusing::offered, crate::proofs::Refusing::faulty_offered, pie_build::proofs::OwnPaths::same_keeps, pie_incremental::proofs::Joining::rest_then))]
 fn anew_from<F: Files, O: Offers>(
     alloc: Global,
     files: &mut F,
