@@ -26,13 +26,13 @@ pipeline_refused e fault is = subst (λ x. IsRefusal {A = Report} (Err x)) (sym 
 pub roots_refused : (e : BuildError) (reason : RootsReason) → e ≡ errors.Roots reason → IsRefusal {A = Report} (Err e)
 roots_refused e reason is = subst (λ x. IsRefusal {A = Report} (Err x)) (sym is) (tt {0})
 
-pub pipeline_says : {A : Type 0} (o : Option Directory) (e : BuildError) (fault : PipelineFault) → e ≡ errors.Pipeline fault
+pub pipeline_says : (A : Type 0) (o : Option Directory) (e : BuildError) (fault : PipelineFault) → e ≡ errors.Pipeline fault
     → IfSome o (λ d. RefusesRight {A = A} d (Err e)) → IfSome o (λ d. ProjectSays d (Err (OfPipeline (plain fault))))
-pipeline_says {A = A} o e fault is says = subst (λ x. IfSome o (λ d. RefusesRight {A = A} d (Err x))) is says
+pipeline_says A o e fault is says = subst (λ x. IfSome o (λ d. RefusesRight {A = A} d (Err x))) is says
 
-pub roots_say : {A : Type 0} (o : Option Directory) (e : BuildError) (reason : RootsReason) → e ≡ errors.Roots reason
+pub roots_say : (A : Type 0) (o : Option Directory) (e : BuildError) (reason : RootsReason) → e ≡ errors.Roots reason
     → IfSome o (λ d. RefusesRight {A = A} d (Err e)) → IfSome o (λ d. ProjectSays d (Err (OfRoots reason)))
-roots_say {A = A} o e reason is says = subst (λ x. IfSome o (λ d. RefusesRight {A = A} d (Err x))) is says
+roots_say A o e reason is says = subst (λ x. IfSome o (λ d. RefusesRight {A = A} d (Err x))) is says
 
 -- tasks that were all started in one call
 pub few_of : (n : ℕ) (old new ran : List Task) → new ≡ old ++ ran → length new ≤ length old + n → length ran ≤ n

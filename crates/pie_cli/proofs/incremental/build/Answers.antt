@@ -13,10 +13,10 @@ pub returns-in-Err-Pipeline-clause-says : goal.returns-in-Err-Pipeline-clause-sa
 returns-in-Err-Pipeline-clause-says g c =
     let told = c.in_ok-bad_pipeline-in-Err-Pipeline in
     let e = c.in-Err-Pipeline in
-    inl (OfPipeline (plain e.fault), pipeline_says {A = Report} (g.F.Files.holds c.args.files.now) e.field-0 e.fault e.field-0-is e.ensures.says, e.ensures.refused (pipeline_refused e.field-0 e.fault e.field-0-is), told.ensures.text, told.ensures.status)
+    inl (OfPipeline (plain e.fault), pipeline_says Report (g.F.Files.holds c.args.files.now) e.field-0 e.fault e.field-0-is e.ensures.says, e.ensures.refused (pipeline_refused e.field-0 e.fault e.field-0-is), told.ensures.text, told.ensures.status)
 
 pub returns-in-Err-Roots-clause-says : goal.returns-in-Err-Roots-clause-says
 returns-in-Err-Roots-clause-says g c =
     let told = c.in_ok-bad_roots-in-Err-Roots in
     let e = c.in-Err-Roots in
-    inl (OfRoots e.reason, roots_say {A = Report} (g.F.Files.holds c.args.files.now) e.field-0 e.reason e.field-0-is e.ensures.says, e.ensures.refused (roots_refused e.field-0 e.reason e.field-0-is), told.ensures.text, told.ensures.status)
+    inl (OfRoots e.reason, roots_say Report (g.F.Files.holds c.args.files.now) e.field-0 e.reason e.field-0-is e.ensures.says, e.ensures.refused (roots_refused e.field-0 e.reason e.field-0-is), told.ensures.text, told.ensures.status)
