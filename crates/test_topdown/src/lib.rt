@@ -4,6 +4,8 @@
 #[cfg(test)]
 mod auto_tests;
 #[cfg(test)]
+mod cached_tests;
+#[cfg(test)]
 mod cases;
 #[cfg(test)]
 mod offer_tests;

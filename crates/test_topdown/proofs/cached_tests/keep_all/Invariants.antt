@@ -1,7 +1,7 @@
 use Rattle.std.proofs.Common.{length}
 use Rattle.std.specs.List.{All}
 use Rattle.pie_topdown_build.specs.Offered.{IsNew}
-use Rattle.test_topdown.proofs.offer_tests.keep_all.Given as goal
+use Rattle.test_topdown.proofs.cached_tests.keep_all.Given as goal
 
 abbrev pub invariant-news : goal.invariant-news
 invariant-news l = All IsNew l.news.items
