@@ -17,7 +17,7 @@ use Rattle.pie_cache.specs.inner.Places.{gate, is_in_cache}
 
 -- ---- which paths go
 
-removed_is : (paths : List (List ℕ)) (q : List ℕ) → removed paths q ≡ cond (list_any (same_text q) paths) Gone Same
+pub removed_is : (paths : List (List ℕ)) (q : List ℕ) → removed paths q ≡ cond (list_any (same_text q) paths) Gone Same
 removed_is [] q = refl
 removed_is (p ∷ paths) q = ap (λ w. later w (at p Gone q)) (removed_is paths q) ∙ by (list_any (same_text q) paths) (same_text q p)
   where
@@ -55,7 +55,7 @@ goes d q on off =
     ∙ ap (λ (b : Bool). cond b Gone Same) (passed is_other q (files_under d (codes ".pie/cache")) (and_from (is_in_cache q) (not (same_text q gate)) on (ap not off))
     ∙ passed (is_below (codes ".pie/cache")) q (paths_of d) on ∙ any_ties q (paths_of d) ∙ sym (fin.contains_key-keys d q))
 
-none_inside : (d e : Directory) → ((q : List ℕ) → Meets (later (at gate Gone q) (removed (filter is_other (files_under d (codes ".pie/cache"))) q)) (file_at d q) (file_at e q))
+pub none_inside : (d e : Directory) → ((q : List ℕ) → Meets (later (at gate Gone q) (removed (filter is_other (files_under d (codes ".pie/cache"))) q)) (file_at d q) (file_at e q))
     → (q : List ℕ) → is_in_cache q ≡ true → file_at e q ≡ None
 none_inside d e brings q on = by (same_text q gate) refl
   where

@@ -10,8 +10,8 @@ use Rattle.pie_commit.proofs.Standing.{Told, both_each, removal_apart, same_path
 use Rattle.pie_commit.specs.Outcomes.{HasBrought, IsAtRest, IsEnding, LeavesFromRest}
 use Rattle.pie_commit.specs.inner.Plans.{Wanted, Same, Bytes, Brings, Meets, later, at}
 use Rattle.pie_files.proofs.Reading.{if_always, if_each, in_turn, one_call, starts, weaker}
-use Rattle.pie_files.specs.Directory.{Directory, file_at, with_file}
-use Rattle.pie_files.specs.Images.{Elapses, MayLeave, MayWrite, Only, Stays}
+use Rattle.pie_files.specs.Directory.{Directory, file_at, with_file, without_file}
+use Rattle.pie_files.specs.Images.{Elapses, MayLeave, MayRemove, MayWrite, Only, Stays}
 use Rattle.pie_files.specs.Reading.{Leaves}
 use Rattle.pie_files.specs.declared.files.FilesError.{FilesError}
 use Rattle.pie_cache.specs.inner.Changes.{KeepsOutside}
@@ -37,6 +37,9 @@ gate_apart path h = by (same_text gate path) refl
 gate_written : (b : Directory) (path bytes : List ℕ) (mark : ℕ) → same_text gate path ≡ false → HasGate b → HasGate (with_file b path bytes mark)
 gate_written b path bytes mark off has =
     (has.0, get_with b path bytes mark gate ∙ ap (λ (t : Bool). cond t (Some (bytes, mark)) (file_at b gate)) off ∙ has.1)
+
+gate_stays : (b : Directory) (path : List ℕ) → same_text gate path ≡ false → HasGate b → HasGate (without_file b path)
+gate_stays b path off has = (has.0, removal_apart b path gate off ∙ has.1)
 
 begun_still : (d b c : Directory) → MayWrite gate b c → IsBegun d b → IsBegun d c
 begun_still d b c may begun =
@@ -69,7 +72,7 @@ if_both : (A B : Directory → Type 0) (o : Option Directory) → IfSome o A →
 if_both A B None a b = tt
 if_both A B (Some d) a b = (a, b)
 
-abbrev from_some : Directory → Option Directory → Directory
+abbrev pub from_some : Directory → Option Directory → Directory
 from_some d None = d
 from_some d (Some e) = e
 
@@ -85,6 +88,11 @@ module _ {S : Type 0} (holds : S → Option Directory) (moment : S → ℕ) (lef
       → KeepsGate holds moment left_since images old new
   write_gated path old new off may = call_gated (MayWrite path) old new
       (λ b c step has. ⊎_elim (λ same. subst HasGate (sym same) has) (λ w. subst HasGate (sym w.2) (gate_written b path w.0 w.1 off has)) step) may
+
+  pub removal_gated : (path : List ℕ) (old new : S) → same_text gate path ≡ false → MayLeave holds moment left_since images (MayRemove path) old new
+      → KeepsGate holds moment left_since images old new
+  removal_gated path old new off may = call_gated (MayRemove path) old new
+      (λ b c step has. ⊎_elim (λ same. subst HasGate (sym same) has) (λ gone. subst HasGate (sym gone) (gate_stays b path off has)) step) may
 
   pub sync_gated : (old new : S) → MayLeave holds moment left_since images Stays old new → KeepsGate holds moment left_since images old new
   sync_gated old new may = call_gated Stays old new (λ b c same has. subst HasGate (sym same) has) may

@@ -47,7 +47,7 @@ turned a b = by (same_text a b) refl (same_text b a) refl
     by true e false f = absurd (false≢true (sym f ∙ subst (λ c. same_text c a ≡ true) (same_path a b e) (same_itself a)))
     by false e true f = absurd (false≢true (sym e ∙ subst (λ c. same_text c b ≡ true) (same_path b a f) (same_itself b)))
 
-tied : (path q : List ℕ) → is_at path q ≡ same_text q path
+pub tied : (path q : List ℕ) → is_at path q ≡ same_text q path
 tied path q = sym (texts_ties path q) ∙ turned path q
 
 -- ---- the last offer of each path

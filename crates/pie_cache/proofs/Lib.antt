@@ -13,3 +13,5 @@ pub mod Looking
 pub mod Clearing
 pub mod Kept
 pub mod Gating
+pub mod Emptying
+pub mod Apart

@@ -15,7 +15,7 @@ use Rattle.pie_commit.specs.inner.Plans.{written}
 use Rattle.pie_cache.specs.inner.Clearing.{is_other}
 use Rattle.pie_cache.specs.inner.Keeping.{kept, last_for}
 use Rattle.pie_cache.specs.inner.Places.{gate}
-use Rattle.pie_cache.specs.inner.Steps.{is_change, clearing, opening, putting, Changes, ChangesFor}
+use Rattle.pie_cache.specs.inner.Steps.{is_change, clearing, opening, putting, Changes, ChangesFor, HaveOwnPaths}
 
 joined : (a b : List Step) (m n : List Call) → AreCallsOf a m → AreCallsOf b n → AreCallsOf (a ++ b) (m ++ n)
 joined [] b [] n first second = second
@@ -100,10 +100,10 @@ changes_by asked (Ok v) steps old new makes = changes_made asked old new steps v
 changes_by asked (Err e) steps old new makes = tt
 
 pub changes_for : (fresh : List (List ℕ × Offer)) (drafts : List (List ℕ × Vec ℕ Global)) (holds : Option Directory) (before after : Option (List Call))
-    → IfSome holds (λ d. (q : List ℕ) → written drafts q ≡ kept (last_for fresh q) (file_at d q)) → Changes (putting drafts) before after
-    → IfSome holds (λ d. ChangesFor fresh d before after)
-changes_for fresh drafts None before after made changes = tt
-changes_for fresh drafts (Some d) before after made changes = (drafts, made, changes)
+    → IfSome holds (λ d. (q : List ℕ) → written drafts q ≡ kept (last_for fresh q) (file_at d q)) → HaveOwnPaths drafts
+    → Changes (putting drafts) before after → IfSome holds (λ d. ChangesFor fresh d before after)
+changes_for fresh drafts None before after made own changes = tt
+changes_for fresh drafts (Some d) before after made own changes = (drafts, own, made, changes)
 
 -- a gate that stands or not, and what was changed by that
 pub opens_gated : (holds : Option Directory) (before mid after : Option (List Call)) (there : Bool) → there ≡ true

@@ -7,9 +7,9 @@ ghost use Rattle.pie_commit.specs.inner.Plans.{at, later, written};
 ghost use Rattle.pie_files.specs.Directory.{file_at};
 ghost use Rattle.pie_files.specs.Reading.{ReadsOnly};
 ghost use Rattle.pie_cache.specs.inner.Contents.{IsNews, IsNewsIn, IsDraft, IsKeptOffer};
-ghost use Rattle.pie_cache.specs.inner.Keeping.{fitting, held_for, is_at, kept, last_for, text_in_front};
+ghost use Rattle.pie_cache.specs.inner.Keeping.{fitting, held_for, is_at, kept, last_for, text_in_front, AddsAt, IsDone};
 ghost use Rattle.pie_cache.specs.inner.Places.{IsCachePath};
-ghost use Rattle.pie_cache.specs.inner.Steps.{Changes};
+ghost use Rattle.pie_cache.specs.inner.Steps.{Changes, HaveOwnPaths};
 ghost use Rattle.pie_cache.specs.inner.Texts.{enc_cache, IsKept};
 ghost use Rattle.pie_store.specs.inner.Offers.{offered};
 
@@ -34,6 +34,7 @@ pub(crate) fn drafts<F: Files>(
     requires { All IsNews fresh.items }
     ensures made { IfSome (F.holds files.old) (λ d. IfOk result (λ drafts. (q : List ℕ) → written drafts.items q ≡ kept (last_for fresh.items q) (file_at d q))) }
     ensures drafts { IfOk result (λ drafts. All IsDraft drafts.items) }
+    ensures own { IfOk result (λ drafts. HaveOwnPaths drafts.items) }
     ensures looks { OnOk result (Changes [] (F.asked files.old) (F.asked files.new)) }
     ensures reads { ReadsOnly F.holds F.moment F.left_since F.images F.faults files.old files.new result }
 {
@@ -83,9 +84,12 @@ fn add_all<F: Files>(
 ) -> Result<(), FilesError>
     requires news { All IsNewsIn latest.entries }
     requires drafts { All IsDraft drafts.old.items }
+    requires own { HaveOwnPaths drafts.old.items }
+    requires done { All (IsDone latest) drafts.old.items }
     ensures made { IfSome (F.holds files.old) (λ d. OnOk result ((q : List ℕ) → written drafts.new.items q
         ≡ later (kept (held_for latest q) (file_at d q)) (written drafts.old.items q))) }
     ensures drafts { OnOk result (All IsDraft drafts.new.items) }
+    ensures own { OnOk result (HaveOwnPaths drafts.new.items) }
     ensures looks { OnOk result (Changes [] (F.asked files.old) (F.asked files.new)) }
     ensures reads { ReadsOnly F.holds F.moment F.left_since F.images F.faults files.old files.new result }
 {
@@ -112,6 +116,7 @@ fn add<F: Files>(
     ensures added { IfSome (F.holds files.old) (λ d. OnOk result ((q : List ℕ) → written drafts.new.items q
         ≡ later (at path (kept (Some (offered offer.value)) (file_at d path)) q) (written drafts.old.items q))) }
     ensures drafts { OnOk result (All IsDraft drafts.new.items) }
+    ensures adds { OnOk result (AddsAt path drafts.old.items drafts.new.items) }
     ensures looks { OnOk result (Changes [] (F.asked files.old) (F.asked files.new)) }
     ensures reads { ReadsOnly F.holds F.moment F.left_since F.images F.faults files.old files.new result }
 {
@@ -125,6 +130,7 @@ fn add_text(path: Path, text: Vec<u8>, drafts: &mut Vec<(Path, Vec<u8>)>) -> Res
     requires drafts { All IsDraft drafts.old.items }
     ensures added { OnOk result ((q : List ℕ) → written drafts.new.items q ≡ later (at path (fitting text.items) q) (written drafts.old.items q)) }
     ensures drafts { OnOk result (All IsDraft drafts.new.items) }
+    ensures adds { OnOk result (AddsAt path drafts.old.items drafts.new.items) }
 {
     if text.len() > MAX_CACHE_BYTES {
         return Ok(());

@@ -9,7 +9,8 @@ ghost use Rattle.pie_files.specs.Images.{MayLeave, MayRemove, Only, Stays};
 ghost use Rattle.pie_files.specs.Streams.{Counted};
 ghost use Rattle.pie_cache.specs.inner.Places.{gate as specs_gate, is_in_cache};
 ghost use Rattle.pie_cache.specs.inner.Changes.{KeepsOutside, LeavesAlike};
-ghost use Rattle.pie_cache.specs.inner.Clearing.{HasCleared, IsOpened, IsInside, is_other};
+ghost use Rattle.pie_cache.specs.inner.Clearing.{HasCleared, IsApart, IsOpened, IsInside, is_other};
+ghost use Rattle.pie_cache.specs.inner.Gated.{HasGate, KeepsGate, OpensWhole};
 ghost use Rattle.pie_cache.specs.inner.Steps.{clearing, closing, opening, Changes};
 
 use crate::Cache;
@@ -24,6 +25,7 @@ impl Cache {
     pub fn open<F: Files>(alloc: Global, files: &mut F) -> Result<Cache, FilesError>
         ensures cleared { OnOk result (IfSome (F.holds files.old) (λ d. IsOpened d (F.holds files.new))) }
         ensures changes { OnOk result (IfSome (F.holds files.old) (λ d. Changes (opening d) (F.asked files.old) (F.asked files.new))) }
+        ensures whole { LeavesFromRest F.holds F.moment F.left_since F.images OpensWhole files.old files.new }
         ensures kept { KeepsOutside (F.holds files.old) (F.holds files.new) }
         ensures crash { LeavesAlike F.holds F.moment F.left_since F.images files.old files.new }
         ensures counted { Counted F.faults FilesError.Failed files.old files.new result }
@@ -60,6 +62,7 @@ fn clear_if_gated<F: Files>(
     requires dir { dir.now ≡ codes ".pie/cache" }
     ensures cleared { OnOk result (IfSome (F.holds files.old) (λ d. IsOpened d (F.holds files.new))) }
     ensures changes { OnOk result (IfSome (F.holds files.old) (λ d. Changes (opening d) (F.asked files.old) (F.asked files.new))) }
+    ensures whole { LeavesFromRest F.holds F.moment F.left_since F.images OpensWhole files.old files.new }
     ensures kept { KeepsOutside (F.holds files.old) (F.holds files.new) }
     ensures crash { LeavesAlike F.holds F.moment F.left_since F.images files.old files.new }
     ensures counted { Counted F.faults FilesError.Failed files.old files.new result }
@@ -75,8 +78,10 @@ fn clear_if_gated<F: Files>(
 fn clear<F: Files>(alloc: Global, files: &mut F, gate: &Path, dir: &Path) -> Result<(), FilesError>
     requires gate { gate.now ≡ specs_gate }
     requires dir { dir.now ≡ codes ".pie/cache" }
+    requires stands { IfSome (F.holds files.old) HasGate }
     ensures cleared { OnOk result (IfSome (F.holds files.old) (λ d. HasCleared (F.holds files.new))) }
     ensures changes { OnOk result (IfSome (F.holds files.old) (λ d. Changes (clearing (filter is_other (files_under d (codes ".pie/cache")))) (F.asked files.old) (F.asked files.new))) }
+    ensures whole { LeavesFromRest F.holds F.moment F.left_since F.images OpensWhole files.old files.new }
     ensures kept { KeepsOutside (F.holds files.old) (F.holds files.new) }
     ensures crash { LeavesAlike F.holds F.moment F.left_since F.images files.old files.new }
     ensures counted { Counted F.faults FilesError.Failed files.old files.new result }
@@ -99,6 +104,7 @@ fn others(
     requires dir { dir.now ≡ codes ".pie/cache" }
     ensures others { IfOk result (λ others. others.items ≡ filter is_other paths.items) }
     ensures inside { IfOk result (λ others. All IsInside others.items) }
+    ensures apart { IfOk result (λ others. All IsApart others.items) }
 {
     let mut others = Vec::new(alloc);
     for path in paths {
@@ -124,9 +130,11 @@ fn push_other(
 }
 
 fn remove_all<F: Files>(files: &mut F, paths: &[Path]) -> Result<(), FilesError>
-    requires { All IsInside paths.now }
+    requires inside { All IsInside paths.now }
+    requires apart { All IsApart paths.now }
     ensures done { OnOk result (HasBrought (removed paths.now) (F.holds files.old) (F.holds files.new)) }
     ensures makes { Makes F.asked (removing paths.now) files.old files.new result }
+    ensures gated { KeepsGate F.holds F.moment F.left_since F.images files.old files.new }
     ensures kept { KeepsOutside (F.holds files.old) (F.holds files.new) }
     ensures crash { LeavesAlike F.holds F.moment F.left_since F.images files.old files.new }
     ensures counted { Counted F.faults FilesError.Failed files.old files.new result }

@@ -1,5 +1,5 @@
 -- What opening leaves of the cache.
-use Rattle.std.specs.Prelude.{◌≡◌, ℕ, not, Bool, true, ◌&&◌, cond, List, Option, None, Some, is_some}
+use Rattle.std.specs.Prelude.{◌≡◌, ℕ, not, Bool, true, false, ◌&&◌, cond, List, Option, None, Some, is_some}
 use Rattle.pie_base.specs.Path.{same_text}
 use Rattle.pie_files.specs.Directory.{Directory, file_at}
 use Rattle.pie_cache.specs.inner.Places.{gate, is_in_cache}
@@ -7,6 +7,10 @@ use Rattle.pie_cache.specs.inner.Places.{gate, is_in_cache}
 -- a path in the cache
 abbrev pub IsInside : List ℕ → Type 0
 IsInside path = is_in_cache path ≡ true
+
+-- a path that isn't the gate's
+abbrev pub IsApart : List ℕ → Type 0
+IsApart path = same_text gate path ≡ false
 
 -- a path in the cache that isn't the gate
 abbrev pub is_other : List ℕ → Bool

@@ -1,5 +1,5 @@
 -- What a crash leaves while files of the cache are written.
-use Rattle.std.specs.Prelude.{◌≡◌, ◌⊎◌, ℕ, false, List, Option, IfSome}
+use Rattle.std.specs.Prelude.{◌≡◌, ◌⊎◌, ℕ, false, true, List, Option, None, IfSome}
 use Rattle.pie_base.specs.Path.{same_text}
 use Rattle.pie_commit.specs.inner.Plans.{Wanted, Meets}
 use Rattle.pie_commit.specs.Outcomes.{HasFile}
@@ -7,7 +7,7 @@ use Rattle.pie_files.specs.Directory.{Directory, file_at}
 use Rattle.pie_files.specs.Reading.{Leaves}
 use Rattle.pie_store.specs.declared.offers.Offer.{Offer}
 use Rattle.pie_cache.specs.inner.Keeping.{kept, last_for}
-use Rattle.pie_cache.specs.inner.Places.{gate}
+use Rattle.pie_cache.specs.inner.Places.{gate, is_in_cache}
 
 -- the gate stands
 abbrev pub HasGate : Directory → Type 0
@@ -36,3 +36,11 @@ IsWhole wants before c = HasGate c ⊎ ((c ≡ before) ⊎ IsPut wants before c)
 -- the same of what keeping these offers wants
 abbrev pub KeepsWhole : List (List ℕ × Offer) → Directory → Directory → Type 0
 KeepsWhole fresh before c = IsWhole (λ q. kept (last_for fresh q) (file_at before q)) before c
+
+-- no file is in the cache
+abbrev pub IsEmptied : Directory → Type 0
+IsEmptied c = (q : List ℕ) → is_in_cache q ≡ true → file_at c q ≡ None
+
+-- while the cache is opened: the gate stands, or all is as before, or no file is in the cache
+abbrev pub OpensWhole : Directory → Directory → Type 0
+OpensWhole before c = HasGate c ⊎ ((c ≡ before) ⊎ IsEmptied c)

@@ -1,5 +1,5 @@
 -- What keeping makes of the files of the cache.
-use Rattle.std.specs.Prelude.{◌≡◌, ℕ, Bool, nat_lt, cond, List, [], ◌∷◌, length, take, Option, None, Some, IfSome, Box}
+use Rattle.std.specs.Prelude.{◌≡◌, ◌⊎◌, ℕ, Bool, nat_lt, cond, List, [], ◌∷◌, ◌++◌, length, take, Option, None, Some, IfSome, Box, Vec}
 use Rattle.std.specs.Global.{Global}
 use Rattle.std.specs.Option.{option_map}
 use Rattle.std.specs.Ordering.{nat_cmp, is_eq}
@@ -52,3 +52,11 @@ HasKept fresh before after = IfSome before (λ d. (e : Directory) × (after ≡ 
 -- the offer that a map has for a path
 abbrev pub held_for : BTreeMap (List ℕ) (Box Offer Global) → List ℕ → Option Offered
 held_for latest q = option_map (λ b. offered b.value) (get (slice_cmp nat_cmp) latest q)
+
+-- no offer is left for this file
+abbrev pub IsDone : BTreeMap (List ℕ) (Box Offer Global) → List ℕ × Vec ℕ Global → Type 0
+IsDone latest draft = get (slice_cmp nat_cmp) latest draft.0 ≡ None
+
+-- a file at this path was added, or none
+abbrev pub AddsAt : List ℕ → List (List ℕ × Vec ℕ Global) → List (List ℕ × Vec ℕ Global) → Type 0
+AddsAt path old new = (new ≡ old) ⊎ ((text : Vec ℕ Global) × (new ≡ old ++ (path, text) ∷ []))

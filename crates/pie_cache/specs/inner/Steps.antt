@@ -1,7 +1,7 @@
 -- The calls that change the cache, in their order.
-use Rattle.std.specs.Prelude.{◌≡◌, ℕ, Bool, true, false, cond, List, [], ◌∷◌, ◌++◌, Option, Some, IfSome, Vec, codes, is_some}
+use Rattle.std.specs.Prelude.{◌≡◌, ◌≢◌, ℕ, Bool, true, false, cond, List, [], ◌∷◌, ◌++◌, Option, Some, IfSome, Vec, codes, is_some}
 use Rattle.std.specs.Global.{Global}
-use Rattle.std.specs.List.{filter}
+use Rattle.std.specs.List.{filter, AllPairs}
 use Rattle.pie_commit.specs.inner.Plans.{written}
 use Rattle.pie_commit.specs.inner.Steps.{Step, Writes, Removes, Syncs, AreCallsOf, removing, writing}
 use Rattle.pie_files.specs.declared.files.Call.{Call}
@@ -41,7 +41,11 @@ Changes steps before after = IfSome before (λ asked. (made : List Call) × (aft
 abbrev pub opening : Directory → List Step
 opening d = cond (is_some (file_at d gate)) (clearing (filter is_other (files_under d (codes ".pie/cache")))) []
 
--- in each file for which there are offers the last one is put, and only there
+-- no two of these files are at one path
+abbrev pub HaveOwnPaths : List (List ℕ × Vec ℕ Global) → Type 0
+HaveOwnPaths drafts = AllPairs (λ (a b : List ℕ × Vec ℕ Global). a.0 ≢ b.0) drafts
+
+-- in each file for which there are offers the last one is put, and only there, each once
 abbrev pub ChangesFor : List (List ℕ × Offer) → Directory → Option (List Call) → Option (List Call) → Type 0
-ChangesFor fresh d before after = (drafts : List (List ℕ × Vec ℕ Global))
+ChangesFor fresh d before after = (drafts : List (List ℕ × Vec ℕ Global)) × HaveOwnPaths drafts
     × ((q : List ℕ) → written drafts q ≡ kept (last_for fresh q) (file_at d q)) × Changes (putting drafts) before after

@@ -11,6 +11,7 @@ use Rattle.pie_files.specs.Directory.{Directory, file_at}
 use Rattle.pie_store.specs.inner.Offers.{offered}
 use Rattle.pie_cache.specs.inner.Contents.{IsNewsIn}
 use Rattle.pie_cache.specs.inner.Keeping.{held_for, is_at, kept}
+use Rattle.pie_cache.proofs.Apart.{done_more, out_itself, own_more}
 use Rattle.pie_cache.proofs.Kept.{all_so_far, emptied, made_all, made_more}
 use Rattle.pie_cache.proofs.Looking.{changes_none, looks_then}
 use Rattle.pie_cache.proofs.drafting.add_all.Goals as goal
@@ -29,6 +30,7 @@ files-preserved g c =
     let has : get (slice_cmp nat_cmp) c.files.latest c.in-Some.path ≡ Some c.in-Some.offer = search rules in
     let out : (q : List ℕ) → get (slice_cmp nat_cmp) c.pop_first.new.self q ≡ cond (is_at c.in-Some.path q) None (get (slice_cmp nat_cmp) c.files.latest q) =
     c.in-Some.ensures.updates.0 in
+    let gone : get (slice_cmp nat_cmp) c.pop_first.new.self c.in-Some.path ≡ None = out_itself c.files.latest c.pop_first.new.self c.in-Some.path out in
     let before = c.files.invariant in
     let e = c.in_ok-add-in-Some.ensures in
     let Added : Directory → Type 0 = λ d. (q : List ℕ) → written c.add.new.drafts.items q
@@ -47,6 +49,8 @@ files-preserved g c =
       if_two SoFar Added Next (F.holds c.args.files.now)
           (λ d so_far adds. made_more (file_at d) c.files.latest c.pop_first.new.self c.in-Some.path c.in-Some.offer c.files.drafts.items c.add.new.drafts.items
           (λ q. later (kept (held_for c.args.latest q) (file_at d q)) (written c.args.drafts.now.items q)) has out adds so_far) before.6 added,
+      own_more c.files.latest c.pop_first.new.self c.in-Some.path c.in-Some.offer has out gone c.files.drafts.items c.add.new.drafts.items before.7 before.8 e.adds,
+      done_more c.files.latest c.pop_first.new.self c.in-Some.path c.in-Some.offer has out gone c.files.drafts.items c.add.new.drafts.items before.8 e.adds,
     )
 
 pub returns-in-None-clause-made : goal.returns-in-None-clause-made
@@ -70,4 +74,6 @@ files-init g c = (
   changes_none (g.F.Files.asked c.args.files.now) (g.F.Files.asked c.args.files.now) refl,
   all_so_far (g.F.Files.holds c.args.files.now)
       (λ d q. later (kept (held_for c.args.latest q) (file_at d q)) (written c.args.drafts.now.items q)),
+  c.requires.own,
+  c.requires.done,
 )

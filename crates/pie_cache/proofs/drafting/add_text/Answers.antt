@@ -1,4 +1,4 @@
-use Rattle.std.proofs.Common.{◌≡◌, ◌≤◌, ◌∷◌, ◌++◌, [], length, sym, subst, rules}
+use Rattle.std.proofs.Common.{◌≡◌, ◌≤◌, ◌∷◌, ◌++◌, [], inr, length, sym, subst, rules}
 use Rattle.std.specs.Prelude.{All}
 use Rattle.std.proofs.lemmas.List.Elements.{All-push}
 use Rattle.pie_cache.specs.inner.Contents.{IsDraft}
@@ -15,3 +15,8 @@ pub returns-clause-drafts : goal.returns-clause-drafts
 returns-clause-drafts c =
     let is : c.push.new.self.items ≡ c.args.drafts.now.items ++ (c.args.path, c.args.text) ∷ [] = search rules in
     subst (All IsDraft) (sym is) (All-push IsDraft c.args.drafts.now.items (c.args.path, c.args.text) c.requires.drafts c.requires.path)
+
+pub returns-clause-adds : goal.returns-clause-adds
+returns-clause-adds c =
+    let is : c.push.new.self.items ≡ c.args.drafts.now.items ++ (c.args.path, c.args.text) ∷ [] = search rules in
+    inr (c.args.text, is)

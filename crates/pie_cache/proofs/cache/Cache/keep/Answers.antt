@@ -38,7 +38,7 @@ returns-clause-changes g c =
     (subst (λ (l : List (List ℕ × Vec ℕ Global)). Makes A (putting l) c.drafts.new.files c.put_drafts.new.files c.put_drafts.result) c.as_slice.ensures.value
     c.put_drafts.ensures.makes) in
     λ some. on_ok c.put_drafts.result (λ made. changes_for c.args.fresh.items drafts (g.F.Files.holds c.args.files.now) (A c.args.files.now)
-    (A c.put_drafts.new.files) c.in_ok-drafts.ensures.made
+    (A c.put_drafts.new.files) c.in_ok-drafts.ensures.made c.in_ok-drafts.ensures.own
     (looks_then (putting drafts) (A c.args.files.now) (A c.drafts.new.files) (A c.put_drafts.new.files) c.in_ok-drafts.ensures.looks made)) steps
 
 pub returns-clause-whole : goal.returns-clause-whole
