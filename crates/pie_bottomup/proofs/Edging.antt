@@ -55,7 +55,7 @@ use Rattle.pie_bottomup.specs.inner.States.{IsOwn, IsSite}
 
 -- ---- lists
 
-within_reversed : {A : Type 0} (xs : List A) (x : A) → Contains xs x → Contains (reverse xs) x
+pub within_reversed : {A : Type 0} (xs : List A) (x : A) → Contains xs x → Contains (reverse xs) x
 within_reversed [] x h = h
 within_reversed (y ∷ ys) x h =
     subst (λ zs. Contains zs x) (sym (reverse-append (y ∷ []) ys)) (elim (here_or_there y x ys h) [
@@ -63,7 +63,7 @@ within_reversed (y ∷ ys) x h =
       | inr later ↦ Contains-append_left (reverse ys) (y ∷ []) x (within_reversed ys x later)
     ])
 
-from_reversed : {A : Type 0} (xs : List A) (x : A) → Contains (reverse xs) x → Contains xs x
+pub from_reversed : {A : Type 0} (xs : List A) (x : A) → Contains (reverse xs) x → Contains xs x
 from_reversed [] x h = h
 from_reversed (y ∷ ys) x h =
     elim (Contains-append_cases (reverse ys) (y ∷ []) x (subst (λ zs. Contains zs x) (reverse-append (y ∷ []) ys) h)) [
@@ -99,7 +99,7 @@ module _ (u : Update) (c : Core) (e : IsExactCore u c) where
       (inr ((settled_known u c.tables.names c.tables.records c.frames.walk a t e.are.tables stands apart named settled).known.right (enc_task t) arrived)) within
 
   -- a task that doesn't run requires by its row what its record does
-  resting_edge : Separates u → Stands c.frames.walk → (a b : ℕ) (t v : Task) (rec : TaskRecord) → kept_of c.tables.records a ≡ Some rec
+  pub resting_edge : Separates u → Stands c.frames.walk → (a b : ℕ) (t v : Task) (rec : TaskRecord) → kept_of c.tables.records a ≡ Some rec
       → runs (mark_of c.frames.walk.marks a) ≡ false → slice_get c.tables.names a ≡ Some t → slice_get c.tables.names b ≡ Some v
       → Calls c.frames.walk.rows a b → HasUnionEdge u t v
   resting_edge apart stands a b t v rec kept rests from to calls = by (stage_of c.frames.walk.marks a)
@@ -115,13 +115,13 @@ module _ (u : Update) (c : Core) (e : IsExactCore u c) where
 -- ---- tasks that wait
 
 -- a task that waits is a frame that goes on
-record HasFrame (x : Site) (b : Build) (d : Caller) : Type 0 where
-  frame : Frame
-  below : List Frame
-  is : IsCaller x b frame d
-  goes : GoesAbove x b below (before_wait frame)
+pub record HasFrame (x : Site) (b : Build) (d : Caller) : Type 0 where
+  pub frame : Frame
+  pub below : List Frame
+  pub is : IsCaller x b frame d
+  pub goes : GoesAbove x b below (before_wait frame)
 
-has_frame : (x : Site) (b : Build) (fs : List Frame) (cs : List Caller) → AreCallers x b fs cs → AllGo x b fs → (d : Caller) → Contains cs d → HasFrame x b d
+pub has_frame : (x : Site) (b : Build) (fs : List Frame) (cs : List Caller) → AreCallers x b fs cs → AllGo x b fs → (d : Caller) → Contains cs d → HasFrame x b d
 has_frame x b [] [] mean go d h = absurd (none_in d h)
 has_frame x b [] (k ∷ cs) mean go d h = absurd mean
 has_frame x b (g ∷ gs) [] mean go d h = absurd mean
@@ -155,7 +155,7 @@ module _ (u : Update) (c : Core) (d : Caller) (has : HasFrame (site_of u c) (bui
       (take has.goes.depth has.below) (before_wait has.frame) has.goes.goes has.frame.left refl (how_of d.how) (enc_task d.required) has.is.waits))
 
   -- its row has these after what its old record requires
-  waits_edge : IsExactCore u c → (a from : ℕ) → d.waiting.notes.number ≡ a → runs (mark_of c.frames.walk.marks a) ≡ true
+  pub waits_edge : IsExactCore u c → (a from : ℕ) → d.waiting.notes.number ≡ a → runs (mark_of c.frames.walk.marks a) ≡ true
       → BeginsAsOld c.tables c.frames.walk.rows a from → (b : ℕ) (t v : Task) → slice_get c.tables.names a ≡ Some t → slice_get c.tables.names b ≡ Some v
       → (Contains (drop from (row_at c.frames.walk.rows a).needs) b → Contains d.waiting.notes.needs b ⊎ (d.required ≡ v)) → Calls c.frames.walk.rows a b
       → HasUnionEdge u t v

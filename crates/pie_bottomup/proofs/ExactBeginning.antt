@@ -53,7 +53,7 @@ use Rattle.pie_bottomup.specs.declared.plan.Plan.{Plan}
 use Rattle.pie_bottomup.specs.declared.state.Core.{Core}
 use Rattle.pie_bottomup.specs.declared.state.First.TheVariants.{Tests, Done}
 use Rattle.pie_bottomup.specs.inner.Tested.{AreHeld, AreAsBefore, Learns}
-use Rattle.pie_bottomup.specs.inner.Exact.{IsPlanNow, KnowsTouched, AreWritten, WaitsAsOld, HoldsAsOld, AreExact}
+use Rattle.pie_bottomup.specs.inner.Exact.{IsPlanNow, KnowsTouched, AreWritten, AreUnchanged, WaitsAsOld, HoldsAsOld, AreExact}
 use Rattle.pie_bottomup.specs.inner.Exact.{IsExactCore, IsLoadedCore}
 use Rattle.pie_bottomup.specs.inner.Loaded.{IsLoadedFrom, IsUnmet, IsInformedOf, BeginsExact}
 
@@ -208,12 +208,19 @@ module _ (u : Update) (old new : Core) (plan : IsPlanNow u old.plan) (l : IsLoad
     idle = λ n rests un. l.unstarted n;
   }
 
+  unchanged_now : AreUnchanged u old.plan.same.items old.tables new.frames.walk
+  unchanged_now n rec calm rested kept = inl (record {
+    code = subst (λ p. IsMarked p.same.items n) learns.plan
+        (before n rec (inside n rec kept) (kept_now n rec kept) (not_busy_scheduled new.frames.walk n calm)).same;
+    old = exact_now.old n rec kept (none_settled n);
+  })
+
   are_now : AreExact u new.named new.plan.same.items new.tables new.frames.walk new.stage
   are_now =
       subst (λ (p : Plan). AreExact u new.named p.same.items new.tables new.frames.walk new.stage) (sym learns.plan)
       (subst (λ (t : Tables). AreExact u new.named old.plan.same.items t new.frames.walk new.stage) (sym learns.tables)
       (subst (AreExact u new.named old.plan.same.items old.tables new.frames.walk) (sym stage)
-      (record { tables = exact_now; known = known_now; written = written_now })))
+      (record { tables = exact_now; known = known_now; written = written_now; unchanged = unchanged_now })))
 
   pub tested_exact : new.frames.parked.items ≡ [] → new.hand ≡ None → IsExactCore u (record new { first = Done })
   tested_exact parked free = record {

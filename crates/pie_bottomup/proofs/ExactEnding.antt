@@ -11,6 +11,7 @@ use Rattle.pie_record.specs.declared.task_record.TaskRecord.{TaskRecord}
 use Rattle.pie_record.specs.inner.Records.{record_of as kept_of}
 use Rattle.pie_tables.specs.declared.tables.Tables.{Tables}
 use Rattle.pie_named.specs.declared.named.Named.{Named}
+use Rattle.pie_types.specs.Whole.{number_from}
 use Rattle.pie_view.specs.Content.{Staged, content}
 use Rattle.pie_compare.specs.inner.Standing.{RecordStands}
 use Rattle.pie_walk.specs.declared.marks.Mark.{Mark}
@@ -41,7 +42,7 @@ use Rattle.pie_core_laws.proofs.Kept.{kept_stays}
 use Rattle.pie_bottomup.specs.declared.state.Core.{Core}
 use Rattle.pie_bottomup.specs.inner.Finished.{HasFinished, HasSameEdges, end_row}
 use Rattle.pie_bottomup.specs.inner.Finished as told
-use Rattle.pie_bottomup.specs.inner.Exact.{IsPlanNow, KnowsTouched, AreWritten, BeginsAsOld, WaitsAsOld, HoldsAsOld, AreExact}
+use Rattle.pie_bottomup.specs.inner.Exact.{IsPlanNow, KnowsTouched, AreWritten, IsUnchanged, AreUnchanged, BeginsAsOld, WaitsAsOld, HoldsAsOld, AreExact}
 use Rattle.pie_bottomup.specs.inner.Exact.{IsExactCore, IsTakenExact, EndedRight}
 use Rattle.pie_bottomup.proofs.Exactly.{nothing_staged, marked_apart}
 use Rattle.pie_bottomup.proofs.Settling.{put_at, put_other}
@@ -123,6 +124,20 @@ module _ (s after : WalkState) (n : ℕ) (one : SettlesOne s after n) where
       written k rec path is flag kept (inr d) =
           w.ran k rec path (sym (one.others k d) ∙ is) (ap (λ (flags : List Bool). slice_index_or flags k false) (sym ran) ∙ flag)
           (sym (records k d) ∙ kept)
+
+  unchanged_one : (u : Update) (same : List Bool) (t new : Tables) → new.ran.items ≡ t.ran.items
+      → ((k : ℕ) → (k ≡ n → ⊥) → kept_of new.records k ≡ kept_of t.records k)
+      → ((rec : TaskRecord) → kept_of new.records n ≡ Some rec → slice_index_or new.ran.items n false ≡ false
+      → IsUnchanged u same n rec ⊎ (number_from 0 u.functions rec.task ≡ None)) → AreUnchanged u same t s → AreUnchanged u same new after
+  unchanged_one u same t new ran records has are k rec calm rested kept = by (same_or_not n k)
+    where
+      by : (k ≡ n) ⊎ (k ≡ n → ⊥) → IsUnchanged u same k rec ⊎ (number_from 0 u.functions rec.task ≡ None)
+      by (inl e) =
+          subst (λ (m : ℕ). IsUnchanged u same m rec ⊎ (number_from 0 u.functions rec.task ≡ None)) (sym e)
+          (has rec (subst (λ (m : ℕ). kept_of new.records m ≡ Some rec) e kept)
+          (subst (λ (m : ℕ). slice_index_or new.ran.items m false ≡ false) e rested))
+      by (inr d) =
+          are k rec (calm_before k d calm) (ap (λ (flags : List Bool). slice_index_or flags k false) (sym ran) ∙ rested) (sym (records k d) ∙ kept)
 
   known_one : (u : Update) (named : Named) (same : List Bool) (t new : Tables) → new.names ≡ t.names
       → ((k : ℕ) → (k ≡ n → ⊥) → kept_of new.records k ≡ kept_of t.records k) → KnowsTouched u named same t s.marks
@@ -210,6 +225,10 @@ kept_exact u c f task plan taken holds flag stands same parked rests =
           ran = λ path is. absurd (marked_apart (slice_index_or t.ran.items task.0 false) is taken.unstarted.rested);
           unstaged = λ path rested. taken.unstarted.unstaged path;
         }) e.are.written;
+        unchanged = unchanged_one s (settled s task.0) task.0 one u c.plan.same.items t t refl (λ k d. refl) (λ rec kept rested. inl (record {
+          code = flag;
+          old = e.are.tables.old task.0 rec kept (running_unsettled s.marks task.0 run);
+        })) e.are.unchanged;
       });
       parked = subst (All (WaitsAsOld t f.walk.rows)) (sym (ap (λ ps. ps.items) parked))
           (subst (λ (rs : List Row). All (WaitsAsOld t rs) c.frames.parked.items) (sym rows) e.parked);
@@ -300,6 +319,8 @@ module _ (u : Update) (c : Core) (f : Frames) (t : Tables) (task : TaskNo) (from
             ran = λ path is. right.ran path is ∙ ap (λ (z : TaskRecord). written_now u z.task path) same;
             unstaged = λ path rested. (right.rested rested).1.unstaged path;
           }) e.are.written;
+      unchanged = unchanged_one c.frames.walk f.walk task.0 one u c.plan.same.items c.tables t ran put_there (λ q kept rested.
+          inr (ap (λ (z : TaskRecord). number_from 0 u.functions z.task) (sym (one_some rec q (sym put_here ∙ kept))) ∙ right.lost rested)) e.are.unchanged;
     };
     parked = subst (All (WaitsAsOld t f.walk.rows)) (sym (ap (λ ps. ps.items) parked))
         (waits_apart c.tables t c.frames task f.walk.rows holds names put_there rows_apart e.parked);

@@ -66,6 +66,7 @@ staged_exact u c later n run same e = record {
           let was = w.idle k rests un in
           record { rested = was.rested; unstaged = λ path. same k path (resting_other k rests) ∙ was.unstaged path };
     };
+    unchanged = e.are.unchanged;
   };
   parked = e.parked;
   hand = e.hand;
@@ -241,6 +242,7 @@ module _ (u : Update) (c : Core) (later : Staged) (writer : ℕ) (path bytes : L
             let was = e.are.written.idle n rests un in
             record { rested = was.rested; unstaged = λ p. idle_now n un p (was.unstaged p) };
       };
+      unchanged = e.are.unchanged;
     };
     parked = e.parked;
     hand = e.hand;

@@ -51,7 +51,7 @@ named_back [] t x n l e = absurd (omega (arith, l))
 named_back (y ∷ ys) t x zero l e = e
 named_back (y ∷ ys) t x (suc n) l e = named_back ys t x n (omega (arith, l)) e
 
-marked_inside : (flags : List Bool) (n : ℕ) → IsMarked flags n → n < length flags
+pub marked_inside : (flags : List Bool) (n : ℕ) → IsMarked flags n → n < length flags
 marked_inside [] n e = cc
 marked_inside (x ∷ xs) zero e = omega arith
 marked_inside (x ∷ xs) (suc n) e = let l = marked_inside xs n e in omega (arith, l)
@@ -150,6 +150,8 @@ module _ (u : Update) (c : Core) (f : Frames) (t : Tables) (task : Task) (e : Is
           (omega (arith, few, sized)) (none_after c.tables tables)).exact));
       known = known_grown;
       written = written_grown;
+      unchanged = λ n rec calm rested kept.
+          e.are.unchanged n rec (calm_before n calm) (sym (ran_same n) ∙ rested) (sym (kept_same n) ∙ kept);
     };
     parked = subst (All (WaitsAsOld t f.walk.rows)) (sym (ap (λ ps. ps.items) parked))
         (All-weaker (WaitsAsOld c.tables c.frames.walk.rows) (WaitsAsOld t f.walk.rows) (λ p is. begins_grown (number_of p) p.from is)
@@ -282,6 +284,8 @@ module _ (u : Update) (c : Core) (t : Tables) (task : TaskNo) (h : InHand) (take
           (subst (λ (rs : Records). IsExact u c.tables.names rs c.frames.walk) (sym records) taken.exact.are.tables);
       known = known_started;
       written = written_started;
+      unchanged = λ n rec calm rested kept.
+          taken.exact.are.unchanged n rec calm (sym (ran_other n (calm_other n calm)) ∙ rested) (sym (kept_as n) ∙ kept);
     };
     parked = All-weaker (WaitsAsOld c.tables c.frames.walk.rows) (WaitsAsOld t c.frames.walk.rows) (λ p is. begins_as (number_of p) p.from is)
         c.frames.parked.items taken.exact.parked;

@@ -114,7 +114,7 @@ module _ (c : Core) (u : Update) (over : HasSettled c) (e : IsExactCore u c) whe
         (subst (λ o. IsSome (refusal_by o)) (ap (kept_of c.tables.records) (sym one) ∙ m.kept) failed.failed) well;
   }
 
-  roots_settle : RootsSettle c.tables.names c.tables.records c.frames.walk c.plan.roots.items
+  pub roots_settle : RootsSettle c.tables.names c.tables.records c.frames.walk c.plan.roots.items
   roots_settle = settle_on c.tables.names c.tables.records c.frames.walk c.plan.roots.items c.at settled_root (elim over.over [
     | inl all ↦ inl all
     | inr failed ↦ inr (failed_root failed)

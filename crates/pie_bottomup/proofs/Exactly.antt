@@ -86,6 +86,7 @@ are_moved u named same t s after staged e w v m = record {
   tables = (moves_stay u t.names t.records s after e.tables w v m).exact;
   known = known_on u named same t s.marks after.marks m.settled e.known;
   written = written_moved u t s after staged m e.written;
+  unchanged = λ n rec calm rested kept. e.unchanged n rec (sym (m.busy n) ∙ calm) rested kept;
 }
 
 -- ---- rows that stay

@@ -19,6 +19,7 @@ use Rattle.pie_bottomup.specs.declared.state.First.TheVariants.{Done}
 use Rattle.pie_bottomup.specs.inner.Recorded.{IsStill, HasOutput, IsMet}
 use Rattle.pie_bottomup.specs.inner.Running.{IsKnown, IsCaller}
 use Rattle.pie_bottomup.specs.inner.States.{IsUntested, IsAtRest, IsTested, IsDue}
+use Rattle.pie_bottomup.proofs.Basing.{based_empty, none_stacked}
 use Rattle.pie_bottomup.proofs.Going.{recorded_on, goes_marking}
 use Rattle.pie_bottomup.proofs.Keeping.{tasks_stay, keeps_then}
 
@@ -43,7 +44,7 @@ named_tested c new e is = subst (IsTested c) (sym e) (record {
   rows = refl;
   first = refl;
   nearer = omega arith;
-  keeps = record { plan = refl; room = omega arith; tasks = tasks_stay c.tables };
+  keeps = record { plan = refl; room = omega arith; tasks = tasks_stay c.tables; ran = λ n is. is };
   more = λ n flag. flag;
 })
 
@@ -73,7 +74,7 @@ scheduled_tested c f n is l rests e same weights room =
       rows = ap (λ (s : WalkState). length s.rows) e;
       first = refl;
       nearer = omega (arith, weights);
-      keeps = record { plan = refl; room = room; tasks = tasks_stay c.tables };
+      keeps = record { plan = refl; room = room; tasks = tasks_stay c.tables; ran = λ n is. is };
       more = λ k flag. subst (λ (fs : List Bool). IsMarked fs k) (sym flags) (flag_kept old.scheduled n k inside flag);
     }
 
@@ -130,6 +131,7 @@ begun_rests c is due = record {
           (All-nil (IsMet c.tables.names c.frames.walk.marks));
       known = known;
     };
+    based = based_empty c.plan.roots.items c.tables.names c.frames.walk.stack (none_stacked c.frames.walk is.rests.stands.holds is.start.fresh);
   };
   rests = is.rests;
 }

@@ -63,6 +63,7 @@ may_end u c k n o rec may named deps writes outcome =
           subst (λ (m : ℕ). content c.stage m path ≡ written_now u rec.task path) may.number
           (may.right.staged path ∙ ap (λ (t : Task). written_now u t path) (sym task));
       rested = λ off. clash (slice_index_or c.tables.ran.items k false) may.ran off;
+      lost = λ off. clash (slice_index_or c.tables.ran.items k false) may.ran off;
     }
 
 pub callers_goes : {E : Type 0} (c new : Core) (task : TaskNo) (from : ℕ) (w : Caller) (outcome : Outcome) (rec : TaskRecord) (r : Result Turn E)

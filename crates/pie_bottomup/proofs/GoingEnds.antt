@@ -149,6 +149,7 @@ module _ (u : Update) (c : Core) (f : Frames) (t : Tables) (task : TaskNo) (from
     rested = λ off.
         let q = right.rested (ap (λ (flags : List Bool). slice_index_or flags task.0 false) (sym ran) ∙ off) in
         (q.0, record { rested = off; unstaged = q.1.unstaged });
+    lost = λ off. right.lost (ap (λ (flags : List Bool). slice_index_or flags task.0 false) (sym ran) ∙ off);
   }
 
   settles : SettlesOne c.frames.walk f.walk task.0
@@ -242,4 +243,5 @@ module _ (u : Update) (c : Core) (task : TaskNo) (before : WalkState) (from : Is
     right = lost_right_one t rec named canonical none is (kept_of c.tables.records task.0) refl;
     ran = λ path flag. clash (slice_index_or c.tables.ran.items task.0 false) flag from.taken.unstarted.rested;
     rested = λ off. (subst (λ (z : TaskRecord). AreThere world u.directory z.writes) (sym is) tt, from.taken.unstarted);
+    lost = λ off. ap (λ (z : TaskRecord). number_from 0 u.functions z.task) is ∙ none;
   }

@@ -361,7 +361,7 @@ none_some : (h : InHand) → None ≡ Some h → ⊥
 none_some h e = cc
 
 -- where a task is in hand, the first step is done
-in_hand_whole : (u : Update) (c : Core) (h : InHand) → c.hand ≡ Some h → IsCore c → StandsWhole u c → IsWhole u c
+pub in_hand_whole : (u : Update) (c : Core) (h : InHand) → c.hand ≡ Some h → IsCore c → StandsWhole u c → IsWhole u c
 in_hand_whole u c h some (inl untested) (inl loaded) = absurd (none_some h (sym untested.start.hand ∙ some))
 in_hand_whole u c h some (inr going) (inl loaded) = absurd (loaded.0 going.site.tested)
 in_hand_whole u c h some core (inr whole) = whole

@@ -1,7 +1,7 @@
 -- The tasks of a build keep their numbers, their records and their flags.
-use Rattle.std.proofs.Common.{◌≡◌, ◌⊎◌, ℕ, ◌<◌, Bool, true, false, List, [], ◌∷◌, ◌++◌, Some, length, set, sym, ap, ◌∙◌, subst, inl, inr, arith}
-use Rattle.std.specs.Prelude.{slice_get, is_some, IsSome}
-use Rattle.std.proofs.lemmas.List.{get_or-set_same}
+use Rattle.std.proofs.Common.{◌≡◌, ◌⊎◌, ℕ, ◌<◌, Bool, true, false, List, [], ◌∷◌, ◌++◌, Some, Result, Ok, Err, length, set, sym, ap, ◌∙◌, subst, inl, inr, arith}
+use Rattle.std.specs.Prelude.{slice_get, is_some, IsSome, OnOk}
+use Rattle.std.proofs.lemmas.List.{get_or-set_same, get_or-set_other}
 use Rattle.pie_value.specs.declared.task.Task.{Task}
 use Rattle.pie_graph.specs.Numbers.{IsMarked}
 use Rattle.pie_record.specs.declared.records.Records.{Records}
@@ -10,8 +10,10 @@ use Rattle.pie_record.specs.inner.Records.{record_of, Puts}
 use Rattle.pie_tables.specs.declared.tables.Tables.{Tables}
 use Rattle.pie_core_laws.proofs.Exactly.{same_or_not}
 use Rattle.pie_walk.proofs.FlagSteps.{flag_kept}
+use Rattle.pie_walk.proofs.HoldSteps.{default_more}
 use Rattle.pie_bottomup.specs.declared.state.Core.{Core}
-use Rattle.pie_bottomup.specs.inner.States.{KeepsTasks, Keeps}
+use Rattle.pie_bottomup.specs.inner.Ran.{RanAlone}
+use Rattle.pie_bottomup.specs.inner.States.{KeepsTasks, Keeps, NoMoreRan}
 use Rattle.pie_bottomup.proofs.Growing.{named_more, flag_more}
 use Rattle.pie_bottomup.proofs.Settling.{put_at, put_other}
 
@@ -32,6 +34,7 @@ keeps_then a b c one two = record {
   plan = two.plan ∙ one.plan;
   room = omega (arith, one.room, two.room);
   tasks = tasks_then a.tables b.tables c.tables one.tasks two.tasks;
+  ran = λ n is. one.ran n (two.ran n is);
 }
 
 -- the same names
@@ -78,3 +81,26 @@ tasks_run old new k names records ran l = record {
 -- it is marked then
 pub run_marked : (old new : Tables) (k : ℕ) → new.ran.items ≡ set old.ran.items k true → k < length old.ran.items → IsMarked new.ran.items k
 run_marked old new k ran l = flags_as (set old.ran.items k true) new.ran.items ran k (get_or-set_same old.ran.items k true false l)
+
+-- ---- who has run
+
+-- no more tasks, where the flags are the same
+pub none_ran_as : (old new : Tables) → new.ran.items ≡ old.ran.items → NoMoreRan old new
+none_ran_as old new ran n is = subst (λ (flags : List Bool). IsMarked flags n) ran is
+
+-- nor where one more came
+pub none_ran_more : (old new : Tables) → new.ran.items ≡ old.ran.items ++ false ∷ [] → NoMoreRan old new
+none_ran_more old new ran n is = sym (default_more old.ran.items false n) ∙ subst (λ (flags : List Bool). IsMarked flags n) ran is
+
+-- one alone, where it begins to run
+pub ran_alone : (old new : Tables) (k : ℕ) → new.ran.items ≡ set old.ran.items k true → RanAlone old new k
+ran_alone old new k ran n is = by (same_or_not k n)
+  where
+    by : (n ≡ k) ⊎ (n ≡ k → ⊥) → IsMarked old.ran.items n ⊎ (n ≡ k)
+    by (inl e) = inr e
+    by (inr d) = inl (sym (get_or-set_other old.ran.items k n true false d) ∙ subst (λ (flags : List Bool). IsMarked flags n) ran is)
+
+-- where a step keeps its tasks, nobody starts to run
+pub none_starts : {A E : Type 0} (P : Type 0) (old new : Core) (r : Result A E) → OnOk r (Keeps old new) → (NoMoreRan old.tables new.tables → P) → OnOk r P
+none_starts P old new (Ok a) keeps give = give keeps.ran
+none_starts P old new (Err e) keeps give = tt

@@ -1,9 +1,11 @@
 pub mod Agreeing
+pub mod Basing
 pub mod Beginning
 pub mod Calling
 pub mod Closing
 pub mod Counting
 pub mod Cycles
+pub mod Due
 pub mod Edging
 pub mod Exactly
 pub mod ExactAsking
@@ -29,6 +31,7 @@ pub mod GoingSteps
 pub mod Growing
 pub mod Holding
 pub mod Keeping
+pub mod Leading
 pub mod Moving
 pub mod Owning
 pub mod Parts

@@ -39,12 +39,13 @@ use Rattle.pie_bottomup.specs.declared.state.First.TheVariants.{Done}
 use Rattle.pie_bottomup.specs.declared.state.InHand.{InHand}
 use Rattle.pie_bottomup.specs.declared.state.Turn.{Turn}
 use Rattle.pie_bottomup.specs.inner.Exact.{IsTakenExact}
-use Rattle.pie_bottomup.specs.inner.Going.{IsBuildNow, StandsWhole}
+use Rattle.pie_bottomup.specs.inner.Going.{Goes, IsBuildNow, StandsWhole}
 use Rattle.pie_bottomup.specs.inner.Loaded.{BeginsExact}
 use Rattle.pie_bottomup.specs.inner.Ran.{IsKnownAs, KnowsCode, BeginsKnowing, HasReason, HasStarted, RunsFor, TakesFor, WalksFor, StepsFor}
 use Rattle.pie_bottomup.specs.inner.States.{IsSite}
 use Rattle.pie_bottomup.proofs.ExactWalking.{taken_exact}
 use Rattle.pie_bottomup.proofs.GoingAnswers.{output_canonical}
+use Rattle.pie_bottomup.proofs.Leading.{taken_reached}
 
 -- ---- what is known at first
 
@@ -149,7 +150,7 @@ module _ (u : Update) (c : Core) (funcs digests : List (List ℕ × List ℕ)) (
 pub started_for : {E : Type 0} (c new : Core) (task : TaskNo) (before after : List Task) (r : Result Turn E) → IsSite c → Holds task c.frames
     → (IsMarked c.plan.same.items task.0 → RecordStands c.tables c.frames.walk.rows c.named task.0 → ⊥)
     → OnOk r (HasStarted c task.0 new before after) → OnOk r (TakesFor c task.0 new before after)
-started_for c new task before after (Ok turn) site holds falls is = λ u funcs digests now taken knows. inr (record {
+started_for c new task before after (Ok turn) site holds falls is = λ u funcs digests now taken reached knows. inr (record {
   number = task.0;
   task = is.task;
   named = is.named;
@@ -157,31 +158,29 @@ started_for c new task before after (Ok turn) site holds falls is = λ u funcs d
   ran = is.ran;
   added = is.added;
   reason = reason u c funcs digests task is.task knows now is.named taken site holds falls;
+  reached = reached is.task is.named;
+  alone = is.alone;
 })
 started_for c new task before after (Err e) site holds falls is = tt
 
 -- the walk took it
-pub walks_for : {E : Type 0} (old : Core) (f : Frames) (new : Core) (task : TaskNo) (before after : List Task) (r : Result Turn E) → Rests old.frames
-    → HasTaken old.frames f task → OnOk r (TakesFor (record old { frames = f }) task.0 new before after) → OnOk r (WalksFor old new before after)
-walks_for old f new task before after (Ok turn) rests has takes = λ u funcs digests now e knows.
-    takes u funcs digests now (taken_exact u old f task e rests has) knows
-walks_for old f new task before after (Err e) rests has takes = tt
-
--- what always holds, holds where a call succeeds
-pub on_ok : {A E : Type 0} (P : Type 0) (r : Result A E) → P → OnOk r P
-on_ok P (Ok a) is = is
-on_ok P (Err e) is = tt
+pub walks_for : {E : Type 0} (old : Core) (f : Frames) (new : Core) (task : TaskNo) (before after : List Task) (r : Result Turn E) → IsSite old
+    → Rests old.frames → HasTaken old.frames f task → OnOk r (TakesFor (record old { frames = f }) task.0 new before after)
+    → OnOk r (WalksFor old new before after)
+walks_for old f new task before after (Ok turn) site rests has takes = λ u funcs digests now e resting knows.
+    takes u funcs digests now (taken_exact u old f task e rests has) (taken_reached u old f task now e site rests resting has) knows
+walks_for old f new task before after (Err e) site rests has takes = tt
 
 -- ---- a step
 
 module _ (held : Option Directory) (old new : Core) (before after : List Task) where
   -- where the first step is done
-  pub steps_for : old.first ≡ Done → WalksFor old new before after → StepsFor held old new before after
-  steps_for done walks u funcs digests now site stands knows = by stands
+  pub steps_for : old.first ≡ Done → old.hand ≡ None → WalksFor old new before after → StepsFor held old new before after
+  steps_for done free walks u funcs digests now site stands knows = by stands
     where
       by : StandsWhole u old → RunsFor u funcs digests old.tables new.tables before after
       by (inl loaded) = absurd (loaded.0 done)
-      by (inr whole) = walks u funcs digests now whole.exact knows
+      by (inr whole) = walks u funcs digests now whole.exact (subst (Goes u old) free whole.going) knows
 
   -- no task was in hand
   pub free_for : {E : Type 0} (r : Result Turn E) → old.hand ≡ None → OnOk r (StepsFor held (record old { hand = None }) new before after)

@@ -50,8 +50,9 @@ use Rattle.pie_frames.specs.inner.Ended.{row_from}
 use Rattle.pie_bottomup.specs.declared.state.Core.{Core}
 use Rattle.pie_bottomup.specs.inner.Recorded.{HasOutput, HasEnded, HasValue, WasTaken, Ends, SameBut}
 use Rattle.pie_bottomup.specs.inner.Running.{IsKnown, Agree, EndsWell, EndsSo}
-use Rattle.pie_bottomup.specs.inner.States.{IsSite, IsAsRecorded, AreCalled}
+use Rattle.pie_bottomup.specs.inner.States.{IsSite, IsAsRecorded, AreCalled, IsBased}
 use Rattle.pie_bottomup.proofs.Agreeing.{agree_ended}
+use Rattle.pie_bottomup.proofs.Basing.{based_popped}
 use Rattle.pie_bottomup.proofs.Closing.{IsStillCaller, ends_kept, ends_finished, output_stays}
 
 -- ---- tasks and numbers
@@ -175,6 +176,8 @@ site_kept c f task distinct site holds recorded known stands e same =
           (λ is. record { row = subst (IsRowOf c.tables.names r) (sym rows) row; done = λ k calls. output k row (subst (λ (x : Row). Contains x.needs k) rows calls) })
           (λ is. subst (λ o. IfSome o (IsKnown c.plan)) at.named known)
           (λ failed. absurd (let clash : true ≡ false = sym done ∙ failed in cc)) site.agree);
+      based = subst (λ (s : WalkState). IsBased c.plan.roots.items c.tables.names s.stack) (sym e)
+          (based_popped c.plan.roots.items c.tables.names old.stack site.based);
     }
   where
     output : (k : ℕ) → IsRowOf c.tables.names stands.0 (row_at c.frames.walk.rows task.0) → Calls c.frames.walk.rows task.0 k → HasOutput c.tables.records k
@@ -266,4 +269,7 @@ site_ended c t f task from r writes site holds tables names puts named so called
                 output_stays c.tables.records t.records task.0 k others (λ is. open_yet (subst (IsSettled old.marks) is ended.settled)) ended.output;
           })
           (λ done. (well_ended c task.0 from r so done).known) (none_calls c task r holds called) site.agree));
+      based = subst (λ (s : WalkState). IsBased c.plan.roots.items t.names s.stack) (sym e)
+          (subst (λ (ns : List Task). IsBased c.plan.roots.items ns (below old.stack)) (sym names)
+          (based_popped c.plan.roots.items c.tables.names old.stack site.based));
     }

@@ -1,9 +1,9 @@
 -- A build stands after each step of its walk.
-use Rattle.std.proofs.Common.{◌≡◌, ◌≢◌, ℕ, ◌<◌, ◌+◌, List, [], ◌∷◌, ◌++◌, Option, None, Some, length, sym, ap, ◌∙◌, subst, inl, inr, arith}
+use Rattle.std.proofs.Common.{◌≡◌, ◌≢◌, ◌⊎◌, ℕ, ◌<◌, ◌+◌, List, [], ◌∷◌, ◌++◌, Option, None, Some, length, sym, ap, ◌∙◌, subst, inl, inr, arith}
 use Rattle.std.specs.Prelude.{slice_get, IfSome}
 use Rattle.std.specs.List.{All, Contains}
 use Rattle.std.proofs.lemmas.List.{length_push, get_or_push}
-use Rattle.std.proofs.lemmas.List.Elements.{All-nil, Contains-push}
+use Rattle.std.proofs.lemmas.List.Elements.{All-nil, Contains-push, Contains-get_or}
 use Rattle.std.proofs.lemmas.Option.{slice_get-get_or, slice_get_within}
 use Rattle.pie_value.specs.declared.task.Task.{Task}
 use Rattle.pie_graph.specs.declared.edges.TaskNo.{TaskNo}
@@ -17,8 +17,9 @@ use Rattle.pie_walk.specs.declared.marks.Mark.TheVariants.{New, Visited, Runs}
 use Rattle.pie_walk.specs.declared.stack.Entry.TheVariants.{Waits}
 use Rattle.pie_walk.specs.Callers.{SchedulesCallers, Sweeps}
 use Rattle.pie_walk.specs.Marks.{mark_of, IsSettled}
-use Rattle.pie_walk.specs.States.{WalkState, waiting, met, with_one_more}
+use Rattle.pie_walk.specs.States.{WalkState, waiting, base_of, met, with_one_more, with_need}
 use Rattle.pie_walk.specs.Standing.{HoldsIn}
+use Rattle.pie_walk.specs.Turns.{Walks}
 use Rattle.pie_walk.proofs.EntrySteps.{marked_in}
 use Rattle.pie_old.specs.inner.Rows.{IsRowOf}
 use Rattle.pie_running.specs.inner.Noted.{Noted}
@@ -32,25 +33,45 @@ use Rattle.pie_bottomup.specs.declared.state.Core.{Core}
 use Rattle.pie_bottomup.specs.declared.state.InHand.{InHand}
 use Rattle.pie_bottomup.specs.inner.Recorded.{HasOutput, WasTaken, GoesOn}
 use Rattle.pie_bottomup.specs.inner.Running.{IsCaller, IsNoted, Agree}
-use Rattle.pie_bottomup.specs.inner.States.{IsSite, IsAtRest, IsOwn, IsNextRoot, IsAsRecorded}
+use Rattle.pie_bottomup.specs.inner.States.{IsSite, IsAtRest, IsOwn, IsNextRoot, IsAsRecorded, IsRootAt, IsBased}
 use Rattle.pie_bottomup.proofs.Agreeing.{agree_on, agree_parked, agree_unparked, agree_begun, agree_more, noted_on, noted_more}
+use Rattle.pie_bottomup.proofs.Basing.{based_empty, based_as, based_same, based_met, based_more}
 use Rattle.pie_bottomup.proofs.Going.{goes_walking, goes_taking, goes_calling, goes_sweeping, goes_meeting, goes_requiring, is_met}
 
 -- ---- the walk alone
 
 site_with : (c : Core) (f : Frames) → IsSite c → length f.walk.rows ≡ length c.frames.walk.rows
-    → Agree c.plan c.tables.names c.tables.records f.walk f.parked.items c.at → IsSite (record c { frames = f })
-site_with c f site sized agree = record { tables = site.tables; sized = site.sized ∙ sym sized; roots = site.roots; tested = site.tested; agree = agree }
+    → Agree c.plan c.tables.names c.tables.records f.walk f.parked.items c.at → IsBased c.plan.roots.items c.tables.names f.walk.stack
+    → IsSite (record c { frames = f })
+site_with c f site sized agree based = record {
+  tables = site.tables;
+  sized = site.sized ∙ sym sized;
+  roots = site.roots;
+  tested = site.tested;
+  agree = agree;
+  based = based;
+}
 
 -- the same tasks wait
-site_on : (c : Core) (f : Frames) → IsSite c → GoesOn c.frames.walk f.walk → f.parked.items ≡ c.frames.parked.items → IsSite (record c { frames = f })
+site_on : (c : Core) (f : Frames) → IsSite c → GoesOn c.frames.walk f.walk → f.parked.items ≡ c.frames.parked.items
+    → IsBased c.plan.roots.items c.tables.names f.walk.stack → IsSite (record c { frames = f })
 site_on c f site on same =
     site_with c f site on.sized
     (subst (λ (ps : List Parked). Agree c.plan c.tables.names c.tables.records f.walk ps c.at) (sym same)
     (agree_on c.plan c.tables.names c.tables.records c.frames.walk f.walk c.frames.parked.items c.at on site.agree))
 
 pub site_taken : (c : Core) (f : Frames) (number : TaskNo) → IsSite c → HasTaken c.frames f number → IsSite (record c { frames = f })
-site_taken c f number site has = site_on c f site (goes_taking c.frames.walk f.walk number has.taken) (ap (λ v. v.items) has.parked)
+site_taken c f number site has =
+    site_on c f site (goes_taking c.frames.walk f.walk number has.taken) (ap (λ v. v.items) has.parked)
+    (based_as c.plan.roots.items c.tables.names c.frames.walk.stack f.walk.stack has.taken.base site.based)
+
+-- a walk that goes on stays below its root, or is over
+based_walking : (c : Core) (f : Frames) → IsSite c → Walks c.frames.walk f.walk → IsBased c.plan.roots.items c.tables.names f.walk.stack
+based_walking c f site walks = by walks.base
+  where
+    by : (f.walk.stack ≡ []) ⊎ (base_of f.walk.stack ≡ base_of c.frames.walk.stack) → IsBased c.plan.roots.items c.tables.names f.walk.stack
+    by (inl none) = based_empty c.plan.roots.items c.tables.names f.walk.stack none
+    by (inr same) = based_as c.plan.roots.items c.tables.names c.frames.walk.stack f.walk.stack same site.based
 
 -- a scheduled task wasn't taken
 scheduled_free : (s : WalkState) → HoldsIn s → (n : ℕ) → IsMarked s.scheduled n → WasTaken s n → ⊥
@@ -73,7 +94,7 @@ site_answered c f number p site has =
     let on = goes_walking c.frames.walk f.walk has.answered.walks in
     let agree = agree_unparked c.plan c.tables.names c.tables.records f.walk c.frames.parked.items f.parked.items p c.at has.parked
     (agree_on c.plan c.tables.names c.tables.records c.frames.walk f.walk c.frames.parked.items c.at on site.agree) in
-    (site_with c f site on.sized agree.0, agree.1)
+    (site_with c f site on.sized agree.0 (based_walking c f site has.answered.walks), agree.1)
 
 -- what it waited for is settled
 pub callee_settled : (old f : Frames) (number : TaskNo) (p : Parked) → HasAnswered old f number p → IsSettled f.walk.marks p.callee.0
@@ -94,16 +115,20 @@ rests_over c f site over =
             (All-nil (IsCaller c.plan c.tables.names c.tables.records f.walk.marks));
         met = agree.met;
         known = agree.known;
-      });
+      }) (based_walking c f site over.ended.walks);
       rests = over.rests;
     }
 
 pub site_calling : (c : Core) (f : Frames) (n : ℕ) → IsSite c → SchedulesCallers c.frames.walk f.walk n → f.parked ≡ c.frames.parked
     → IsSite (record c { frames = f })
-site_calling c f n site is same = site_on c f site (goes_calling c.frames.walk f.walk n is) (ap (λ v. v.items) same)
+site_calling c f n site is same =
+    site_on c f site (goes_calling c.frames.walk f.walk n is) (ap (λ v. v.items) same)
+    (based_same c.plan.roots.items c.tables.names c.frames.walk.stack f.walk.stack (ap (λ (s : WalkState). s.stack) is.same) site.based)
 
 pub site_sweeping : (c : Core) (f : Frames) (n : ℕ) → IsSite c → Sweeps c.frames.walk f.walk n → f.parked ≡ c.frames.parked → IsSite (record c { frames = f })
-site_sweeping c f n site is same = site_on c f site (goes_sweeping c.frames.walk f.walk n is) (ap (λ v. v.items) same)
+site_sweeping c f n site is same =
+    site_on c f site (goes_sweeping c.frames.walk f.walk n is) (ap (λ v. v.items) same)
+    (based_same c.plan.roots.items c.tables.names c.frames.walk.stack f.walk.stack (ap (λ (s : WalkState). s.stack) is.same) site.based)
 
 -- the tables have the same names and records
 pub site_tables : (c : Core) (t : Tables) → IsSite c → IsTables t → t.names ≡ c.tables.names → t.records ≡ c.tables.records → (hand : Option InHand)
@@ -115,6 +140,7 @@ site_tables c t site is names records hand = record {
   tested = site.tested;
   agree = subst (λ (ns : List Task). Agree c.plan ns t.records c.frames.walk c.frames.parked.items c.at) (sym names)
       (subst (λ (rs : Records). Agree c.plan c.tables.names rs c.frames.walk c.frames.parked.items c.at) (sym records) site.agree);
+  based = subst (λ (ns : List Task). IsBased c.plan.roots.items ns c.frames.walk.stack) (sym names) site.based;
 }
 
 -- ---- a root is begun
@@ -124,7 +150,14 @@ pub site_begun : (c : Core) (f : Frames) (number : TaskNo) → IsSite c → Rest
 site_begun c f number site rests l root e same =
     let inside : number.0 < length c.frames.walk.marks =
     omega (arith, slice_get_within c.tables.names number.0 root.root root.named, site.sized, rests.stands.holds.marks_sized) in
-    let begun = site_on c f site (goes_meeting c.frames.walk f.walk number inside e) (ap (λ v. v.items) same) in
+    let is_root : IsRootAt c.plan.roots.items c.tables.names number.0 = record {
+      root = root.root;
+      listed = subst (Contains c.plan.roots.items) (root.next root.root) (Contains-get_or c.plan.roots.items c.at root.root l);
+      named = root.named;
+    } in
+    let begun = site_on c f site (goes_meeting c.frames.walk f.walk number inside e) (ap (λ v. v.items) same)
+    (based_same c.plan.roots.items c.tables.names (met c.frames.walk number).stack f.walk.stack (ap (λ (s : WalkState). s.stack) e)
+    (based_met c.plan.roots.items c.tables.names c.frames.walk number (λ empty. is_root) site.based)) in
     record {
       tables = begun.tables;
       sized = begun.sized;
@@ -132,6 +165,7 @@ site_begun c f number site rests l root e same =
       tested = begun.tested;
       agree = agree_begun c.plan c.tables.names c.tables.records f.walk f.parked.items c.at number.0 root.root l root.next root.named
           (subst (λ (s : WalkState). mark_of s.marks number.0 ≢ New) (sym e) (is_met c.frames.walk number inside)) begun.agree;
+      based = begun.based;
     }
 
 -- ---- one task more
@@ -156,6 +190,9 @@ site_grown c f t task site holds tables walk parked names records =
           (subst (λ v. Agree c.plan t.names t.records (with_one_more c.frames.walk) v.items c.at) (sym parked)
           (subst (λ (rs : Records). Agree c.plan t.names rs (with_one_more c.frames.walk) c.frames.parked.items c.at) (sym records)
           (subst (λ (ns : List Task). Agree c.plan ns c.tables.records (with_one_more c.frames.walk) c.frames.parked.items c.at) (sym names) agree)));
+      based = subst (λ (w : WalkState). IsBased c.plan.roots.items t.names w.stack) (sym walk)
+          (subst (λ (ns : List Task). IsBased c.plan.roots.items ns c.frames.walk.stack) (sym names)
+          (based_more c.plan.roots.items c.tables.names task c.frames.walk.stack site.based));
     }
   where
     sized : length (c.tables.names ++ task ∷ []) ≡ length (with_one_more c.frames.walk).rows
@@ -193,3 +230,9 @@ site_parked c f number p site holds has callee own named =
     (agree_parked c.plan c.tables.names c.tables.records f.walk c.frames.parked.items f.parked.items p c.at has.parked
     (record { noted = noted_on c.plan c.tables.names c.tables.records c.frames.walk.marks f.walk.marks on.rise p.caller.waiting.notes own.noted; required = named })
     (agree_on c.plan c.tables.names c.tables.records c.frames.walk f.walk c.frames.parked.items c.at on site.agree))
+    (subst (λ (w : WalkState). IsBased c.plan.roots.items c.tables.names w.stack) (sym has.walk)
+    (based_met c.plan.roots.items c.tables.names (with_need c.frames.walk f.walk.places number.0 p.callee.0) p.callee
+    (λ empty. absurd (never (sym holds.top.1 ∙ empty))) site.based))
+  where
+    never : Waits number ∷ holds.top.0 ≡ [] → ⊥
+    never e = cc

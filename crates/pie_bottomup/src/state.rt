@@ -7,7 +7,7 @@ ghost use Rattle.pie_bottomup.specs.inner.Many.{StopsForMany};
 ghost use Rattle.pie_bottomup.specs.inner.Ended.{StoredIf};
 ghost use Rattle.pie_bottomup.specs.inner.Tested.{HasTested};
 ghost use Rattle.pie_bottomup.specs.inner.Going.{StepsWhole};
-ghost use Rattle.pie_bottomup.specs.inner.Ran.{StepsFor};
+ghost use Rattle.pie_bottomup.specs.inner.Ran.{SettlesFor, StepsFor};
 ghost use Rattle.pie_bottomup.specs.inner.Made.{MadeExact};
 ghost use Rattle.pie_bottomup.specs.declared.state.First.TheVariants.{Tests};
 
@@ -92,6 +92,7 @@ impl<'a> Core<'a> {
         ensures many { IfOk result (StopsForMany self.old) }
         ensures whole { IfOk result (StepsWhole (F.holds files.old) self.old self.new) }
         ensures reasons { OnOk result (StepsFor (F.holds files.old) self.old self.new runs.old runs.new) }
+        ensures all { IfOk result (SettlesFor self.new) }
         ensures reads { ReadsOnly F.holds F.moment F.left_since F.images F.faults files.old files.new result }
     {
         match self.hand.take() {

@@ -1,10 +1,11 @@
 -- For which causes a build by what changed starts afresh.
-use Rattle.std.specs.Prelude.{◌≡◌, ◌⊎◌, ℕ, ◌-◌, List, [], ◌∷◌, ◌++◌, drop, take, length}
+use Rattle.std.specs.Prelude.{◌≡◌, ◌⊎◌, ℕ, ◌-◌, true, List, [], ◌∷◌, ◌++◌, drop, take, length}
 use Rattle.std.specs.List.{Contains}
 use Rattle.pie_value.specs.declared.task.Task.{Task}
 use Rattle.pie_value.specs.Canonical.{enc_task}
 use Rattle.pie_store.specs.declared.cause.Cause.{Cause}
 use Rattle.pie_store.specs.declared.cause.Cause.TheVariants as causes
+use Rattle.pie_model.specs.Paths.{among}
 use Rattle.pie_model.specs.Built.{store_rows}
 use Rattle.pie_model.specs.inner.Changes.{IsUnionEdge}
 use Rattle.pie_model_pipeline.specs.World.{world}
@@ -41,6 +42,12 @@ pub record AreTurned (names : List Task) (numbers : List ℕ) (turned : List Tas
 -- the old record of a task requires another, or its evaluation now does
 abbrev pub HasUnionEdge : Update → Task → Task → Type 0
 HasUnionEdge u t v = IsUnionEdge world (present u) (old_record u) (enc_task t) (enc_task v)
+
+-- a task is a root, or union edges lead to it from one
+pub record IsReached (u : Update) (t : Task) : Type 0 where
+  pub root : Task
+  pub listed : among (enc_task root) u.roots ≡ true
+  pub leads : (root ≡ t) ⊎ ((between : List Task) × Leads (HasUnionEdge u) root between t)
 
 -- how many tasks the earlier build left records of
 abbrev pub count_old : Update → ℕ

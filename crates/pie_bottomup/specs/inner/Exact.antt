@@ -1,5 +1,5 @@
 -- A build by what changed, as the model of building knows it, between two steps.
-use Rattle.std.specs.Prelude.{◌≡◌, ℕ, ◌≤◌, Bool, true, false, List, [], ◌∷◌, ◌++◌, map, drop, take, length, Option, None, Some, slice_get, slice_index_or}
+use Rattle.std.specs.Prelude.{◌≡◌, ◌⊎◌, ℕ, ◌≤◌, Bool, true, false, List, [], ◌∷◌, ◌++◌, map, drop, take, length, Option, None, Some, slice_get, slice_index_or}
 use Rattle.std.specs.List.{All, Contains}
 use Rattle.pie_base.specs.Path.{is_out}
 use Rattle.pie_value.specs.declared.task.Task.{Task}
@@ -18,6 +18,7 @@ use Rattle.pie_record.specs.declared.task_record.TaskRecord.{TaskRecord}
 use Rattle.pie_record.specs.Canonical.{IsTrueRecord}
 use Rattle.pie_record.specs.inner.Records.{record_of as kept_of}
 use Rattle.pie_tables.specs.declared.tables.Tables.{Tables}
+use Rattle.pie_types.specs.Whole.{number_from}
 use Rattle.pie_named.specs.declared.named.Named.{Named}
 use Rattle.pie_view.specs.Content.{Staged, content}
 use Rattle.pie_walk.specs.declared.marks.Mark.{Mark}
@@ -44,7 +45,7 @@ use Rattle.pie_core_laws.specs.Update.{Update, IsUpdate, IsInformed}
 use Rattle.pie_compare_laws.specs.Settled.{RestsOn}
 use Rattle.pie_core_laws.specs.Exact.{runs, is_busy, is_done, IsExact}
 use Rattle.pie_core_laws.specs.Beginning.{IsLoaded}
-use Rattle.pie_core_laws.specs.Comparing.{IsSearched}
+use Rattle.pie_core_laws.specs.Comparing.{IsOld, IsSearched}
 use Rattle.pie_core_laws.specs.Finishing.{IsRight}
 use Rattle.pie_core_laws.specs.Keeping.{Separates}
 use Rattle.pie_core_laws.specs.Seeing.{written_now}
@@ -95,6 +96,17 @@ pub record AreWritten (u : Update) (t : Tables) (s : WalkState) (staged : Staged
       → kept_of t.records n ≡ Some rec → content staged n path ≡ Some bytes → written_now u rec.task path ≡ Some bytes
   pub idle : (n : ℕ) → runs (mark_of s.marks n) ≡ false → (IsSettled s.marks n → ⊥) → IsUnstarted t staged n
 
+-- a record is the old one of its task, and its function kept its digest
+pub record IsUnchanged (u : Update) (same : List Bool) (n : ℕ) (rec : TaskRecord) : Type 0 where
+  pub code : IsMarked same n
+  pub old : IsOld u rec
+
+-- so it is with each task that isn't busy and didn't run, unless it is of no function of the pipeline
+abbrev pub AreUnchanged : Update → List Bool → Tables → WalkState → Type 0
+AreUnchanged u same t s =
+    (n : ℕ) (rec : TaskRecord) → is_busy s n ≡ false → slice_index_or t.ran.items n false ≡ false → kept_of t.records n ≡ Some rec
+    → IsUnchanged u same n rec ⊎ (number_from 0 u.functions rec.task ≡ None)
+
 -- ---- the rows of the tasks that run
 
 -- the row of a task begins, up to a place, with what its old record requires, and with nothing where it has none
@@ -118,6 +130,7 @@ pub record AreExact (u : Update) (named : Named) (same : List Bool) (t : Tables)
   pub tables : IsExact u t.names t.records s
   pub known : KnowsTouched u named same t s.marks
   pub written : AreWritten u t s staged
+  pub unchanged : AreUnchanged u same t s
 
 -- a build is exact, after its first step, and knows how many old tasks there are
 pub record IsExactCore (u : Update) (c : Core) : Type 0 where
@@ -140,11 +153,12 @@ pub record IsLoadedCore (u : Update) (c : Core) : Type 0 where
 
 -- ---- steps
 
--- a task ended with a right record; what it wrote first is staged if it ran, and there if it didn't
+-- a task ended with a right record; what it wrote first is staged if it ran, and there if it didn't, as one that is of no function
 pub record EndedRight (u : Update) (c : Core) (n : ℕ) (rec : TaskRecord) : Type 0 where
   pub right : IsRight u rec
   pub ran : (path : List ℕ) → IsMarked c.tables.ran.items n → content c.stage n path ≡ written_now u rec.task path
   pub rested : slice_index_or c.tables.ran.items n false ≡ false → AreThere world u.directory rec.writes × IsUnstarted c.tables c.stage n
+  pub lost : slice_index_or c.tables.ran.items n false ≡ false → number_from 0 u.functions rec.task ≡ None
 
 -- a task was taken: what it requires is settled, and it has the row of its record
 pub record IsTakenExact (u : Update) (c : Core) (n : ℕ) : Type 0 where

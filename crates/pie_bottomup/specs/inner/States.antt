@@ -20,7 +20,8 @@ use Rattle.pie_old.specs.inner.Rows.{IsRowOf}
 use Rattle.pie_walk.specs.declared.marks.Mark.TheVariants.{New}
 use Rattle.pie_walk.specs.Counts.{begins}
 use Rattle.pie_walk.specs.Marks.{mark_of, IsIdle}
-use Rattle.pie_walk.specs.States.{NeedsAreEarlier}
+use Rattle.pie_walk.specs.declared.stack.Entry.{Entry}
+use Rattle.pie_walk.specs.States.{NeedsAreEarlier, base_of}
 use Rattle.pie_running.specs.declared.frame.Told.{Told}
 use Rattle.pie_running.specs.declared.frame.Told.TheVariants.{Goes, Fails}
 use Rattle.pie_running.specs.inner.Noted.{Noted, IsSound}
@@ -70,13 +71,25 @@ pub record IsUntested (c : Core) : Type 0 where
 
 -- ---- from then on
 
--- the old records were tested, the tables and the rows of the walk are of the same tasks and agree, and the roots have canonical bytes
+-- a root has this number
+pub record IsRootAt (roots names : List Task) (n : ℕ) : Type 0 where
+  pub root : Task
+  pub listed : Contains roots root
+  pub named : slice_get names n ≡ Some root
+
+-- the walk began at a root, if it isn't over
+abbrev pub IsBased : List Task → List Task → List Entry → Type 0
+IsBased roots names stack = (n : ℕ) → base_of stack ≡ Some n → IsRootAt roots names n
+
+-- the old records were tested, the tables and the rows of the walk are of the same tasks and agree, the roots have canonical bytes, and the walk began
+-- at one of them
 pub record IsSite (c : Core) : Type 0 where
   pub tables : IsTables c.tables
   pub sized : length c.tables.names ≡ length c.frames.walk.rows
   pub roots : All IsEncodableTask c.plan.roots.items
   pub tested : c.first ≡ Done
   pub agree : Agree c.plan c.tables.names c.tables.records c.frames.walk c.frames.parked.items c.at
+  pub based : IsBased c.plan.roots.items c.tables.names c.frames.walk.stack
 
 -- these are the notes of the task in hand
 pub record IsOwn (c : Core) (no : TaskNo) (from : ℕ) (n : Noted) : Type 0 where
@@ -178,11 +191,16 @@ pub record KeepsTasks (old new : Tables) : Type 0 where
   pub recorded : (n : ℕ) → IsSome (record_of old.records n) → IsSome (record_of new.records n)
   pub ran : (n : ℕ) → IsMarked old.ran.items n → IsMarked new.ran.items n
 
--- a build stays that of its plan, with its tasks, and no more tasks may be started than before
+-- no task has run that hadn't before
+abbrev pub NoMoreRan : Tables → Tables → Type 0
+NoMoreRan old new = (n : ℕ) → IsMarked new.ran.items n → IsMarked old.ran.items n
+
+-- a build stays that of its plan, with its tasks, no more tasks may be started than before, and no more have run
 pub record Keeps (old new : Core) : Type 0 where
   pub plan : new.plan ≡ old.plan
   pub room : room new ≤ room old
   pub tasks : KeepsTasks old.tables new.tables
+  pub ran : NoMoreRan old.tables new.tables
 
 -- each task that was started takes of that
 pub record Spends (old new : Core) (runs_old runs_new : List Task) : Type 0 where

@@ -4,7 +4,7 @@ use Rattle.pie_value.specs.declared.task.Task.{Task}
 use Rattle.pie_bottomup.proofs.Sites.{site_grown, own_grown, last_named}
 use Rattle.pie_bottomup.proofs.ExactGrowing.{grown_exact, begins_still}
 use Rattle.std.proofs.Common.{refl}
-use Rattle.pie_bottomup.proofs.Keeping.{tasks_added}
+use Rattle.pie_bottomup.proofs.Keeping.{tasks_added, none_ran_more}
 use Rattle.pie_bottomup.proofs.state.Core.add.Goals as goal
 
 pub returns-clause-site : goal.returns-clause-site
@@ -49,4 +49,5 @@ returns-clause-kept c = record {
   plan = refl;
   room = c.in_ok-no.ensures.room;
   tasks = tasks_added c.args.self.now.tables c.add-2.new.self c.args.task c.in_ok-_same.ensures.added c.add-2.ensures.records c.in_ok-_same.ensures.ran;
+  ran = none_ran_more c.args.self.now.tables c.add-2.new.self c.in_ok-_same.ensures.ran;
 }

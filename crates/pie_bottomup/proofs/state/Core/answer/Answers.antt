@@ -13,7 +13,7 @@ returns-in_ok-task-in-Done-clause-turns c =
     let own = given_own c.args.self.now c.args.no c.args.parked c.in_ok-task-in-Done.task.notes c.args.parked.caller.required 0 c.requires.number c.requires.parked
     c.requires.caller refl ready.1 (c.in_ok-failed.ensures.output (ap is_done c.in-Done.is)) c.requires.settled in
     record {
-      site = record { tables = site.tables; sized = site.sized; roots = site.roots; tested = site.tested; agree = site.agree };
+      site = record { tables = site.tables; sized = site.sized; roots = site.roots; tested = site.tested; agree = site.agree; based = site.based };
       state = record {
         holds = c.requires.holds;
         ready = ready.0;

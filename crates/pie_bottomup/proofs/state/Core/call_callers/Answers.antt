@@ -12,7 +12,7 @@ returns-in_ok-schedule_callers-clause-called c =
       tables = refl;
       hand = refl;
       nearer = omega (arith, now.weight);
-      keeps = record { plan = refl; room = now.room; tasks = tasks_stay c.args.self.now.tables };
+      keeps = record { plan = refl; room = now.room; tasks = tasks_stay c.args.self.now.tables; ran = λ n is. is };
       called = λ _. now.scheduled.each;
       kept = now.scheduled.kept;
       only = now.scheduled.only;

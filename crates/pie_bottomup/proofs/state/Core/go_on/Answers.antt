@@ -3,7 +3,8 @@ use Rattle.pie_files.specs.declared.files.FilesError.{FilesError}
 use Rattle.pie_bottomup.proofs.GoingFirst.{test_whole, walk_whole}
 use Rattle.std.proofs.Common.{inl, refl}
 use Rattle.pie_bottomup.specs.inner.Ran.{StepsFor}
-use Rattle.pie_bottomup.proofs.Reasoning.{on_ok, steps_for}
+use Rattle.pie_bottomup.proofs.Keeping.{none_starts}
+use Rattle.pie_bottomup.proofs.Reasoning.{steps_for}
 use Rattle.pie_bottomup.proofs.Many.{done_many, tests_many}
 use Rattle.pie_bottomup.proofs.state.Core.go_on.Goals as goal
 
@@ -20,12 +21,12 @@ returns-in-Tests-clause-whole g c =
 pub returns-in_ok-walk_on-in-Done-clause-reasons : goal.returns-in_ok-walk_on-in-Done-clause-reasons
 returns-in_ok-walk_on-in-Done-clause-reasons g c =
     steps_for (g.F.Files.holds c.args.files.now) c.args.self.now c.walk_on.new.self c.args.runs.now c.walk_on.new.runs c.in-Done.is
-    c.in_ok-walk_on-in-Done.ensures.reasons
+    c.requires.free c.in_ok-walk_on-in-Done.ensures.reasons
 
 pub returns-in-Tests-clause-reasons : goal.returns-in-Tests-clause-reasons
 returns-in-Tests-clause-reasons g c =
-    on_ok (StepsFor (g.F.Files.holds c.args.files.now) c.args.self.now c.begin_tested.new.self c.args.runs.now c.args.runs.now) c.begin_tested.result
-    (λ u funcs digests now site stands knows. inl refl)
+    none_starts (StepsFor (g.F.Files.holds c.args.files.now) c.args.self.now c.begin_tested.new.self c.args.runs.now c.args.runs.now) c.args.self.now
+    c.begin_tested.new.self c.begin_tested.result c.begin_tested.ensures.kept (λ none u funcs digests now site stands knows. inl (refl, none))
 
 pub returns-in_ok-walk_on-in-Done-clause-many : goal.returns-in_ok-walk_on-in-Done-clause-many
 returns-in_ok-walk_on-in-Done-clause-many g c =

@@ -4,7 +4,7 @@ use Rattle.pie_walk.specs.States.{with_row, settled}
 use Rattle.pie_old.specs.inner.Rows.{paths_in}
 use Rattle.pie_frames.specs.inner.Ended.{row_from}
 use Rattle.pie_bottomup.proofs.Settling.{site_ended}
-use Rattle.pie_bottomup.proofs.Keeping.{tasks_put}
+use Rattle.pie_bottomup.proofs.Keeping.{tasks_put, none_ran_as}
 use Rattle.pie_bottomup.proofs.state.Core.settle_with.Goals as goal
 
 pub returns-clause-ended : goal.returns-clause-ended
@@ -24,6 +24,7 @@ returns-clause-ended c =
         plan = refl;
         room = now.room;
         tasks = tasks_put c.args.self.now.tables c.put.new.self c.args.no.0 c.args.rec c.put.ensures.names put.puts c.put.ensures.ran;
+        ran = none_ran_as c.args.self.now.tables c.put.new.self c.put.ensures.ran;
       };
     }
 

@@ -17,7 +17,7 @@ use Rattle.pie_running.specs.inner.Coded.{HasFunction}
 use Rattle.pie_running.specs.inner.Frames.{IsStarted}
 use Rattle.pie_compare_laws.proofs.Ways.{one_some}
 use Rattle.pie_bottomup.proofs.GoingEnds.{started_whole}
-use Rattle.pie_bottomup.proofs.Keeping.{tasks_run, run_marked}
+use Rattle.pie_bottomup.proofs.Keeping.{tasks_run, run_marked, ran_alone}
 use Rattle.pie_bottomup.proofs.state.Core.start.Goals as goal
 
 pub returns-clause-turns : goal.returns-clause-turns
@@ -58,6 +58,7 @@ returns-clause-started c = record {
   ran = run_marked c.args.self.now.tables c.runs.new.self c.args.no.0 c.runs.ensures.ran
       (omega (arith, slice_get_within c.args.self.now.tables.names c.args.no.0 c.task.result.now c.task.ensures, c.requires.site.tables.flags));
   added = c.in_ok-task.ensures.runs;
+  alone = ran_alone c.args.self.now.tables c.runs.new.self c.args.no.0 c.runs.ensures.ran;
 }
 
 pub returns-clause-whole : goal.returns-clause-whole

@@ -6,7 +6,9 @@ use Rattle.pie_bottomup.proofs.GoingEvents.{event_whole}
 use Rattle.pie_bottomup.proofs.GoingFirst.{free_whole}
 use Rattle.std.proofs.Common.{inl, refl}
 use Rattle.pie_bottomup.specs.inner.Ran.{StepsFor}
-use Rattle.pie_bottomup.proofs.Reasoning.{on_ok, free_for}
+use Rattle.pie_bottomup.proofs.Keeping.{none_starts}
+use Rattle.pie_bottomup.proofs.Reasoning.{free_for}
+use Rattle.pie_bottomup.proofs.Due.{goes_all, turns_all}
 use Rattle.pie_bottomup.proofs.Many.{hand_many}
 use Rattle.pie_bottomup.proofs.state.Core.step.Goals as goal
 
@@ -27,8 +29,9 @@ returns-in-None-clause-whole g c =
 
 pub returns-in-Some-clause-reasons : goal.returns-in-Some-clause-reasons
 returns-in-Some-clause-reasons g c =
-    on_ok (StepsFor (g.F.Files.holds c.args.files.now) c.args.self.now c.event.new.self c.args.runs.now c.args.runs.now) c.event.result
-    (λ u funcs digests now site stands knows. inl refl)
+    none_starts (StepsFor (g.F.Files.holds c.args.files.now) c.args.self.now c.event.new.self c.args.runs.now c.args.runs.now)
+    (record c.args.self.now { hand = c.take.new.self }) c.event.new.self c.event.result c.event.ensures.kept
+    (λ none u funcs digests now site stands knows. inl (refl, none))
 
 pub returns-in-None-clause-reasons : goal.returns-in-None-clause-reasons
 returns-in-None-clause-reasons g c =
@@ -40,3 +43,9 @@ returns-in-None-clause-reasons g c =
 pub returns-in-Some-clause-many : goal.returns-in-Some-clause-many
 returns-in-Some-clause-many g c =
     hand_many c.args.self.now c.in-Some.hand c.event.result c.requires (sym c.take.ensures.value ∙ c.in-Some.is)
+
+pub returns-in-Some-clause-all : goal.returns-in-Some-clause-all
+returns-in-Some-clause-all g c = goes_all c.event.new.self c.event.result c.event.ensures.turns
+
+pub returns-in-None-clause-all : goal.returns-in-None-clause-all
+returns-in-None-clause-all g c = turns_all c.go_on.new.self c.go_on.result c.go_on.ensures.turns

@@ -13,7 +13,7 @@ returns-in_ok-sweep-clause-swept c =
       };
       hand = refl;
       nearer = omega (arith, now.weight);
-      keeps = record { plan = refl; room = now.room; tasks = tasks_stay c.args.self.now.tables };
+      keeps = record { plan = refl; room = now.room; tasks = tasks_stay c.args.self.now.tables; ran = λ n is. is };
     }
 
 pub returns-in_ok-sweep-clause-told : goal.returns-in_ok-sweep-clause-told

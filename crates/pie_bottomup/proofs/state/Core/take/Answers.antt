@@ -5,7 +5,7 @@ use Rattle.pie_running.specs.inner.Coded.{IsCodeFor}
 use Rattle.pie_bottomup.proofs.GoingSteps.{known_goes}
 use Rattle.std.proofs.Common.{inl, refl}
 use Rattle.pie_bottomup.specs.inner.Ran.{TakesFor}
-use Rattle.pie_bottomup.proofs.Reasoning.{on_ok}
+use Rattle.pie_bottomup.proofs.Keeping.{none_starts}
 use Rattle.pie_bottomup.proofs.state.Core.take.Goals as goal
 
 pub lose-requires-clause-none : goal.lose-requires-clause-none
@@ -20,4 +20,5 @@ returns-in-Some-clause-whole c =
 
 pub returns-in-None-clause-reasons : goal.returns-in-None-clause-reasons
 returns-in-None-clause-reasons c =
-    on_ok (TakesFor c.args.self.now c.args.no.0 c.lose.new.self c.args.runs.now c.args.runs.now) c.lose.result (λ u funcs digests now taken knows. inl refl)
+    none_starts (TakesFor c.args.self.now c.args.no.0 c.lose.new.self c.args.runs.now c.args.runs.now) c.args.self.now c.lose.new.self c.lose.result
+    c.lose.ensures.kept (λ none u funcs digests now taken reached knows. inl (refl, none))

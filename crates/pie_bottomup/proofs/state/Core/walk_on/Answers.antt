@@ -3,7 +3,8 @@ use Rattle.pie_bottomup.proofs.Sites.{site_taken, taken_recorded, site_answered,
 use Rattle.pie_bottomup.proofs.GoingAnswers.{takes_goes, answers_goes, idles_goes}
 use Rattle.std.proofs.Common.{inl, refl}
 use Rattle.pie_bottomup.specs.inner.Ran.{WalksFor}
-use Rattle.pie_bottomup.proofs.Reasoning.{on_ok, walks_for}
+use Rattle.pie_bottomup.proofs.Keeping.{none_starts}
+use Rattle.pie_bottomup.proofs.Reasoning.{walks_for}
 use Rattle.pie_bottomup.proofs.state.Core.walk_on.Goals as goal
 
 pub take-requires-clause-site : goal.take-requires-clause-site
@@ -56,13 +57,15 @@ returns-in-Idle-clause-whole c =
 pub returns-in-Takes-clause-reasons : goal.returns-in-Takes-clause-reasons
 returns-in-Takes-clause-reasons c =
     let has : HasTaken c.args.self.now.frames c.next.new.self c.in-Takes.no = rw c.in-Takes.is at c.in_ok-no.ensures in
-    walks_for c.args.self.now c.next.new.self c.take.new.self c.in-Takes.no c.args.runs.now c.take.new.runs c.take.result c.requires.rests.rests has
-    c.take.ensures.reasons
+    walks_for c.args.self.now c.next.new.self c.take.new.self c.in-Takes.no c.args.runs.now c.take.new.runs c.take.result c.requires.rests.site c.requires.rests.rests
+    has c.take.ensures.reasons
 
 pub returns-in-Answers-clause-reasons : goal.returns-in-Answers-clause-reasons
 returns-in-Answers-clause-reasons c =
-    on_ok (WalksFor c.args.self.now c.answer.new.self c.args.runs.now c.args.runs.now) c.answer.result (λ u funcs digests now e knows. inl refl)
+    none_starts (WalksFor c.args.self.now c.answer.new.self c.args.runs.now c.args.runs.now) (record c.args.self.now { frames = c.next.new.self })
+    c.answer.new.self c.answer.result c.answer.ensures.kept (λ none u funcs digests now e resting knows. inl (refl, none))
 
 pub returns-in-Idle-clause-reasons : goal.returns-in-Idle-clause-reasons
 returns-in-Idle-clause-reasons c =
-    on_ok (WalksFor c.args.self.now c.next_root.new.self c.args.runs.now c.args.runs.now) c.next_root.result (λ u funcs digests now e knows. inl refl)
+    none_starts (WalksFor c.args.self.now c.next_root.new.self c.args.runs.now c.args.runs.now) (record c.args.self.now { frames = c.next.new.self })
+    c.next_root.new.self c.next_root.result c.next_root.ensures.kept (λ none u funcs digests now e resting knows. inl (refl, none))
