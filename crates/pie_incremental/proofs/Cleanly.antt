@@ -1,11 +1,11 @@
 -- A build of a directory by a list, as a clean build.
-use Rattle.std.proofs.Common.{◌≡◌, inl, inr, ℕ, ◌≤◌, Bool, true, false, cond, List, [], ◌∷◌, ◌++◌, length, drop, map, Option, None, Some, Result, Ok, Err, Global, refl, sym, ap, subst, ◌∙◌}
-use Rattle.std.specs.Prelude.{All, Box, IfOk, IfSome, IsSome, bytes_eq}
+use Rattle.std.proofs.Common.{◌≡◌, ◌⊎◌, inl, inr, ℕ, ◌≤◌, Bool, true, false, cond, List, [], ◌∷◌, ◌++◌, length, drop, map, Option, None, Some, Result, Ok, Err, Global, refl, sym, ap, subst, ◌∙◌}
+use Rattle.std.specs.Prelude.{All, Box, IfOk, IfSome, bytes_eq}
 use Rattle.std.specs.Option.{option_map}
 use Rattle.std.proofs.lemmas.List.{drop-append-le}
 use Rattle.std.proofs.lemmas.List.Elements.{All-weaker}
 use Rattle.sha2.specs.Sha256.{sha256}
-use Rattle.pie_bottomup.specs.inner.Causes.{HasUnionEdge as HasUnionEdgeOf, IsRing as IsRingOf, Leads as LeadsOf}
+use Rattle.pie_bottomup.specs.inner.Causes.{HasUnionEdge as HasUnionEdgeOf, IsReached as IsReachedOf, IsRing as IsRingOf, Leads as LeadsOf}
 use Rattle.pie_bottomup.specs.inner.Ran.{HasReason as HasReasonOf}
 use Rattle.pie_build.specs.Left.{Leaves}
 use Rattle.pie_core_laws.specs.Update.{Update, IsUpdate}
@@ -45,12 +45,13 @@ use Rattle.pie_incremental.specs.Causes.{HasUnionEdge, IsCauseFor, IsRing, Leads
 use Rattle.pie_incremental.specs.Clean.{BuildsClean, IsAfresh, IsAsClean, IsOther, IsStray, LeavesClean}
 use Rattle.pie_incremental.specs.Earlier.{AreSeparate, Earlier, GoesOnFrom, live_of}
 use Rattle.pie_incremental.specs.Ran.{HasReason, RanFor, digest_in, digests_by, earlier_rows, is_hash_of, kept_digests, record_in}
+use Rattle.pie_incremental.specs.Reached.{IsReached, RanExactly}
 use Rattle.pie_incremental.specs.Starts.{IsBase, IsCause, StartsFrom}
 use Rattle.pie_incremental.specs.inner.Causes.{IsCauseNow}
 use Rattle.pie_incremental.specs.inner.Clean.{BuildsCleanOf, LeavesAsClean}
 use Rattle.pie_incremental.specs.inner.Digested.{digested, with_digests}
 use Rattle.pie_incremental.specs.inner.Joined.{IsRetold, KeepsAfter}
-use Rattle.pie_incremental.specs.inner.Ran.{HaveReasons}
+use Rattle.pie_incremental.specs.inner.Ran.{AreDue}
 use Rattle.pie_incremental.specs.inner.Updated.{FromClean, IsUpdateFrom, RunsCleanOnce}
 use Rattle.pie_incremental.proofs.Meaning.{means_same}
 
@@ -177,24 +178,56 @@ module _ (e : Earlier) (list : List (List ℕ)) (d : Directory) (b : Base) (p : 
           ap (λ (t : Bool). (cond t (record b.image { funcs = p.digests.items }) b.image).funcs) (same_hash (file_at d pipeline_path) hash)
           ∙ either (is_hash_of (file_bytes d pipeline_path) hash)
 
-  ran_for : (ran : List Task) → HaveReasons update_of (digested d p.digests.items b.image).funcs p.digests.items ran → RanFor e d ran
-  ran_for ran h = record {
+  ran_for : (ran : List Task) → AreDue update_of (digested d p.digests.items b.image).funcs p.digests.items ran → RanFor e d ran
+  ran_for ran due = record {
     funcs = p.digests.items;
     roots = p.roots.items;
     found = record { functions = p.typed; says = says; names = names; digests = has };
     base = b;
     is = base;
-    once = h.once;
+    once = due.have.once;
     reasons = subst (λ kept. All (HasReason e d p.typed kept p.digests.items) ran) kept_is
         (All-weaker (HasReasonOf update_of (digested d p.digests.items b.image).funcs p.digests.items)
         (HasReason e d p.typed (digested d p.digests.items b.image).funcs p.digests.items) (λ t r. reason_of (digested d p.digests.items b.image).funcs t r) ran
-        h.reasons);
+        due.have.reasons);
   }
 
   -- a union edge in the words of the update
   edge_of : (t v : Task) → HasUnionEdgeOf update_of t v → HasUnionEdge e d p.typed t v
   edge_of t v (inl was) = inl (was.0, sym (same_record (earlier_rows e) (enc_task t)) ∙ was.1, was.2)
   edge_of t v (inr now) = inr now
+
+  -- a task that is reached from a root
+  reached_of : (t : Task) → IsReachedOf update_of t → IsReached e d p.typed p.roots.items t
+  reached_of t is = record { root = is.root; listed = is.listed; leads = by is.leads }
+    where
+      by : (is.root ≡ t) ⊎ ((between : List Task) × LeadsOf (HasUnionEdgeOf update_of) is.root between t)
+          → (is.root ≡ t) ⊎ ((between : List Task) × Leads (HasUnionEdge e d p.typed) is.root between t)
+      by (inl same) = inl same
+      by (inr l) = inr (l.0, leads_same (HasUnionEdgeOf update_of) (HasUnionEdge e d p.typed) edge_of is.root l.0 t l.1)
+
+  -- a reason, in the words of the update again
+  of_reason : (t : Task) → HasReason e d p.typed (kept_digests d p.digests.items b.image) p.digests.items t
+      → HasReasonOf update_of (digested d p.digests.items b.image).funcs p.digests.items t
+  of_reason t reason =
+      let before = store_rows world (project e.found.functions e.built) (map enc_task e.roots) in
+      let kept = (digested d p.digests.items b.image).funcs in
+      let r = subst (λ ks. HasReason e d p.typed ks p.digests.items t) (sym kept_is) reason in
+      subst (λ o. RunReason world (project p.typed d) d o (digest_under kept t.func) (digest_under p.digests.items t.func)) (sym (same_record before (enc_task t)))
+      (subst (λ o. RunReason world (project p.typed d) d (record_in before (enc_task t)) o (digest_under p.digests.items t.func)) (sym (same_digest kept t.func))
+      (subst (λ o. RunReason world (project p.typed d) d (record_in before (enc_task t)) (digest_in kept t.func) o) (sym (same_digest p.digests.items t.func)) r))
+
+  ran_exactly : (ran : List Task) → AreDue update_of (digested d p.digests.items b.image).funcs p.digests.items ran → RanExactly e d ran
+  ran_exactly ran due = record {
+    funcs = p.digests.items;
+    roots = p.roots.items;
+    found = record { functions = p.typed; says = says; names = names; digests = has };
+    base = b;
+    is = base;
+    reached = All-weaker (IsReachedOf update_of) (IsReached e d p.typed p.roots.items) reached_of ran due.have.reached;
+    all = λ t is reason. due.all t
+        (record { canonical = is.canonical; entered = is.entered; number = is.number; function = is.function }) (of_reason t reason);
+  }
 
   cause_for : (c : Cause) → IsCauseNow update_of c → IsCauseFor e d c
   cause_for causes.Interrupted is = absurd is
@@ -229,6 +262,10 @@ from_clean b p list before mid after r same says has names funcs runs = record {
         cause = λ c fresh e from.
             cause_for e list d b p from base project digests names funcs c
             ((runs.cause d (same ∙ told) c fresh).each (update_of e list d b p from base project digests names funcs)
+            (is_update e list d b p from base project digests names funcs mid (same ∙ told)));
+        exactly = λ none e from.
+            ran_exactly e list d b p from base project digests names funcs r.ran.items
+            ((runs.once d (same ∙ told) none).ran (update_of e list d b p from base project digests names funcs)
             (is_update e list d b p from base project digests names funcs mid (same ∙ told)));
       };
 }
@@ -308,6 +345,7 @@ afresh_cleans list start cause before mid after (Ok r) starts begins same is why
       ran = λ none. absurd (differs (sym why ∙ none));
       afresh = λ some. afresh;
       cause = λ c told e from. first_cause e d c (subst (IsCause d) (one c (sym why ∙ told)) (subst (StartsFrom d) starts begun));
+      exactly = λ none. absurd (differs (sym why ∙ none));
     })
     begins (subst (λ m. IfSome m (λ d. IsAfresh d r after)) same is)
   where

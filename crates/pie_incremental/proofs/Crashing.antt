@@ -46,7 +46,7 @@ use Rattle.pie_incremental.specs.Starts.{IsBase, StartsFrom}
 use Rattle.pie_incremental.specs.inner.Built.{IsKnown}
 use Rattle.pie_incremental.specs.inner.Changes.{bytes_of}
 use Rattle.pie_incremental.specs.inner.Cleaned.{IsClean, KnowsWhere, MayLeaveBy}
-use Rattle.pie_incremental.specs.Crashes.{IsBegun, IsCleanBuilt, KeepsList, MayStop}
+use Rattle.pie_incremental.specs.Crashes.{IsBegun, IsCleanBuilt, MayStop}
 use Rattle.pie_incremental.specs.inner.Crashed.{IsCleanOf, MayBuild, MayFrom, MayGo, MayLeaveOf, MayRestart, MayRun, StaysBefore}
 use Rattle.pie_incremental.specs.inner.Digested.{digested}
 use Rattle.pie_incremental.specs.inner.Evaluated.{IsResultOf, IsUpdateHere, MakesExact}

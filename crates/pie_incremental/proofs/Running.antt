@@ -1,10 +1,10 @@
 -- Which tasks an evaluation runs, and why.
-use Rattle.std.proofs.Common.{◌≡◌, ◌≢◌, inl, inr, ℕ, ◌<◌, ◌≤◌, Bool, true, false, List, [], ◌∷◌, ◌++◌, length, get_or, drop, Option, Some, Vec, Global, refl, sym, ap, subst, ◌∙◌, arith}
-use Rattle.std.specs.Prelude.{slice_get, slice_index_or}
+use Rattle.std.proofs.Common.{◌≡◌, ◌≢◌, ◌⊎◌, inl, inr, ℕ, ◌<◌, ◌≤◌, Bool, false, List, [], ◌∷◌, ◌++◌, length, get_or, drop, Option, Some, Vec, Global, refl, sym, ap, subst, ◌∙◌, arith}
+use Rattle.std.specs.Prelude.{slice_get, slice_index_or, Contains}
 use Rattle.std.proofs.lemmas.Bool.{false≢true}
 use Rattle.std.proofs.Math.Seq.{drop-append_seam}
 use Rattle.std.proofs.lemmas.List.{append_assoc}
-use Rattle.std.proofs.lemmas.List.Elements.{All-push, All-weaker}
+use Rattle.std.proofs.lemmas.List.Elements.{All-push, All-weaker, Contains-append_left, Contains-push}
 use Rattle.std.proofs.lemmas.List.Quantifiers.{all_pairs_push}
 use Rattle.std.proofs.lemmas.Option.{slice_get-get_or, slice_get_within}
 use Rattle.pie_bottomup.specs.declared.plan.Plan.{Plan}
@@ -16,7 +16,8 @@ use Rattle.pie_bottomup.specs.declared.state.Turn.TheVariants.{Went, Settled, St
 use Rattle.pie_bottomup.specs.inner.Exact.{IsSiteNow}
 use Rattle.pie_bottomup.specs.inner.Going.{IsBuildNow, IsWhole, StandsWhole, StepsWhole, TurnIsWhole}
 use Rattle.pie_bottomup.specs.inner.Loaded.{IsStoredIn}
-use Rattle.pie_bottomup.specs.inner.Ran.{BeginsKnowing, HasReason, IsKnownAs, KnowsCode, RunsFor, StartsFor, StepsFor}
+use Rattle.pie_bottomup.specs.inner.Causes.{IsReached}
+use Rattle.pie_bottomup.specs.inner.Ran.{BeginsKnowing, HasReason, IsEntered, IsKnownAs, KnowsCode, RunsFor, RunsNone, SettlesFor, StartsFor, StepsFor}
 use Rattle.pie_bottomup.specs.inner.States.{KeepsTasks}
 use Rattle.pie_builder_laws.specs.Events.{AreCompiled}
 use Rattle.pie_builder_laws.specs.Names.{AreTasks}
@@ -34,7 +35,7 @@ use Rattle.pie_store.specs.declared.image.StoreImage.{StoreImage}
 use Rattle.pie_tables.specs.declared.tables.Tables.{Tables}
 use Rattle.pie_value.specs.declared.task.Task.{Task}
 use Rattle.pie_incremental.specs.inner.Evaluated.{BeginsNow, IsUpdateHere, StaysStanding}
-use Rattle.pie_incremental.specs.inner.Ran.{HasRun, HaveReasons, HaveRun, Knows, RunsEach, RunsOn, RunsWhole, StaysMany}
+use Rattle.pie_incremental.specs.inner.Ran.{AreDue, HasRun, HaveReasons, HaveRun, IsOneOf, Knows, NoneRan, RunsEach, RunsOn, RunsWhole, StaysMany}
 
 -- ---- more tasks
 
@@ -79,13 +80,29 @@ run_still : (a b : Tables) → KeepsTasks a b → (task : Task) → HasRun a tas
 run_still a b k task r = record { number = r.number; named = k.names r.number task r.named; marked = k.ran r.number r.marked }
 
 none_ran : (u : Update) (funcs digests : List (List ℕ × List ℕ)) → HaveReasons u funcs digests []
-none_ran u funcs digests = record { once = λ i j d lt within. absurd (omega (arith, within)); reasons = λ i d within. absurd (omega (arith, within)) }
+none_ran u funcs digests = record {
+  once = λ i j d lt within. absurd (omega (arith, within));
+  reasons = λ i d within. absurd (omega (arith, within));
+  reached = λ i d within. absurd (omega (arith, within));
+}
 
-module _ (u : Update) (funcs digests : List (List ℕ × List ℕ)) (a b : Tables) (k : KeepsTasks a b) (tasks : AreTasks b.names) (before mid after : List Task)
-    (h : HaveRun u funcs digests a before mid) where
+module _ (u : Update) (funcs digests : List (List ℕ × List ℕ)) (first a b : Tables) (k : KeepsTasks a b) (tasks : AreTasks b.names)
+    (before mid after : List Task) (h : HaveRun u funcs digests first a before mid) where
+  -- one of those that ran is one of more, by its number still
+  one_still : (more : List Task) → ((t : Task) → Contains h.gained t → Contains more t) → (n : ℕ)
+      → IsMarked first.ran.items n ⊎ IsOneOf a h.gained n → IsMarked first.ran.items n ⊎ IsOneOf b more n
+  one_still more into n (inl was) = inl was
+  one_still more into n (inr one) = inr (record { task = one.task; listed = into one.task one.listed; named = k.names n one.task one.named })
+
   -- none more
-  same_run : after ≡ mid → HaveRun u funcs digests b before after
-  same_run same = record { gained = h.gained; is = same ∙ h.is; ran = h.ran; marked = All-weaker (HasRun a) (HasRun b) (run_still a b k) h.gained h.marked }
+  same_run : RunsNone a b mid after → HaveRun u funcs digests first b before after
+  same_run none = record {
+    gained = h.gained;
+    is = none.0 ∙ h.is;
+    ran = h.ran;
+    marked = All-weaker (HasRun a) (HasRun b) (run_still a b k) h.gained h.marked;
+    only = λ n is. one_still h.gained (λ t i. i) n (h.only n (none.1 n is));
+  }
 
   -- a task that starts hadn't run
   other : (s : StartsFor u funcs digests a b mid after) (task : Task) → HasRun a task → task ≢ s.task
@@ -95,27 +112,49 @@ module _ (u : Update) (funcs digests : List (List ℕ × List ℕ)) (a b : Table
       let one : r.number ≡ s.number = one_place b.names tasks r.number s.number task here there in
       false≢true (sym s.rested ∙ subst (IsMarked a.ran.items) one r.marked)
 
-  one_run : StartsFor u funcs digests a b mid after → HaveRun u funcs digests b before after
+  only_one : (s : StartsFor u funcs digests a b mid after) (n : ℕ) → IsMarked b.ran.items n
+      → IsMarked first.ran.items n ⊎ IsOneOf b (h.gained ++ s.task ∷ []) n
+  only_one s n is = by (s.alone n is)
+    where
+      by : IsMarked a.ran.items n ⊎ (n ≡ s.number) → IsMarked first.ran.items n ⊎ IsOneOf b (h.gained ++ s.task ∷ []) n
+      by (inl was) = one_still (h.gained ++ s.task ∷ []) (λ t i. Contains-append_left h.gained (s.task ∷ []) t i) n (h.only n was)
+      by (inr e) = inr (record {
+        task = s.task;
+        listed = Contains-push h.gained s.task;
+        named = k.names n s.task (ap (slice_get a.names) e ∙ s.named);
+      })
+
+  one_run : StartsFor u funcs digests a b mid after → HaveRun u funcs digests first b before after
   one_run s = record {
     gained = h.gained ++ s.task ∷ [];
     is = s.added ∙ ap (λ (ts : List Task). ts ++ s.task ∷ []) h.is ∙ append_assoc before h.gained (s.task ∷ []);
     ran = record {
       once = all_pairs_push (λ (t v : Task). t ≢ v) h.gained s.task h.ran.once (λ i d within. other s (get_or h.gained i d) (h.marked i d within));
       reasons = All-push (HasReason u funcs digests) h.gained s.task h.ran.reasons s.reason;
+      reached = All-push (IsReached u) h.gained s.task h.ran.reached s.reached;
     };
     marked = All-push (HasRun b) h.gained s.task (All-weaker (HasRun a) (HasRun b) (run_still a b k) h.gained h.marked)
         (record { number = s.number; named = k.names s.number s.task s.named; marked = s.ran });
+    only = only_one s;
   }
 
-  more_run : RunsFor u funcs digests a b mid after → HaveRun u funcs digests b before after
-  more_run (inl same) = same_run same
+  more_run : RunsFor u funcs digests a b mid after → HaveRun u funcs digests first b before after
+  more_run (inl none) = same_run none
   more_run (inr s) = one_run s
 
 -- ---- steps
 
 pub runs_first : (held : Option Directory) (c : Core) (runs : List Task) → RunsOn held c c runs runs
-runs_first held c runs u funcs digests site now stands knows =
-    (knows, record { gained = []; is = none_more runs; ran = none_ran u funcs digests; marked = λ i d within. absurd (omega (arith, within)) })
+runs_first held c runs u funcs digests site now stands knows = (
+  knows,
+  record {
+    gained = [];
+    is = none_more runs;
+    ran = none_ran u funcs digests;
+    marked = λ i d within. absurd (omega (arith, within));
+    only = λ n is. inl is;
+  },
+)
   where
     none_more : (ts : List Task) → ts ≡ ts ++ []
     none_more [] = refl
@@ -132,7 +171,7 @@ module _ (held mid : Option Directory) (a b c : Core) (turn : Turn) (r s t : Lis
     turned : TurnIsWhole u c turn
     turned = subst (λ m. StepsWhole m b c turn) same whole u at site (stands u site now begins)
 
-    so_far : Knows u funcs digests b × HaveRun u funcs digests b.tables r s
+    so_far : Knows u funcs digests b × HaveRun u funcs digests a.tables b.tables r s
     so_far = before u funcs digests site now begins knows
 
     runs : RunsFor u funcs digests b.tables c.tables s t
@@ -142,8 +181,21 @@ module _ (held mid : Option Directory) (a b c : Core) (turn : Turn) (r s t : Lis
     knows_on = subst (λ (p : Plan). KnowsCode u funcs digests p.same.items c.tables) (sym then)
         (still_known u funcs digests b.plan.same.items b.tables c.tables tasks so_far.0)
 
-    ran_on : IsWhole u c → Knows u funcs digests c × HaveRun u funcs digests c.tables r t
-    ran_on w = (knows_on, more_run u funcs digests b.tables c.tables tasks w.exact.are.tables.tasks r s t so_far.1 runs)
+    ran_on : IsWhole u c → Knows u funcs digests c × HaveRun u funcs digests a.tables c.tables r t
+    ran_on w = (knows_on, more_run u funcs digests a.tables b.tables c.tables tasks w.exact.are.tables.tasks r s t so_far.1 runs)
+
+    -- once the roots are settled, each task with a reason that a clean build enters is among those that ran
+    due : turn ≡ Settled → SettlesFor c turn → NoneRan a → (h : HaveRun u funcs digests a.tables c.tables r t) → (task : Task) → IsEntered u task
+        → HasReason u funcs digests task → Contains h.gained task
+    due settled all none h task entered reason =
+        let at : IsBuildNow u c.plan = subst (λ (p : Plan). IsBuildNow u p) (sym (then ∙ first)) now in
+        let whole : IsWhole u c = subst (TurnIsWhole u c) settled turned in
+        let run = subst (SettlesFor c) settled all u funcs digests at whole.exact knows_on task entered reason in
+        by run.number run.named (h.only run.number run.ran)
+      where
+        by : (n : ℕ) → slice_get c.tables.names n ≡ Some task → IsMarked a.tables.ran.items n ⊎ IsOneOf c.tables h.gained n → Contains h.gained task
+        by n named (inl was) = absurd (false≢true (sym (none n) ∙ was))
+        by n named (inr one) = subst (Contains h.gained) (let both : Some one.task ≡ Some task = sym one.named ∙ named in cc) one.listed
 
   pub runs_on : turn ≡ Went → RunsOn held a c r t
   runs_on went u funcs digests site now begins knows =
@@ -155,11 +207,15 @@ module _ (held mid : Option Directory) (a b c : Core) (turn : Turn) (r s t : Lis
 
   -- of a core that isn't of too many old tasks, once the roots are settled
   pub settles_runs : turn ≡ Settled → StaysMany a b → ((task : Task) → b.first ≡ TooMany task → turn ≡ StartAfresh (UnionMany 50000 0 task))
-      → RunsWhole held a r t
-  settles_runs settled stays many = record {
+      → SettlesFor c turn → RunsWhole held a r t
+  settles_runs settled stays many all = record {
     few = λ task is. absurd (never (sym settled ∙ many task (stays task is)));
-    each = λ u funcs digests site now begins knows.
-        let h = (runs_end settled u funcs digests site now begins knows).1 in record { gained = h.gained; is = h.is; ran = h.ran };
+    each = λ u funcs digests site now begins knows none.
+        let h = (runs_end settled u funcs digests site now begins knows).1 in record {
+          gained = h.gained;
+          is = h.is;
+          ran = record { have = h.ran; all = due u funcs digests site now begins knows settled all none h };
+        };
   }
     where
       never : {cause : Cause} → Settled ≡ StartAfresh cause → ⊥
@@ -187,6 +243,10 @@ begins_by c fresh few = by c.first refl
     by (TooMany task) is = absurd (few task is)
     by Done is = absurd (fresh is)
 
+none_yet : (u : Update) (c : Core) → (c.first ≡ Done → ⊥) → c.first ≡ Tests → StandsWhole u c → NoneRan c
+none_yet u c fresh tests (inl begins) n = ((begins.1 tests).unstarted n).rested
+none_yet u c fresh tests (inr whole) n = absurd (fresh whole.exact.tested)
+
 pub runs_each : (held : Option Directory) (fs : List FunctionTree) (codes : List Code) (digests : List (List ℕ × List ℕ)) (roots : List Task) (s : StoreImage)
     (names : List (List ℕ)) (c : Core) (before after : List Task) → AreCompiled fs codes → BeginsNow fs codes roots s.funcs digests s.rows names c
     → (c.first ≡ Done → ⊥) → BeginsKnowing s.funcs digests s.rows names c → RunsWhole held c before after
@@ -195,16 +255,17 @@ runs_each held fs codes digests roots s names c before after compiled begins fre
   each = λ u here stored.
       let begun = begins.each u held here compiled stored in
       let site : IsSiteNow u held = record { holds = here.holds; apart = here.separates; besides = here.met } in
-      runs.each u s.funcs digests site begun.0 begun.1 (knows u stored (begins_by c fresh runs.few));
+      let tests = begins_by c fresh runs.few in
+      runs.each u s.funcs digests site begun.0 begun.1 (knows u stored tests) (none_yet u c fresh tests begun.1);
 }
 
 -- what a report tells of them
 pub told_reasons : (held : Option Directory) (fs : List FunctionTree) (digests : List (List ℕ × List ℕ)) (roots : List Task) (s : StoreImage)
     (names : List (List ℕ)) (n : ℕ) (old new : List Task) (ran : Vec Task Global) (r : Report) → n ≡ length old
     → RunsEach held fs digests roots s names old new → ran.items ≡ drop n new → r.ran ≡ ran
-    → (u : Update) → IsUpdateHere u held fs roots → IsStoredIn u s.funcs digests s.rows names → HaveReasons u s.funcs digests r.ran.items
+    → (u : Update) → IsUpdateHere u held fs roots → IsStoredIn u s.funcs digests s.rows names → AreDue u s.funcs digests r.ran.items
 told_reasons held fs digests roots s names n old new ran r is runs behind same u here stored =
     let h = runs.each u here stored in
     let gained : drop n new ≡ h.gained = ap (λ k. drop k new) is ∙ ap (drop (length old)) h.is ∙ drop-append_seam old h.gained in
     let these : r.ran.items ≡ h.gained = ap (λ (v : Vec Task Global). v.items) same ∙ behind ∙ gained in
-    subst (HaveReasons u s.funcs digests) (sym these) h.ran
+    subst (AreDue u s.funcs digests) (sym these) h.ran

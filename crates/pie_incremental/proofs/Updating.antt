@@ -38,7 +38,7 @@ use Rattle.pie_incremental.specs.inner.Cleaned.{KnowsWhere, LeavesBy}
 use Rattle.pie_incremental.specs.inner.Digested.{digested, with_digests}
 use Rattle.pie_incremental.specs.inner.Evaluated.{IsResultOf, IsUpdateHere, MakesExact, StopsWhere}
 use Rattle.pie_incremental.specs.inner.Joined.{IsAsBefore, IsEndingOf}
-use Rattle.pie_incremental.specs.inner.Ran.{HaveReasons}
+use Rattle.pie_incremental.specs.inner.Ran.{AreDue}
 use Rattle.pie_incremental.specs.inner.Updated.{GoesClean, GoesOn, IsUpdateFrom, RunsClean, RunsCleanOnce, RunsOrStops, StopsFrom}
 
 -- ---- the end
@@ -71,7 +71,7 @@ pub goes_clean : (s : StoreImage) (e : Ending) (p : Project) (before mid after :
     → MakesExact before p.typed p.digests.items p.roots.items s e.names.items b
     → IfSome mid (λ d. LeavesBy b.verdict e.own e.held p.digests.items p.roots.items b d r after) → r.verdict ≡ b.verdict → r.fresh ≡ None
     → ((u : Update) → IsUpdateHere u before p.typed p.roots.items → IsStoredIn u s.funcs p.digests.items s.rows e.names.items
-    → HaveReasons u s.funcs p.digests.items r.ran.items) → GoesClean s e p before after r
+    → AreDue u s.funcs p.digests.items r.ran.items) → GoesClean s e p before after r
 goes_clean s e p before mid after b r same makes leaves is none ran = record {
   none = none;
   each = λ u here stored known. builds_clean s e p before mid after b r same makes leaves is u here stored known;
@@ -125,7 +125,7 @@ runs_clean b e p list s before mid after r same ending knows image goes = record
       goes.each u (subst (λ m. IsUpdateHere u m p.typed p.roots.items) (sym same) from.here)
       (begun_stored b e p list s before u ending knows image from) (begun_known b e p list s before u ending knows image from);
   ran = λ u from.
-      subst (λ (x : StoreImage). HaveReasons u x.funcs p.digests.items r.ran.items) (is_digested b e p list s before u ending knows image from)
+      subst (λ (x : StoreImage). AreDue u x.funcs p.digests.items r.ran.items) (is_digested b e p list s before u ending knows image from)
       (goes.ran u (subst (λ m. IsUpdateHere u m p.typed p.roots.items) (sym same) from.here) (begun_stored b e p list s before u ending knows image from));
 }
 

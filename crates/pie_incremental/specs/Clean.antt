@@ -23,6 +23,7 @@ use Rattle.pie_incremental.specs.Causes.{IsCauseFor}
 use Rattle.pie_incremental.specs.Earlier.{live_of, Earlier, GoesOnFrom}
 use Rattle.pie_incremental.specs.Own.{bytes_at}
 use Rattle.pie_incremental.specs.Ran.{RanFor}
+use Rattle.pie_incremental.specs.Reached.{RanExactly}
 
 -- a path where live tasks provide bytes that the directory hasn't there
 pub record IsOther (live : List Node) (d : Directory) (path : List ℕ) : Type 0 where
@@ -72,10 +73,11 @@ pub record IsAfresh (d : Directory) (r : Report) (after : Option Directory) : Ty
   pub after_is : r.verdict ≡ Accepted → after ≡ left
 
 -- what a build with this list came to: a report that tells no cause to start afresh is as that of a clean build, where the directory goes on from an earlier
--- one, and tells no task twice that ran, and each that had a reason to; a report that tells one is of a clean build, whatever was there, and where the
--- directory goes on from an earlier one, the cause holds
+-- one, and tells no task twice that ran, and each that had a reason to: those alone that are reached from a root, and all that a clean build enters; a report
+-- that tells one is of a clean build, whatever was there, and where the directory goes on from an earlier one, the cause holds
 pub record BuildsClean (list : List (List ℕ)) (d : Directory) (r : Report) (after : Option Directory) : Type 0 where
   pub goes_on : r.fresh ≡ None → (e : Earlier) → GoesOnFrom e list d → IsAsClean d r after
   pub ran : r.fresh ≡ None → (e : Earlier) → GoesOnFrom e list d → RanFor e d r.ran.items
   pub afresh : IsSome r.fresh → IsAfresh d r after
   pub cause : (c : Cause) → r.fresh ≡ Some c → (e : Earlier) → GoesOnFrom e list d → IsCauseFor e d c
+  pub exactly : r.fresh ≡ None → (e : Earlier) → GoesOnFrom e list d → RanExactly e d r.ran.items

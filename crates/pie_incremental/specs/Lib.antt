@@ -8,6 +8,7 @@ pub mod Runs
 pub mod Earlier
 pub mod Ran
 pub mod Causes
+pub mod Reached
 pub mod Clean
 pub mod Refused
 pub mod inner

@@ -8,7 +8,7 @@ use Rattle.pie_files.specs.Directory.{Directory, without_file}
 use Rattle.pie_files.specs.Reading.{LeavesAsBefore}
 use Rattle.pie_model.specs.Built.{store_rows}
 use Rattle.pie_model_pipeline.specs.Rows.{record_of}
-use Rattle.pie_model_pipeline.specs.World.{world, project}
+use Rattle.pie_model_pipeline.specs.World.{world}
 use Rattle.pie_project.specs.declared.project.Project.{Project}
 use Rattle.pie_record.specs.declared.task_record.TaskRecord.{TaskRecord}
 use Rattle.pie_store.specs.declared.image.StoreImage.{StoreImage}

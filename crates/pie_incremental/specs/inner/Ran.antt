@@ -1,12 +1,13 @@
 -- Which tasks an evaluation runs, and why.
-use Rattle.std.specs.Prelude.{◌≡◌, ◌≢◌, ℕ, List, ◌++◌, All, Option, Some, None, slice_get}
+use Rattle.std.specs.Prelude.{◌≡◌, ◌≢◌, ◌⊎◌, ℕ, false, List, ◌++◌, All, Option, Some, None, slice_get, slice_index_or, Contains}
 use Rattle.std.specs.List.{AllPairs}
 use Rattle.pie_bottomup.specs.declared.state.Core.{Core}
 use Rattle.pie_bottomup.specs.declared.state.First.TheVariants.{TooMany}
+use Rattle.pie_bottomup.specs.inner.Causes.{IsReached}
 use Rattle.pie_bottomup.specs.inner.Exact.{IsSiteNow}
 use Rattle.pie_bottomup.specs.inner.Going.{IsBuildNow, StandsWhole}
 use Rattle.pie_bottomup.specs.inner.Loaded.{IsStoredIn}
-use Rattle.pie_bottomup.specs.inner.Ran.{HasReason, KnowsCode}
+use Rattle.pie_bottomup.specs.inner.Ran.{HasReason, IsEntered, KnowsCode}
 use Rattle.pie_core_laws.specs.Update.{Update}
 use Rattle.pie_files.specs.Directory.{Directory}
 use Rattle.pie_graph.specs.Numbers.{IsMarked}
@@ -19,10 +20,17 @@ use Rattle.pie_incremental.specs.declared.evaluate.Ended.{Ended}
 use Rattle.pie_incremental.specs.declared.evaluate.Ended.TheVariants.{Built, Afresh}
 use Rattle.pie_incremental.specs.inner.Evaluated.{IsUpdateHere}
 
--- no task stands twice among those that ran in a build of an update, and each has a reason to run, by the digests that the store kept and those of now
+-- no task stands twice among those that ran in a build of an update, each has a reason to run, by the digests that the store kept and those of now, and
+-- is reached from a root
 pub record HaveReasons (u : Update) (funcs digests : List (List ℕ × List ℕ)) (ran : List Task) : Type 0 where
   pub once : AllPairs (λ t v. t ≢ v) ran
   pub reasons : All (HasReason u funcs digests) ran
+  pub reached : All (IsReached u) ran
+
+-- and none is missing that has one and that a clean build enters
+pub record AreDue (u : Update) (funcs digests : List (List ℕ × List ℕ)) (ran : List Task) : Type 0 where
+  pub have : HaveReasons u funcs digests ran
+  pub all : (t : Task) → IsEntered u t → HasReason u funcs digests t → Contains ran t
 
 -- ---- between two steps
 
@@ -32,12 +40,19 @@ pub record HasRun (t : Tables) (task : Task) : Type 0 where
   pub named : slice_get t.names number ≡ Some task
   pub marked : IsMarked t.ran.items number
 
--- the tasks that were started have run in these tables, each once and for a reason
-pub record HaveRun (u : Update) (funcs digests : List (List ℕ × List ℕ)) (t : Tables) (before after : List Task) : Type 0 where
+-- the task with a number is one of these
+pub record IsOneOf (t : Tables) (tasks : List Task) (n : ℕ) : Type 0 where
+  pub task : Task
+  pub listed : Contains tasks task
+  pub named : slice_get t.names n ≡ Some task
+
+-- the tasks that were started have run in these tables, each once and for a reason, and no others that hadn't at first
+pub record HaveRun (u : Update) (funcs digests : List (List ℕ × List ℕ)) (first t : Tables) (before after : List Task) : Type 0 where
   pub gained : List Task
   pub is : after ≡ before ++ gained
   pub ran : HaveReasons u funcs digests gained
   pub marked : All (HasRun t) gained
+  pub only : (n : ℕ) → IsMarked t.ran.items n → IsMarked first.ran.items n ⊎ IsOneOf t gained n
 
 -- a core knows of each old task whether its code is as it was
 abbrev pub Knows : Update → List (List ℕ × List ℕ) → List (List ℕ × List ℕ) → Core → Type 0
@@ -46,7 +61,7 @@ Knows u funcs digests c = KnowsCode u funcs digests c.plan.same.items c.tables
 -- over files that hold the directory of an update, a core that knew that knows it still, and so it is with the tasks that were started
 abbrev pub RunsOn : Option Directory → Core → Core → List Task → List Task → Type 0
 RunsOn held old new before after = (u : Update) (funcs digests : List (List ℕ × List ℕ)) → IsSiteNow u held → IsBuildNow u old.plan → StandsWhole u old
-    → Knows u funcs digests old → Knows u funcs digests new × HaveRun u funcs digests new.tables before after
+    → Knows u funcs digests old → Knows u funcs digests new × HaveRun u funcs digests old.tables new.tables before after
 
 -- where there were too many old tasks, there are still
 abbrev pub StaysMany : Core → Core → Type 0
@@ -54,17 +69,21 @@ StaysMany old new = (task : Task) → old.first ≡ TooMany task → new.first �
 
 -- ---- once the roots are settled
 
--- the tasks that were started ran each once and for a reason, where the old ones are known
+-- the tasks that were started ran each once and for a reason, and none is missing, where the old ones are known
 pub record HaveStarted (u : Update) (funcs digests : List (List ℕ × List ℕ)) (before after : List Task) : Type 0 where
   pub gained : List Task
   pub is : after ≡ before ++ gained
-  pub ran : HaveReasons u funcs digests gained
+  pub ran : AreDue u funcs digests gained
+
+-- no task has run
+abbrev pub NoneRan : Core → Type 0
+NoneRan c = (n : ℕ) → slice_index_or c.tables.ran.items n false ≡ false
 
 -- so it is over files that hold the directory of an update; there weren't too many old tasks
 pub record RunsWhole (held : Option Directory) (c : Core) (before after : List Task) : Type 0 where
   pub few : (task : Task) → c.first ≡ TooMany task → ⊥
   pub each : (u : Update) (funcs digests : List (List ℕ × List ℕ)) → IsSiteNow u held → IsBuildNow u c.plan → StandsWhole u c → Knows u funcs digests c
-      → HaveStarted u funcs digests before after
+      → NoneRan c → HaveStarted u funcs digests before after
 
 abbrev pub SettlesRuns : Option Directory → Core → List Task → List Task → Option Cause → Type 0
 SettlesRuns held c before after None = RunsWhole held c before after

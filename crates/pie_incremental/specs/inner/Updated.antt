@@ -19,7 +19,7 @@ use Rattle.pie_incremental.specs.inner.Causes.{IsCauseNow}
 use Rattle.pie_incremental.specs.inner.Clean.{BuildsCleanOf}
 use Rattle.pie_incremental.specs.inner.Digested.{digested}
 use Rattle.pie_incremental.specs.inner.Evaluated.{IsUpdateHere, StopsWhere}
-use Rattle.pie_incremental.specs.inner.Ran.{HaveReasons}
+use Rattle.pie_incremental.specs.inner.Ran.{AreDue}
 
 -- a build from this store, with what its end needs, tells no cause to start afresh, and is that of each update to this project of which that is known; the
 -- tasks that it tells ran once and for a reason
@@ -28,7 +28,7 @@ pub record GoesClean (s : StoreImage) (e : Ending) (p : Project) (before after :
   pub each : (u : Update) → IsUpdateHere u before p.typed p.roots.items → IsStoredIn u s.funcs p.digests.items s.rows e.names.items
       → IsKnown e.own e.held u.directory → BuildsCleanOf u p.digests.items p.roots.items r after
   pub ran : (u : Update) → IsUpdateHere u before p.typed p.roots.items → IsStoredIn u s.funcs p.digests.items s.rows e.names.items
-      → HaveReasons u s.funcs p.digests.items r.ran.items
+      → AreDue u s.funcs p.digests.items r.ran.items
 
 -- so it is unless it has to start afresh, for a cause that is so
 abbrev pub GoesOn : StoreImage → Ending → Project → Option Directory → Option Directory → Done → Type 0
@@ -45,7 +45,7 @@ pub record IsUpdateFrom (u : Update) (held : Option Directory) (b : Base) (p : P
 pub record RunsClean (b : Base) (p : Project) (list : List (List ℕ)) (before after : Option Directory) (r : Report) : Type 0 where
   pub none : r.fresh ≡ None
   pub each : (u : Update) → IsUpdateFrom u before b p list → BuildsCleanOf u p.digests.items p.roots.items r after
-  pub ran : (u : Update) → IsUpdateFrom u before b p list → HaveReasons u (digested u.directory p.digests.items b.image).funcs p.digests.items r.ran.items
+  pub ran : (u : Update) → IsUpdateFrom u before b p list → AreDue u (digested u.directory p.digests.items b.image).funcs p.digests.items r.ran.items
 
 -- of each such update, a cause to start afresh is so
 pub record StopsFrom (b : Base) (p : Project) (list : List (List ℕ)) (before : Option Directory) (cause : Cause) : Type 0 where

@@ -38,7 +38,7 @@ returns-in-Settled-clause-ran g c =
     let i = c.steps.invariant in
     let s = c.in_ok-step.ensures in
     settles_runs (g.F.Files.holds c.args.files.now) (g.F.Files.holds c.steps.files) c.args.core.now c.steps.core c.step.new.self c.in_ok-step.field-0
-    c.args.runs.now c.steps.runs c.step.new.runs i.3 i.2.plan s.spends.plan s.spends.tasks i.5 i.7 s.whole s.reasons c.in-Settled.is i.8 s.many
+    c.args.runs.now c.steps.runs c.step.new.runs i.3 i.2.plan s.spends.plan s.spends.tasks i.5 i.7 s.whole s.reasons c.in-Settled.is i.8 s.many s.all
 
 pub returns-in_err-step-clause-started : goal.returns-in_err-step-clause-started
 returns-in_err-step-clause-started g c =
