@@ -1,0 +1,15 @@
+pub mod Beside
+pub mod Passing
+pub mod Along
+pub mod Tabling
+pub mod Checking
+pub mod Building
+pub mod Sinking
+pub mod Deciding
+pub mod Stacking
+pub mod Exactness
+pub mod Comparing
+pub mod Changing
+pub mod Sourcing
+pub mod Acting
+pub mod Remaining

@@ -1,0 +1,10 @@
+pub mod Beside
+pub mod Tables
+pub mod Checks
+pub mod CheckLaws
+pub mod Stacks
+pub mod Ends
+pub mod Ledgers
+pub mod Places
+pub mod Running
+pub mod Whole
