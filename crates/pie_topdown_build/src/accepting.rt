@@ -1,13 +1,18 @@
 //! An accepted build put into place.
-ghost use Rattle.std.specs.Prelude.{◌≡◌, true, IfOk};
+ghost use Rattle.std.specs.Prelude.{◌≡◌, true, None, is_some, IfOk, IfSome, OnOk};
 ghost use Rattle.pie_build.specs.Left.{KeepsRest};
 ghost use Rattle.pie_build.specs.Stored.{MayStand};
 ghost use Rattle.pie_commit.specs.inner.Plans.{is_sound};
 ghost use Rattle.pie_files.specs.Reading.{ReadsOnly};
 ghost use Rattle.pie_files.specs.Streams.{Counted};
+ghost use Rattle.pie_incremental.specs.Own.{IsClosed};
+ghost use Rattle.pie_incremental.specs.inner.Cleaned.{HasParts, IsPlanFor, TellsPlan};
 ghost use Rattle.pie_incremental.specs.inner.Joined.{ChangesOut, IsDrafted};
+ghost use Rattle.pie_incremental.specs.inner.Plans.{HasChanged};
 ghost use Rattle.pie_results.specs.inner.Files.{InPathOrder};
+ghost use Rattle.pie_store.specs.Texts.{IsStoreText};
 ghost use Rattle.pie_value.specs.declared.verdict.Verdict.TheVariants as verdicts;
+ghost use Rattle.pie_topdown_build.specs.inner.Cleaned.{HoldsBy, IsOwnOf, LeavesWhere, PutsWhere};
 
 use crate::held::{held_beside, held_under_out, is_pending};
 use pie_base::{OutOfMemory, Path, Text};
@@ -48,7 +53,9 @@ pub(crate) fn accept<F: Files>(
     requires rows { MayStand project.now.digests.items project.now.roots.items made.rows.items }
     requires contents { InPathOrder made.contents.items }
     ensures rest { KeepsRest (F.holds files.old) (F.holds files.new) }
+    ensures left { IfSome (F.holds files.old) (λ d. IfOk result (λ r. LeavesWhere store project.now.digests.items project.now.roots.items made.rows.items made.contents.items made.outputs.items d r.value (F.holds files.new))) }
     ensures verdict { IfOk result (λ r. r.value.verdict ≡ verdicts.Accepted) }
+    ensures fresh { IfOk result (λ r. r.value.fresh ≡ None) }
     ensures ran { IfOk result (λ r. r.value.ran ≡ ran) }
     ensures counted { Counted F.faults FilesError.Failed files.old files.new result }
 {
@@ -65,6 +72,7 @@ fn held_now<F: Files>(
     store: &Option<Vec<u8>>,
     contents: &[(Path, Vec<u8>)],
 ) -> Result<Held, FilesError>
+    ensures held { IfSome (F.holds files.old) (λ d. IfOk result (λ held. HoldsBy store.now held d)) }
     ensures reads { ReadsOnly F.holds F.moment F.left_since F.images F.faults files.old files.new result }
 {
     match store {
@@ -80,12 +88,24 @@ fn own_files<F: Files>(
     files: &mut F,
     store: Option<Vec<u8>>,
 ) -> Result<OwnFiles, FilesError>
+    ensures own { IfSome (F.holds files.old) (λ d. IfOk result (IsOwnOf store d)) }
     ensures reads { ReadsOnly F.holds F.moment F.left_since F.images F.faults files.old files.new result }
 {
-    let store = store.unwrap_or(Vec::new(alloc));
     let pending = is_pending(alloc, files)?;
+    Ok(own_with(alloc, store, pending))
+}
+
+// The same, where it is known whether names are pending. Their bytes aren't asked for.
+fn own_with(alloc: Global, store: Option<Vec<u8>>, pending: bool) -> OwnFiles
+    ensures store { IfSome store (λ text. result.store ≡ text) }
+    ensures pending { is_some result.pending ≡ pending }
+{
+    let store = match store {
+        Some(text) => text,
+        None => Vec::new(alloc),
+    };
     let pending = if pending { Some(Vec::new(alloc)) } else { None };
-    Ok(OwnFiles { store, pending })
+    OwnFiles { store, pending }
 }
 
 // The same with what is held.
@@ -102,7 +122,9 @@ fn put_into_place<F: Files>(
     requires rows { MayStand project.now.digests.items project.now.roots.items made.rows.items }
     requires contents { InPathOrder made.contents.items }
     ensures rest { KeepsRest (F.holds files.old) (F.holds files.new) }
+    ensures left { IfSome (F.holds files.old) (λ d. IfOk result (λ r. PutsWhere own.now held.now project.now.digests.items project.now.roots.items made.rows.items made.contents.items made.outputs.items d r.value (F.holds files.new))) }
     ensures verdict { IfOk result (λ r. r.value.verdict ≡ verdicts.Accepted) }
+    ensures fresh { IfOk result (λ r. r.value.fresh ≡ None) }
     ensures ran { IfOk result (λ r. r.value.ran ≡ ran) }
     ensures counted { Counted F.faults FilesError.Failed files.old files.new result }
 {
@@ -128,6 +150,7 @@ fn commit_then<F: Files>(
     requires sound { is_sound plan.now ≡ true }
     requires changes { ChangesOut plan.now }
     ensures rest { KeepsRest (F.holds files.old) (F.holds files.new) }
+    ensures done { IfSome (F.holds files.old) (λ d. IsClosed d → OnOk result (HasChanged plan.now d (F.holds files.new))) }
     ensures report { IfOk result (λ r. r ≡ report) }
     ensures counted { Counted F.faults FilesError.Failed files.old files.new result }
 {
@@ -145,7 +168,8 @@ fn image_of(
     rows: Vec<TaskRecord>,
 ) -> Result<Box<StoreImage>, OutOfMemory>
     requires { MayStand project.now.digests.items project.now.roots.items rows.items }
-    ensures { IfOk result (λ image. IsDrafted image.value) }
+    ensures drafted { IfOk result (λ image. IsDrafted image.value) }
+    ensures parts { IfOk result (λ image. HasParts project.now.digests.items project.now.roots.items rows.items image.value) }
 {
     let funcs = copies_of_funcs(alloc, project.digests.as_slice())?;
     let roots = copies_of_tasks(alloc, project.roots.as_slice())?;
@@ -186,6 +210,7 @@ fn plan_of(
     requires contents { InPathOrder contents.items }
     ensures sound { IfOk result (λ p. is_sound p.value ≡ true) }
     ensures changes { IfOk result (λ p. ChangesOut p.value) }
+    ensures plan { IfOk result (λ p. IsPlanFor own.now held.now image.now contents.items p.value) }
 {
     let text = text_of(alloc, image)?;
     let plan = changes_plan(alloc, own, held, image.rows.as_slice(), contents, text)?;
@@ -197,6 +222,7 @@ fn plan_of(
 #[tactic(auto, using(pie_incremental::proofs::Storing::drafted_storable))]
 fn text_of(alloc: Global, image: &StoreImage) -> Result<Vec<u8>, OutOfMemory>
     requires { IsDrafted image.now }
+    ensures { IfOk result (λ text. IsStoreText image.now text.items) }
 {
     let roots = image.roots.as_slice();
     if roots.len() > u32::MAX as usize {
@@ -214,7 +240,9 @@ fn report_of(
     outputs: Vec<(Task, Value)>,
 ) -> Result<Box<Report>, OutOfMemory>
     ensures verdict { IfOk result (λ r. r.value.verdict ≡ verdicts.Accepted) }
+    ensures fresh { IfOk result (λ r. r.value.fresh ≡ None) }
     ensures ran { IfOk result (λ r. r.value.ran ≡ ran) }
+    ensures tells { IfOk result (λ r. TellsPlan plan.now live outputs.items r.value) }
 {
     let wrote = paths_of(alloc, plan.writes.as_slice())?;
     let removed = copies(alloc, plan.removals.as_slice())?;

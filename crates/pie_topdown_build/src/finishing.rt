@@ -1,10 +1,12 @@
 //! The end of a build: what it made is put into place and reported.
-ghost use Rattle.std.specs.Prelude.{◌≡◌, ◌≤◌, length, drop, All, IfOk, IsTrue};
+ghost use Rattle.std.specs.Prelude.{◌≡◌, ◌≤◌, length, drop, All, None, IfOk, IfSome, IsTrue};
 ghost use Rattle.pie_build.specs.Left.{KeepsRest};
 ghost use Rattle.pie_files.specs.Streams.{Counted};
 ghost use Rattle.pie_incremental.specs.inner.Joined.{IsMade};
 ghost use Rattle.pie_value.specs.Canonical.{IsEncodableTask};
+ghost use Rattle.pie_value.specs.declared.verdict.Verdict.TheVariants as verdicts;
 ghost use Rattle.pie_topdown_build.specs.inner.Bases.{Quiet};
+ghost use Rattle.pie_topdown_build.specs.inner.Cleaned.{LeavesBy};
 
 use crate::accepting::{Made, accept};
 use pie_base::OutOfMemory;
@@ -30,6 +32,9 @@ pub(crate) fn finish<F: Files>(
     requires { IsMade project.now.digests.items project.now.roots.items built.value }
     ensures rest { KeepsRest (F.holds files.old) (F.holds files.new) }
     ensures quiet { IfOk result (λ r. Quiet r.value.verdict (F.holds files.old) (F.holds files.new)) }
+    ensures left { IfSome (F.holds files.old) (λ d. IfOk result (λ r. LeavesBy built.value.verdict store project.now.digests.items project.now.roots.items built.value d r.value (F.holds files.new))) }
+    ensures verdict { IfOk result (λ r. r.value.verdict ≡ built.value.verdict) }
+    ensures fresh { IfOk result (λ r. r.value.fresh ≡ None) }
     ensures ran { IfOk result (λ r. r.value.ran ≡ ran) }
     ensures counted { Counted F.faults FilesError.Failed files.old files.new result }
 {
@@ -61,6 +66,8 @@ fn refused_report(
     refusal: Refusal,
     ran: Vec<Task>,
 ) -> Result<Box<Report>, OutOfMemory>
+    ensures verdict { IfOk result (λ r. r.value.verdict ≡ verdicts.Refused refusal) }
+    ensures fresh { IfOk result (λ r. r.value.fresh ≡ None) }
     ensures ran { IfOk result (λ r. r.value.ran ≡ ran) }
 {
     let report = Box::new(alloc, refused(alloc, refusal, ran))?;

@@ -1,5 +1,9 @@
 //! What stands under `out/`, and whether names are pending.
+ghost use Rattle.std.specs.Prelude.{◌≡◌, is_some, IfOk, IfSome, OnOk};
+ghost use Rattle.pie_diff.specs.inner.Held.{Looks};
 ghost use Rattle.pie_files.specs.Reading.{ReadsOnly};
+ghost use Rattle.pie_incremental.specs.Own.{bytes_at, pending_path};
+ghost use Rattle.pie_left_laws.specs.Held.{HoldsRightly};
 
 use pie_base::{OutOfMemory, Path};
 use pie_diff::Held;
@@ -10,6 +14,7 @@ use std::collections::BTreeSet;
 /// What stands under `out/`: every file is looked at.
 #[tactic(auto, using(pie_files::proofs::Reading::reads))]
 pub(crate) fn held_under_out<F: Files>(alloc: Global, files: &mut F) -> Result<Held, FilesError>
+    ensures held { IfSome (F.holds files.old) (λ d. IfOk result (λ held. HoldsRightly held d)) }
     ensures reads { ReadsOnly F.holds F.moment F.left_since F.images F.faults files.old files.new result }
 {
     let out = Path::known(alloc, "out")?;
@@ -62,6 +67,7 @@ fn known_in(alloc: Global, contents: &[(Path, Vec<u8>)]) -> Result<BTreeSet<Path
 
 #[tactic(auto, using(pie_files::proofs::Reading::reads))]
 fn look_at<F: Files>(held: &mut Held, paths: &[Path], files: &mut F) -> Result<(), FilesError>
+    ensures seen { IfSome (F.holds files.old) (λ d. OnOk result (Looks d held.old held.new paths.now)) }
     ensures reads { ReadsOnly F.holds F.moment F.left_since F.images F.faults files.old files.new result }
 {
     for path in paths {
@@ -73,6 +79,7 @@ fn look_at<F: Files>(held: &mut Held, paths: &[Path], files: &mut F) -> Result<(
 /// Whether a file of pending names is there.
 #[tactic(auto, using(pie_files::proofs::Reading::reads))]
 pub(crate) fn is_pending<F: Files>(alloc: Global, files: &mut F) -> Result<bool, FilesError>
+    ensures found { IfSome (F.holds files.old) (λ d. IfOk result (λ there. there ≡ is_some (bytes_at d pending_path))) }
     ensures reads { ReadsOnly F.holds F.moment F.left_since F.images F.faults files.old files.new result }
 {
     let names = Path::known(alloc, ".pie/pending")?;

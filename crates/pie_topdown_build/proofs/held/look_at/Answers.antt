@@ -1,4 +1,8 @@
-use Rattle.std.proofs.Common.{◌∙◌}
+use Rattle.std.proofs.Common.{subst, ◌∙◌}
+use Rattle.std.specs.Prelude.{IfSome}
+use Rattle.pie_diff.proofs.Adding.{look_step}
+use Rattle.pie_diff.specs.Hashes.{hash_in}
+use Rattle.pie_diff.specs.inner.Held.{SetsOut}
 use Rattle.pie_files.proofs.Reading.{both_before}
 use Rattle.pie_topdown_build.proofs.held.look_at.Goals as goal
 
@@ -10,4 +14,9 @@ loop-path-preserved g c =
       reads.counted.steady ∙ before.1,
       both_before g.F.Files.holds g.F.Files.moment g.F.Files.left_since g.F.Files.images c.args.files.now c.loop-path.files c.look.new.files
           before.0 before.2 reads.crash,
+      look_step (g.F.Files.holds c.args.files.now) c.args.held.now c.loop-path.held c.look.new.self c.args.paths.now c.loop-path.path-index c.path-item.result
+          c.loop-path-test.true c.path-item.is
+          (subst (λ o. IfSome o (λ d. SetsOut c.loop-path.held c.look.new.self c.path-item.result (hash_in d c.path-item.result))) before.0
+          c.in_ok-look.ensures.seen)
+          before.3,
     )
