@@ -58,18 +58,23 @@ has_store e text rows s says is records =
 pub nothing_changed : (d : Directory) (names : List Path) → NamesAllChanges d d names
 nothing_changed d names = record { sources = λ p k n. refl; provided = λ p k n. refl }
 
--- a directory whose store has a text that is that of the base is based on it
-pub based : (e : Earlier) (text : List ℕ) (rows : List TaskRecord) → bytes_at e.left store_path ≡ Some text → IsStoreOf e.funcs e.roots rows text
-    → map record_of rows ≡ store_rows world (project e.found.functions e.built) (map enc_task e.roots) → IsBasedOn e e.left
-based e text rows stands is records = record {
+-- a directory whose store has a text that is that of the base, and which has the sources and provided files that were left, is based on it
+based_at : (e : Earlier) (d : Directory) (text : List ℕ) (rows : List TaskRecord) → bytes_at d store_path ≡ Some text → IsStoreOf e.funcs e.roots rows text
+    → map record_of rows ≡ store_rows world (project e.found.functions e.built) (map enc_task e.roots) → ((names : List Path) → NamesAllChanges e.left d names)
+    → IsBasedOn e d
+based_at e d text rows stands is records alike = record {
   stored = λ b base.
       let same : b.own.store.items ≡ text = some_same (sym base.readable.stored.text_is ∙ stands) in
       has_store e text rows b.image (subst (IsStoreText b.image) same base.readable.says) is records;
-  pending = λ b base. nothing_changed e.left b.names.items;
+  pending = λ b base. alike b.names.items;
 }
   where
     some_same : {x y : List ℕ} → Some x ≡ Some y → x ≡ y
     some_same e = cc
+
+pub based : (e : Earlier) (text : List ℕ) (rows : List TaskRecord) → bytes_at e.left store_path ≡ Some text → IsStoreOf e.funcs e.roots rows text
+    → map record_of rows ≡ store_rows world (project e.found.functions e.built) (map enc_task e.roots) → IsBasedOn e e.left
+based e text rows stands is records = based_at e e.left text rows stands is records (λ names. nothing_changed e.left names)
 
 -- ---- one that is as the clean build
 
@@ -79,7 +84,7 @@ unfolding kind_of
 stored_at text d left fs roots e = e
 
 module _ (d left : Directory) (r : Report) (c : IsAsClean d r (Some left)) (accepted : r.verdict ≡ Accepted) where
-  leaves : LeavesClean c.found.functions c.funcs c.roots d r (Some left)
+  pub leaves : LeavesClean c.found.functions c.funcs c.roots d r (Some left)
   leaves = c.left accepted
 
   left_is : leaves.left ≡ left
@@ -115,6 +120,22 @@ module _ (d left : Directory) (r : Report) (c : IsAsClean d r (Some left)) (acce
     based = subst (IsBasedOn this) left_is
         (based this leaves.text leaves.rows (stored_at leaves.text d leaves.left c.found.functions c.roots (leaves.built.bytes store_path)) leaves.store leaves.records);
   }
+
+  pub its_store : bytes_at left store_path ≡ Some leaves.text
+  its_store =
+      subst (λ x. bytes_at x store_path ≡ Some leaves.text) left_is
+      (stored_at leaves.text d leaves.left c.found.functions c.roots (leaves.built.bytes store_path))
+
+  -- what stands later, with the same store, sources and provided files, is based on it too
+  pub clean_base_later : (after : Directory) → bytes_at after store_path ≡ bytes_at left store_path → ((names : List Path) → NamesAllChanges left after names)
+      → (f : Earlier) × (f.built ≡ d) × IsBasedOn f after
+  unfolding this
+  clean_base_later after store alike = (
+    this,
+    refl,
+    based_at this after leaves.text leaves.rows (store ∙ its_store) leaves.store leaves.records
+        (λ names. subst (λ x. NamesAllChanges x after names) (sym left_is) (alike names)),
+  )
 
 -- ---- one that started afresh
 

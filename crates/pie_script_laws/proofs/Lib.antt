@@ -3,3 +3,5 @@ pub mod Going
 pub mod Cleaning
 pub mod Refusing
 pub mod Scripting
+pub mod Playing
+pub mod Scanning

@@ -1,6 +1,6 @@
 -- Each build of a script is as a clean build.
 use Rattle.std.proofs.Common.{ℕ, ◌≡◌, List, [], ◌∷◌, ◌++◌, All, Option, Some, None, Ok, false, true, refl, sym, subst, ◌∙◌}
-use Rattle.std.proofs.lemmas.List.Elements.{All-nil, All-cons}
+use Rattle.std.proofs.lemmas.List.Elements.{All-nil, All-cons, All-head, All-tail}
 use Rattle.std.specs.Prelude.{IsSome}
 use Rattle.pie_files.specs.Directory.{Directory}
 use Rattle.pie_store.specs.declared.cause.Cause.{Cause}
@@ -23,7 +23,7 @@ use Rattle.pie_incremental.specs.Own.{bytes_at, open_path, pending_path, store_p
 use Rattle.pie_incremental.specs.Starts.{AreNames, IsBase, IsCause, StartsFrom}
 use Rattle.pie_incremental.specs.Treated.{NamesBy, NamesFrom, AfreshBy}
 use Rattle.pie_script_laws.specs.Basing.{IsBaseOfNext, IsBasedOn}
-use Rattle.pie_script_laws.specs.Scripts.{IsBuilt, IsCleanStep, IsScript, NextBase, Step}
+use Rattle.pie_script_laws.specs.Scripts.{HasBytes, IsBuilt, IsCleanStep, IsScript, NextBase, Step}
 use Rattle.pie_script_laws.proofs.Going.{edits_go_on}
 use Rattle.pie_script_laws.proofs.Cleaning.{clean_base, afresh_base}
 use Rattle.pie_script_laws.proofs.Refusing.{refused_base}
@@ -64,7 +64,7 @@ module _ (d : Directory) (b : Base) (is : IsBase d b) (bytes : (q text : List �
 
 -- ---- one build
 
-module _ (e : Earlier) (s : Step) (goes : GoesOnFrom e s.list s.now) (paths : All IsName s.list) (built : IsBuilt s) where
+module _ (e : Earlier) (s : Step) (goes : GoesOnFrom e s.list s.now) (paths : All IsName s.list) (bytes : HasBytes s.now) (built : IsBuilt s) where
   clean_step : IsCleanStep s
   clean_step = record {
     goes_on = λ none. built.clean.goes_on none e goes;
@@ -88,8 +88,8 @@ module _ (e : Earlier) (s : Step) (goes : GoesOnFrom e s.list s.now) (paths : Al
   refused_by x (Afresh cause) is begins names =
       let same : Some s.left ≡ Some s.now = subst (λ v. AfreshBy v s.now (Some s.left)) is names.1 in
       subst (IsBasedOn e) (sym (some_same same)) (record {
-        stored = λ b base. absurd (no_cause s.now b base built.bytes cause begins);
-        pending = λ b base. absurd (no_cause s.now b base built.bytes cause begins);
+        stored = λ b base. absurd (no_cause s.now b base bytes cause begins);
+        pending = λ b base. absurd (no_cause s.now b base bytes cause begins);
       })
     where
       some_same : {x y : Directory} → Some x ≡ Some y → x ≡ y
@@ -105,9 +105,11 @@ module _ (e : Earlier) (s : Step) (goes : GoesOnFrom e s.list s.now) (paths : Al
 
 -- ---- a script
 
-pub scripts_clean : (e : Earlier) (left : Directory) (steps : List Step) → IsBasedOn e left → IsScript e left steps → All IsCleanStep steps
-scripts_clean e left [] based script = All-nil IsCleanStep
-scripts_clean e left (s ∷ steps) based script =
+pub scripts_clean : (e : Earlier) (left : Directory) (steps : List Step) → IsBasedOn e left → IsScript e left steps → All IsBuilt steps → All IsCleanStep steps
+scripts_clean e left [] based script built = All-nil IsCleanStep
+scripts_clean e left (s ∷ steps) based script built =
     let goes : GoesOnFrom e s.list s.now = edits_go_on e left s.now s.list based script.0 script.2 in
-    let next = next_base e s goes script.1 script.3 (λ f. IsScript f s.left steps) script.4 in
-    All-cons IsCleanStep s steps (clean_step e s goes script.1 script.3) (scripts_clean next.0 s.left steps next.1 next.2)
+    let this : IsBuilt s = All-head IsBuilt s steps built in
+    let next = next_base e s goes script.1 script.3 this (λ f. IsScript f s.left steps) script.4 in
+    All-cons IsCleanStep s steps (clean_step e s goes script.1 script.3 this)
+    (scripts_clean next.0 s.left steps next.1 next.2 (All-tail IsBuilt s steps built))

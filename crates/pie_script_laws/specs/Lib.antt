@@ -1,2 +1,4 @@
 pub mod Basing
 pub mod Scripts
+pub mod Played
+pub mod Finding

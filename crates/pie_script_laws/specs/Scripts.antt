@@ -20,22 +20,25 @@ pub record Step : Type 0 where
   pub report : Report
   pub left : Directory
 
--- it did what a build by what changed does, over files of bytes
+-- it did what a build by what changed does
 pub record IsBuilt (s : Step) : Type 0 where
   pub names : TreatsNames s.list s.now s.report (Some s.left)
   pub clean : BuildsClean s.list s.now s.report (Some s.left)
-  pub bytes : (q text : List ℕ) → bytes_at s.now q ≡ Some text → IsBytes text
+
+-- the files of a directory are of bytes
+abbrev pub HasBytes : Directory → Type 0
+HasBytes d = (q text : List ℕ) → bytes_at d q ≡ Some text → IsBytes text
 
 -- the build that the next one is based on: this one where it was accepted, and else the one before
 abbrev pub NextBase : Verdict → Step → Earlier → Earlier → Type 0
 NextBase Accepted s e next = (next.built ≡ s.now) × (next.left ≡ s.left)
 NextBase (Refused x) s e next = next ≡ e
 
--- a script goes on from a directory that is based on a build: its change lists miss nothing, and what is met is separate
+-- a script goes on from a directory that is based on a build: its change lists are of paths and miss nothing, and what is met is separate
 abbrev pub IsScript : Earlier → Directory → List Step → Type 0
 IsScript e left [] = Unit {0}
 IsScript e left (s ∷ steps) =
-    IsEdit left s.now s.list × All IsName s.list × IsApart e s.now × IsBuilt s
+    IsEdit left s.now s.list × All IsName s.list × IsApart e s.now × HasBytes s.now
     × ((next : Earlier) → NextBase s.report.verdict s e next → IsScript next s.left steps)
 
 -- a build is as the clean build of the directory that it found, and ran no task twice and each for a reason by the build that it is based on; or it told a cause to
@@ -47,4 +50,5 @@ pub record IsCleanStep (s : Step) : Type 0 where
 
 -- each build of a script is as a clean build
 abbrev pub ScriptsAreClean : Type 0
-ScriptsAreClean = (e : Earlier) (left : Directory) (steps : List Step) → IsBasedOn e left → IsScript e left steps → All IsCleanStep steps
+ScriptsAreClean =
+    (e : Earlier) (left : Directory) (steps : List Step) → IsBasedOn e left → IsScript e left steps → All IsBuilt steps → All IsCleanStep steps

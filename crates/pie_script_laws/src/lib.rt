@@ -2,7 +2,9 @@
 #![tactic(auto)]
 
 mod basing;
+mod finding;
 mod scripts;
 
 pub use basing::builds_are_bases;
+pub use finding::found_builds_go_on;
 pub use scripts::scripts_are_clean;
