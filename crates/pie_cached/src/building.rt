@@ -1,9 +1,10 @@
 //! A build with the record cache.
-ghost use Rattle.std.specs.Prelude.{◌≡◌, ◌≤◌, ◌+◌, ◌++◌, length, All, IfOk, OnOk};
+ghost use Rattle.std.specs.Prelude.{◌≡◌, ◌≤◌, ◌+◌, ◌++◌, length, All, IfOk, IfSome, OnOk};
 ghost use Rattle.pie_build.specs.inner.Rebuilt.{IsRefusal, Tells};
 ghost use Rattle.pie_cache.specs.inner.Contents.{IsNews};
 ghost use Rattle.pie_cache.specs.inner.Texts.{IsKept};
 ghost use Rattle.pie_files.specs.Streams.{Counted};
+ghost use Rattle.pie_incremental.specs.Refused.{RefusesRight};
 ghost use Rattle.pie_store.specs.inner.Offers.{offered as offer_of};
 ghost use Rattle.pie_value.specs.Canonical.{IsEncodableTask};
 ghost use Rattle.pie_cached.specs.Cached.{KeepsAllButCache, KeepsOthers, StaysIfRefused};
@@ -37,6 +38,7 @@ pub fn build_cached<F: Files>(
     ensures few { length runs.new ≤ length runs.old + 50000 }
     ensures encodable { IfOk result (λ r. All IsEncodableTask r.0.ran.items) }
     ensures reused { IfOk result (λ r. All IsEncodableTask r.1.items) }
+    ensures says { IfSome (F.holds files.old) (λ d. RefusesRight d result) }
     ensures told { Tells F.faults files.old files.new result }
 {
     match Cache::open(alloc, files) {
@@ -61,6 +63,7 @@ fn with_cache<F: Files>(
     ensures few { length runs.new ≤ length runs.old + 50000 }
     ensures encodable { IfOk result (λ r. All IsEncodableTask r.0.ran.items) }
     ensures reused { IfOk result (λ r. All IsEncodableTask r.1.items) }
+    ensures says { IfSome (F.holds files.old) (λ d. RefusesRight d result) }
     ensures told { Tells F.faults files.old files.new result }
 {
     let mut cache = cache;

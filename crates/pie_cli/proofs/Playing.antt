@@ -20,6 +20,7 @@ use Rattle.pie_replay.specs.Trace.Trace.{nothing, put, deleted, named, built}
 use Rattle.pie_report.specs.declared.report.Report.{Report}
 use Rattle.pie_report.specs.Refused.{refusal_line}
 use Rattle.pie_script.specs.Steps.{Plain}
+use Rattle.pie_script_laws.proofs.Playing.{traces_are_clean}
 use Rattle.pie_value.specs.declared.task.Task.{Task}
 use Rattle.pie_value.specs.declared.verdict.Verdict.{Verdict}
 use Rattle.pie_value.specs.declared.verdict.Verdict.TheVariants as verdicts
@@ -132,7 +133,14 @@ module _ {S : Type 0} (holds : S → Option Directory) where
 
   stopped_so : (json : Bool) (steps : List Plain) (reports : List Report) (old new : S) (e : BuildError) (line text : List ℕ)
       → Stopped holds steps reports e old new → IsBefore json reports line text → HasStopped holds json steps old new e line text
-  stopped_so json steps reports old new e line text s b = record { reports = reports; stopped = s; earlier = b.0; printed = b.1; is = b.2 }
+  stopped_so json steps reports old new e line text s b = record {
+    reports = reports;
+    stopped = s;
+    clean = traces_are_clean holds old s.front s.names reports s.mid s.done;
+    earlier = b.0;
+    printed = b.1;
+    is = b.2;
+  }
 
   -- what it came to is what is told
   says : {T : Type 0} (faults : S → ℕ) (json : Bool) (steps : List Plain) (old new : S) (reports : List Report) (result : Result T BuildError)
@@ -146,6 +154,7 @@ module _ {S : Type 0} (holds : S → Option Directory) where
           reports = reports;
           names = went.0;
           trace = went.1;
+          clean = traces_are_clean holds old steps went.0 reports new went.1;
           printed = tells.0;
           status = tells.1;
         }),

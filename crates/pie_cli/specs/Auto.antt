@@ -7,6 +7,7 @@ use Rattle.pie_files.specs.Directory.{Directory}
 use Rattle.pie_listing.specs.declared.listing.Listing.{Listing}
 use Rattle.pie_listing.specs.declared.listing.Listing.TheVariants.{Listed, Unlisted}
 use Rattle.pie_report.specs.declared.report.Report.{Report}
+use Rattle.pie_script_laws.specs.Finding.{FindsCleanBy}
 use Rattle.pie_cli.specs.Build.{RefusesProject}
 use Rattle.pie_cli.specs.Fresh.{IsPrinted, verdict_status}
 use Rattle.pie_cli.specs.Listed.{RunsByList}
@@ -21,11 +22,12 @@ head_line (Unlisted reason) = unlisted_line reason
 abbrev pub IsAutoText : Listing → Report → List ℕ → Type 0
 IsAutoText l report text = (lines : List ℕ) × IsPrinted false report lines × (text ≡ head_line l ++ lines)
 
--- by what scanning below these tops found there is a report, of at most 100,000 tasks; the text is that of both
+-- by what scanning below these tops found there is a report, of at most 100,000 tasks, and by a list of paths it is that of a clean build; the text is that of both
 pub record TellsAuto (tops : List (List ℕ)) (before after : Option Directory) (text : List ℕ) (ended : Status) : Type 0 where
   pub listing : Listing
   pub report : Report
   pub found : IfSome before (λ d. HasFound tops d listing report after)
+  pub clean : IfSome before (λ d. FindsCleanBy listing tops d report after)
   pub few : length report.ran.items ≤ 100000
   pub is : IsAutoText listing report text
   pub status : ended ≡ verdict_status report.verdict

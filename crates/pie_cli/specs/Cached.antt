@@ -1,10 +1,11 @@
 -- What `cached` prints, the status that it ends with, and what it leaves.
-use Rattle.std.specs.Prelude.{◌≡◌, ◌⊎◌, ◌≤◌, ℕ, List, length, Option}
+use Rattle.std.specs.Prelude.{◌≡◌, ◌⊎◌, ◌≤◌, ℕ, List, length, Option, IfSome, Err}
 use Rattle.pie_base.specs.declared.status.Status.{Status}
 use Rattle.pie_base.specs.declared.status.Status.TheVariants as status
 use Rattle.pie_cached.specs.Cached.{KeepsAllButCache, KeepsOthers, StaysIfRefused}
 use Rattle.pie_cached.specs.Lines.{IsCachedText}
 use Rattle.pie_files.specs.Directory.{Directory}
+use Rattle.pie_project.specs.Fronts.{ProjectSays}
 use Rattle.pie_project.specs.Refusals.{Refusal}
 use Rattle.pie_report.specs.declared.report.Report.{Report}
 use Rattle.pie_report.specs.Refused.{refusal_line}
@@ -12,10 +13,10 @@ use Rattle.pie_value.specs.declared.task.Task.{Task}
 use Rattle.pie_cli.specs.Fresh.{verdict_status}
 use Rattle.pie_cli.specs.Listed.{RunsSaying}
 
--- the project is refused: the line tells why, and outside the cache the directory is as it was
+-- the project that is there is refused: the line tells why, and outside the cache the directory is as it was
 abbrev pub RefusesOutsideCache : Option Directory → Option Directory → List ℕ → Status → Type 0
-RefusesOutsideCache before after text ended =
-    (e : Refusal) × KeepsAllButCache before after × (text ≡ refusal_line e) × (ended ≡ status.Pipeline)
+RefusesOutsideCache before after text ended = (e : Refusal) × IfSome before (λ d. ProjectSays d (Err e)) × KeepsAllButCache before after
+    × (text ≡ refusal_line e) × (ended ≡ status.Pipeline)
 
 -- there is a report of at most 50,000 tasks, with the tasks whose records came from the cache; the text is that of both; and where the build is refused
 -- every file outside the cache is as it was

@@ -16,6 +16,7 @@ use Rattle.pie_report.specs.Refused.{bad_input_text, refusal_line}
 use Rattle.pie_script.specs.Reading.{script_lines}
 use Rattle.pie_script.specs.Steps.{steps, Plain}
 use Rattle.pie_script.specs.declared.fault.InputFault.{InputFault}
+use Rattle.pie_script_laws.specs.Played.{AreClean}
 use Rattle.pie_cli.specs.Fresh.{IsPrinted, verdict_status}
 use Rattle.pie_cli.specs.Run.{files_fault_text, input_fault_text, is_answer, Gains, GainsAtMost}
 
@@ -36,12 +37,13 @@ last_status [] = status.Ok
 last_status (report ∷ []) = verdict_status report.verdict
 last_status (report ∷ next ∷ reports) = last_status (next ∷ reports)
 
--- all steps were done: the text is that of the reports, and the status that of the last one
+-- all steps were done, and the builds were as clean builds: the text is that of the reports, and the status that of the last one
 pub record HasDoneAll {S : Type 0} (holds : S → Option Directory) (json : Bool) (steps : List Plain) (old new : S) (text : List ℕ) (ended : Status)
     : Type 0 where
   pub reports : List Report
   pub names : List (List ℕ)
   pub trace : Trace holds old steps names reports new
+  pub clean : IfSome (holds old) (λ d. AreClean d steps names reports (holds new))
   pub printed : ArePrinted json 1 reports text
   pub status : ended ≡ last_status reports
 
@@ -52,11 +54,12 @@ IsRefusedBy r (errors.Roots reason) = r ≡ OfRoots reason
 IsRefusedBy r errors.Files = ⊥
 IsRefusedBy r errors.OutOfMemory = ⊥
 
--- a step failed with this: the text is that of the reports of the builds before it, and then this line
+-- a step failed with this, and the builds before it were as clean builds: the text is that of their reports, and then this line
 pub record HasStopped {S : Type 0} (holds : S → Option Directory) (json : Bool) (steps : List Plain) (old new : S) (e : BuildError) (line text : List ℕ)
     : Type 0 where
   pub reports : List Report
   pub stopped : Stopped holds steps reports e old new
+  pub clean : IfSome (holds old) (λ d. AreClean d stopped.front stopped.names reports (holds stopped.mid))
   pub earlier : List ℕ
   pub printed : ArePrinted json 1 reports earlier
   pub is : text ≡ earlier ++ line

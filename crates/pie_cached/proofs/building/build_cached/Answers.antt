@@ -1,5 +1,6 @@
 use Rattle.std.proofs.lemmas.Result.{IfOk-weaker}
 use Rattle.pie_cached.proofs.Others.{both, cache_both, of_cache, refused_then}
+use Rattle.pie_cached.proofs.Refusing.{opened, without}
 use Rattle.pie_cached.proofs.building.build_cached.Goals as goal
 
 pub returns-in-Ok-clause-rest : goal.returns-in-Ok-clause-rest
@@ -18,3 +19,13 @@ returns-in-Ok-clause-kept g c =
     IfOk-weaker c.with_cache.result _ _
     (λ r kept. refused_then r.0.verdict (g.F.Files.holds c.args.files.now) (g.F.Files.holds c.open.new.files) (g.F.Files.holds c.with_cache.new.files)
     c.in-Ok.ensures.kept kept) c.with_cache.ensures.kept
+
+pub returns-in-Ok-clause-says : goal.returns-in-Ok-clause-says
+returns-in-Ok-clause-says g c =
+    opened _ (g.F.Files.holds c.args.files.now) (g.F.Files.holds c.open.new.files) c.with_cache.result c.in-Ok.ensures.kept c.with_cache.ensures.says
+
+pub returns-in-Err-Failed-clause-says : goal.returns-in-Err-Failed-clause-says
+returns-in-Err-Failed-clause-says g c = without (g.F.Files.holds c.args.files.now)
+
+pub returns-in-Err-OutOfMemory-clause-says : goal.returns-in-Err-OutOfMemory-clause-says
+returns-in-Err-OutOfMemory-clause-says g c = without (g.F.Files.holds c.args.files.now)

@@ -1,10 +1,14 @@
 use Rattle.std.proofs.Common.{◌≡◌, ◌++◌, sym, subst}
-use Rattle.std.specs.Prelude.{All}
+use Rattle.std.specs.Prelude.{All, Vec}
 use Rattle.std.proofs.lemmas.Result.{IfOk-weaker}
+use Rattle.std.specs.declared.alloc.Global.{Global}
 use Rattle.pie_report.specs.declared.report.Report.{Report}
+use Rattle.pie_topdown_build.specs.declared.offered.Offered.{Offered}
+use Rattle.pie_value.specs.declared.task.Task.{Task}
 use Rattle.pie_value.specs.Canonical.{IsEncodableTask}
 use Rattle.pie_cached.specs.Cached.{StaysIfRefused}
 use Rattle.pie_cached.proofs.Others.{both, if_refused, of_build, of_cache}
+use Rattle.pie_cached.proofs.Refusing.{handed_on, never}
 use Rattle.pie_cached.proofs.building.with_cache.Goals as goal
 
 pub returns-in-Ok-clause-rest : goal.returns-in-Ok-clause-rest
@@ -32,3 +36,9 @@ returns-in-Ok-clause-ran g c =
 pub returns-in-Ok-clause-encodable : goal.returns-in-Ok-clause-encodable
 returns-in-Ok-clause-encodable g c =
     IfOk-weaker c.finish.result _ _ (λ r is. subst (λ (p : Report). All IsEncodableTask p.ran.items) (sym is) c.in-Ok.ensures.encodable) c.finish.ensures.report
+
+pub returns-in-Ok-clause-says : goal.returns-in-Ok-clause-says
+returns-in-Ok-clause-says g c = never _ (g.F.Files.holds c.args.files.now) c.finish.result c.finish.ensures.accepted
+
+pub returns-in-Err-clause-says : goal.returns-in-Err-clause-says
+returns-in-Err-clause-says g c = handed_on Offered (Report × Vec Task Global) (g.F.Files.holds c.args.files.now) c.in-Err.error c.in-Err.ensures.says

@@ -1,19 +1,35 @@
 use Rattle.std.proofs.Common.{inl, inr}
+use Rattle.std.specs.Prelude.{Vec}
+use Rattle.std.specs.declared.alloc.Global.{Global}
 use Rattle.pie_project.specs.Refusals.{OfPipeline, OfRoots, plain}
-use Rattle.pie_cli.proofs.Making.{few_of, pipeline_refused, roots_refused}
+use Rattle.pie_report.specs.declared.report.Report.{Report}
+use Rattle.pie_value.specs.declared.task.Task.{Task}
+use Rattle.pie_cli.proofs.Making.{few_of, pipeline_refused, pipeline_says, roots_refused, roots_say}
 use Rattle.pie_cli.proofs.cached.cached.Goals as goal
 
 pub returns-in-Err-Pipeline-clause-says : goal.returns-in-Err-Pipeline-clause-says
 returns-in-Err-Pipeline-clause-says g c =
     let told = c.in_ok-bad_pipeline-in-Err-Pipeline in
     let e = c.in-Err-Pipeline in
-    inl (OfPipeline (plain e.fault), e.ensures.refused (pipeline_refused e.field-0 e.fault e.field-0-is), told.ensures.text, told.ensures.status)
+    inl (
+      OfPipeline (plain e.fault),
+      pipeline_says (Report × Vec Task Global) (g.F.Files.holds c.args.files.now) e.field-0 e.fault e.field-0-is e.ensures.says,
+      e.ensures.refused (pipeline_refused e.field-0 e.fault e.field-0-is),
+      told.ensures.text,
+      told.ensures.status,
+    )
 
 pub returns-in-Err-Roots-clause-says : goal.returns-in-Err-Roots-clause-says
 returns-in-Err-Roots-clause-says g c =
     let told = c.in_ok-bad_roots-in-Err-Roots in
     let e = c.in-Err-Roots in
-    inl (OfRoots e.reason, e.ensures.refused (roots_refused e.field-0 e.reason e.field-0-is), told.ensures.text, told.ensures.status)
+    inl (
+      OfRoots e.reason,
+      roots_say (Report × Vec Task Global) (g.F.Files.holds c.args.files.now) e.field-0 e.reason e.field-0-is e.ensures.says,
+      e.ensures.refused (roots_refused e.field-0 e.reason e.field-0-is),
+      told.ensures.text,
+      told.ensures.status,
+    )
 
 pub returns-in-Ok-clause-says : goal.returns-in-Ok-clause-says
 returns-in-Ok-clause-says g c =

@@ -2,6 +2,7 @@ use Rattle.std.proofs.Common.{inl, inr}
 use Rattle.pie_project.specs.Refusals.{OfPipeline, OfRoots, plain}
 use Rattle.pie_auto.specs.declared.automatic.Automatic.{Automatic}
 use Rattle.pie_cli.proofs.Making.{few_of, pipeline_refused, pipeline_says, roots_refused, roots_say}
+use Rattle.pie_script_laws.proofs.Scanning.{finds_clean}
 use Rattle.pie_cli.proofs.finding.auto.Goals as goal
 
 pub returns-in-Err-Pipeline-clause-says : goal.returns-in-Err-Pipeline-clause-says
@@ -24,6 +25,7 @@ returns-in-Ok-clause-says g c =
       listing = found.listing;
       report = found.report;
       found = c.in-Ok.ensures.found;
+      clean = finds_clean (g.F.Files.holds c.args.files.now) _ found.listing found.report (g.F.Files.holds c.auto.new.files) c.in-Ok.ensures.found;
       few = few_of 100000 c.new-runs.result c.auto.new.runs found.report.ran.items c.in-Ok.ensures.ran c.in-Ok.ensures.few;
       is = told.ensures.text;
       status = told.ensures.status;
