@@ -88,6 +88,7 @@ fn hint_here(here: &TokenKind) -> Option<&'static str> {
             )
         }
         TokenKind::Func => Some("is a `}` missing before it?"),
+        TokenKind::CloseBrace => Some("is something missing before it, or is it one `}` too many?"),
         TokenKind::Name(name) => hint_behind(name.as_str()),
         _ => None,
     }

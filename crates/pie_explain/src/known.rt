@@ -34,7 +34,7 @@ fn hint_of(alloc: Global, tokens: &[Token], name: &str) -> Result<Option<String>
 
 // Another name that was perhaps meant.
 fn near(alloc: Global, tokens: &[Token], name: &str) -> Result<Option<String>, OutOfMemory> {
-    if let Some(hint) = type_elsewhere(name) {
+    if let Some(hint) = elsewhere(name) {
         let hint = format!(in alloc; "{hint}")?;
         return Ok(Some(hint));
     }
@@ -49,6 +49,30 @@ fn near(alloc: Global, tokens: &[Token], name: &str) -> Result<Option<String>, O
             )?;
             Ok(Some(hint))
         }
+    }
+}
+
+// What to write for a type or a function of another language.
+fn elsewhere(name: &str) -> Option<&'static str> {
+    match type_elsewhere(name) {
+        Some(hint) => Some(hint),
+        None => function_elsewhere(name),
+    }
+}
+
+fn function_elsewhere(name: &str) -> Option<&'static str> {
+    match name {
+        "length" | "lenght" | "size" | "count" => Some("how many there are tells `len(..)`"),
+        "toString" | "to_string" | "format" => Some("a value becomes a text by `to_text(..)`"),
+        "print" | "println" | "echo" | "puts" => Some(
+            "nothing is printed: what a root gives stands in the report, and a file is written by `write(path(\"out/a\"), ..)`",
+        ),
+        "map" | "filter" | "forEach" => Some(
+            "each item in turn is `[.. for x in xs]`; a filter has `flatten` around it (docs/IDIOMS.md)",
+        ),
+        "open" | "readFile" | "read_file" => Some("a file is read by `read(path(\"a\"))`"),
+        "glob" | "readdir" | "ls" => Some("a folder is listed by `list(path(\"src\"))`"),
+        _ => None,
     }
 }
 

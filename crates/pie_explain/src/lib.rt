@@ -2,7 +2,11 @@
 #![tactic(auto)]
 
 mod expected;
+mod going;
+mod heading;
 mod known;
+mod lexical;
+mod line;
 mod naming;
 mod pipeline;
 mod place;

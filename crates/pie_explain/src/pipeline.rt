@@ -1,6 +1,8 @@
 //! What is told of a pipeline that is refused.
 
 use crate::expected::{hint as hint_expected, tokens_around};
+use crate::going::{Going, found_at, going_on};
+use crate::lexical::hint_of_char;
 use crate::place::place_of;
 use crate::types::{hint as hint_types, said as said_of_types};
 use pie_base::OutOfMemory;
@@ -72,9 +74,7 @@ fn explain_lex(alloc: Global, text: &str, error: LexError) -> Result<String, Out
             text,
             place,
             "no token begins with this character",
-            Some(
-                "texts stand between double quotes; names have ASCII letters, digits and `_`; and is `&&`, or is `||`",
-            ),
+            Some(hint_of_char(text, place)),
         ),
         LexError::OpenText(place) => at(
             alloc,
@@ -103,16 +103,7 @@ fn explain_lex(alloc: Global, text: &str, error: LexError) -> Result<String, Out
 
 fn explain_parse(alloc: Global, text: &str, error: ParseError) -> Result<String, OutOfMemory> {
     match error {
-        ParseError::Expected(place) => {
-            let tokens = tokens_of(alloc, text)?;
-            let found = tokens_around(tokens.as_slice(), place);
-            let said = if found.here.is_some() {
-                "nothing like this can stand here"
-            } else {
-                "something is missing at the end"
-            };
-            at(alloc, text, place, said, hint_expected(&found))
-        }
+        ParseError::Expected(place) => explain_expected(alloc, text, place),
         ParseError::TooDeep(place) => at(
             alloc,
             text,
@@ -121,6 +112,43 @@ fn explain_parse(alloc: Global, text: &str, error: ParseError) -> Result<String,
             Some("name parts of it by `val`"),
         ),
         ParseError::OutOfMemory => Err(OutOfMemory),
+    }
+}
+
+fn explain_expected(alloc: Global, text: &str, place: usize) -> Result<String, OutOfMemory> {
+    let tokens = tokens_of(alloc, text)?;
+    let going = going_on(alloc, text, tokens.as_slice(), place)?;
+    let found = found_at(alloc, text, tokens.as_slice(), place)?;
+    let said = format!(in alloc; "expected {}, found {found}", going.told)?;
+    let around = tokens_around(tokens.as_slice(), place);
+    let hint = match hint_expected(&around) {
+        Some(hint) => Some(hint),
+        None => hint_of_line(text, place, &going),
+    };
+    at(alloc, text, place, said.as_str(), hint)
+}
+
+// Where a line begins with what can't stand there, what is perhaps missing at the end of the line before; and where a block can begin, that it has braces.
+fn hint_of_line(text: &str, place: usize, going: &Going) -> Option<&'static str> {
+    if begins_line(text, place) {
+        if going.has_semicolon {
+            return Some("is a `;` missing at the end of the line before?");
+        }
+        if going.has_brace {
+            return Some("is a `}` missing before it?");
+        }
+    }
+    if going.has_body {
+        return Some("the branches of an `if` and the body of a function stand in braces");
+    }
+    None
+}
+
+// Whether only spaces and tabs stand before a place on its line, and a line stands before it.
+fn begins_line(text: &str, place: usize) -> bool {
+    match text.get(..place) {
+        Some(front) => front.trim_end_matches([' ', '\t', '\r']).ends_with('\n'),
+        None => false,
     }
 }
 

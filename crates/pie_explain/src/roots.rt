@@ -1,13 +1,18 @@
 //! What is told of roots that are refused.
 
+use crate::heading::{Heading, headings};
+use crate::line::{Cause, cause_of};
+use crate::naming::nearest_of;
 use pie_base::OutOfMemory;
 use pie_project::RootsReason;
 use std::alloc::Global;
 
-/// What a person is told of roots with this text that are refused so: the line, from 1, with its text, and a hint. Rule: docs/ERRORS.md.
+/// What a person is told of roots with this text that are refused so, of a pipeline with this text: the line, from 1, with its text, why it is no task, a hint, and the
+/// functions of the pipeline as they are called. Rule: docs/ERRORS.md.
 pub fn explain_roots(
     alloc: Global,
     text: &str,
+    pipeline: &str,
     reason: RootsReason,
 ) -> Result<String, OutOfMemory> {
     match reason {
@@ -26,7 +31,10 @@ pub fn explain_roots(
             "pie.roots isn't UTF-8",
             "store it as UTF-8, without a byte order mark",
         ),
-        RootsReason::Line(line) => explain_line(alloc, text, line),
+        RootsReason::Line(line) => {
+            let shown = line_of(alloc, text, line)?;
+            explain_line(alloc, shown.as_str(), line, pipeline)
+        }
     }
 }
 
@@ -35,12 +43,95 @@ fn whole(alloc: Global, said: &str, hint: &str) -> Result<String, OutOfMemory> {
     Ok(told)
 }
 
-fn explain_line(alloc: Global, text: &str, line: u32) -> Result<String, OutOfMemory> {
-    let shown = line_of(alloc, text, line)?;
-    let told = format!(in alloc;
-        "pie.roots:{line}: this line is neither blank nor a task of the pipeline\n    {shown}\nhint: a task is a function of the pipeline with values of its parameters' types, as `page(path(\"a\"))`; nothing is computed\n"
-    )?;
+fn explain_line(
+    alloc: Global,
+    shown: &str,
+    line: u32,
+    pipeline: &str,
+) -> Result<String, OutOfMemory> {
+    let known = headings(alloc, pipeline)?;
+    let cause = cause_of(alloc, shown, known.as_slice())?;
+    let said = said_of(alloc, &cause, known.as_slice())?;
+    let hint = hint_of(alloc, &cause, known.as_slice())?;
+    let mut told = format!(in alloc; "pie.roots:{line}: {said}\n    {shown}\nhint: {hint}\n")?;
+    put_functions(alloc, &mut told, known.as_slice())?;
     Ok(told)
+}
+
+fn said_of(alloc: Global, cause: &Cause, known: &[Heading]) -> Result<String, OutOfMemory> {
+    let said = match cause {
+        Cause::NoTask => format!(in alloc;
+            "this line is neither blank nor a task of the pipeline"
+        )?,
+        Cause::Unknown(name) => format!(in alloc; "the pipeline has no function {name}")?,
+        Cause::Count(at, found) => {
+            let wanted = wanted_of(known, *at);
+            format!(in alloc; "expected {wanted} arguments, found {found}")?
+        }
+        Cause::Kind(_, place, expected, found) => {
+            format!(in alloc; "argument {place}: expected {expected}, found {found}")?
+        }
+        Cause::Values(_) => format!(in alloc;
+            "the arguments are no values of the parameters' types"
+        )?,
+    };
+    Ok(said)
+}
+
+// How many arguments the function at a place takes.
+fn wanted_of(known: &[Heading], at: usize) -> usize {
+    match known.get(at) {
+        Some(heading) => heading.params.len(),
+        None => 0,
+    }
+}
+
+fn hint_of(alloc: Global, cause: &Cause, known: &[Heading]) -> Result<String, OutOfMemory> {
+    match cause {
+        Cause::NoTask => plain(
+            alloc,
+            "a task is written `name(a, b)`, one on its line, as `page(path(\"a\"))`; nothing is computed",
+        ),
+        Cause::Unknown(name) => match nearest_of(alloc, known, name.as_str())? {
+            Some(other) => {
+                let hint = format!(in alloc; "was {other} meant?")?;
+                Ok(hint)
+            }
+            None => plain(alloc, "a root is one of the functions of the pipeline"),
+        },
+        Cause::Count(at, _) | Cause::Kind(at, _, _, _) | Cause::Values(at) => {
+            let shape = match known.get(*at) {
+                Some(heading) => heading.shape.as_str(),
+                None => "",
+            };
+            let hint = format!(in alloc;
+                "it is called so: {shape}; arguments are values, and nothing is computed"
+            )?;
+            Ok(hint)
+        }
+    }
+}
+
+fn plain(alloc: Global, hint: &str) -> Result<String, OutOfMemory> {
+    let hint = format!(in alloc; "{hint}")?;
+    Ok(hint)
+}
+
+// How many functions are told.
+const MOST: usize = 30;
+
+fn put_functions(alloc: Global, out: &mut String, known: &[Heading]) -> Result<(), OutOfMemory> {
+    out.push_str("the functions of the pipeline:\n")?;
+    for heading in known.iter().take(MOST) {
+        let line = format!(in alloc; "    {}\n", heading.shape)?;
+        out.push_str(line.as_str())?;
+    }
+    if known.len() > MOST {
+        let left = known.len() - MOST;
+        let line = format!(in alloc; "    and {left} more\n")?;
+        out.push_str(line.as_str())?;
+    }
+    Ok(())
 }
 
 // A line of a text, counted from 1. Control characters but tabs are shown as `?`.
