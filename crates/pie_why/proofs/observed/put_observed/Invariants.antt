@@ -1,0 +1,5 @@
+use Rattle.std.proofs.Common.{◌≡◌}
+use Rattle.pie_why.proofs.observed.put_observed.Given as goal
+
+abbrev pub invariant-loop-dep : goal.invariant-loop-dep
+invariant-loop-dep g l = g.F.Files.holds l.files ≡ g.F.Files.holds l.fn.files
