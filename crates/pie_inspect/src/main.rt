@@ -2,7 +2,8 @@
 #![tactic(auto)]
 
 use pie_base::{OutOfMemory, Status};
-use pie_disk::{DirFiles, StdSink, explain};
+use pie_disk::{DirFiles, StdSink, StdSource, explain};
+use pie_doctor::DirLook;
 use pie_inspect_cli::run;
 use std::env;
 use std::io::ErrorKind;
@@ -20,9 +21,17 @@ fn main(rt: HostRuntime) -> ExitCode {
 }
 
 fn run_words(rt: HostRuntime, words: &[String]) -> Status {
+    match DirLook::new(rt) {
+        Ok(look) => run_looking(rt, words, &look),
+        Err(OutOfMemory) => Status::Memory,
+    }
+}
+
+fn run_looking(rt: HostRuntime, words: &[String], look: &DirLook) -> Status {
     let mut files = DirFiles::new(rt);
+    let mut input = StdSource::new(rt);
     let mut out = StdSink::new(rt);
-    run(rt.alloc(), words, &mut files, &mut out)
+    run(rt.alloc(), words, &mut files, look, &mut input, &mut out)
 }
 
 // The words of the command line, without the program's name. Words that aren't UTF-8 ask for nothing.

@@ -38,7 +38,8 @@ fn counts(alloc: Global, functions: u32, roots: u32) -> Result<Told, OutOfMemory
     })
 }
 
-fn bad_pipeline<F: Files>(
+/// The refusal of a pipeline, for a person.
+pub(crate) fn bad_pipeline<F: Files>(
     alloc: Global,
     files: &mut F,
     fault: PipelineFault,
@@ -53,7 +54,8 @@ fn bad_pipeline<F: Files>(
     })
 }
 
-fn bad_roots<F: Files>(
+/// The refusal of roots, for a person.
+pub(crate) fn bad_roots<F: Files>(
     alloc: Global,
     files: &mut F,
     reason: RootsReason,
@@ -61,7 +63,13 @@ fn bad_roots<F: Files>(
     ensures same { F.holds files.new ≡ F.holds files.old }
 {
     let bytes = bytes_of(alloc, files, "pie.roots")?;
-    let text = explain_roots(alloc, text_in(bytes.as_slice()), reason)?;
+    let pipeline = bytes_of(alloc, files, "pie.pipeline")?;
+    let text = explain_roots(
+        alloc,
+        text_in(bytes.as_slice()),
+        text_in(pipeline.as_slice()),
+        reason,
+    )?;
     Ok(Told {
         text,
         status: Status::Refused,

@@ -2,7 +2,9 @@
 #![tactic(auto)]
 
 mod checking;
+mod help;
 mod looking;
+mod reasons;
 mod request;
 mod top;
 

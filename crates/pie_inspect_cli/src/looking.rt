@@ -4,7 +4,7 @@ ghost use Rattle.std.specs.Prelude.{◌≡◌};
 use crate::checking::Told;
 use pie_base::{OutOfMemory, Path, PathError, Status};
 use pie_files::{Files, FilesError};
-use pie_lookup::{graph, sizes, tasks, who};
+use pie_lookup::{graph, graph_json, sizes, tasks, who};
 use pie_store::{StoreFault, StoreImage, decode_store};
 use std::alloc::Global;
 
@@ -13,7 +13,7 @@ use std::alloc::Global;
 pub(crate) enum Lookup<'a> {
     Tasks(&'a str),
     Who(&'a str),
-    Graph,
+    Graph(bool),
     Store,
 }
 
@@ -55,7 +55,8 @@ fn of_image(
     match lookup {
         Lookup::Tasks(prefix) => Ok(told(tasks(alloc, image.rows.as_slice(), prefix)?)),
         Lookup::Who(path) => of_path(alloc, image, path),
-        Lookup::Graph => Ok(told(graph(alloc, image.rows.as_slice())?)),
+        Lookup::Graph(false) => Ok(told(graph(alloc, image.rows.as_slice())?)),
+        Lookup::Graph(true) => Ok(told(graph_json(alloc, image.rows.as_slice())?)),
         Lookup::Store => Ok(told(sizes(alloc, bytes, image)?)),
     }
 }

@@ -1,5 +1,7 @@
 //! What the words ask for.
 
+use crate::help::help_of;
+
 /// What a command line asks for.
 #[derive(Clone, Copy)]
 pub(crate) enum Request<'a> {
@@ -9,12 +11,20 @@ pub(crate) enum Request<'a> {
     Tasks(&'a str),
     /// `who PATH`: the tasks of the last build that write, read or list a path.
     Who(&'a str),
-    /// `graph`: the last build as a graph for Graphviz.
-    Graph,
+    /// `graph`, `graph --dot`: the last build as a graph for Graphviz. `graph --json`: as JSON.
+    Graph(bool),
+    /// `why`, `why --json`: what a build would run where the paths that its input lists may have changed, as lines or as JSON.
+    Why(bool),
+    /// `why TASK`: what a task of the last build rests on.
+    WhyTask(&'a str),
     /// `store`: how large the store is.
     Store,
-    /// `--help`
+    /// `doctor`: what in the folder a build would fail at.
+    Doctor,
+    /// `help`, `--help`
     Help,
+    /// `help COMMAND`, `COMMAND --help`: this text.
+    HelpOf(&'static str),
     /// `--version`
     Version,
 }
@@ -32,8 +42,11 @@ fn of_word<'a>(word: &str) -> Option<Request<'a>> {
     match word {
         "check" => Some(Request::Check),
         "tasks" => Some(Request::Tasks("")),
-        "graph" => Some(Request::Graph),
+        "graph" => Some(Request::Graph(false)),
+        "why" => Some(Request::Why(false)),
         "store" => Some(Request::Store),
+        "doctor" => Some(Request::Doctor),
+        "help" => Some(Request::Help),
         "--help" => Some(Request::Help),
         "--version" => Some(Request::Version),
         _ => None,
@@ -41,9 +54,39 @@ fn of_word<'a>(word: &str) -> Option<Request<'a>> {
 }
 
 fn of_words<'a>(word: &str, what: &'a str) -> Option<Request<'a>> {
+    if what == "--help" {
+        return help_with(word);
+    }
     match word {
+        "help" => help_with(what),
         "tasks" => Some(Request::Tasks(what)),
         "who" => Some(Request::Who(what)),
+        "graph" => of_form(what),
+        "why" => Some(why_of(what)),
         _ => None,
     }
+}
+
+// The help for a command.
+fn help_with<'a>(command: &str) -> Option<Request<'a>> {
+    Some(Request::HelpOf(help_of(command)?))
+}
+
+// The graph in a form: for Graphviz, or as JSON.
+fn of_form<'a>(form: &str) -> Option<Request<'a>> {
+    if form == "--json" {
+        return Some(Request::Graph(true));
+    }
+    if form == "--dot" {
+        return Some(Request::Graph(false));
+    }
+    None
+}
+
+// What `why` is asked for with one more word.
+fn why_of<'a>(what: &'a str) -> Request<'a> {
+    if what == "--json" {
+        return Request::Why(true);
+    }
+    Request::WhyTask(what)
 }
