@@ -8,5 +8,6 @@ mod present;
 mod standing;
 mod touched;
 
+pub use present::Present;
 pub use standing::stands;
 pub use touched::is_touched;

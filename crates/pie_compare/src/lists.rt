@@ -32,8 +32,10 @@ impl<'a, R: TaskRows> Present<'a, R> {
         Ok(true)
     }
 
-    // Whether an observation stands. A task that is required with it comes to the required ones.
-    fn dep_stands(&self, required: &mut Vec<TaskNo>, dep: &Dep) -> Result<bool, OutOfMemory>
+    /// Whether an observation would have the stamp that was recorded, where these tasks were required before it. A task that is required with it
+    /// comes to the required ones. Nothing is asked of the files: a source is compared with what is known.
+    /// Rule: docs/BUILDING.md, "A build without a list".
+    pub fn dep_stands(&self, required: &mut Vec<TaskNo>, dep: &Dep) -> Result<bool, OutOfMemory>
         requires tables { IsTables self.now.tables.now }
         requires rows { length self.now.tables.now.names ≡ length (R.rows self.now.rows.now) }
         requires required { AllBelow (length (R.rows self.now.rows.now)) (numbers required.old.items) }

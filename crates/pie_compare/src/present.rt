@@ -7,14 +7,15 @@ use pie_tables::Tables;
 use std::alloc::Global;
 
 /// What the record of a task is compared with: the records of others, the rows of the graph, and what is known of the files.
-pub(crate) struct Present<'a, R: TaskRows> {
-    pub(crate) alloc: Global,
-    pub(crate) tables: &'a Tables,
-    pub(crate) rows: &'a R,
-    pub(crate) named: &'a Named,
-    pub(crate) no: TaskNo,
+pub struct Present<'a, R: TaskRows> {
+    pub alloc: Global,
+    pub tables: &'a Tables,
+    pub rows: &'a R,
+    pub named: &'a Named,
+    /// The number of the task.
+    pub no: TaskNo,
     /// The writes of the task itself.
-    pub(crate) own: &'a [(Path, [u8; 32])],
+    pub own: &'a [(Path, [u8; 32])],
 }
 
 impl<'a, R: TaskRows> Drop for Present<'a, R> {

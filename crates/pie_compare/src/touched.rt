@@ -5,7 +5,10 @@ ghost use Rattle.pie_compare.specs.inner.Touching.{may_differ as specs_may_diffe
 ghost use Rattle.pie_compare.specs.inner.Touching.{sight_differs, dep_differs, write_differs, AnswersBy};
 ghost use Rattle.pie_compare.specs.inner.Touching.{SomeSightDiffers, SomeWriteDiffers, IsTouched, FindsBy};
 ghost use Rattle.pie_compare.specs.inner.Touching.{sight_known, dep_known, write_known, SomeSightKnown, SomeWriteKnown, IsKnownTouched, Shows};
+ghost use Rattle.pie_compare.specs.inner.Asked.{IsObservedIn, IsOfRecord, IsWrittenIn, MayAskOf};
 ghost use Rattle.pie_named.specs.Names.{SameNames};
+ghost use Rattle.pie_named.specs.inner.Asking.{AsksFor};
+ghost use Rattle.pie_record.specs.declared.dep.DepOn.TheVariants.{File};
 
 use pie_base::Path;
 use pie_files::{Files, FilesError};
@@ -23,6 +26,7 @@ pub fn is_touched<F: Files>(
 ) -> Result<bool, FilesError>
     ensures reads { ReadsOnly F.holds F.moment F.left_since F.images F.faults files.old files.new result }
     ensures names { SameNames named.old named.new }
+    ensures asks { AsksFor (MayAskOf named.old (IsOfRecord rec.now)) (F.asked files.old) (F.asked files.new) }
     ensures found { IfOk result (FindsBy (F.holds files.old) named.old named.new (λ d n. IsTouched d n rec.now)) }
     ensures shows { IfOk result (Shows named.old named.new (IsKnownTouched named.new rec.now)) }
 {
@@ -42,6 +46,7 @@ fn is_any_sight_touched<F: Files>(
 ) -> Result<bool, FilesError>
     ensures reads { ReadsOnly F.holds F.moment F.left_since F.images F.faults files.old files.new result }
     ensures names { SameNames named.old named.new }
+    ensures asks { AsksFor (MayAskOf named.old (IsObservedIn deps.now)) (F.asked files.old) (F.asked files.new) }
     ensures found { IfOk result (FindsBy (F.holds files.old) named.old named.new (λ d n. SomeSightDiffers d n deps.now)) }
     ensures shows { IfOk result (Shows named.old named.new (SomeSightKnown named.new deps.now)) }
 {
@@ -62,6 +67,7 @@ fn is_any_write_touched<F: Files>(
 ) -> Result<bool, FilesError>
     ensures reads { ReadsOnly F.holds F.moment F.left_since F.images F.faults files.old files.new result }
     ensures names { SameNames named.old named.new }
+    ensures asks { AsksFor (MayAskOf named.old (IsWrittenIn writes.now)) (F.asked files.old) (F.asked files.new) }
     ensures found { IfOk result (FindsBy (F.holds files.old) named.old named.new (λ d n. SomeWriteDiffers d n writes.now)) }
     ensures shows { IfOk result (Shows named.old named.new (SomeWriteKnown named.new writes.now)) }
 {
@@ -78,6 +84,7 @@ fn is_any_write_touched<F: Files>(
 fn is_dep_touched<F: Files>(named: &mut Named, dep: &Dep, files: &mut F) -> Result<bool, FilesError>
     ensures reads { ReadsOnly F.holds F.moment F.left_since F.images F.faults files.old files.new result }
     ensures names { SameNames named.old named.new }
+    ensures asks { AsksFor (MayAskOf named.old (λ p. dep.now.what ≡ File p)) (F.asked files.old) (F.asked files.new) }
     ensures answer { IfOk result (AnswersBy (F.holds files.old) named.old named.new (λ d n. dep_differs d n dep.now)) }
     ensures shows { IfOk result (Shows named.old named.new (dep_known named.new dep.now ≡ true)) }
 {
@@ -100,6 +107,7 @@ fn is_sight_touched<F: Files>(
 ) -> Result<bool, FilesError>
     ensures reads { ReadsOnly F.holds F.moment F.left_since F.images F.faults files.old files.new result }
     ensures names { SameNames named.old named.new }
+    ensures asks { AsksFor (MayAskOf named.old (λ p. p ≡ path.now)) (F.asked files.old) (F.asked files.new) }
     ensures answer { IfOk result (AnswersBy (F.holds files.old) named.old named.new (λ d n. sight_differs d n kind path.now stamp.now)) }
     ensures shows { IfOk result (Shows named.old named.new (sight_known named.new kind path.now stamp.now ≡ true)) }
 {
@@ -119,6 +127,7 @@ fn is_write_touched<F: Files>(
 ) -> Result<bool, FilesError>
     ensures reads { ReadsOnly F.holds F.moment F.left_since F.images F.faults files.old files.new result }
     ensures names { SameNames named.old named.new }
+    ensures asks { AsksFor (MayAskOf named.old (λ p. p ≡ path.now)) (F.asked files.old) (F.asked files.new) }
     ensures answer { IfOk result (AnswersBy (F.holds files.old) named.old named.new (λ d n. write_differs d n path.now hash)) }
     ensures shows { IfOk result (Shows named.old named.new (write_known named.new path.now hash ≡ true)) }
 {

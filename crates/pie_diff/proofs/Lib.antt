@@ -1,4 +1,5 @@
 pub mod Adding
+pub mod Asking
 pub mod Holding
 pub mod Keeping
 pub mod Removing

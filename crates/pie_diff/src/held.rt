@@ -2,6 +2,7 @@
 ghost use Rattle.std.specs.Prelude.{◌≡◌, [], Some, None, IfOk, IfSome, OnOk, IsTrue, is_some};
 ghost use Rattle.pie_base.specs.Path.{is_out};
 ghost use Rattle.pie_files.specs.Reading.{ReadsOnly};
+ghost use Rattle.pie_named.specs.inner.Asking.{AsksFor};
 ghost use Rattle.pie_diff.specs.Hashes.{held_at, hash_in, is_hash};
 ghost use Rattle.pie_diff.specs.inner.Held.{first, paths_in, AreOut, Sets, SetsOut};
 
@@ -53,9 +54,10 @@ impl Held {
     }
 
     /// What the files have at a named path under `out/`. Another path changes nothing, and isn't asked for.
-    #[tactic(auto, using(pie_files::proofs::Reading::reads))]
+    #[tactic(auto, using(pie_files::proofs::Reading::reads, crate::proofs::Asking::looks))]
     pub fn look<F: Files>(&mut self, path: &Path, files: &mut F) -> Result<(), FilesError>
         ensures seen { IfSome (F.holds files.old) (λ d. OnOk result (SetsOut self.old self.new path.now (hash_in d path.now))) }
+        ensures asks { AsksFor (λ p. p ≡ path.now) (F.asked files.old) (F.asked files.new) }
         ensures reads { ReadsOnly F.holds F.moment F.left_since F.images F.faults files.old files.new result }
     {
         if !path.under_out() {

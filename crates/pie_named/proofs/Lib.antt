@@ -1,3 +1,4 @@
 pub mod Above
+pub mod Calls
 pub mod Knowing
 pub mod Staying

@@ -5,6 +5,7 @@ ghost use Rattle.pie_named.specs.Names.{SameNames};
 ghost use Rattle.pie_record.specs.declared.dep.DepKind.TheVariants as kinds;
 ghost use Rattle.pie_value.specs.declared.stamp.Stamp.TheVariants as stamps;
 ghost use Rattle.pie_named.specs.Stamped.{differs_from};
+ghost use Rattle.pie_named.specs.inner.Asking.{AsksOnce, call_for};
 ghost use Rattle.pie_named.specs.inner.Known.{Asked, Compares, Learns, Tells, known_differs, known_stamp};
 
 use crate::named::Named;
@@ -26,6 +27,7 @@ impl Named {
     ) -> Result<bool, FilesError>
         ensures reads { ReadsOnly F.holds F.moment F.left_since F.images F.faults files.old files.new result }
         ensures names { SameNames self.old self.new }
+        ensures asks { AsksOnce (known_stamp self.old kind path.now) (call_for kind path.now) (F.asked files.old) (F.asked files.new) }
         ensures compares { IfOk result (Compares (F.holds files.old) self.old self.new kind path.now recorded.now) }
         ensures tells { IfOk result (Tells self.old self.new kind path.now recorded.now) }
     {
@@ -43,6 +45,7 @@ impl Named {
     ) -> Result<bool, FilesError>
         ensures reads { ReadsOnly F.holds F.moment F.left_since F.images F.faults files.old files.new result }
         ensures names { SameNames self.old self.new }
+        ensures asks { AsksOnce (known_stamp self.old kinds.ReadHash path.now) (call_for kinds.ReadHash path.now) (F.asked files.old) (F.asked files.new) }
         ensures compares { IfOk result (Compares (F.holds files.old) self.old self.new kinds.ReadHash path.now (stamps.Hash recorded)) }
         ensures tells { IfOk result (Tells self.old self.new kinds.ReadHash path.now (stamps.Hash recorded)) }
     {
@@ -71,6 +74,7 @@ impl Named {
         ensures reads { ReadsOnly F.holds F.moment F.left_since F.images F.faults files.old files.new result }
         ensures names { SameNames self.old self.new }
         ensures learns { IfOk result (Learns (F.holds files.old) self.old self.new kind path.now) }
+        ensures asks { AsksOnce (known_stamp self.old kind path.now) (call_for kind path.now) (F.asked files.old) (F.asked files.new) }
         ensures asked { IfOk result (Asked self.old self.new kind path.now) }
     {
         match kind {

@@ -1,9 +1,11 @@
 //! What observations would be stamped with now.
-ghost use Rattle.std.specs.Prelude.{◌≡◌, map, IfOk};
+ghost use Rattle.std.specs.Prelude.{◌≡◌, map, None, IfOk};
 ghost use Rattle.pie_value.specs.Tree.{TPath};
 ghost use Rattle.pie_files.specs.Reading.{ReadsOnly};
 ghost use Rattle.pie_record.specs.declared.dep.DepKind.TheVariants as kinds;
+ghost use Rattle.pie_files.specs.declared.files.Call.TheVariants as calls;
 ghost use Rattle.pie_named.specs.Stamped.{listing_of};
+ghost use Rattle.pie_named.specs.inner.Asking.{AsksOnce};
 ghost use Rattle.pie_named.specs.inner.Known.{IsNow};
 
 use crate::stamps::FileStamp;
@@ -14,12 +16,13 @@ use pie_value::{Items, Value, encode};
 use std::alloc::Global;
 
 /// Whether a file is there.
-#[tactic(auto, using(pie_files::proofs::Reading::reads))]
+#[tactic(auto, using(pie_files::proofs::Reading::reads, crate::proofs::Calls::asks))]
 pub(crate) fn presence_now<F: Files>(
     path: &Path,
     files: &mut F,
 ) -> Result<Option<FileStamp>, FilesError>
     ensures reads { ReadsOnly F.holds F.moment F.left_since F.images F.faults files.old files.new result }
+    ensures asks { AsksOnce None (calls.Read path.now) (F.asked files.old) (F.asked files.new) }
     ensures now { IfOk result (IsNow (F.holds files.old) kinds.Exists path.now) }
 {
     if files.exists(path)? {
@@ -29,12 +32,13 @@ pub(crate) fn presence_now<F: Files>(
 }
 
 /// The SHA-256 of a file.
-#[tactic(auto, using(pie_files::proofs::Reading::reads))]
+#[tactic(auto, using(pie_files::proofs::Reading::reads, crate::proofs::Calls::asks))]
 pub(crate) fn hash_now<F: Files>(
     path: &Path,
     files: &mut F,
 ) -> Result<Option<FileStamp>, FilesError>
     ensures reads { ReadsOnly F.holds F.moment F.left_since F.images F.faults files.old files.new result }
+    ensures asks { AsksOnce None (calls.Read path.now) (F.asked files.old) (F.asked files.new) }
     ensures now { IfOk result (IsNow (F.holds files.old) kinds.ReadHash path.now) }
 {
     match files.digest(path)? {
@@ -44,12 +48,13 @@ pub(crate) fn hash_now<F: Files>(
 }
 
 /// The mark of a file. Its bytes aren't asked for.
-#[tactic(auto, using(pie_files::proofs::Reading::reads))]
+#[tactic(auto, using(pie_files::proofs::Reading::reads, crate::proofs::Calls::asks))]
 pub(crate) fn mark_now<F: Files>(
     path: &Path,
     files: &mut F,
 ) -> Result<Option<FileStamp>, FilesError>
     ensures reads { ReadsOnly F.holds F.moment F.left_since F.images F.faults files.old files.new result }
+    ensures asks { AsksOnce None (calls.Read path.now) (F.asked files.old) (F.asked files.new) }
     ensures now { IfOk result (IsNow (F.holds files.old) kinds.ReadMark path.now) }
 {
     match files.mark(path)? {
@@ -59,13 +64,14 @@ pub(crate) fn mark_now<F: Files>(
 }
 
 /// The entries of a directory, if a task can list it.
-#[tactic(auto, using(pie_files::proofs::Reading::reads))]
+#[tactic(auto, using(pie_files::proofs::Reading::reads, crate::proofs::Calls::asks))]
 pub(crate) fn listing_now<F: Files>(
     alloc: Global,
     dir: &Path,
     files: &mut F,
 ) -> Result<Option<FileStamp>, FilesError>
     ensures reads { ReadsOnly F.holds F.moment F.left_since F.images F.faults files.old files.new result }
+    ensures asks { AsksOnce None (calls.Names dir.now) (F.asked files.old) (F.asked files.new) }
     ensures now { IfOk result (IsNow (F.holds files.old) kinds.List dir.now) }
 {
     let paths = files.names(dir)?;

@@ -1,9 +1,15 @@
-use Rattle.std.proofs.Common.{◌∙◌}
+use Rattle.std.proofs.Common.{◌≡◌, ◌∙◌, ℕ, List}
 use Rattle.pie_files.proofs.Reading.{both_before}
 use Rattle.pie_compare.specs.inner.Touching.{dep_differs, dep_known, SomeSightKnown}
 use Rattle.pie_compare.proofs.Touches.{dep_same, names_stay, passes_on, finds, finds_none}
 use Rattle.pie_compare.proofs.Shown.{shows_one, shows_none, stays_on}
+use Rattle.pie_record.specs.declared.dep.Dep.{Dep}
+use Rattle.pie_record.specs.declared.dep.DepOn.TheVariants.{File}
+use Rattle.pie_compare.proofs.Asks.{asks_more}
 use Rattle.pie_compare.proofs.touched.is_any_sight_touched.Goals as goal
+
+abbrev observes : Dep → List ℕ → Type 0
+observes dep p = dep.what ≡ File p
 
 pub returns-then-branch-clause-found : goal.returns-then-branch-clause-found
 returns-then-branch-clause-found g c =
@@ -24,6 +30,8 @@ loop-dep-preserved g c =
           c.loop-dep.named c.is_dep_touched.new.named c.loop-dep.dep-index c.dep-item.result c.in_ok-is_dep_touched.field-0 before.0 before.3
           c.loop-dep-test.true c.dep-item.is c.if-branch.false before.4 c.in_ok-is_dep_touched.ensures.answer,
       stays_on c.args.named.now c.loop-dep.named c.is_dep_touched.new.named before.5 c.in_ok-is_dep_touched.ensures.shows.stays,
+      asks_more observes c.args.named.now c.loop-dep.named c.args.deps.now c.loop-dep.dep-index c.dep-item.result (g.F.Files.asked c.args.files.now)
+          (g.F.Files.asked c.loop-dep.files) (g.F.Files.asked c.is_dep_touched.new.files) c.loop-dep-test.true c.dep-item.is before.3 before.6 c.is_dep_touched.ensures.asks,
     )
 
 pub returns-clause-found : goal.returns-clause-found
@@ -38,3 +46,15 @@ returns-then-branch-clause-shows g c =
 
 pub returns-clause-shows : goal.returns-clause-shows
 returns-clause-shows g c = shows_none c.args.named.now c.loop-dep.named (SomeSightKnown c.loop-dep.named c.args.deps.now) c.loop-dep.invariant.5
+
+pub returns-in_err-is_dep_touched-clause-asks : goal.returns-in_err-is_dep_touched-clause-asks
+returns-in_err-is_dep_touched-clause-asks g c =
+    let before = c.loop-dep.invariant in
+    asks_more observes c.args.named.now c.loop-dep.named c.args.deps.now c.loop-dep.dep-index c.dep-item.result (g.F.Files.asked c.args.files.now)
+    (g.F.Files.asked c.loop-dep.files) (g.F.Files.asked c.is_dep_touched.new.files) c.loop-dep-test.true c.dep-item.is before.3 before.6 c.is_dep_touched.ensures.asks
+
+pub returns-then-branch-clause-asks : goal.returns-then-branch-clause-asks
+returns-then-branch-clause-asks g c =
+    let before = c.loop-dep.invariant in
+    asks_more observes c.args.named.now c.loop-dep.named c.args.deps.now c.loop-dep.dep-index c.dep-item.result (g.F.Files.asked c.args.files.now)
+    (g.F.Files.asked c.loop-dep.files) (g.F.Files.asked c.is_dep_touched.new.files) c.loop-dep-test.true c.dep-item.is before.3 before.6 c.is_dep_touched.ensures.asks

@@ -4,6 +4,7 @@ use Rattle.pie_files.proofs.Reading.{both_before}
 use Rattle.pie_diff.specs.Hashes.{hash_in}
 use Rattle.pie_diff.specs.inner.Held.{SetsOut}
 use Rattle.pie_diff.proofs.Adding.{look_step}
+use Rattle.pie_diff.proofs.Asking.{looks_more}
 use Rattle.pie_diff.proofs.known.look_at.Goals as goal
 
 pub loop-path-preserved : goal.loop-path-preserved
@@ -19,4 +20,11 @@ loop-path-preserved g c =
           (subst (λ o. IfSome o (λ d. SetsOut c.loop-path.held c.look.new.self c.path-item.result (hash_in d c.path-item.result))) before.0
           c.in_ok-look.ensures.seen)
           before.3,
+      looks_more c.args.names.now c.loop-path.path-index c.path-item.result (g.F.Files.asked c.args.files.now) (g.F.Files.asked c.loop-path.files)
+          (g.F.Files.asked c.look.new.files) c.loop-path-test.true c.path-item.is before.4 c.look.ensures.asks,
     )
+
+pub returns-in_err-look-clause-asks : goal.returns-in_err-look-clause-asks
+returns-in_err-look-clause-asks g c =
+    looks_more c.args.names.now c.loop-path.path-index c.path-item.result (g.F.Files.asked c.args.files.now) (g.F.Files.asked c.loop-path.files)
+    (g.F.Files.asked c.look.new.files) c.loop-path-test.true c.path-item.is c.loop-path.invariant.4 c.look.ensures.asks
