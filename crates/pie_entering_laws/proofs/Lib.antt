@@ -1,0 +1,4 @@
+pub mod Alike
+pub mod Answering
+pub mod Following
+pub mod Entered
