@@ -44,7 +44,8 @@ use Rattle.pie_bottomup.specs.declared.state.Turn.{Turn}
 use Rattle.pie_bottomup.specs.declared.state.Turn.TheVariants.{Went, Settled, StartAfresh}
 use Rattle.pie_bottomup.specs.inner.Exact.{IsExactCore, IsUnchanged}
 use Rattle.pie_bottomup.specs.inner.Going.{IsBuildNow}
-use Rattle.pie_bottomup.specs.inner.Ran.{HasReason, KnowsCode, HasRunAs, IsEntered, SettlesFor}
+use Rattle.pie_bottomup.specs.inner.Causes.{HasRunAs}
+use Rattle.pie_bottomup.specs.inner.Ran.{HasReason, KnowsCode, IsEntered, SettlesFor}
 use Rattle.pie_bottomup.specs.inner.States.{HasSettled, TurnsTo, GoesTo}
 use Rattle.pie_bottomup.proofs.ExactGrowing.{marked_inside}
 use Rattle.pie_bottomup.proofs.ExactResults.{roots_settle}

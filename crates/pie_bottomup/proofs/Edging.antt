@@ -221,7 +221,7 @@ module _ (u : Update) (c : Core) (no : TaskNo) (from : ℕ) (w : Caller) (callee
           inr (one_some p.caller.required v (sym required ∙ ap (slice_get c.tables.names) (only_one p.callee.0 b one) ∙ to))
 
   -- what a row requires is a union edge
-  calls_edge : (a b : ℕ) (t v : Task) → slice_get c.tables.names a ≡ Some t → slice_get c.tables.names b ≡ Some v → Calls c.frames.walk.rows a b
+  pub calls_edge : (a b : ℕ) (t v : Task) → slice_get c.tables.names a ≡ Some t → slice_get c.tables.names b ≡ Some v → Calls c.frames.walk.rows a b
       → HasUnionEdge u t v
   calls_edge a b t v named to calls = by (runs (mark_of c.frames.walk.marks a)) refl
     where

@@ -52,10 +52,12 @@ use Rattle.pie_core_laws.proofs.Joined.{loaded_begin, names_grow, same_codes}
 use Rattle.pie_bottomup.specs.declared.plan.Plan.{Plan}
 use Rattle.pie_bottomup.specs.declared.state.Core.{Core}
 use Rattle.pie_bottomup.specs.declared.state.First.TheVariants.{Tests, Done}
+use Rattle.pie_bottomup.specs.inner.Causes.{AreTried}
 use Rattle.pie_bottomup.specs.inner.Tested.{AreHeld, AreAsBefore, Learns}
 use Rattle.pie_bottomup.specs.inner.Exact.{IsPlanNow, KnowsTouched, AreWritten, AreUnchanged, WaitsAsOld, HoldsAsOld, AreExact}
 use Rattle.pie_bottomup.specs.inner.Exact.{IsExactCore, IsLoadedCore}
 use Rattle.pie_bottomup.specs.inner.Loaded.{IsLoadedFrom, IsUnmet, IsInformedOf, BeginsExact}
+use Rattle.pie_bottomup.proofs.Trying.{tried_loaded}
 
 -- ---- what was loaded
 
@@ -81,16 +83,17 @@ pub loaded_core : (funcs digests : List (List ℕ × List ℕ)) (kept : List Tas
     → All IsTrueRecord kept → (c.first ≡ Tests → IsLoadedFrom kept c) → IsUnmet c → IsInformedOf funcs digests changes c → BeginsExact funcs digests kept changes c
 loaded_core funcs digests kept changes c storable parts loaded unmet informed = λ u stored first.
     let from = loaded first in
+    let is : IsLoaded u c.tables.names c.tables.records c.frames.walk = loaded_begin u kept c.tables c.frames.walk (record {
+      stored = stored.rows;
+      storable = storable;
+      tables = from.tables;
+      tasks = unmet.tasks;
+      rows = from.rows;
+      looks = from.looks;
+      unmet = unmet.unmet;
+    }) in
     record {
-      loaded = loaded_begin u kept c.tables c.frames.walk (record {
-        stored = stored.rows;
-        storable = storable;
-        tables = from.tables;
-        tasks = unmet.tasks;
-        rows = from.rows;
-        looks = from.looks;
-        unmet = unmet.unmet;
-      });
+      loaded = is;
       informed = record {
         names = λ p. informed.names.names p ∙ ap (among p) (sym stored.names);
         above = λ p. informed.names.above p ∙ ap (list_any (is_below p)) (sym stored.names);
@@ -108,6 +111,7 @@ loaded_core funcs digests kept changes c storable parts loaded unmet informed = 
         unstaged = λ path. ap (λ staged. content staged n path) unmet.stage;
       };
       counted = from.counted ∙ from.rows.as_many ∙ sym (length-map kept model_record) ∙ ap length stored.rows;
+      sized = from.counted ∙ is.as_many;
     }
 
 -- one name more
@@ -226,6 +230,8 @@ module _ (u : Update) (old new : Core) (plan : IsPlanNow u old.plan) (l : IsLoad
   tested_exact parked free = record {
     tested = refl;
     counted = learns.earlier ∙ l.counted;
+    tried = subst (λ k. AreTried u k new.tables.names) (sym learns.earlier)
+        (subst (λ (t : Tables). AreTried u old.earlier t.names) (sym learns.tables) (tried_loaded u old l));
     are = are_now;
     parked = subst (All (WaitsAsOld new.tables new.frames.walk.rows)) (sym parked) (All-nil (WaitsAsOld new.tables new.frames.walk.rows));
     hand = subst (HoldsAsOld new.tables new.frames.walk.rows) (sym free) tt;

@@ -42,6 +42,7 @@ use Rattle.pie_core_laws.proofs.Kept.{kept_stays}
 use Rattle.pie_bottomup.specs.declared.state.Core.{Core}
 use Rattle.pie_bottomup.specs.inner.Finished.{HasFinished, HasSameEdges, end_row}
 use Rattle.pie_bottomup.specs.inner.Finished as told
+use Rattle.pie_bottomup.specs.inner.Causes.{AreTried}
 use Rattle.pie_bottomup.specs.inner.Exact.{IsPlanNow, KnowsTouched, AreWritten, IsUnchanged, AreUnchanged, BeginsAsOld, WaitsAsOld, HoldsAsOld, AreExact}
 use Rattle.pie_bottomup.specs.inner.Exact.{IsExactCore, IsTakenExact, EndedRight}
 use Rattle.pie_bottomup.proofs.Exactly.{nothing_staged, marked_apart}
@@ -217,6 +218,7 @@ kept_exact u c f task plan taken holds flag stands same parked rests =
     record {
       tested = e.tested;
       counted = e.counted;
+      tried = e.tried;
       are = subst (λ (z : WalkState). AreExact u c.named c.plan.same.items t z c.stage) (sym same) (record {
         tables = stays.0.exact;
         known = known_one s (settled s task.0) task.0 one u c.named c.plan.same.items t t refl (λ k d. refl) e.are.known;
@@ -309,6 +311,7 @@ module _ (u : Update) (c : Core) (f : Frames) (t : Tables) (task : TaskNo) (from
   ended_exact right = record {
     tested = e.tested;
     counted = e.counted;
+    tried = subst (AreTried u c.earlier) (sym names) e.tried;
     are = record {
       tables = tables_after right;
       known = known_one c.frames.walk f.walk task.0 one u c.named c.plan.same.items c.tables t names put_there e.are.known;

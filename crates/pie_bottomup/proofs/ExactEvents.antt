@@ -54,6 +54,7 @@ pub staged_exact : (u : Update) (c : Core) (later : Staged) (n : ℕ) → runs (
 staged_exact u c later n run same e = record {
   tested = e.tested;
   counted = e.counted;
+  tried = e.tried;
   are = record {
     tables = e.are.tables;
     known = e.are.known;
@@ -231,6 +232,7 @@ module _ (u : Update) (c : Core) (later : Staged) (writer : ℕ) (path bytes : L
   file_exact = record {
     tested = e.tested;
     counted = e.counted;
+    tried = e.tried;
     are = record {
       tables = e.are.tables;
       known = e.are.known;

@@ -39,10 +39,12 @@ use Rattle.pie_core_laws.proofs.Grown.{new_stays}
 use Rattle.pie_core_laws.proofs.Visited.{requires_move}
 use Rattle.pie_bottomup.specs.declared.state.Core.{Core}
 use Rattle.pie_bottomup.specs.declared.state.InHand.{InHand}
+use Rattle.pie_bottomup.specs.inner.Causes.{AreTried, IsTried}
 use Rattle.pie_bottomup.specs.inner.Exact.{KnowsTouched, AreWritten, BeginsAsOld, WaitsAsOld, HoldsAsOld}
 use Rattle.pie_bottomup.specs.inner.Exact.{IsExactCore, IsTakenExact}
 use Rattle.pie_bottomup.proofs.Exactly.{are_moved}
 use Rattle.pie_bottomup.proofs.ExactEnding.{waits_apart}
+use Rattle.pie_bottomup.proofs.Trying.{tried_more}
 
 -- ---- one task more
 
@@ -137,11 +139,12 @@ module _ (u : Update) (c : Core) (f : Frames) (t : Tables) (task : Task) (e : Is
         record { rested = ran_same n ∙ was.rested; unstaged = was.unstaged };
   }
 
-  pub grown_exact : IsTables c.tables → Stands f.walk → AreTasks t.names → length c.tables.names ≡ length c.frames.walk.rows
+  pub grown_exact : IsTried u task → IsTables c.tables → Stands f.walk → AreTasks t.names → length c.tables.names ≡ length c.frames.walk.rows
       → length c.frames.walk.rows < 50000 → f.parked ≡ c.frames.parked → IsExactCore u (record c { frames = f; tables = t })
-  grown_exact tables v tasks sized few parked = record {
+  grown_exact tried tables v tasks sized few parked = record {
     tested = e.tested;
     counted = e.counted;
+    tried = subst (AreTried u c.earlier) (sym names) (tried_more u c.earlier c.tables.names task e.tried tried);
     are = record {
       tables = subst (λ (ns : List Task). IsExact u ns t.records f.walk) (sym names)
           (subst (λ (rs : Records). IsExact u (c.tables.names ++ task ∷ []) rs f.walk) (sym records)
@@ -195,6 +198,7 @@ parked_exact u c f task p e holds has number callee within begins free =
     record {
       tested = e.tested;
       counted = e.counted;
+      tried = e.tried;
       are = are_moved u c.named c.plan.same.items c.tables s f.walk c.stage e.are w has.rests.stands
           (subst (Moves s) (sym has.walk) (requires_move s f.walk.places task.0 p.callee w (ap runs (top_runs s task holds.top w.holds)) callee));
       parked = subst (All (WaitsAsOld c.tables f.walk.rows)) (sym has.parked)
@@ -279,6 +283,7 @@ module _ (u : Update) (c : Core) (t : Tables) (task : TaskNo) (h : InHand) (take
   started_exact number from = record {
     tested = taken.exact.tested;
     counted = taken.exact.counted;
+    tried = subst (AreTried u c.earlier) (sym names) taken.exact.tried;
     are = record {
       tables = subst (λ (ns : List Task). IsExact u ns t.records c.frames.walk) (sym names)
           (subst (λ (rs : Records). IsExact u c.tables.names rs c.frames.walk) (sym records) taken.exact.are.tables);

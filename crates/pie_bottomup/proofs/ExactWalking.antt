@@ -60,6 +60,7 @@ over_exact u c f e rests over =
     record {
       tested = e.tested;
       counted = e.counted;
+      tried = e.tried;
       are = are_moved u c.named c.plan.same.items c.tables s f.walk c.stage e.are w v (walks_move s f.walk w v over.ended.walks);
       parked = subst (All (WaitsAsOld c.tables f.walk.rows)) (sym over.parked) (All-nil (WaitsAsOld c.tables f.walk.rows));
       hand = hand_on_rows c.tables s.rows f.walk.rows (walks_rows s f.walk over.ended.walks) c.hand e.hand;
@@ -72,4 +73,4 @@ begun_exact u c f root e rests after l same parked =
     let w = rests.stands in
     let on = core_moved u c f e w after.stands (subst (Moves s) (sym same) (begins_move s root w l))
     (ap (λ (z : WalkState). z.rows) same ∙ met_rows s root) (ap (λ ps. ps.items) parked) in
-    record { tested = on.tested; counted = on.counted; are = on.are; parked = on.parked; hand = on.hand }
+    record { tested = on.tested; counted = on.counted; tried = on.tried; are = on.are; parked = on.parked; hand = on.hand }

@@ -103,6 +103,7 @@ pub core_moved : (u : Update) (c : Core) (f : Frames) → IsExactCore u c → St
 core_moved u c f e w v m rows parked = record {
   tested = e.tested;
   counted = e.counted;
+  tried = e.tried;
   are = are_moved u c.named c.plan.same.items c.tables c.frames.walk f.walk c.stage e.are w v m;
   parked = subst (All (WaitsAsOld c.tables f.walk.rows)) (sym parked)
       (waits_on_rows c.tables c.frames.walk.rows f.walk.rows rows c.frames.parked.items e.parked);
@@ -119,6 +120,7 @@ core_unparked u c f p e w v m rows parked =
       record {
         tested = e.tested;
         counted = e.counted;
+        tried = e.tried;
         are = are_moved u c.named c.plan.same.items c.tables c.frames.walk f.walk c.stage e.are w v m;
         parked = all.0;
         hand = hand_on_rows c.tables c.frames.walk.rows f.walk.rows rows c.hand e.hand;

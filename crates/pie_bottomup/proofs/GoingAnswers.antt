@@ -145,7 +145,7 @@ module _ (u : Update) (c : Core) (task : TaskNo) (p : Parked) (now : IsBuildNow 
       → BeginsAsOld c.tables c.frames.walk.rows task.0 p.from
       → IsWhole u (record c { hand = Some (record { no = task; from = p.from; task = f }) })
   caller_works v f site is told begins = record {
-    exact = record { tested = e.tested; counted = e.counted; are = e.are; parked = e.parked; hand = begins };
+    exact = record { tested = e.tested; counted = e.counted; tried = e.tried; are = e.are; parked = e.parked; hand = begins };
     going = record {
       work = answered_work (site_of u c) (build_of c) p.caller (callers_up c.frames.parked.items) p.callee.0 rec v 0 f from.none has_settled
           (record {

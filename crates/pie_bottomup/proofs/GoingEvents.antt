@@ -78,6 +78,7 @@ use Rattle.pie_bottomup.proofs.Going.{is_met}
 use Rattle.pie_bottomup.proofs.GoingAnswers.{may_end}
 use Rattle.pie_bottomup.proofs.GoingOn.{callers_push}
 use Rattle.pie_bottomup.proofs.GoingRoots.{met_runs, grown_comes, grown_meets}
+use Rattle.pie_bottomup.proofs.Trying.{tried_required}
 
 -- ---- it ends
 
@@ -184,13 +185,13 @@ parks_goes c new task from w t how caller k r same left small named =
 
 -- a new one
 pub grows_goes : {E : Type 0} (c mid new : Core) (task : TaskNo) (from : ℕ) (d : Caller) (callee : TaskNo) (r : Result Turn E) → mid.plan ≡ c.plan
-    → IsSite c → Stands c.frames.walk → Stands mid.frames.walk → HasGrown c d.required mid → callee.0 ≡ length c.frames.walk.rows → AddsExact c mid
+    → IsSite c → Stands c.frames.walk → Stands mid.frames.walk → HasGrown c d.required mid → callee.0 ≡ length c.frames.walk.rows → AddsExact c d.required mid
     → StillBegins c mid task.0 from → 0 < d.waiting.notes.left → is_small_task d.required ≡ true
     → IfOk r (ParksWhole mid task.0 from d callee.0 new) → IfOk r (RequiresWhole c task from d new)
 grows_goes c mid new task from d callee r plan site w v grown last adds still left small =
     if_ok_more (ParksWhole mid task.0 from d callee.0 new) (RequiresWhole c task from d new)
     (λ turn parks u now e begins asks.
-    parks u (subst (IsBuildNow u) (sym plan) now) (adds v u e) (still begins)
+    parks u (subst (IsBuildNow u) (sym plan) now) (adds v u (tried_required u c d.waiting d.required d.how e left small asks) e) (still begins)
     (subst (λ ps. MayMeet u mid (d ∷ callers_up ps.items) callee.0) (sym grown.parked)
     (subst (λ (p : Plan). MayMeet u (record mid { plan = p }) (d ∷ callers_up c.frames.parked.items) callee.0) (sym plan)
     (grown_meets u c mid d.required e site.tables w v site.sized grown.few grown asks.none (d ∷ callers_up c.frames.parked.items) callee.0 last asks.marked
@@ -212,7 +213,7 @@ done_goes c new task from n v b o r same is = subst (λ (x : Outcome). IfOk r (N
 pub told_whole : (u : Update) (c : Core) (task : TaskNo) (from : ℕ) (f : RunningTask) → IsExactCore u c → BeginsAsOld c.tables c.frames.walk.rows task.0 from
     → GoesOn u c task.0 (GoesOnAs f) → IsWhole u (record c { hand = Some (record { no = task; from = from; task = f }) })
 told_whole u c task from f e begins on = record {
-  exact = record { tested = e.tested; counted = e.counted; are = e.are; parked = e.parked; hand = begins };
+  exact = record { tested = e.tested; counted = e.counted; tried = e.tried; are = e.are; parked = e.parked; hand = begins };
   going = record {
     work = record { runs = on.goes; none = on.alone.none };
     marked = λ n is. by n is (same_or_not task.0 n);
@@ -373,5 +374,5 @@ event_whole held old new h r core some =
     (λ turn goes u now site stands.
     let whole = in_hand_whole u old h some core stands in
     let working = subst (Goes u old) some whole.going in
-    goes u now site (record { tested = whole.exact.tested; counted = whole.exact.counted; are = whole.exact.are; parked = whole.exact.parked; hand = tt })
+    goes u now site (record { tested = whole.exact.tested; counted = whole.exact.counted; tried = whole.exact.tried; are = whole.exact.are; parked = whole.exact.parked; hand = tt })
     (subst (HoldsAsOld old.tables old.frames.walk.rows) some whole.exact.hand) (record { work = working.work; marked = working.marked })) r

@@ -28,6 +28,7 @@ use Rattle.pie_bottomup.specs.inner.Going.{TakesWhole, StartsWhole, EndsWhole, M
 use Rattle.pie_bottomup.proofs.ExactSteps.{if_ok_more, no_function, lost_row, lost_begins}
 use Rattle.pie_bottomup.proofs.GoingEnds.{lost_alone, lost_ends}
 use Rattle.pie_bottomup.proofs.GoingRoots.{grown_comes, grown_meets}
+use Rattle.pie_bottomup.proofs.Trying.{root_tried}
 
 pub lost_goes : {E : Type 0} (old new : Core) (task : TaskNo) (from : ℕ) (t : Task) (rec : TaskRecord) (r : Result Turn E) → Holds task old.frames
     → slice_get old.tables.names task.0 ≡ Some t → IsCanonicalTask t (enc_task t) → rec ≡ lost_record t
@@ -62,27 +63,28 @@ root_among (r ∷ rs) t h = by (bytes_eq (enc_task t) (enc_task r)) refl (root_a
           | inr later ↦ ap (λ (b : Bool). cond b true (among (enc_task t) (map enc_task rs))) is ∙ below later
         ]
 
+-- the next root is one of the update
+pub root_listed : (u : Update) (c : Core) (root : Task) → IsBuildNow u c.plan → c.at < length c.plan.roots.items
+    → ((d : Task) → get_or c.plan.roots.items c.at d ≡ root) → among (enc_task root) u.roots ≡ true
+root_listed u c root now l next =
+    ap (among (enc_task root)) now.roots
+    ∙ root_among c.plan.roots.items root (subst (Contains c.plan.roots.items) (next root) (Contains-get_or c.plan.roots.items c.at root l))
+
 -- a new root has a number, and is met
 pub root_goes : {E : Type 0} (c mid new : Core) (root : Task) (number : TaskNo) (r : Result Turn E) → mid.plan ≡ c.plan → IsAtRest c
-    → Stands mid.frames.walk → HasGrown c root mid → number.0 ≡ length c.frames.walk.rows → AddsExact c mid
+    → Stands mid.frames.walk → HasGrown c root mid → number.0 ≡ length c.frames.walk.rows → AddsExact c root mid
     → c.at < length c.plan.roots.items → ((d : Task) → get_or c.plan.roots.items c.at d ≡ root) → IfOk r (MeetsWhole mid number.0 new)
     → IfOk r (RootsWhole c new)
 root_goes c mid new root number r plan rests stands grown last adds l next =
     if_ok_more (MeetsWhole mid number.0 new) (RootsWhole c new)
     (λ turn meets u now e going none.
-    meets u (subst (IsBuildNow u) (sym plan) now) (adds stands u e)
+    meets u (subst (IsBuildNow u) (sym plan) now) (adds stands u (root_tried u root (root_listed u c root now l next)) e)
     (subst (λ ps. MayMeet u mid (callers_up ps.items) number.0) (sym grown.parked)
     (subst (λ (p : Plan). MayMeet u (record mid { plan = p }) (callers_up c.frames.parked.items) number.0) (sym plan)
     (grown_meets u c mid root e rests.site.tables rests.rests.stands stands rests.site.sized grown.few grown none (callers_up c.frames.parked.items) number.0 last
     going.marked
     (roots_rest (site_of u c) (build_of c) root (callers_up c.frames.parked.items)
-    (grown_comes u c mid root e rests.site.tables rests.rests.stands stands rests.site.sized grown.few grown none) none (inr (base u now)) going.rest))))) r
-  where
-    base : (u : Update) → IsBuildNow u c.plan → among (enc_task root) u.roots ≡ true
-    base u now =
-        ap (among (enc_task root)) now.roots
-        ∙ root_among c.plan.roots.items root
-        (subst (Contains c.plan.roots.items) (next root) (Contains-get_or c.plan.roots.items c.at root l))
+    (grown_comes u c mid root e rests.site.tables rests.rests.stands stands rests.site.sized grown.few grown none) none (inr (root_listed u c root now l next)) going.rest))))) r
 
 -- a root that has a number is met
 pub meets_root : {E : Type 0} (c new : Core) (k : ℕ) (r : Result Turn E) → IfOk r (MeetsWhole c k new) → IfOk r (RootsWhole c new)

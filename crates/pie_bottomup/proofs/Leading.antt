@@ -37,15 +37,12 @@ use Rattle.pie_bottomup.specs.inner.Ran.{IsReachedAt}
 use Rattle.pie_bottomup.specs.inner.Running.{IsCaller as IsCallerOf}
 use Rattle.pie_bottomup.specs.inner.States.{IsSite, IsBased}
 use Rattle.pie_bottomup.proofs.Edging.{HasFrame, has_frame, within_reversed, from_reversed, resting_edge, waits_edge}
+use Rattle.pie_bottomup.proofs.Rings.{leads_on}
 use Rattle.pie_bottomup.proofs.Sites.{site_taken}
 
 -- ---- one edge more
 
-leads_on : {A : Type 0} (goes : A → A → Type 0) (x : A) (xs : List A) (y z : A) → Leads goes x xs y → goes y z → Leads goes x (xs ++ y ∷ []) z
-leads_on goes x [] y z one next = (one, next)
-leads_on goes x (v ∷ vs) y z is next = (is.0, leads_on goes v vs y z is.1 next)
-
-reached_next : (u : Update) (t v : Task) → IsReached u t → HasUnionEdge u t v → IsReached u v
+pub reached_next : (u : Update) (t v : Task) → IsReached u t → HasUnionEdge u t v → IsReached u v
 reached_next u t v is edge = record { root = is.root; listed = is.listed; leads = inr (by is.leads) }
   where
     by : (is.root ≡ t) ⊎ ((between : List Task) × Leads (HasUnionEdge u) is.root between t)
@@ -112,7 +109,7 @@ calls_above needs marks u (Visit task next) come = let at = come.here u refl in 
 calls_above needs marks u (Waits task) come = come.here u refl
 
 -- the top of a stack, where its base is a root, and calls are union edges
-stack_reached : (u : Update) (roots names : List Task) (rows : List Row) (marks : List Mark) (above : Option ℕ) (e : Entry) (es : List Entry)
+pub stack_reached : (u : Update) (roots names : List Task) (rows : List Row) (marks : List Mark) (above : Option ℕ) (e : Entry) (es : List Entry)
     → length names ≡ length rows → ((r : Task) → Contains roots r → among (enc_task r) u.roots ≡ true) → IsBased roots names (e ∷ es)
     → ((a b : ℕ) (t v : Task) → slice_get names a ≡ Some t → slice_get names b ≡ Some v → Calls rows a b → HasUnionEdge u t v)
     → AreEntries rows marks above (e ∷ es) → (t : Task) → slice_get names (no_of e) ≡ Some t → IsReached u t

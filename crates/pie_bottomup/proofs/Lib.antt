@@ -1,4 +1,5 @@
 pub mod Agreeing
+pub mod Asking
 pub mod Basing
 pub mod Beginning
 pub mod Calling
@@ -37,6 +38,9 @@ pub mod Owning
 pub mod Parts
 pub mod Reasoning
 pub mod Rings
+pub mod Ringing
+pub mod Trying
+pub mod Overflowing
 pub mod Settling
 pub mod Shown
 pub mod Sites

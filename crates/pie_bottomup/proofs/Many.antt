@@ -1,12 +1,12 @@
 -- A build of too many old tasks starts afresh.
-use Rattle.std.proofs.Common.{◌≡◌, Some, None, Result, Ok, Err, sym, ◌∙◌, inl, inr}
-use Rattle.std.specs.Prelude.{IfOk}
+use Rattle.std.proofs.Common.{◌≡◌, List, Some, None, Result, Ok, Err, refl, sym, ◌∙◌, inl, inr}
+use Rattle.std.specs.Prelude.{IfOk, OnOk}
 use Rattle.pie_value.specs.declared.task.Task.{Task}
 use Rattle.pie_bottomup.specs.declared.state.Core.{Core}
 use Rattle.pie_bottomup.specs.declared.state.First.TheVariants.{Tests, TooMany, Done}
 use Rattle.pie_bottomup.specs.declared.state.InHand.{InHand}
 use Rattle.pie_bottomup.specs.declared.state.Turn.{Turn}
-use Rattle.pie_bottomup.specs.inner.Many.{StopsForMany}
+use Rattle.pie_bottomup.specs.inner.Many.{StartsNoneForMany, StopsForMany}
 use Rattle.pie_bottomup.specs.inner.States.{IsCore}
 
 -- there aren't too many where they are to be tested, or were
@@ -31,3 +31,18 @@ hand_many c h result (inl untested) some = absurd (apart h (sym untested.start.h
     apart : (x : InHand) → None ≡ Some x → ⊥
     apart x e = cc
 hand_many c h result (inr going) some = done_many c result going.site.tested
+
+-- ---- the tasks that were started
+
+-- none where none are
+pub same_none : {E : Type 0} (c : Core) (runs : List Task) (result : Result Turn E) → OnOk result (StartsNoneForMany c runs runs)
+same_none c runs (Ok turn) = λ task many. refl
+same_none c runs (Err e) = tt
+
+-- nor is anything said where there aren't too many
+pub done_none : {E : Type 0} (c : Core) (before after : List Task) (result : Result Turn E) → c.first ≡ Done → OnOk result (StartsNoneForMany c before after)
+done_none c before after (Ok turn) is = λ task many. absurd (apart task (sym is ∙ many))
+  where
+    apart : (task : Task) → Done ≡ TooMany task → ⊥
+    apart task e = cc
+done_none c before after (Err e) is = tt

@@ -27,6 +27,12 @@ module _ {A : Type 0} (goes : A → A → Type 0) where
   turned_at : (at : ℕ) (xs : List A) → IsRing goes xs → IsRing goes (drop at xs ++ take at xs)
   turned_at at xs h = turned (take at xs) (drop at xs) (subst (IsRing goes) (sym (take-append-drop at xs)) h)
 
+-- ---- one more
+
+pub leads_on : {A : Type 0} (goes : A → A → Type 0) (x : A) (xs : List A) (y z : A) → Leads goes x xs y → goes y z → Leads goes x (xs ++ y ∷ []) z
+leads_on goes x [] y z one next = (one, next)
+leads_on goes x (v ∷ vs) y z is next = (is.0, leads_on goes v vs y z is.1 next)
+
 -- ---- numbers
 
 leads_from : (goes : ℕ → ℕ → Type 0) (x : ℕ) (xs : List ℕ) (y : ℕ)
@@ -43,7 +49,7 @@ leads_from goes x (z ∷ zs) y each closes = (
     later : (i : ℕ) → suc i + 1 ≡ suc (i + 1)
     later i = omega arith
 
-ring_numbers : (goes : ℕ → ℕ → Type 0) (ns : List ℕ) → cycles.IsRing goes ns → IsRing goes ns
+pub ring_numbers : (goes : ℕ → ℕ → Type 0) (ns : List ℕ) → cycles.IsRing goes ns → IsRing goes ns
 ring_numbers goes [] ring = absurd (omega (arith, ring.some))
 ring_numbers goes (n ∷ ns) ring = leads_from goes n ns n ring.each ring.closes
 

@@ -1,4 +1,5 @@
 -- Definitions that no clause of `pie_cli::run` rests on: invariants, and what functions say to each other.
+pub mod Asked
 pub mod Causes
 pub mod Ended
 pub mod Exact

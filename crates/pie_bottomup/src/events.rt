@@ -4,6 +4,8 @@ ghost use Rattle.pie_files.specs.Reading.{ReadsOnly};
 ghost use Rattle.pie_running.specs.inner.Frames.{IsWaiting};
 ghost use Rattle.pie_frames.specs.inner.Standing.{Holds};
 ghost use Rattle.pie_bottomup.specs.inner.Going.{AsksWhole, GoesWhole, LooksWhole, ToldWhole};
+ghost use Rattle.pie_bottomup.specs.inner.Asked.{GoesAsking, IsAskedBy};
+ghost use Rattle.pie_named.specs.inner.Asking.{AsksFor};
 ghost use Rattle.pie_value.specs.declared.event.Event.TheVariants as events;
 ghost use Rattle.pie_bottomup.specs.inner.States.{IsInHand, IsOwn, IsSite, MayGo, GoesTo, Keeps, Nearer, rest, told_mass};
 
@@ -30,6 +32,7 @@ impl<'a> Core<'a> {
         ensures kept { OnOk result (Keeps self.old self.new) }
         ensures reads { ReadsOnly F.holds F.moment F.left_since F.images F.faults files.old files.new result }
         ensures whole { IfOk result (GoesWhole (F.holds files.old) self.old hand.entry self.new) }
+        ensures asks { GoesAsking self.old hand.entry (F.asked files.old) (F.asked files.new) }
     {
         let InHand { no, from, task } = hand;
         match task.next()? {
@@ -59,6 +62,7 @@ impl<'a> Core<'a> {
         ensures kept { OnOk result (Keeps self.old self.new) }
         ensures reads { ReadsOnly F.holds F.moment F.left_since F.images F.faults files.old files.new result }
         ensures whole { IfOk result (AsksWhole (F.holds files.old) self.old no from waiting.entry event self.new) }
+        ensures asks { AsksFor (IsAskedBy event) (F.asked files.old) (F.asked files.new) }
     {
         match event {
             Event::Exists(path) => self.exists(no, from, waiting, path, files),
@@ -95,6 +99,7 @@ impl<'a> Core<'a> {
         ensures kept { OnOk result (Keeps self.old self.new) }
         ensures reads { ReadsOnly F.holds F.moment F.left_since F.images F.faults files.old files.new result }
         ensures whole { IfOk result (AsksWhole (F.holds files.old) self.old no from waiting.entry (events.Exists path) self.new) }
+        ensures asks { AsksFor (IsAskedBy (events.Exists path)) (F.asked files.old) (F.asked files.new) }
     {
         self.fetch(no, from, &path, files)?;
         self.exists_there(no, from, waiting, path, files)
@@ -119,6 +124,7 @@ impl<'a> Core<'a> {
         ensures kept { OnOk result (Keeps self.old self.new) }
         ensures reads { ReadsOnly F.holds F.moment F.left_since F.images F.faults files.old files.new result }
         ensures whole { IfOk result (LooksWhole (F.holds files.old) self.old no from waiting.entry (events.Exists path) path self.new) }
+        ensures asks { AsksFor (IsAskedBy (events.Exists path)) (F.asked files.old) (F.asked files.new) }
     {
         let told = waiting.exists(&self.sight(no, from), path, files)?;
         Ok(self.told(no, from, told)?)
@@ -144,6 +150,7 @@ impl<'a> Core<'a> {
         ensures kept { OnOk result (Keeps self.old self.new) }
         ensures reads { ReadsOnly F.holds F.moment F.left_since F.images F.faults files.old files.new result }
         ensures whole { IfOk result (AsksWhole (F.holds files.old) self.old no from waiting.entry (events.Read path by) self.new) }
+        ensures asks { AsksFor (IsAskedBy (events.Read path by)) (F.asked files.old) (F.asked files.new) }
     {
         self.fetch(no, from, &path, files)?;
         self.read_there(no, from, waiting, path, by, files)
@@ -169,6 +176,7 @@ impl<'a> Core<'a> {
         ensures kept { OnOk result (Keeps self.old self.new) }
         ensures reads { ReadsOnly F.holds F.moment F.left_since F.images F.faults files.old files.new result }
         ensures whole { IfOk result (LooksWhole (F.holds files.old) self.old no from waiting.entry (events.Read path by) path self.new) }
+        ensures asks { AsksFor (IsAskedBy (events.Read path by)) (F.asked files.old) (F.asked files.new) }
     {
         let told = waiting.read(self.alloc, &self.sight(no, from), path, by, files)?;
         Ok(self.told(no, from, told)?)
@@ -193,6 +201,7 @@ impl<'a> Core<'a> {
         ensures kept { OnOk result (Keeps self.old self.new) }
         ensures reads { ReadsOnly F.holds F.moment F.left_since F.images F.faults files.old files.new result }
         ensures whole { IfOk result (AsksWhole (F.holds files.old) self.old no from waiting.entry (events.Digest path) self.new) }
+        ensures asks { AsksFor (IsAskedBy (events.Digest path)) (F.asked files.old) (F.asked files.new) }
     {
         self.fetch(no, from, &path, files)?;
         self.digest_there(no, from, waiting, path, files)
@@ -217,6 +226,7 @@ impl<'a> Core<'a> {
         ensures kept { OnOk result (Keeps self.old self.new) }
         ensures reads { ReadsOnly F.holds F.moment F.left_since F.images F.faults files.old files.new result }
         ensures whole { IfOk result (LooksWhole (F.holds files.old) self.old no from waiting.entry (events.Digest path) path self.new) }
+        ensures asks { AsksFor (IsAskedBy (events.Digest path)) (F.asked files.old) (F.asked files.new) }
     {
         let told = waiting.digest(&self.sight(no, from), path, files)?;
         Ok(self.told(no, from, told)?)
@@ -241,6 +251,7 @@ impl<'a> Core<'a> {
         ensures kept { OnOk result (Keeps self.old self.new) }
         ensures reads { ReadsOnly F.holds F.moment F.left_since F.images F.faults files.old files.new result }
         ensures whole { IfOk result (AsksWhole (F.holds files.old) self.old no from waiting.entry (events.List dir) self.new) }
+        ensures asks { AsksFor (IsAskedBy (events.List dir)) (F.asked files.old) (F.asked files.new) }
     {
         let told = waiting.list(self.alloc, dir, files)?;
         Ok(self.told(no, from, told)?)

@@ -13,6 +13,7 @@ ghost use Rattle.pie_task_laws.specs.Sights.{sight_by};
 ghost use Rattle.pie_bottomup.specs.inner.Exact.{FetchesExact, FilesExact, Lacks};
 ghost use Rattle.pie_bottomup.specs.inner.Fetched.{Fetches, StagesFile};
 ghost use Rattle.pie_bottomup.specs.inner.Sights.{SeenIsStaged, ShowsOthers, ShowsOut};
+ghost use Rattle.pie_named.specs.inner.Asking.{AsksFor};
 
 use crate::state::Core;
 use pie_base::{OutOfMemory, Path};
@@ -140,6 +141,7 @@ impl<'a> Core<'a> {
         ensures reads { ReadsOnly F.holds F.moment F.left_since F.images F.faults files.old files.new result }
         ensures exact { OnOk result (FetchesExact (F.holds files.old) self.old no.0 from self.new) }
         ensures fetches { OnOk result (Fetches (F.holds files.old) self.old no.0 from path.now self.new) }
+        ensures asks { AsksFor (λ p. p ≡ path.now) (F.asked files.old) (F.asked files.new) }
     {
         if !path.under_out() {
             return Ok(());
@@ -163,6 +165,7 @@ impl<'a> Core<'a> {
         ensures reads { ReadsOnly F.holds F.moment F.left_since F.images F.faults files.old files.new result }
         ensures exact { OnOk result (FilesExact (F.holds files.old) self.old writer.0 path.now self.new) }
         ensures stages { OnOk result (StagesFile (F.holds files.old) self.old writer.0 path.now self.new) }
+        ensures asks { AsksFor (λ p. p ≡ path.now) (F.asked files.old) (F.asked files.new) }
     {
         match files.read(path)? {
             Some(found) => {

@@ -139,7 +139,7 @@ impl<'a> Core<'a> {
         ensures at { self.new.at ≡ self.old.at }
         ensures kept { OnOk result (Keeps self.old self.new) }
         ensures weight { OnOk result (rest self.new ≤ rest self.old) }
-        ensures exact { OnOk result (AddsExact self.old self.new) }
+        ensures exact { OnOk result (AddsExact self.old task self.new) }
         ensures grown { OnOk result (HasGrown self.old task self.new) }
         ensures number { IfOk result (λ no. no.0 ≡ length self.old.frames.walk.rows) }
         ensures begins { (n : ℕ) (from : ℕ) → OnOk result (StillBegins self.old self.new n from) }

@@ -9,7 +9,7 @@ ghost use Rattle.pie_old.specs.inner.Loaded.{IsOld};
 ghost use Rattle.pie_core_laws.specs.Joins.{HasNames};
 ghost use Rattle.pie_bottomup.specs.declared.state.First.TheVariants.{Tests, Done};
 ghost use Rattle.pie_bottomup.specs.inner.States.{IsCore, IsPlanOf, MayBegin, room};
-ghost use Rattle.pie_bottomup.specs.inner.Loaded.{BeginsExact, IsPastLimit};
+ghost use Rattle.pie_bottomup.specs.inner.Loaded.{BeginsExact, BeginsMany, IsPastLimit};
 ghost use Rattle.pie_bottomup.specs.inner.Ran.{BeginsKnowing};
 
 use crate::plan::Plan;
@@ -52,6 +52,7 @@ impl<'a> Core<'a> {
         ensures code { IfOk result (λ c. c.plan.code.now ≡ code.now) }
         ensures exact { IfOk result (BeginsExact image.funcs digests.now image.rows changes.now) }
         ensures many { IfOk result (λ c. IsPastLimit image.rows c.first) }
+        ensures past { IfOk result (BeginsMany image.funcs digests.now image.rows changes.now) }
         ensures knows { IfOk result (BeginsKnowing image.funcs digests.now image.rows changes.now) }
     {
         let named = names_of(alloc, changes)?;

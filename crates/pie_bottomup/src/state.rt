@@ -3,11 +3,12 @@ ghost use Rattle.std.specs.Prelude.{◌≡◌, ◌≤◌, ◌+◌, length, IfOk,
 ghost use Rattle.pie_files.specs.Reading.{ReadsOnly};
 ghost use Rattle.pie_results.specs.inner.Made.{IsEmptyWhereRefused, IsKept};
 ghost use Rattle.pie_bottomup.specs.inner.States.{StartsOne, IsCore, HasSettled, TurnsTo, Nearer, Spends, mass, room};
-ghost use Rattle.pie_bottomup.specs.inner.Many.{StopsForMany};
+ghost use Rattle.pie_bottomup.specs.inner.Many.{StartsNoneForMany, StopsForMany};
 ghost use Rattle.pie_bottomup.specs.inner.Ended.{StoredIf};
 ghost use Rattle.pie_bottomup.specs.inner.Tested.{HasTested};
 ghost use Rattle.pie_bottomup.specs.inner.Going.{StepsWhole};
 ghost use Rattle.pie_bottomup.specs.inner.Ran.{SettlesFor, StepsFor};
+ghost use Rattle.pie_bottomup.specs.inner.Asked.{StepsAsking};
 ghost use Rattle.pie_bottomup.specs.inner.Made.{MadeExact};
 ghost use Rattle.pie_bottomup.specs.declared.state.First.TheVariants.{Tests};
 
@@ -90,8 +91,10 @@ impl<'a> Core<'a> {
         ensures few { length runs.new ≤ length runs.old + room self.old }
         ensures tested { self.old.first ≡ Tests → OnOk result (HasTested (F.holds files.old) self.old self.new) }
         ensures many { IfOk result (StopsForMany self.old) }
+        ensures none { OnOk result (StartsNoneForMany self.old runs.old runs.new) }
         ensures whole { IfOk result (StepsWhole (F.holds files.old) self.old self.new) }
         ensures reasons { OnOk result (StepsFor (F.holds files.old) self.old self.new runs.old runs.new) }
+        ensures asks { StepsAsking self.old (F.asked files.old) (F.asked files.new) }
         ensures all { IfOk result (SettlesFor self.new) }
         ensures reads { ReadsOnly F.holds F.moment F.left_since F.images F.faults files.old files.new result }
     {

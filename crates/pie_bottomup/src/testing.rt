@@ -4,11 +4,13 @@ ghost use Rattle.pie_bottomup.specs.declared.state.First.TheVariants.{Tests};
 ghost use Rattle.pie_bottomup.specs.declared.state.Turn.TheVariants.{Went};
 ghost use Rattle.pie_files.specs.Reading.{ReadsOnly};
 ghost use Rattle.pie_bottomup.specs.inner.States.{StartsOne, IsAtRest, IsDue, IsTested, IsUntested, Keeps, TurnsTo, Nearer, Spends, rest, room};
-ghost use Rattle.pie_bottomup.specs.inner.Many.{StopsForMany};
+ghost use Rattle.pie_bottomup.specs.inner.Many.{StartsNoneForMany, StopsForMany};
 ghost use Rattle.pie_bottomup.specs.inner.Tested.{AreHeld, HasTested, HoldsBy, IsHeld, Learns, OnlySchedules, TaskWasHeld};
 ghost use Rattle.pie_bottomup.specs.inner.Loaded.{TestsExact};
 ghost use Rattle.pie_bottomup.specs.inner.Going.{StepsWhole, TestsWhole};
 ghost use Rattle.pie_bottomup.specs.inner.Ran.{StepsFor};
+ghost use Rattle.pie_bottomup.specs.inner.Asked.{IsTestedPath};
+ghost use Rattle.pie_named.specs.inner.Asking.{AsksFor, IsNamedOrAbove};
 
 use crate::flags::flag_of;
 use crate::state::{Core, First, Turn};
@@ -38,8 +40,10 @@ impl<'a> Core<'a> {
         ensures few { length runs.new ≤ length runs.old + room self.old }
         ensures tested { self.old.first ≡ Tests → OnOk result (HasTested (F.holds files.old) self.old self.new) }
         ensures many { IfOk result (StopsForMany self.old) }
+        ensures none { OnOk result (StartsNoneForMany self.old runs.old runs.new) }
         ensures whole { IfOk result (StepsWhole (F.holds files.old) self.old self.new) }
         ensures reasons { OnOk result (StepsFor (F.holds files.old) self.old self.new runs.old runs.new) }
+        ensures asks { AsksFor (IsTestedPath self.old) (F.asked files.old) (F.asked files.new) }
         ensures reads { ReadsOnly F.holds F.moment F.left_since F.images F.faults files.old files.new result }
     {
         match &self.first {
@@ -67,6 +71,7 @@ impl<'a> Core<'a> {
         ensures exact { OnOk result (TestsExact (F.holds files.old) self.old self.new) }
         ensures whole { OnOk result (TestsWhole (F.holds files.old) self.old self.new) }
         ensures went { IfOk result (λ turn. turn ≡ Went) }
+        ensures asks { AsksFor (IsNamedOrAbove self.old.named) (F.asked files.old) (F.asked files.new) }
         ensures reads { ReadsOnly F.holds F.moment F.left_since F.images F.faults files.old files.new result }
     {
         self.test_all(files)?;
@@ -75,7 +80,7 @@ impl<'a> Core<'a> {
     }
 
     // Schedules each old task whose code or record isn't as it was.
-    #[tactic(auto, using(pie_files::proofs::Reading::reads, crate::proofs::FirstStep::tested_on, crate::proofs::FirstStep::due_more))]
+    #[tactic(auto, using(pie_files::proofs::Reading::reads, crate::proofs::Asking::tests_none, crate::proofs::FirstStep::tested_on, crate::proofs::FirstStep::due_more))]
     fn test_all<F: Files>(&mut self, files: &mut F) -> Result<(), FilesError>
         requires untested { IsUntested self.old }
         ensures tested { OnOk result (IsTested self.old self.new) }
@@ -83,6 +88,7 @@ impl<'a> Core<'a> {
         ensures learns { OnOk result (Learns self.old self.new) }
         ensures only { OnOk result (OnlySchedules self.old self.new) }
         ensures held { OnOk result (HoldsBy (F.holds files.old) self.old self.new (λ d. AreHeld d self.new (length self.old.frames.walk.rows))) }
+        ensures asks { AsksFor (IsNamedOrAbove self.old.named) (F.asked files.old) (F.asked files.new) }
         ensures reads { ReadsOnly F.holds F.moment F.left_since F.images F.faults files.old files.new result }
     {
         let count = self.frames.walk().count();
@@ -102,6 +108,7 @@ impl<'a> Core<'a> {
         ensures learns { OnOk result (Learns self.old self.new) }
         ensures only { OnOk result (OnlySchedules self.old self.new) }
         ensures held { OnOk result (HoldsBy (F.holds files.old) self.old self.new (λ d. IsHeld d self.new no.0)) }
+        ensures asks { AsksFor (IsNamedOrAbove self.old.named) (F.asked files.old) (F.asked files.new) }
         ensures reads { ReadsOnly F.holds F.moment F.left_since F.images F.faults files.old files.new result }
     {
         let due = self.is_due(no, files)?;
@@ -118,6 +125,7 @@ impl<'a> Core<'a> {
         ensures due { IfOk result (λ due. slice_index_or self.old.plan.same.items no.0 false ≡ false → due ≡ true) }
         ensures learns { OnOk result (Learns self.old self.new) }
         ensures held { IfOk result (λ due. HoldsBy (F.holds files.old) self.old self.new (λ d. TaskWasHeld d self.new no.0 due)) }
+        ensures asks { AsksFor (IsNamedOrAbove self.old.named) (F.asked files.old) (F.asked files.new) }
         ensures reads { ReadsOnly F.holds F.moment F.left_since F.images F.faults files.old files.new result }
     {
         if !flag_of(self.plan.same.as_slice(), no) {

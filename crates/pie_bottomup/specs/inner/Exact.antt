@@ -53,7 +53,7 @@ use Rattle.pie_bottomup.specs.declared.plan.Plan.{Plan}
 use Rattle.pie_bottomup.specs.declared.state.Core.{Core}
 use Rattle.pie_bottomup.specs.declared.state.First.TheVariants.{Done}
 use Rattle.pie_bottomup.specs.declared.state.InHand.{InHand}
-use Rattle.pie_bottomup.specs.inner.Causes.{count_old}
+use Rattle.pie_bottomup.specs.inner.Causes.{AreTried, IsTried, count_old}
 use Rattle.pie_bottomup.specs.inner.States.{IsOwn}
 
 -- ---- what never changes
@@ -132,10 +132,11 @@ pub record AreExact (u : Update) (named : Named) (same : List Bool) (t : Tables)
   pub written : AreWritten u t s staged
   pub unchanged : AreUnchanged u same t s
 
--- a build is exact, after its first step, and knows how many old tasks there are
+-- a build is exact, after its first step, and knows how many old tasks there are; each of its tasks is tried
 pub record IsExactCore (u : Update) (c : Core) : Type 0 where
   pub tested : c.first ≡ Done
   pub counted : c.earlier ≡ count_old u
+  pub tried : AreTried u c.earlier c.tables.names
   pub are : AreExact u c.named c.plan.same.items c.tables c.frames.walk c.stage
   pub parked : All (WaitsAsOld c.tables c.frames.walk.rows) c.frames.parked.items
   pub hand : HoldsAsOld c.tables c.frames.walk.rows c.hand
@@ -150,6 +151,7 @@ pub record IsLoadedCore (u : Update) (c : Core) : Type 0 where
   pub parts : (n : ℕ) (rec : TaskRecord) → kept_of c.tables.records n ≡ Some rec → IsTrueRecord rec
   pub unstarted : (n : ℕ) → IsUnstarted c.tables c.stage n
   pub counted : c.earlier ≡ count_old u
+  pub sized : c.earlier ≡ length c.tables.names
 
 -- ---- steps
 
@@ -171,9 +173,9 @@ pub record IsTakenExact (u : Update) (c : Core) (n : ℕ) : Type 0 where
 abbrev pub StaysExact : Core → Core → Type 0
 StaysExact old new = (u : Update) → IsExactCore u old → IsExactCore u new
 
--- so it does with one task more, where the walk stands
-abbrev pub AddsExact : Core → Core → Type 0
-AddsExact old new = Stands new.frames.walk → StaysExact old new
+-- so it does with this task more, where the walk stands and the task is tried
+abbrev pub AddsExact : Core → Task → Core → Type 0
+AddsExact old t new = Stands new.frames.walk → (u : Update) → IsTried u t → IsExactCore u old → IsExactCore u new
 
 -- the row of a task begins still with what its old record requires
 abbrev pub StillBegins : Core → Core → ℕ → ℕ → Type 0

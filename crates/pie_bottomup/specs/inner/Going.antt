@@ -36,11 +36,11 @@ use Rattle.pie_core_laws.specs.Keeping.{Separates}
 use Rattle.pie_task_laws.specs.Whole.{IsNew, NoneIsNew, AreAtRest, IsAtWork, TakesOne, EndsOne, ended}
 use Rattle.pie_bottomup.specs.declared.plan.Plan.{Plan}
 use Rattle.pie_bottomup.specs.declared.state.Core.{Core}
-use Rattle.pie_bottomup.specs.declared.state.First.TheVariants.{Tests, Done}
+use Rattle.pie_bottomup.specs.declared.state.First.TheVariants.{Tests, TooMany, Done}
 use Rattle.pie_bottomup.specs.declared.state.InHand.{InHand}
 use Rattle.pie_bottomup.specs.declared.state.Turn.{Turn}
 use Rattle.pie_bottomup.specs.declared.state.Turn.TheVariants.{Went, Settled, StartAfresh}
-use Rattle.pie_bottomup.specs.inner.Causes.{IsCauseOf}
+use Rattle.pie_bottomup.specs.inner.Causes.{AreManyOld, IsCauseOf}
 use Rattle.pie_bottomup.specs.inner.Exact.{IsPlanNow, IsTakenExact, IsLoadedCore, IsExactCore, BeginsAsOld, EndedRight, IsWaitingFor, OwnsTold, IsSiteNow, lost_task}
 use Rattle.pie_bottomup.specs.inner.Finished.{end_row}
 use Rattle.pie_bottomup.specs.inner.Sights.{SeenIsStaged}
@@ -237,9 +237,10 @@ GoesWhole held old h new t =
     (u : Update) → IsBuildNow u old.plan → IsSiteNow u held → IsExactCore u old → BeginsAsOld old.tables old.frames.walk.rows h.no.0 h.from
     → IsWorking u old h.task → TurnIsWhole u new t
 
--- what holds of a build between two steps: before the first one, unless it has too many old tasks and starts afresh, these are loaded
+-- what holds of a build between two steps: before the first one these are loaded, unless it has too many old tasks and starts afresh
 abbrev pub StandsWhole : Update → Core → Type 0
-StandsWhole u c = ((c.first ≡ Done → ⊥) × (c.first ≡ Tests → IsLoadedCore u c)) ⊎ IsWhole u c
+StandsWhole u c =
+    ((c.first ≡ Done → ⊥) × (c.first ≡ Tests → IsLoadedCore u c) × ((task : Task) → c.first ≡ TooMany task → AreManyOld u task)) ⊎ IsWhole u c
 
 -- a build is whole once its old tasks were held against what is there, if the files tell that
 abbrev pub TestsWhole : Option Directory → Core → Core → Type 0

@@ -1,5 +1,5 @@
 -- A build that begins with too many old tasks.
-use Rattle.std.specs.Prelude.{◌≡◌}
+use Rattle.std.specs.Prelude.{◌≡◌, List}
 use Rattle.pie_store.specs.declared.cause.Cause.TheVariants.{UnionMany}
 use Rattle.pie_value.specs.declared.task.Task.{Task}
 use Rattle.pie_bottomup.specs.declared.state.Core.{Core}
@@ -10,3 +10,7 @@ use Rattle.pie_bottomup.specs.declared.state.Turn.TheVariants.{StartAfresh}
 -- its first step starts afresh for that
 abbrev pub StopsForMany : Core → Turn → Type 0
 StopsForMany c t = (task : Task) → c.first ≡ TooMany task → t ≡ StartAfresh (UnionMany 50000 0 task)
+
+-- and starts no task
+abbrev pub StartsNoneForMany : Core → List Task → List Task → Type 0
+StartsNoneForMany c before after = (task : Task) → c.first ≡ TooMany task → after ≡ before

@@ -19,7 +19,7 @@ use Rattle.pie_bottomup.specs.declared.state.Core.{Core}
 use Rattle.pie_bottomup.specs.declared.state.First.TheVariants.{Tests}
 use Rattle.pie_bottomup.specs.declared.state.Turn.{Turn}
 use Rattle.pie_bottomup.specs.declared.state.Turn.TheVariants.{Went, Settled, StartAfresh}
-use Rattle.pie_bottomup.specs.inner.Causes.{IsReached}
+use Rattle.pie_bottomup.specs.inner.Causes.{HasRunAs, IsReached}
 use Rattle.pie_bottomup.specs.inner.Exact.{IsSiteNow, IsExactCore, IsTakenExact}
 use Rattle.pie_bottomup.specs.inner.Going.{IsBuildNow, IsResting, StandsWhole}
 use Rattle.pie_bottomup.specs.inner.States.{NoMoreRan}
@@ -106,12 +106,6 @@ StepsFor held old new before after =
     → KnowsCode u funcs digests old.plan.same.items old.tables → RunsFor u funcs digests old.tables new.tables before after
 
 -- ---- once the roots are settled
-
--- a task has run
-pub record HasRunAs (t : Tables) (task : Task) : Type 0 where
-  pub number : ℕ
-  pub named : slice_get t.names number ≡ Some task
-  pub ran : IsMarked t.ran.items number
 
 -- a clean build enters a task, which is of a function of the pipeline
 pub record IsEntered (u : Update) (t : Task) : Type 0 where

@@ -22,9 +22,9 @@ returns-clause-own c =
     own_grown c.args.self.now c.add.new.self c.add-2.new.self c.args.task c.in_ok-no.ensures.added c.in_ok-_same.ensures.added c.add-2.ensures.records
 
 pub returns-clause-exact : goal.returns-clause-exact
-returns-clause-exact c = λ stands u e.
+returns-clause-exact c = λ stands u tried e.
     grown_exact u c.args.self.now c.add.new.self c.add-2.new.self c.args.task e c.requires.stands c.in_ok-no.ensures.added c.in_ok-_same.ensures.added
-    c.add-2.ensures.records c.in_ok-_same.ensures.ran c.requires.site.tables stands
+    c.add-2.ensures.records c.in_ok-_same.ensures.ran tried c.requires.site.tables stands
     (record { distinct = c.as_slice-names.ensures.distinct; canonical = c.as_slice-names.ensures.canonical }) c.requires.site.sized c.requires.few
     c.add.ensures.parked
 

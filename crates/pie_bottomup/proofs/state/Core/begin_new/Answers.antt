@@ -1,5 +1,6 @@
 use Rattle.pie_bottomup.proofs.Counting.{full_cause}
-use Rattle.pie_bottomup.proofs.GoingSteps.{root_goes}
+use Rattle.pie_bottomup.proofs.GoingSteps.{root_goes, root_listed}
+use Rattle.pie_bottomup.proofs.Trying.{root_tried}
 use Rattle.pie_bottomup.specs.inner.States.{Keeps}
 use Rattle.pie_bottomup.proofs.ExactSteps.{if_ok_more}
 use Rattle.pie_bottomup.proofs.Keeping.{keeps_then}
@@ -19,4 +20,5 @@ returns-clause-kept c =
 pub returns-then-is_full-clause-whole : goal.returns-then-is_full-clause-whole
 returns-then-is_full-clause-whole c = λ u now e resting none.
     full_cause u c.args.self.now c.args.root c.too_many.result c.is_full.result e c.is_full.ensures.full c.if-is_full.true c.is_full.ensures.most
-    c.requires.absent c.too_many.ensures
+    c.requires.absent c.too_many.ensures c.requires.rests.rests.stands none resting.marked
+    (root_tried u c.args.root (root_listed u c.args.self.now c.args.root now c.requires.at c.requires.next))

@@ -1,5 +1,6 @@
 use Rattle.std.proofs.Common.{Ok}
 use Rattle.pie_bottomup.proofs.GoingEvents.{asks_goes, hand_done, hand_fails}
+use Rattle.pie_bottomup.proofs.Asking.{hand_asks}
 use Rattle.pie_bottomup.proofs.state.Core.event.Goals as goal
 
 pub returns-in-Asks-clause-whole : goal.returns-in-Asks-clause-whole
@@ -18,3 +19,9 @@ returns-in_ok-fail-in-Fails-clause-whole g c =
     hand_fails {E = Unit {0}} (g.F.Files.holds c.args.files.now) c.args.self.now c.fail.new.self c.args.hand c.in_ok-waiting.field-0 c.in-Fails.notes c.in-Fails.kind
     (Ok c.in_ok-fail-in-Fails.field-0) c.requires.hand.holds c.requires.hand.own c.in-Fails.is
     (record { comes = c.in_ok-waiting.ensures.comes; means = c.in_ok-waiting.ensures.means }) c.in_ok-fail-in-Fails.ensures.whole
+
+pub returns-in-Asks-clause-asks : goal.returns-in-Asks-clause-asks
+returns-in-Asks-clause-asks g c =
+    hand_asks c.args.self.now c.args.hand c.in_ok-waiting.field-0 c.in-Asks.waiting c.in-Asks.event (g.F.Files.asked c.args.files.now)
+    (g.F.Files.asked c.treat.new.files) c.in-Asks.is (record { comes = c.in_ok-waiting.ensures.comes; means = c.in_ok-waiting.ensures.means })
+    c.treat.ensures.asks

@@ -1,3 +1,7 @@
+use Rattle.std.proofs.Common.{◌≡◌}
+use Rattle.pie_named.specs.inner.Asking.{LooksAt}
+use Rattle.pie_named.proofs.Calls.{asks_as, calls_then}
+use Rattle.pie_bottomup.specs.inner.Asked.{IsAskedBy}
 use Rattle.pie_value.specs.declared.event.Event.TheVariants as events
 use Rattle.pie_bottomup.proofs.Twice.{reads_then}
 use Rattle.pie_bottomup.proofs.GoingLooks.{fetched_looks}
@@ -11,3 +15,10 @@ returns-clause-whole g c =
     fetched_looks (g.F.Files.holds c.args.files.now) (g.F.Files.holds c.fetch.new.files) c.args.self.now c.fetch.new.self c.exists_there.new.self c.args.no
     c.args.from c.args.waiting (events.Exists c.args.path) c.args.path c.exists_there.result c.in_ok-fetch.ensures.reads.same c.fetch.ensures.same c.requires.holds
     c.requires.own c.in_ok-fetch.ensures.exact c.in_ok-fetch.ensures.fetches c.exists_there.ensures.whole
+
+pub returns-clause-asks : goal.returns-clause-asks
+returns-clause-asks g c =
+    let old = g.F.Files.asked c.args.files.now in
+    let mid = g.F.Files.asked c.fetch.new.files in
+    calls_then (LooksAt (IsAskedBy (events.Exists c.args.path))) old mid (g.F.Files.asked c.exists_there.new.files)
+    (asks_as (λ p. p ≡ c.args.path) (IsAskedBy (events.Exists c.args.path)) old mid (λ p is. is) c.in_ok-fetch.ensures.asks) c.exists_there.ensures.asks

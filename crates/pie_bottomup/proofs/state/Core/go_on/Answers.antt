@@ -5,7 +5,9 @@ use Rattle.std.proofs.Common.{inl, refl}
 use Rattle.pie_bottomup.specs.inner.Ran.{StepsFor}
 use Rattle.pie_bottomup.proofs.Keeping.{none_starts}
 use Rattle.pie_bottomup.proofs.Reasoning.{steps_for}
-use Rattle.pie_bottomup.proofs.Many.{done_many, tests_many}
+use Rattle.pie_bottomup.proofs.Many.{done_many, done_none, same_none, tests_many}
+use Rattle.pie_bottomup.proofs.Asking.{tests_first}
+use Rattle.pie_bottomup.proofs.Overflowing.{many_whole}
 use Rattle.pie_bottomup.proofs.state.Core.go_on.Goals as goal
 
 pub returns-in_ok-walk_on-in-Done-clause-whole : goal.returns-in_ok-walk_on-in-Done-clause-whole
@@ -34,3 +36,18 @@ returns-in_ok-walk_on-in-Done-clause-many g c =
 
 pub returns-in-Tests-clause-many : goal.returns-in-Tests-clause-many
 returns-in-Tests-clause-many g c = tests_many c.args.self.now c.begin_tested.result c.in-Tests.is
+
+pub returns-in-Tests-clause-asks : goal.returns-in-Tests-clause-asks
+returns-in-Tests-clause-asks g c =
+    tests_first c.args.self.now (g.F.Files.asked c.args.files.now) (g.F.Files.asked c.begin_tested.new.files) c.in-Tests.is c.begin_tested.ensures.asks
+
+pub returns-in_ok-walk_on-in-Done-clause-none : goal.returns-in_ok-walk_on-in-Done-clause-none
+returns-in_ok-walk_on-in-Done-clause-none g c =
+    done_none {E = FilesError} c.args.self.now c.args.runs.now c.walk_on.new.runs (Ok c.in_ok-walk_on-in-Done.field-0) c.in-Done.is
+
+pub returns-in-Tests-clause-none : goal.returns-in-Tests-clause-none
+returns-in-Tests-clause-none g c = same_none c.args.self.now c.args.runs.now c.begin_tested.result
+
+pub returns-in_ok-copy-in-TooMany-clause-whole : goal.returns-in_ok-copy-in-TooMany-clause-whole
+returns-in_ok-copy-in-TooMany-clause-whole g c =
+    many_whole (g.F.Files.holds c.args.files.now) c.args.self.now c.in-TooMany.task c.in_ok-copy-in-TooMany.field-0 c.in-TooMany.is c.in_ok-copy-in-TooMany.ensures

@@ -10,6 +10,7 @@ use Rattle.pie_old.specs.inner.Rows.{AreRowsOf}
 use Rattle.pie_bottomup.specs.declared.plan.Plan.{Plan}
 use Rattle.pie_bottomup.specs.declared.state.Core.{Core}
 use Rattle.pie_bottomup.proofs.ExactBeginning.{loaded_core}
+use Rattle.pie_bottomup.proofs.Overflowing.{begins_many}
 use Rattle.pie_bottomup.specs.inner.Recorded.{AreRecorded}
 use Rattle.pie_bottomup.proofs.Beginning.{start_fresh, start_recorded, have_digests_of}
 use Rattle.pie_bottomup.proofs.Reasoning.{begins_knowing}
@@ -99,3 +100,20 @@ returns-clause-knows c =
     (c.in_ok-same.ensures
     ∙ ap (map (λ (t : Task). is_same_code c.as_slice-2.result.now digests t.func)) c.as_slice.ensures.tasks
     ∙ ap (λ fs. map (λ (t : Task). is_same_code fs digests t.func) old.tables.names) c.as_slice-2.ensures)
+
+pub returns-clause-past : goal.returns-clause-past
+returns-clause-past c =
+    let old = c.in_ok-old.old in
+    let core : Core = record {
+      alloc = c.args.alloc;
+      plan = record { typed = c.args.typed; code = c.args.code; digests = c.args.digests; roots = c.in_ok-roots.roots; same = c.in_ok-same.same };
+      tables = old.tables;
+      earlier = c.count-earlier.result;
+      frames = c.new-2.result;
+      stage = c.new-3.result;
+      named = c.in_ok-named.named;
+      at = 0;
+      hand = None;
+      first = c.in_ok-old.first;
+    } in
+    begins_many c.args.image.funcs c.args.digests.now c.args.image.rows c.args.changes.now core c.requires.order c.in_ok-old.ensures.many

@@ -3,12 +3,11 @@ use Rattle.pie_graph.specs.Numbers.{AllBelow, numbers}
 use Rattle.pie_order.specs.Cycles.{IsCycle, WouldCall}
 use Rattle.pie_frames.specs.declared.parked.Parked.{Parked}
 use Rattle.pie_frames.specs.inner.Turns.{HasParked}
-use Rattle.pie_bottomup.specs.inner.Causes.{HasUnionEdge, AreTurned}
+use Rattle.pie_bottomup.specs.inner.Causes.{AreTurned}
 use Rattle.pie_bottomup.specs.inner.States.{RunsOrRests}
 use Rattle.pie_bottomup.proofs.Sites.{site_parked}
 use Rattle.pie_bottomup.proofs.Cycles.{cycle_in_hand, there_is}
-use Rattle.pie_bottomup.proofs.Edging.{would_edge}
-use Rattle.pie_bottomup.proofs.Rings.{ring_turned}
+use Rattle.pie_bottomup.proofs.Ringing.{closes_ring}
 use Rattle.pie_bottomup.proofs.GoingEvents.{parked_whole}
 use Rattle.pie_bottomup.proofs.state.Core.park.Goals as goal
 
@@ -43,7 +42,6 @@ returns-in_ok-tasks-in-Some-clause-whole c = λ u now e begins may.
     let cycle : IsCycle (WouldCall self.frames.walk.rows c.args.no.0 c.args.callee.0) (numbers c.in-Some.cycle.items) =
     there_is (λ found. IsCycle (WouldCall self.frames.walk.rows c.args.no.0 c.args.callee.0) (numbers found.items)) c.in_ok-cycle.field-0 c.in-Some.cycle
     c.in-Some.is c.in_ok-cycle.ensures.cycle in
-    ring_turned self.tables.names (WouldCall self.frames.walk.rows c.args.no.0 c.args.callee.0) (HasUnionEdge u)
-    (would_edge u self c.args.no c.args.from c.args.caller c.args.callee.0 e now.apart c.requires.site c.requires.holds c.requires.own begins may
-    c.requires.named) (numbers c.in-Some.cycle.items) c.in_ok-tasks-in-Some.tasks
+    closes_ring u self c.args.no c.args.from c.args.caller c.args.callee.0 now e c.requires.site c.requires.holds c.requires.own begins may
+    c.requires.named (numbers c.in-Some.cycle.items) c.in_ok-tasks-in-Some.tasks
     (subst (λ nos. AreTurned self.tables.names (numbers nos) c.in_ok-tasks-in-Some.tasks) c.as_slice.ensures.value c.in_ok-tasks-in-Some.ensures) cycle

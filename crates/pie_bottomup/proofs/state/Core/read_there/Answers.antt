@@ -1,3 +1,9 @@
+use Rattle.std.proofs.Common.{refl}
+use Rattle.pie_base.specs.Path.{is_source}
+use Rattle.pie_files.specs.declared.files.Call.TheVariants as calls
+use Rattle.pie_value.specs.declared.event.Event.TheVariants as events
+use Rattle.pie_bottomup.specs.inner.Asked.{IsAskedBy}
+use Rattle.pie_bottomup.proofs.Asking.{asks_twice}
 use Rattle.std.proofs.Common.{Ok}
 use Rattle.pie_bottomup.proofs.GoingLooks.{read_goes}
 use Rattle.pie_bottomup.proofs.Owning.{may_go}
@@ -22,3 +28,18 @@ returns-clause-whole g c =
     read_goes {E = Unit {0}} (g.F.Files.holds c.args.files.now) c.args.self.now c.told.new.self c.args.no c.args.from c.args.waiting c.args.path
     (λ o. ShowsOut rows stage n.number n.needs c.args.path o) c.in_ok-told.told (Ok c.in_ok-told-2.field-0) c.requires.holds c.requires.waits.left
     c.requires.own (λ o. shown_here c.args.self.now rows stage n c.args.path o c.sight.ensures.rows c.sight.ensures.stage) c.args.by (λ d held. c.in_ok-told.ensures.tells d held) c.in_ok-told-2.ensures.whole
+
+pub returns-in_err-told-clause-asks : goal.returns-in_err-told-clause-asks
+returns-in_err-told-clause-asks g c =
+    asks_twice (IsAskedBy (events.Read c.args.path c.args.by)) g.F.Files.asked (is_source c.args.path) (calls.Read c.args.path) c.args.files.now c.read.new.files (λ may. refl)
+    c.in_err-told.ensures.asks
+
+pub returns-in_err-told-2-clause-asks : goal.returns-in_err-told-2-clause-asks
+returns-in_err-told-2-clause-asks g c =
+    asks_twice (IsAskedBy (events.Read c.args.path c.args.by)) g.F.Files.asked (is_source c.args.path) (calls.Read c.args.path) c.args.files.now c.read.new.files (λ may. refl)
+    c.in_ok-told.ensures.asks
+
+pub returns-clause-asks : goal.returns-clause-asks
+returns-clause-asks g c =
+    asks_twice (IsAskedBy (events.Read c.args.path c.args.by)) g.F.Files.asked (is_source c.args.path) (calls.Read c.args.path) c.args.files.now c.read.new.files (λ may. refl)
+    c.in_ok-told.ensures.asks

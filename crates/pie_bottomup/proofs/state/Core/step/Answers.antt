@@ -9,7 +9,9 @@ use Rattle.pie_bottomup.specs.inner.Ran.{StepsFor}
 use Rattle.pie_bottomup.proofs.Keeping.{none_starts}
 use Rattle.pie_bottomup.proofs.Reasoning.{free_for}
 use Rattle.pie_bottomup.proofs.Due.{goes_all, turns_all}
-use Rattle.pie_bottomup.proofs.Many.{hand_many}
+use Rattle.pie_bottomup.proofs.Many.{hand_many, same_none}
+use Rattle.pie_bottomup.specs.inner.Asked.{GoesAsking}
+use Rattle.pie_bottomup.proofs.Asking.{free_asks, hand_steps}
 use Rattle.pie_bottomup.proofs.state.Core.step.Goals as goal
 
 pub returns-in-Some-clause-whole : goal.returns-in-Some-clause-whole
@@ -49,3 +51,20 @@ returns-in-Some-clause-all g c = goes_all c.event.new.self c.event.result c.even
 
 pub returns-in-None-clause-all : goal.returns-in-None-clause-all
 returns-in-None-clause-all g c = turns_all c.go_on.new.self c.go_on.result c.go_on.ensures.turns
+
+pub returns-in-Some-clause-asks : goal.returns-in-Some-clause-asks
+returns-in-Some-clause-asks g c =
+    let before = g.F.Files.asked c.args.files.now in
+    let after = g.F.Files.asked c.event.new.files in
+    hand_steps c.args.self.now c.in-Some.hand before after c.requires (sym c.take.ensures.value ∙ c.in-Some.is)
+    (subst (λ (h : Option InHand). GoesAsking (record c.args.self.now { hand = h }) c.in-Some.hand before after) c.take.ensures.after c.event.ensures.asks)
+
+pub returns-in-None-clause-asks : goal.returns-in-None-clause-asks
+returns-in-None-clause-asks g c =
+    free_asks c.args.self.now c.take.new.self (g.F.Files.asked c.args.files.now) (g.F.Files.asked c.go_on.new.files) c.go_on.ensures.asks
+
+pub returns-in-Some-clause-none : goal.returns-in-Some-clause-none
+returns-in-Some-clause-none g c = same_none c.args.self.now c.args.runs.now c.event.result
+
+pub returns-in-None-clause-none : goal.returns-in-None-clause-none
+returns-in-None-clause-none g c = c.go_on.ensures.none

@@ -1,6 +1,7 @@
 use Rattle.std.proofs.Common.{◌∙◌}
 use Rattle.pie_files.proofs.Reading.{both_before}
 use Rattle.pie_bottomup.proofs.FirstStep.{tested_on, due_more}
+use Rattle.pie_bottomup.proofs.Asking.{tests_more}
 use Rattle.pie_bottomup.proofs.Holding.{learns_on, held_more, only_on}
 use Rattle.pie_bottomup.proofs.state.Core.test_all.Goals as goal
 
@@ -19,4 +20,12 @@ loop-n-preserved g c =
       held_more (g.F.Files.holds c.args.files.now) (g.F.Files.holds c.loop-n.files) c.args.self.now c.loop-n.self c.test.new.self c.loop-n.n before.3
           more.learns before.7 more.held,
       only_on c.args.self.now c.loop-n.self c.test.new.self before.8 more.only,
+      tests_more c.args.self.now.named c.loop-n.self.named (g.F.Files.asked c.args.files.now) (g.F.Files.asked c.loop-n.files)
+          (g.F.Files.asked c.test.new.files) before.6.names before.9 c.test.ensures.asks,
     )
+
+pub returns-in_err-test-clause-asks : goal.returns-in_err-test-clause-asks
+returns-in_err-test-clause-asks g c =
+    let before = c.loop-n.invariant in
+    tests_more c.args.self.now.named c.loop-n.self.named (g.F.Files.asked c.args.files.now) (g.F.Files.asked c.loop-n.files) (g.F.Files.asked c.test.new.files)
+    before.6.names before.9 c.test.ensures.asks
