@@ -2,6 +2,7 @@ pub mod Changing
 pub mod Cleaning
 pub mod Crashing
 pub mod InPlace
+pub mod OneAnswer
 pub mod OwnPaths
 pub mod Ran
 pub mod Removing

@@ -10,7 +10,7 @@ ghost use Rattle.pie_project.specs.Refusals.{IsVerdict, Says};
 ghost use Rattle.pie_build.specs.Crashes.{StaysAtRest, Withstands};
 ghost use Rattle.pie_build.specs.Left.{ChangesIfAccepted, KeepsRest, Leaves};
 ghost use Rattle.pie_build.specs.inner.Projects.{ChangesFor, IsCleanBy, IsReady, LeavesFor};
-ghost use Rattle.pie_build.specs.inner.Rebuilt.{RebuildSays, IsReport, IsRefusal, Tells};
+ghost use Rattle.pie_build.specs.inner.Rebuilt.{RebuildSays, RebuildsOnly, IsReport, IsRefusal, Tells};
 ghost use Rattle.pie_build.specs.Stored.{MayStand, IsStoreOf};
 ghost use Rattle.pie_store.specs.Canonical.{AreFuncs};
 
@@ -41,8 +41,10 @@ pub fn rebuild<F: Files>(
     runs: &mut Runs,
 ) -> Result<Report, BuildError>
     ensures says { IfSome (F.holds files.old) (λ d. Says (λ r. r) (RebuildSays d) result) }
+    ensures only { IfSome (F.holds files.old) (λ d. Says (λ r. r) (RebuildsOnly d) result) }
     ensures left { IfSome (F.holds files.old) (λ d. IfOk result (λ r. Leaves d r (F.holds files.new))) }
     ensures refused { IsRefusal result → F.holds files.new ≡ F.holds files.old }
+    ensures idle { IsRefusal result → runs.new ≡ runs.old }
     ensures changed { IfSome (F.holds files.old) (λ d. ChangesIfAccepted d (F.holds files.new)) }
     ensures rest { KeepsRest (F.holds files.old) (F.holds files.new) }
     ensures crash { Withstands F.holds F.moment F.left_since F.images Leaves files.old files.new }

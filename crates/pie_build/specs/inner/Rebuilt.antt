@@ -15,6 +15,11 @@ abbrev pub RebuildSays : Directory → Result Report Refusal → Type 0
 RebuildSays d (Ok r) = (front : List FunctionTree × List Task) × ProjectSays d (Ok front)
 RebuildSays d (Err e) = ProjectSays d (Err e)
 
+-- and no other answer is right: beside a report no refusal is that of the directory, and beside a refusal it has no functions and roots
+abbrev pub RebuildsOnly : Directory → Result Report Refusal → Type 0
+RebuildsOnly d (Ok r) = (e : Refusal) → ProjectSays d (Err e) → ⊥
+RebuildsOnly d (Err e) = (front : List FunctionTree × List Task) → ProjectSays d (Ok front) → ⊥
+
 -- a project was there
 abbrev pub IsReport : Result Report Refusal → Type 0
 IsReport (Ok r) = Unit {0}

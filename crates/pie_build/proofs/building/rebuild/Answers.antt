@@ -7,6 +7,7 @@ use Rattle.pie_build.proofs.Cleaning.{is_ready}
 use Rattle.pie_build.proofs.Crashing.{withstands_as, withstands_then}
 use Rattle.std.proofs.Common.{arith}
 use Rattle.pie_build.proofs.Crashing.{withstands_still, rests_still, rests_then}
+use Rattle.pie_build.proofs.OneAnswer.{report_only, refusal_only, reported}
 use Rattle.pie_build.proofs.building.rebuild.Goals as goal
 
 pub returns-in-Err-clause-rest : goal.returns-in-Err-clause-rest
@@ -47,3 +48,13 @@ returns-in-Err-clause-durable g c = grind (arith, rests_still)
 
 pub returns-in-Ok-clause-durable : goal.returns-in-Ok-clause-durable
 returns-in-Ok-clause-durable g c = grind (arith, rests_then)
+
+pub returns-in-Ok-clause-only : goal.returns-in-Ok-clause-only
+returns-in-Ok-clause-only g c =
+    report_only (g.F.Files.holds c.args.files.now) c.in-Ok.project c.with_project.result c.in-Ok.ensures.only c.with_project.ensures.says
+
+pub returns-in-Err-clause-only : goal.returns-in-Err-clause-only
+returns-in-Err-clause-only g c = refusal_only (g.F.Files.holds c.args.files.now) c.in-Err.error c.in-Err.ensures.only
+
+pub returns-in-Ok-clause-idle : goal.returns-in-Ok-clause-idle
+returns-in-Ok-clause-idle g c = reported c.with_project.result _ c.with_project.ensures.says
