@@ -1,22 +1,27 @@
 -- A build of a directory by a list, as a clean build.
 use Rattle.std.proofs.Common.{◌≡◌, ◌⊎◌, inl, inr, ℕ, ◌≤◌, Bool, true, false, cond, List, [], ◌∷◌, ◌++◌, length, drop, map, Option, None, Some, Result, Ok, Err, Global, refl, sym, ap, subst, ◌∙◌}
-use Rattle.std.specs.Prelude.{All, Box, IfOk, IfSome, bytes_eq}
+use Rattle.std.specs.Prelude.{All, Box, IfOk, IfSome, IsSome, bytes_eq}
 use Rattle.std.specs.Option.{option_map}
 use Rattle.std.proofs.lemmas.List.{drop-append-le}
 use Rattle.std.proofs.lemmas.List.Elements.{All-weaker}
 use Rattle.sha2.specs.Sha256.{sha256}
-use Rattle.pie_bottomup.specs.inner.Causes.{HasUnionEdge as HasUnionEdgeOf, IsReached as IsReachedOf, IsRing as IsRingOf, Leads as LeadsOf}
+use Rattle.pie_bottomup.specs.inner.Causes.{HasUnionEdge as HasUnionEdgeOf, IsOldTask as IsOldTaskOf, IsReached as IsReachedOf, IsRing as IsRingOf, IsTried as IsTriedOf, Leads as LeadsOf}
 use Rattle.pie_bottomup.specs.inner.Ran.{HasReason as HasReasonOf}
 use Rattle.pie_build.specs.Left.{Leaves}
+use Rattle.pie_build.specs.inner.Projects.{IsReady}
+use Rattle.pie_build.proofs.Cleaning.{is_ready}
 use Rattle.pie_core_laws.specs.Update.{Update, IsUpdate}
 use Rattle.pie_diff.specs.Hashes.{is_hash}
 use Rattle.pie_earlier_laws.specs.Functions.{digest_under}
 use Rattle.pie_earlier_laws.specs.Rows.{record_among}
 use Rattle.pie_digest.specs.Digests.{HasNames}
+use Rattle.pie_entering_laws.specs.inner.Laws.{IsRoot}
 use Rattle.pie_files.proofs.Reading.{if_always, if_each, if_two}
 use Rattle.pie_files.specs.Directory.{Directory, file_at}
+use Rattle.pie_fresh.specs.Cleans.{IsRootOf}
 use Rattle.pie_left_laws.specs.Reported.{IsOther as IsOtherOf, IsStray as IsStrayOf}
 use Rattle.pie_model.specs.Built.{store_rows}
+use Rattle.pie_model.specs.Paths.{among}
 use Rattle.pie_model.specs.Records.{Record}
 use Rattle.pie_model.specs.inner.Reasons.{RunReason}
 use Rattle.pie_model_pipeline.specs.Clean.{output_bytes}
@@ -41,18 +46,19 @@ use Rattle.pie_incremental.specs.declared.base.Base.{Base}
 use Rattle.pie_incremental.specs.declared.base.OwnFiles.{OwnFiles}
 use Rattle.pie_incremental.specs.declared.base.Start.{Start}
 use Rattle.pie_incremental.specs.declared.base.Start.TheVariants.{Afresh, From}
-use Rattle.pie_incremental.specs.Causes.{HasUnionEdge, IsCauseFor, IsRing, Leads}
-use Rattle.pie_incremental.specs.Clean.{BuildsClean, IsAfresh, IsAsClean, IsOther, IsStray, LeavesClean}
+use Rattle.pie_incremental.specs.Causes.{HasTooMany, IsCauseFor, IsOldTask, IsRing, IsTried}
+use Rattle.pie_incremental.specs.Before.{AreBefore, RanBefore}
+use Rattle.pie_incremental.specs.Clean.{BuildsClean, IsAsClean, IsOther, IsStray, LeavesClean}
 use Rattle.pie_incremental.specs.Earlier.{AreSeparate, Earlier, GoesOnFrom, live_of}
 use Rattle.pie_incremental.specs.Ran.{HasReason, RanFor, digest_in, digests_by, earlier_rows, is_hash_of, kept_digests, record_in}
-use Rattle.pie_incremental.specs.Reached.{IsReached, RanExactly}
+use Rattle.pie_incremental.specs.Reached.{HasUnionEdge, IsReached, Leads, RanExactly}
 use Rattle.pie_incremental.specs.Starts.{IsBase, IsCause, StartsFrom}
-use Rattle.pie_incremental.specs.inner.Causes.{IsCauseNow}
+use Rattle.pie_incremental.specs.inner.Causes.{HasTooMany as HasTooManyOf, IsCauseNow}
 use Rattle.pie_incremental.specs.inner.Clean.{BuildsCleanOf, LeavesAsClean}
 use Rattle.pie_incremental.specs.inner.Digested.{digested, with_digests}
 use Rattle.pie_incremental.specs.inner.Joined.{IsRetold, KeepsAfter}
-use Rattle.pie_incremental.specs.inner.Ran.{AreDue}
-use Rattle.pie_incremental.specs.inner.Updated.{FromClean, IsUpdateFrom, RunsCleanOnce}
+use Rattle.pie_incremental.specs.inner.Ran.{AreDue, HaveReasons, RanOf}
+use Rattle.pie_incremental.specs.inner.Updated.{FromClean, IsAfreshAfter, IsUpdateFrom, RunsCleanOnce}
 use Rattle.pie_incremental.proofs.Meaning.{means_same}
 
 -- ---- records, digests and hashes of one, by both their definitions
@@ -225,9 +231,83 @@ module _ (e : Earlier) (list : List (List ℕ)) (d : Directory) (b : Base) (p : 
     base = b;
     is = base;
     reached = All-weaker (IsReachedOf update_of) (IsReached e d p.typed p.roots.items) reached_of ran due.have.reached;
-    all = λ t is reason. due.all t
-        (record { canonical = is.canonical; entered = is.entered; number = is.number; function = is.function }) (of_reason t reason);
+    all = λ x enters.
+        (let one = due.all p.roots.items refl ready.typed
+        (All-weaker (IsRootOf p.typed) (IsRoot p.typed) (λ t r. record { number = r.number; found = r.found; small = r.small }) p.roots.items ready.roots) x enters in
+        record { of = one.0; due = λ reason. one.1 (of_reason one.0.task reason) });
   }
+    where
+      -- the pipeline is typed, and the roots are its tasks
+      ready : IsReady p.typed p.roots.items
+      ready = is_ready (Some d) (Some d) p says refl
+
+  -- the tasks that ran before it started afresh
+  ran_before : (ran : List Task) → HaveReasons update_of (digested d p.digests.items b.image).funcs p.digests.items ran → RanBefore e d ran
+  ran_before ran have = record {
+    funcs = p.digests.items;
+    roots = p.roots.items;
+    found = record { functions = p.typed; says = says; names = names; digests = has };
+    base = b;
+    is = base;
+    once = have.once;
+    reasons = subst (λ kept. All (HasReason e d p.typed kept p.digests.items) ran) kept_is
+        (All-weaker (HasReasonOf update_of (digested d p.digests.items b.image).funcs p.digests.items)
+        (HasReason e d p.typed (digested d p.digests.items b.image).funcs p.digests.items) (λ t r. reason_of (digested d p.digests.items b.image).funcs t r) ran
+        have.reasons);
+    reached = All-weaker (IsReachedOf update_of) (IsReached e d p.typed p.roots.items) reached_of ran have.reached;
+  }
+
+  -- a task that is tried
+  old_of : (t : Task) → IsOldTaskOf update_of t → IsOldTask e t
+  old_of t is = subst IsSome (same_record (earlier_rows e) (enc_task t)) is
+
+  of_old : (t : Task) → IsOldTask e t → IsOldTaskOf update_of t
+  of_old t is = subst IsSome (sym (same_record (earlier_rows e) (enc_task t))) is
+
+  tried_of : (t : Task) → IsTriedOf update_of t → IsTried e d p.typed p.roots.items t
+  tried_of t is = record { base = is.base; is_base = base_of is.is_base; leads = by is.leads }
+    where
+      base_of : IsOldTaskOf update_of is.base ⊎ (among (enc_task is.base) (map enc_task p.roots.items) ≡ true)
+          → IsOldTask e is.base ⊎ (among (enc_task is.base) (map enc_task p.roots.items) ≡ true)
+      base_of (inl old) = inl (old_of is.base old)
+      base_of (inr root) = inr root
+
+      by : (is.base ≡ t) ⊎ ((between : List Task) × LeadsOf (HasUnionEdgeOf update_of) is.base between t)
+          → (is.base ≡ t) ⊎ ((between : List Task) × Leads (HasUnionEdge e d p.typed) is.base between t)
+      by (inl same) = inl same
+      by (inr l) = inr (l.0, leads_same (HasUnionEdgeOf update_of) (HasUnionEdge e d p.typed) edge_of is.base l.0 t l.1)
+
+  too_many : (old new : ℕ) (task : Task) → HasTooManyOf update_of old new task → HasTooMany e d old new task
+  too_many old new task is =
+      let these = is.these in
+      record {
+        funcs = p.digests.items;
+        roots = p.roots.items;
+        found = record { functions = p.typed; says = says; names = names; digests = has };
+        olds = is.olds;
+        news = is.news;
+        these = record {
+          left = these.left;
+          came = these.came;
+          full = these.full;
+          once = these.once;
+          are_old = All-weaker (IsOldTaskOf update_of) (IsOldTask e) old_of is.olds these.are_old;
+          are_new = All-weaker (λ t. IsOldTaskOf update_of t → ⊥) (λ t. ¬ (IsOldTask e t)) (λ t new old. new (of_old t old)) is.news these.are_new;
+          tried = All-weaker (IsTriedOf update_of) (IsTried e d p.typed p.roots.items) tried_of (is.olds ++ is.news) these.tried;
+          none = these.none;
+          one = tried_of task these.one;
+        };
+      }
+
+  are_before : (c : Cause) (ran : List Task) → IsCauseNow update_of c
+      → HaveReasons update_of (digested d p.digests.items b.image).funcs p.digests.items ran → RanOf update_of c ran → AreBefore e d c ran
+  unfolding too_many
+  are_before causes.Interrupted ran is have told = absurd is
+  are_before causes.NoStore ran is have told = absurd is
+  are_before (causes.Damaged fault) ran is have told = absurd is
+  are_before causes.BadPending ran is have told = absurd is
+  are_before (causes.UnionCycle tasks) ran is have told = (ran_before ran have, record { task = told.task; listed = told.listed; ran = told.has })
+  are_before (causes.UnionMany old new task) ran is have told = (ran_before ran have, record { many = too_many old new task told.many; ran = told.has })
 
   cause_for : (c : Cause) → IsCauseNow update_of c → IsCauseFor e d c
   cause_for causes.Interrupted is = absurd is
@@ -238,9 +318,10 @@ module _ (e : Earlier) (list : List (List ℕ)) (d : Directory) (b : Base) (p : 
     funcs = p.digests.items;
     roots = p.roots.items;
     found = record { functions = p.typed; says = says; names = names; digests = has };
-    ring = ring_same (HasUnionEdgeOf update_of) (HasUnionEdge e d p.typed) edge_of tasks ring;
+    ring = ring_same (HasUnionEdgeOf update_of) (HasUnionEdge e d p.typed) edge_of tasks ring.ring;
+    reached = All-weaker (IsReachedOf update_of) (IsReached e d p.typed p.roots.items) reached_of tasks ring.reached;
   }
-  cause_for (causes.UnionMany old entered task) counts = counts
+  cause_for (causes.UnionMany old entered task) is = (is.0, too_many old entered task is.1)
 
 from_clean : (b : Base) (p : Project) (list : List (List ℕ)) (before mid after : Option Directory) (r : Report) → mid ≡ before
     → IfSome before (λ d. ProjectSays d (Ok (front_of p))) → IfSome before (λ d. HasDigests d p.digests.items) → HasNames p.typed p.digests.items
@@ -267,6 +348,12 @@ from_clean b p list before mid after r same says has names funcs runs = record {
             ran_exactly e list d b p from base project digests names funcs r.ran.items
             ((runs.once d (same ∙ told) none).ran (update_of e list d b p from base project digests names funcs)
             (is_update e list d b p from base project digests names funcs mid (same ∙ told)));
+        before = λ some c fresh e from.
+            let u = update_of e list d b p from base project digests names funcs in
+            let is = is_update e list d b p from base project digests names funcs mid (same ∙ told) in
+            are_before e list d b p from base project digests names funcs c (runs.afresh d (same ∙ told) some).before
+            ((runs.cause d (same ∙ told) c fresh).each u is) ((runs.ran d (same ∙ told) some c fresh).each u is)
+            ((runs.ran d (same ∙ told) some c fresh).told u is);
       };
 }
 
@@ -289,16 +376,19 @@ caused a c cause is = is ∙ sym (ap (λ (x : Report). record a { fresh = x.fres
 
 -- at once
 pub afresh_is : (before after : Option Directory) (r q : Report) (cause : Option Cause) → q ≡ record r { fresh = cause }
-    → IfSome before (λ d. Leaves d r after) → IfSome before (λ d. IsAfresh d q after)
-afresh_is before after r q cause is h = if_each (λ d. Leaves d r after) (λ d. IsAfresh d q after) before
+    → IfSome before (λ d. Leaves d r after) → IfSome before (λ d. IsAfreshAfter d q after [])
+afresh_is before after r q cause is h = if_each (λ d. Leaves d r after) (λ d. IsAfreshAfter d q after []) before
     (λ d leaves. record {
-      clean = r;
-      left = after;
-      leaves = leaves;
-      is = caused r q cause is;
-      before = [];
-      ran = ap (λ (x : Report). x.ran.items) is;
-      after_is = λ accepted. refl;
+      afresh = record {
+        clean = r;
+        left = after;
+        leaves = leaves;
+        is = caused r q cause is;
+        before = [];
+        ran = ap (λ (x : Report). x.ran.items) is;
+        after_is = λ accepted. refl;
+      };
+      is = refl;
     }) h
 
 kept_accepted : (v : Verdict) (own : OwnFiles) (names : List (List ℕ)) (mid after : Option Directory) → v ≡ Accepted → KeepsAfter v own names mid after
@@ -309,18 +399,21 @@ kept_accepted v own names mid after is h = subst (λ (w : Verdict). KeepsAfter w
 pub again_afresh : (own : OwnFiles) (names : List (List ℕ)) (before mid after : Option Directory) (report : Report) (result : Result Report BuildError) (n : ℕ)
     (old new : List Task) → n ≤ length old → new ≡ old ++ report.ran.items → IfSome before (λ d. Leaves d report mid) → IfOk result (IsRetold report)
     → IfOk result (λ r. r.ran.items ≡ drop n new) → IfOk result (λ r. KeepsAfter report.verdict own names mid after)
-    → IfOk result (λ r. r.verdict ≡ report.verdict) → IfSome before (λ d. IfOk result (λ r. IsAfresh d r after))
+    → IfOk result (λ r. r.verdict ≡ report.verdict) → IfSome before (λ d. IfOk result (λ r. IsAfreshAfter d r after (drop n old)))
 again_afresh own names before mid after report (Err e) n old new l more leaves told ran keeps verdict = if_always before (tt {0})
 again_afresh own names before mid after report (Ok r) n old new l more leaves told ran keeps verdict =
-    if_each (λ d. Leaves d report mid) (λ d. IsAfresh d r after) before
+    if_each (λ d. Leaves d report mid) (λ d. IsAfreshAfter d r after (drop n old)) before
     (λ d left. record {
-      clean = report;
-      left = mid;
-      leaves = left;
-      is = told;
-      before = drop n old;
-      ran = ran ∙ ap (drop n) more ∙ drop-append-le n old report.ran.items l;
-      after_is = λ accepted. kept_accepted report.verdict own names mid after (sym verdict ∙ accepted) keeps;
+      afresh = record {
+        clean = report;
+        left = mid;
+        leaves = left;
+        is = told;
+        before = drop n old;
+        ran = ran ∙ ap (drop n) more ∙ drop-append-le n old report.ran.items l;
+        after_is = λ accepted. kept_accepted report.verdict own names mid after (sym verdict ∙ accepted) keeps;
+      };
+      is = refl;
     }) leaves
 
 -- ---- the whole build
@@ -334,26 +427,39 @@ first_cause e d causes.BadPending is = is
 first_cause e d (causes.UnionCycle tasks) is = absurd is
 first_cause e d (causes.UnionMany old entered task) is = absurd is
 
+-- before it nothing ran
+none_before : (e : Earlier) (d : Directory) (c : Cause) (ran : List Task) → IsCause d c → ran ≡ [] → AreBefore e d c ran
+none_before e d causes.Interrupted ran is none = none
+none_before e d causes.NoStore ran is none = none
+none_before e d (causes.Damaged fault) ran is none = none
+none_before e d causes.BadPending ran is none = none
+none_before e d (causes.UnionCycle tasks) ran is none = absurd is
+none_before e d (causes.UnionMany old entered task) ran is none = absurd is
+
 pub afresh_cleans : (list : List (List ℕ)) (start : Start) (cause : Cause) (before mid after : Option Directory) (result : Result Report BuildError)
-    → start ≡ Afresh cause → IfSome before (λ d. StartsFrom d start) → mid ≡ before → IfSome mid (λ d. IfOk result (λ r. IsAfresh d r after))
+    → start ≡ Afresh cause → IfSome before (λ d. StartsFrom d start) → mid ≡ before → IfSome mid (λ d. IfOk result (λ r. IsAfreshAfter d r after []))
     → IfOk result (λ r. r.fresh ≡ Some cause) → IfSome before (λ d. IfOk result (λ r. BuildsClean list d r after))
 afresh_cleans list start cause before mid after (Err e) starts begins same is why = if_always before (tt {0})
 afresh_cleans list start cause before mid after (Ok r) starts begins same is why =
-    if_two (λ d. StartsFrom d start) (λ d. IsAfresh d r after) (λ d. BuildsClean list d r after) before
+    if_two (λ d. StartsFrom d start) (λ d. IsAfreshAfter d r after []) (λ d. BuildsClean list d r after) before
     (λ d begun afresh. record {
       goes_on = λ none. absurd (differs (sym why ∙ none));
       ran = λ none. absurd (differs (sym why ∙ none));
-      afresh = λ some. afresh;
-      cause = λ c told e from. first_cause e d c (subst (IsCause d) (one c (sym why ∙ told)) (subst (StartsFrom d) starts begun));
+      afresh = λ some. afresh.afresh;
+      cause = λ c told e from. first_cause e d c (cause_is d begun c told);
       exactly = λ none. absurd (differs (sym why ∙ none));
+      before = λ some c told e from. none_before e d c afresh.afresh.before (cause_is d begun c told) afresh.is;
     })
-    begins (subst (λ m. IfSome m (λ d. IsAfresh d r after)) same is)
+    begins (subst (λ m. IfSome m (λ d. IsAfreshAfter d r after [])) same is)
   where
     differs : Some cause ≡ None → ⊥
     differs h = cc
 
     one : (c : Cause) → Some cause ≡ Some c → cause ≡ c
     one c both = cc
+
+    cause_is : (d : Directory) → StartsFrom d start → (c : Cause) → r.fresh ≡ Some c → IsCause d c
+    cause_is d begun c told = subst (IsCause d) (one c (sym why ∙ told)) (subst (StartsFrom d) starts begun)
 
 pub from_cleans : (list : List (List ℕ)) (start : Start) (b : Box Base Global) (before mid after : Option Directory) (result : Result Report BuildError)
     → start ≡ From b → IfSome before (λ d. StartsFrom d start) → mid ≡ before → IfOk result (FromClean b.value list mid after)

@@ -58,7 +58,7 @@ use Rattle.pie_incremental.proofs.Updating.{begun_known, begun_stored}
 
 -- ---- whatever is said of it
 
-same_directory : (d e : Directory) → Some d ≡ Some e → e ≡ d
+pub same_directory : (d e : Directory) → Some d ≡ Some e → e ≡ d
 same_directory d e is = cc
 
 module _ {S : Type 0} (holds : S → Option Directory) (moment : S → ℕ) (left_since : S → ℕ → Directory → Type 0) (images : S → Directory → Type 0) where
@@ -178,7 +178,7 @@ restarts : (own : OwnFiles) (names : List (List ℕ)) (d c : Directory) → IsOf
 restarts own names d c three =
     ⊎_elim (λ way. inl (begun_by d c way)) (λ rest. ⊎_elim (λ same. inr (inl same)) (λ done. inr (inr (inl done))) rest) three
 
-refused_same : (d : Directory) (r : Report) (after : Option Directory) (x : Refusal) → r.verdict ≡ Refused x → Leaves d r after → after ≡ Some d
+pub refused_same : (d : Directory) (r : Report) (after : Option Directory) (x : Refusal) → r.verdict ≡ Refused x → Leaves d r after → after ≡ Some d
 refused_same d r after x is left =
     let all : LeavesAll left.2.functions left.1 x d r after = subst (λ (v : Verdict). LeavesAfresh left.2.functions left.0 left.1 v d r after) is left.3.1 in
     all.same

@@ -1,14 +1,14 @@
 -- An evaluation of the roots, as the model of building knows it.
-use Rattle.std.proofs.Common.{◌≡◌, inl, inr, ℕ, List, map, Option, sym, ap, subst, ◌∙◌}
+use Rattle.std.proofs.Common.{◌≡◌, ◌⊎◌, inl, inr, ℕ, ◌-◌, List, map, Option, sym, ap, subst, ◌∙◌}
 use Rattle.pie_bottomup.specs.declared.plan.Plan.{Plan}
 use Rattle.pie_bottomup.specs.declared.state.Core.{Core}
 use Rattle.pie_bottomup.specs.declared.state.First.TheVariants.{Done}
 use Rattle.pie_bottomup.specs.declared.state.Turn.{Turn}
 use Rattle.pie_bottomup.specs.declared.state.Turn.TheVariants.{Went, Settled, StartAfresh}
-use Rattle.pie_bottomup.specs.inner.Causes.{IsCauseOf}
+use Rattle.pie_bottomup.specs.inner.Causes.{HadTooMany, HasAllTasks, IsCauseOf, count_old}
 use Rattle.pie_bottomup.specs.inner.Exact.{IsExactCore, IsSiteNow}
 use Rattle.pie_bottomup.specs.inner.Going.{IsBuildNow, IsWhole, StandsWhole, StepsWhole, TurnIsWhole}
-use Rattle.pie_bottomup.specs.inner.Loaded.{BeginsExact}
+use Rattle.pie_bottomup.specs.inner.Loaded.{BeginsExact, BeginsMany}
 use Rattle.pie_bottomup.specs.inner.Made.{MadeExact, MakesClean}
 use Rattle.pie_bottomup.specs.inner.States.{HasSettled, IsPlanOf}
 use Rattle.pie_builder_laws.specs.Events.{AreCompiled}
@@ -38,8 +38,8 @@ use Rattle.pie_incremental.specs.inner.Evaluated.{BeginsNow, EndsStanding, IsRes
 
 pub begins_now : (fs : List FunctionTree) (codes : List Code) (funcs digests : List (List ℕ × List ℕ)) (rows : List TaskRecord) (names : List (List ℕ))
     (roots : List Task) (c : Core) → IsPlanOf fs digests roots c.plan → (c.first ≡ Done → ⊥) → c.plan.code.now ≡ codes → BeginsExact funcs digests rows names c
-    → BeginsNow fs codes roots funcs digests rows names c
-begins_now fs codes funcs digests rows names roots c plan fresh code begins = record {
+    → BeginsMany funcs digests rows names c → BeginsNow fs codes roots funcs digests rows names c
+begins_now fs codes funcs digests rows names roots c plan fresh code begins past = record {
   each = λ u held here compiled stored. (
     record {
       plan = record {
@@ -50,7 +50,7 @@ begins_now fs codes funcs digests rows names roots c plan fresh code begins = re
       roots = sym here.roots_are ∙ ap (λ (ts : List Task). map enc_task ts) (sym plan.roots);
       apart = here.separates;
     },
-    inl (fresh, λ tests. begins u stored tests),
+    inl (fresh, (λ tests. begins u stored tests), λ task many. past u stored task many),
   );
 }
 
@@ -62,9 +62,12 @@ cause_now u c causes.Interrupted is = is
 cause_now u c causes.NoStore is = is
 cause_now u c (causes.Damaged fault) is = is
 cause_now u c causes.BadPending is = is
-cause_now u c (causes.UnionCycle tasks) ring = ring
-cause_now u c (causes.UnionMany old new task) (inl all) = inl (all.left, all.came)
-cause_now u c (causes.UnionMany old new task) (inr many) = inr (many.all, many.none)
+cause_now u c (causes.UnionCycle tasks) ring = record { ring = ring.ring; reached = ring.reached }
+cause_now u c (causes.UnionMany old new task) is = (by is.0, record { olds = is.1.olds; news = is.1.news; these = is.1.these })
+  where
+    by : HasAllTasks u c old new task ⊎ HadTooMany c old new task → ((old ≡ count_old u) × (new ≡ 50000 - count_old u)) ⊎ ((old ≡ 50000) × (new ≡ 0))
+    by (inl all) = inl (all.left, all.came)
+    by (inr many) = inr (many.all, many.none)
 
 pub stands_first : (held : Option Directory) (c : Core) → StaysStanding held c c
 stands_first held c u site now stands = stands

@@ -1,5 +1,5 @@
 -- What an accepted build leaves is the directory of a clean build.
-use Rattle.std.proofs.Common.{◌≡◌, ◌⊎◌, inl, inr, ℕ, List, length, Vec, Global, Option, None, Some, Result, Ok, Err, sym, ap, subst, ◌∙◌}
+use Rattle.std.proofs.Common.{◌≡◌, ◌⊎◌, inl, inr, ⊎_elim, ℕ, List, length, Vec, Global, Option, None, Some, Result, Ok, Err, sym, ap, subst, ◌∙◌}
 use Rattle.std.specs.Prelude.{Box, Contains, IfSome, IfOk, OnOk, IsTrue}
 use Rattle.std.specs.List.{filter}
 use Rattle.std.specs.List.Sorted.{IsStrictlySortedBy}
@@ -9,7 +9,7 @@ use Rattle.pie_build.specs.Stored.{IsStoreOf}
 use Rattle.pie_check_laws.proofs.Members.{into_map}
 use Rattle.pie_checks.specs.declared.built.Built.{Built}
 use Rattle.pie_commit.specs.declared.plan.Plan.{Plan}
-use Rattle.pie_commit.specs.Outcomes.{LeavesFromRest}
+use Rattle.pie_commit.specs.Outcomes.{HasFile, IsDone, LeavesFromRest, LeavesMarked}
 use Rattle.pie_diff.specs.Hashes.{files_paths, held_at, is_new}
 use Rattle.pie_diff.specs.Known.{known_at}
 use Rattle.pie_diff.proofs.Keeping.{order_filter}
@@ -40,15 +40,18 @@ use Rattle.pie_left_laws.proofs.Changing.{new_other, other_new, removed_stray, s
 use Rattle.pie_incremental.specs.declared.base.Base.{Base}
 use Rattle.pie_incremental.specs.declared.base.OwnFiles.{OwnFiles}
 use Rattle.pie_incremental.specs.declared.ending.Ending.{Ending}
-use Rattle.pie_incremental.specs.Crashes.{IsBegun}
+use Rattle.pie_incremental.specs.Crashes.{EndsMarked, IsBegun, MarkedBy}
 use Rattle.pie_incremental.specs.inner.Built.{AreFilesOf, IsKnown}
 use Rattle.pie_incremental.specs.inner.Cleaned.{IsClean, IsExactBuild, KnowsWhere, LeavesCleanOf, LeavesWhere, LeavesBy, MayLeave, MayLeaveBy, HasParts, IsPlanFor, TellsPlan}
+use Rattle.pie_incremental.specs.inner.Marked.{EndsAccepted, EndsBy, EndsNames}
 use Rattle.pie_incremental.specs.inner.Plans.{IsChangesPlan, MayPlace, Places}
 use Rattle.pie_incremental.specs.Kept.{IsOfNames}
 use Rattle.pie_incremental.specs.Own.{open_path}
 use Rattle.pie_incremental.specs.inner.Changes.{bytes_of}
 use Rattle.pie_incremental.proofs.Commits.{leaves_as}
+use Rattle.pie_incremental.proofs.OwnPaths.{places}
 use Rattle.pie_incremental.proofs.Putting.{all_has}
+use Rattle.pie_incremental.proofs.Stopping.{placed}
 
 module _ (own : OwnFiles) (held : List (List ℕ × List ℕ)) (funcs : List (List ℕ × List ℕ)) (roots : List Task) (rows : List TaskRecord)
     (contents : List (List ℕ × Vec ℕ Global)) (outputs : List (Task × Value)) (s : StoreImage) (p : Plan) (r : Report) (order : InPathOrder contents)
@@ -127,6 +130,32 @@ module _ (own : OwnFiles) (held : List (List ℕ × List ℕ)) (funcs : List (Li
   leaves_crash holds moment left_since images old new h =
       leaves_as holds moment left_since images (MayPlace p) (MayLeave own held funcs roots rows contents) may_leave old new h
 
+  -- where the plan is done, the directory is that of the clean build
+  ends_accepted : (d c : Directory) → IsDone p d c → EndsAccepted own held funcs roots rows contents d c
+  ends_accepted d c done u e = record {
+    text = planned.text.items;
+    built = subst (λ x. IsBuilt planned.text.items x (without_file c open_path) (live_now u)) e.directory
+        (is_built u rows (contents_in contents) e.separates e.met e.made planned.text.items (without_file c open_path)
+        (subst (λ x. IsPlaced rows (contents_in contents) planned.text.items x (without_file c open_path)) (sym e.directory)
+        (placed own held rows contents planned.text p plan d e.known (files_of u d e) c done)));
+    store = is_store;
+  }
+
+  accepted_marked : (d : Directory) (images : Directory → Type 0) → LeavesMarked p d images
+      → MarkedBy (EndsAccepted own held funcs roots rows contents) d images
+  accepted_marked d images leaves =
+      ⊎_elim (λ each. inl (λ c is. ⊎_elim (λ file. inl (subst (HasFile c) (places p plan.places).marker file)) (λ same. inr same) (each c is)))
+      (λ all. inr (λ c is. ends_accepted d c (all c is))) leaves
+
+  -- what every image has at the end
+  pub leaves_marked : {S : Type 0} (holds : S → Option Directory) (images : S → Directory → Type 0) (old new : S)
+      → IfSome (holds old) (λ d. Only d (images old) → LeavesMarked p d (images new))
+      → EndsMarked holds images (EndsAccepted own held funcs roots rows contents) old new
+  leaves_marked holds images old new h = if_each
+      (λ d. Only d (images old) → LeavesMarked p d (images new))
+      (λ d. Only d (images old) → MarkedBy (EndsAccepted own held funcs roots rows contents) d (images new)) (holds old)
+      (λ d leaves only. accepted_marked d (images new) (leaves only)) h
+
   leaves : (d : Directory) (after : Option Directory) → Places p d after → LeavesWhere own held funcs roots rows contents outputs d r after
   leaves d after placed u e =
       subst (λ x. LeavesCleanOf u funcs roots rows outputs x r after) e.directory
@@ -161,6 +190,14 @@ module _ {S : Type 0} (holds : S → Option Directory) (moment : S → ℕ) (lef
   pub crash_refused : (x : Refusal) → b.verdict ≡ Refused x → Crashes (IsOfNames names (bytes_of own.pending))
       → Crashes (MayLeaveBy b.verdict own held funcs roots b names)
   crash_refused x is h = subst (λ (v : Verdict). Crashes (MayLeaveBy v own held funcs roots b names)) (sym is) h
+
+  pub marked_accepted : b.verdict ≡ Accepted → EndsMarked holds images (EndsAccepted own held funcs roots b.rows.items b.files.items) old new
+      → EndsMarked holds images (EndsBy b.verdict own held funcs roots b names) old new
+  marked_accepted is h = subst (λ (v : Verdict). EndsMarked holds images (EndsBy v own held funcs roots b names) old new) (sym is) h
+
+  pub marked_refused : (x : Refusal) → b.verdict ≡ Refused x → EndsMarked holds images (EndsNames names (bytes_of own.pending)) old new
+      → EndsMarked holds images (EndsBy b.verdict own held funcs roots b names) old new
+  marked_refused x is h = subst (λ (v : Verdict). EndsMarked holds images (EndsBy v own held funcs roots b names) old new) (sym is) h
 
 module _ {S : Type 0} (holds : S → Option Directory) (moment : S → ℕ) (left_since : S → ℕ → Directory → Type 0) (images : S → Directory → Type 0)
     (own : OwnFiles) (held funcs : List (List ℕ × List ℕ)) (roots : List Task) (rows : List TaskRecord) (contents : List (List ℕ × Vec ℕ Global)) (s : S) where

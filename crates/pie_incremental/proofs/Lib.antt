@@ -7,6 +7,7 @@ pub mod Starting
 pub mod Stopping
 pub mod Joining
 pub mod Evaluating
+pub mod Entered
 pub mod Running
 pub mod Storing
 pub mod Treating
@@ -16,4 +17,7 @@ pub mod Updating
 pub mod Meaning
 pub mod Cleanly
 pub mod Crashing
+pub mod Marking
 pub mod Refusing
+pub mod Asking
+pub mod Asked

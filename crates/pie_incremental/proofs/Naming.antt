@@ -4,12 +4,16 @@ use Rattle.std.specs.Prelude.{◌||◌, Option, None, Some, IfSome}
 use Rattle.std.specs.List.{list_any}
 use Rattle.pie_base.specs.Path.{same_text}
 use Rattle.pie_files.specs.Directory.{Directory, file_at}
+use Rattle.pie_files.specs.Images.{Only}
+use Rattle.pie_files.proofs.Reading.{if_each}
 use Rattle.pie_commit.specs.declared.plan.Plan.{Plan}
 use Rattle.pie_commit.specs.inner.Plans.{Same, Meets, later, at, removed, written, pended, stored, changes, is_own}
-use Rattle.pie_commit.specs.Outcomes.{HasFile, IsOfThree, KeepsOthers, Underway}
+use Rattle.pie_commit.specs.Outcomes.{HasFile, IsDone, IsOfThree, KeepsOthers, LeavesMarked, Underway}
+use Rattle.pie_incremental.specs.Crashes.{EndsMarked, MarkedBy}
 use Rattle.pie_incremental.specs.Kept.{is_builders, HasNames, IsOfNames, IsUnderway, KeepsAllFiles, KeepsNames}
 use Rattle.pie_incremental.specs.Names.{kept_names}
 use Rattle.pie_incremental.specs.Own.{bytes_at, open_path, store_path, pending_path, IsClosed}
+use Rattle.pie_incremental.specs.inner.Marked.{EndsNames}
 use Rattle.pie_incremental.specs.inner.Plans.{HasChanged, IsNamesPlan}
 use Rattle.pie_incremental.proofs.Commits.{changes_wanted, cond_same, met}
 use Rattle.pie_incremental.proofs.OwnPaths.{or_left, or_right, five_off, places}
@@ -88,6 +92,23 @@ module _ (names : List (List ℕ)) (before : Option (List ℕ)) (p : Plan) (plan
       (λ done. inr (inr (has_names d c is (λ q off.
       subst (λ w. Meets w (file_at d q) (file_at c q)) (changes_wanted p plan.places q off) (done q (ap (same_text q) (places p plan.places).marker ∙ off))))))
       rest) three
+
+  -- ---- every image at the end
+
+  names_end : (d c : Directory) → IsDone p d c → EndsNames names before d c
+  names_end d c done is = has_names d c is (λ q off.
+      subst (λ w. Meets w (file_at d q) (file_at c q)) (changes_wanted p plan.places q off) (done q (ap (same_text q) (places p plan.places).marker ∙ off)))
+
+  names_marked : (d : Directory) (images : Directory → Type 0) → LeavesMarked p d images → MarkedBy (EndsNames names before) d images
+  names_marked d images leaves =
+      ⊎_elim (λ each. inl (λ c is. ⊎_elim (λ file. inl (subst (HasFile c) (places p plan.places).marker file)) (λ same. inr same) (each c is)))
+      (λ all. inr (λ c is. names_end d c (all c is))) leaves
+
+  pub names_told : {S : Type 0} (holds : S → Option Directory) (images : S → Directory → Type 0) (old new : S)
+      → IfSome (holds old) (λ d. Only d (images old) → LeavesMarked p d (images new)) → EndsMarked holds images (EndsNames names before) old new
+  names_told holds images old new h = if_each
+      (λ d. Only d (images old) → LeavesMarked p d (images new))
+      (λ d. Only d (images old) → MarkedBy (EndsNames names before) d (images new)) (holds old) (λ d leaves only. names_marked d (images new) (leaves only)) h
 
 pub keeps_same : (held : Option Directory) → KeepsAllFiles held held
 keeps_same None = tt

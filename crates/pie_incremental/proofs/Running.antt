@@ -1,9 +1,9 @@
 -- Which tasks an evaluation runs, and why.
-use Rattle.std.proofs.Common.{◌≡◌, ◌≢◌, ◌⊎◌, inl, inr, ℕ, ◌<◌, ◌≤◌, Bool, false, List, [], ◌∷◌, ◌++◌, length, get_or, drop, Option, Some, Vec, Global, refl, sym, ap, subst, ◌∙◌, arith}
+use Rattle.std.proofs.Common.{◌≡◌, ◌≢◌, ◌⊎◌, inl, inr, ℕ, ◌<◌, ◌≤◌, Bool, true, false, List, [], ◌∷◌, ◌++◌, length, get_or, drop, Option, None, Some, Vec, Global, refl, sym, ap, subst, ◌∙◌, arith}
 use Rattle.std.specs.Prelude.{slice_get, slice_index_or, Contains}
 use Rattle.std.proofs.lemmas.Bool.{false≢true}
 use Rattle.std.proofs.Math.Seq.{drop-append_seam}
-use Rattle.std.proofs.lemmas.List.{append_assoc}
+use Rattle.std.proofs.lemmas.List.{append-nil, append_assoc}
 use Rattle.std.proofs.lemmas.List.Elements.{All-push, All-weaker, Contains-append_left, Contains-push}
 use Rattle.std.proofs.lemmas.List.Quantifiers.{all_pairs_push}
 use Rattle.std.proofs.lemmas.Option.{slice_get-get_or, slice_get_within}
@@ -13,29 +13,39 @@ use Rattle.pie_bottomup.specs.declared.state.First.{First}
 use Rattle.pie_bottomup.specs.declared.state.First.TheVariants.{Tests, TooMany, Done}
 use Rattle.pie_bottomup.specs.declared.state.Turn.{Turn}
 use Rattle.pie_bottomup.specs.declared.state.Turn.TheVariants.{Went, Settled, StartAfresh}
-use Rattle.pie_bottomup.specs.inner.Exact.{IsSiteNow}
+use Rattle.pie_bottomup.specs.inner.Exact.{IsLoadedCore, IsSiteNow}
 use Rattle.pie_bottomup.specs.inner.Going.{IsBuildNow, IsWhole, StandsWhole, StepsWhole, TurnIsWhole}
 use Rattle.pie_bottomup.specs.inner.Loaded.{IsStoredIn}
-use Rattle.pie_bottomup.specs.inner.Causes.{IsReached}
+use Rattle.pie_bottomup.specs.inner.Causes.{HasRunAs, HasRunIfKnown, IsCauseOf, IsReached}
+use Rattle.pie_bottomup.specs.inner.Many.{StartsNoneForMany}
 use Rattle.pie_bottomup.specs.inner.Ran.{BeginsKnowing, HasReason, IsEntered, IsKnownAs, KnowsCode, RunsFor, RunsNone, SettlesFor, StartsFor, StepsFor}
-use Rattle.pie_bottomup.specs.inner.States.{KeepsTasks}
+use Rattle.pie_bottomup.specs.inner.States.{HasSettled, KeepsTasks}
 use Rattle.pie_builder_laws.specs.Events.{AreCompiled}
 use Rattle.pie_builder_laws.specs.Names.{AreTasks}
 use Rattle.pie_builder_laws.proofs.Naming.{one_place}
 use Rattle.pie_code.specs.declared.code.Code.{Code}
-use Rattle.pie_core_laws.specs.Update.{Update}
+use Rattle.pie_core_laws.specs.Update.{Update, present}
+use Rattle.pie_entering_laws.specs.Entering.{Enters}
 use Rattle.pie_files.specs.Directory.{Directory}
 use Rattle.pie_graph.specs.Numbers.{IsMarked}
+use Rattle.pie_model.specs.Forest.{entered_tasks}
+use Rattle.pie_model.specs.Paths.{among}
+use Rattle.pie_model_pipeline.specs.World.{world}
 use Rattle.pie_old.specs.inner.Code.{is_same_code}
 use Rattle.pie_parser.specs.FunctionTrees.{FunctionTree}
 use Rattle.pie_report.specs.declared.report.Report.{Report}
 use Rattle.pie_store.specs.declared.cause.Cause.{Cause}
+use Rattle.pie_store.specs.declared.cause.Cause.TheVariants as causes
 use Rattle.pie_store.specs.declared.cause.Cause.TheVariants.{UnionMany}
 use Rattle.pie_store.specs.declared.image.StoreImage.{StoreImage}
 use Rattle.pie_tables.specs.declared.tables.Tables.{Tables}
+use Rattle.pie_types.specs.Whole.{number_from}
+use Rattle.pie_value.specs.Canonical.{enc_task, IsCanonicalTask}
 use Rattle.pie_value.specs.declared.task.Task.{Task}
 use Rattle.pie_incremental.specs.inner.Evaluated.{BeginsNow, IsUpdateHere, StaysStanding}
-use Rattle.pie_incremental.specs.inner.Ran.{AreDue, HasRun, HaveReasons, HaveRun, IsOneOf, Knows, NoneRan, RunsEach, RunsOn, RunsWhole, StaysMany}
+use Rattle.pie_incremental.specs.inner.Ran.{AllAreDue, AreDue, BeginsEach, HasRun, HaveBegun, HaveReasons, HaveRun, IsOneOf, Knows, KnowsFirst, NoneRan, RanOf}
+use Rattle.pie_incremental.specs.inner.Ran.{RunsBefore, RunsEach, RunsOn, RunsWhole, StaysMany}
+use Rattle.pie_incremental.proofs.Entered.{of_function}
 
 -- ---- more tasks
 
@@ -86,7 +96,14 @@ none_ran u funcs digests = record {
   reached = λ i d within. absurd (omega (arith, within));
 }
 
-module _ (u : Update) (funcs digests : List (List ℕ × List ℕ)) (first a b : Tables) (k : KeepsTasks a b) (tasks : AreTasks b.names)
+-- each of these tasks stands at one place
+abbrev IsAtOne : List Task → Type 0
+IsAtOne names = (i j : ℕ) (t : Task) → slice_get names i ≡ Some t → slice_get names j ≡ Some t → i ≡ j
+
+one_before : (a b : Tables) → KeepsTasks a b → AreTasks b.names → IsAtOne a.names
+one_before a b k tasks i j t p q = one_place b.names tasks i j t (k.names i t p) (k.names j t q)
+
+module _ (u : Update) (funcs digests : List (List ℕ × List ℕ)) (first a b : Tables) (k : KeepsTasks a b) (one : IsAtOne a.names)
     (before mid after : List Task) (h : HaveRun u funcs digests first a before mid) where
   -- one of those that ran is one of more, by its number still
   one_still : (more : List Task) → ((t : Task) → Contains h.gained t → Contains more t) → (n : ℕ)
@@ -107,10 +124,8 @@ module _ (u : Update) (funcs digests : List (List ℕ × List ℕ)) (first a b :
   -- a task that starts hadn't run
   other : (s : StartsFor u funcs digests a b mid after) (task : Task) → HasRun a task → task ≢ s.task
   other s task r is =
-      let here : slice_get b.names r.number ≡ Some task = k.names r.number task r.named in
-      let there : slice_get b.names s.number ≡ Some task = k.names s.number s.task s.named ∙ ap Some (sym is) in
-      let one : r.number ≡ s.number = one_place b.names tasks r.number s.number task here there in
-      false≢true (sym s.rested ∙ subst (IsMarked a.ran.items) one r.marked)
+      let same : r.number ≡ s.number = one r.number s.number task r.named (s.named ∙ ap Some (sym is)) in
+      false≢true (sym s.rested ∙ subst (IsMarked a.ran.items) same r.marked)
 
   only_one : (s : StartsFor u funcs digests a b mid after) (n : ℕ) → IsMarked b.ran.items n
       → IsMarked first.ran.items n ⊎ IsOneOf b (h.gained ++ s.task ∷ []) n
@@ -141,6 +156,36 @@ module _ (u : Update) (funcs digests : List (List ℕ × List ℕ)) (first a b :
   more_run : RunsFor u funcs digests a b mid after → HaveRun u funcs digests first b before after
   more_run (inl none) = same_run none
   more_run (inr s) = one_run s
+
+-- ---- what a cause tells of them
+
+-- one of a ring, and those that came of too many
+told_of : (u : Update) (c : Core) (cause : Cause) (gained : List Task) → ((task : Task) → HasRunAs c.tables task → Contains gained task) → IsCauseOf u c cause
+    → RanOf u cause gained
+told_of u c causes.Interrupted gained within is = tt
+told_of u c causes.NoStore gained within is = tt
+told_of u c (causes.Damaged fault) gained within is = tt
+told_of u c causes.BadPending gained within is = tt
+told_of u c (causes.UnionCycle tasks) gained within is =
+    record { task = is.ran.task; listed = is.ran.listed; has = within is.ran.task is.ran.has }
+told_of u c (causes.UnionMany old new task) gained within is = record {
+  many = record { olds = is.1.olds; news = is.1.news; these = is.1.these };
+  has = All-weaker (HasRunIfKnown u c.tables) (λ v. Contains gained v ⊎ (number_from 0 u.functions v ≡ None)) by is.1.news is.1.ran;
+}
+  where
+    by : (v : Task) → HasRunIfKnown u c.tables v → Contains gained v ⊎ (number_from 0 u.functions v ≡ None)
+    by v (inl ran) = inl (within v ran)
+    by v (inr lost) = inr lost
+
+-- of too many old ones none came
+told_many : (u : Update) (c : Core) (cause : Cause) (task : Task) (gained : List Task) → cause ≡ UnionMany 50000 0 task → IsCauseOf u c cause → RanOf u cause gained
+told_many u c cause task gained same is = subst (λ x. RanOf u x gained) (sym same) (by (subst (IsCauseOf u c) same is))
+  where
+    by : IsCauseOf u c (UnionMany 50000 0 task) → RanOf u (UnionMany 50000 0 task) gained
+    by many = record {
+      many = record { olds = many.1.olds; news = many.1.news; these = many.1.these };
+      has = λ i d inside. absurd (omega (arith, inside, many.1.these.came));
+    }
 
 -- ---- steps
 
@@ -182,7 +227,40 @@ module _ (held mid : Option Directory) (a b c : Core) (turn : Turn) (r s t : Lis
         (still_known u funcs digests b.plan.same.items b.tables c.tables tasks so_far.0)
 
     ran_on : IsWhole u c → Knows u funcs digests c × HaveRun u funcs digests a.tables c.tables r t
-    ran_on w = (knows_on, more_run u funcs digests a.tables b.tables c.tables tasks w.exact.are.tables.tasks r s t so_far.1 runs)
+    ran_on w =
+        (knows_on, more_run u funcs digests a.tables b.tables c.tables tasks (one_before b.tables c.tables tasks w.exact.are.tables.tasks) r s t so_far.1 runs)
+
+    -- a task that has run is among those
+    ran_in : NoneRan a → (h : HaveRun u funcs digests a.tables c.tables r t) → (task : Task) → HasRunAs c.tables task → Contains h.gained task
+    ran_in none h task run = by (h.only run.number run.ran)
+      where
+        by : IsMarked a.tables.ran.items run.number ⊎ IsOneOf c.tables h.gained run.number → Contains h.gained task
+        by (inl was) = absurd (false≢true (sym (none run.number) ∙ was))
+        by (inr one) = subst (Contains h.gained) (let both : Some one.task ≡ Some task = sym one.named ∙ run.named in cc) one.listed
+
+    -- so they begun where it has to start afresh
+    begun_by : (cause : Cause) → IsCauseOf u c cause → NoneRan a → AreTasks b.tables.names → HaveBegun u funcs digests cause r t
+    begun_by cause is none names =
+        let h = more_run u funcs digests a.tables b.tables c.tables tasks (one_place b.tables.names names) r s t so_far.1 runs in
+        record { gained = h.gained; is = h.is; ran = h.ran; told = told_of u c cause h.gained (ran_in none h) is }
+
+    begun_now : (cause : Cause) → IsCauseOf u c cause → NoneRan a → ((task : Task) → b.first ≡ TooMany task → cause ≡ UnionMany 50000 0 task)
+        → StartsNoneForMany b s t → HaveBegun u funcs digests cause r t
+    begun_now cause is none many idle = by (stands u site now begins)
+      where
+        first_by : (f : First) → b.first ≡ f → (b.first ≡ Done → ⊥) → (b.first ≡ Tests → IsLoadedCore u b) → HaveBegun u funcs digests cause r t
+        first_by Tests at fresh loads = begun_by cause is none (loads at).loaded.tasks
+        first_by (TooMany task) at fresh loads = record {
+          gained = so_far.1.gained;
+          is = idle task at ∙ so_far.1.is;
+          ran = so_far.1.ran;
+          told = told_many u c cause task so_far.1.gained (many task at) is;
+        }
+        first_by Done at fresh loads = absurd (fresh at)
+
+        by : StandsWhole u b → HaveBegun u funcs digests cause r t
+        by (inl loaded) = first_by b.first refl loaded.0 loaded.1
+        by (inr w) = begun_by cause is none w.exact.are.tables.tasks
 
     -- once the roots are settled, each task with a reason that a clean build enters is among those that ran
     due : turn ≡ Settled → SettlesFor c turn → NoneRan a → (h : HaveRun u funcs digests a.tables c.tables r t) → (task : Task) → IsEntered u task
@@ -190,12 +268,24 @@ module _ (held mid : Option Directory) (a b c : Core) (turn : Turn) (r s t : Lis
     due settled all none h task entered reason =
         let at : IsBuildNow u c.plan = subst (λ (p : Plan). IsBuildNow u p) (sym (then ∙ first)) now in
         let whole : IsWhole u c = subst (TurnIsWhole u c) settled turned in
-        let run = subst (SettlesFor c) settled all u funcs digests at whole.exact knows_on task entered reason in
-        by run.number run.named (h.only run.number run.ran)
-      where
-        by : (n : ℕ) → slice_get c.tables.names n ≡ Some task → IsMarked a.tables.ran.items n ⊎ IsOneOf c.tables h.gained n → Contains h.gained task
-        by n named (inl was) = absurd (false≢true (sym (none n) ∙ was))
-        by n named (inr one) = subst (Contains h.gained) (let both : Some one.task ≡ Some task = sym one.named ∙ named in cc) one.listed
+        ran_in none h task (subst (SettlesFor c) settled all u funcs digests at whole.exact knows_on task entered reason)
+
+  -- so each task that a clean build enters is of a function of the pipeline, and is among them if it has a reason
+  all_due : (u : Update) (funcs digests : List (List ℕ × List ℕ)) (site : IsSiteNow u held) (now : IsBuildNow u a.plan) (begins : StandsWhole u a)
+      (knows : Knows u funcs digests a) → turn ≡ Settled → HasSettled c → SettlesFor c turn → NoneRan a → (h : HaveRun u funcs digests a.tables c.tables r t)
+      → AllAreDue u funcs digests h.gained
+  all_due u funcs digests site now begins knows settled over all none h roots same types are x enters =
+      let at : IsBuildNow u c.plan = subst (λ (p : Plan). IsBuildNow u p) (sym (then ∙ first)) now in
+      let whole : IsWhole u c = subst (TurnIsWhole u c) settled (turned u funcs digests site now begins knows) in
+      let of = of_function u c over at whole.exact roots same types are x enters in
+      let entered : IsEntered u of.task = record {
+        canonical = subst (IsCanonicalTask of.task) of.canonical.bytes of.canonical;
+        entered = subst (λ (bs : List (List ℕ)). among (enc_task of.task) (entered_tasks world (present u) bs) ≡ true) same
+            (subst (Enters u.functions u.directory roots) of.canonical.bytes enters);
+        number = of.number;
+        function = of.function;
+      } in
+      (of, λ reason. due u funcs digests site now begins knows settled all none h of.task entered reason)
 
   pub runs_on : turn ≡ Went → RunsOn held a c r t
   runs_on went u funcs digests site now begins knows =
@@ -207,19 +297,57 @@ module _ (held mid : Option Directory) (a b c : Core) (turn : Turn) (r s t : Lis
 
   -- of a core that isn't of too many old tasks, once the roots are settled
   pub settles_runs : turn ≡ Settled → StaysMany a b → ((task : Task) → b.first ≡ TooMany task → turn ≡ StartAfresh (UnionMany 50000 0 task))
-      → SettlesFor c turn → RunsWhole held a r t
-  settles_runs settled stays many all = record {
+      → SettlesFor c turn → HasSettled c → RunsWhole held a r t
+  settles_runs settled stays many all over = record {
     few = λ task is. absurd (never (sym settled ∙ many task (stays task is)));
     each = λ u funcs digests site now begins knows none.
         let h = (runs_end settled u funcs digests site now begins knows).1 in record {
           gained = h.gained;
           is = h.is;
-          ran = record { have = h.ran; all = due u funcs digests site now begins knows settled all none h };
+          ran = record { have = h.ran; all = all_due u funcs digests site now begins knows settled over all none h };
         };
   }
     where
       never : {cause : Cause} → Settled ≡ StartAfresh cause → ⊥
       never e = cc
+
+  -- of a core that has to start afresh for a cause
+  pub stops_runs : (cause : Cause) → turn ≡ StartAfresh cause → StaysMany a b
+      → ((task : Task) → b.first ≡ TooMany task → turn ≡ StartAfresh (UnionMany 50000 0 task)) → StartsNoneForMany a r s → StartsNoneForMany b s t
+      → RunsBefore held a cause r t
+  stops_runs cause stops stays many none idle = record { each = λ u funcs digests site now begins knows. by u funcs digests site now begins knows a.first refl }
+    where
+      one : (x y : Cause) → StartAfresh x ≡ StartAfresh y → x ≡ y
+      one x y e = cc
+
+      caused : (task : Task) → b.first ≡ TooMany task → cause ≡ UnionMany 50000 0 task
+      caused task is = one cause (UnionMany 50000 0 task) (sym stops ∙ many task is)
+
+      holds : (u : Update) → IsSiteNow u held → IsBuildNow u a.plan → StandsWhole u a → IsCauseOf u c cause
+      holds u site now begins =
+          subst (TurnIsWhole u c) stops
+          (subst (λ m. StepsWhole m b c turn) same whole u (subst (λ (p : Plan). IsBuildNow u p) (sym first) now) site (stands u site now begins))
+
+      by : (u : Update) (funcs digests : List (List ℕ × List ℕ)) → IsSiteNow u held → IsBuildNow u a.plan → StandsWhole u a → KnowsFirst u funcs digests a
+          → (f : First) → a.first ≡ f → HaveBegun u funcs digests cause r t
+      by u funcs digests site now begins knows (TooMany task) is = record {
+        gained = [];
+        is = idle task (stays task is) ∙ none task is ∙ sym (append-nil r);
+        ran = none_ran u funcs digests;
+        told = told_many u c cause task [] (caused task (stays task is)) (holds u site now begins);
+      }
+      by u funcs digests site now begins knows Tests is =
+          let has = knows (λ task many. apart_tests task (sym is ∙ many)) in
+          begun_now u funcs digests site now begins has.0 cause (holds u site now begins) has.1 caused idle
+        where
+          apart_tests : (task : Task) → Tests ≡ TooMany task → ⊥
+          apart_tests task e = cc
+      by u funcs digests site now begins knows Done is =
+          let has = knows (λ task many. apart_done task (sym is ∙ many)) in
+          begun_now u funcs digests site now begins has.0 cause (holds u site now begins) has.1 caused idle
+        where
+          apart_done : (task : Task) → Done ≡ TooMany task → ⊥
+          apart_done task e = cc
 
 -- ---- too many old tasks
 
@@ -233,9 +361,19 @@ many_on a b c turn stays many went task is = absurd (never (sym went ∙ many ta
     never : {cause : Cause} → Went ≡ StartAfresh cause → ⊥
     never e = cc
 
+pub none_first : (c : Core) (before : List Task) → StartsNoneForMany c before before
+none_first c before task is = refl
+
+pub none_on : (a b : Core) (turn : Turn) (r t : List Task) → StaysMany a b → ((task : Task) → b.first ≡ TooMany task → turn ≡ StartAfresh (UnionMany 50000 0 task))
+    → turn ≡ Went → StartsNoneForMany a r t
+none_on a b turn r t stays many went task is = absurd (never (sym went ∙ many task (stays task is)))
+  where
+    never : {cause : Cause} → Went ≡ StartAfresh cause → ⊥
+    never e = cc
+
 -- ---- an evaluation
 
-begins_by : (c : Core) → (c.first ≡ Done → ⊥) → ((task : Task) → c.first ≡ TooMany task → ⊥) → c.first ≡ Tests
+pub begins_by : (c : Core) → (c.first ≡ Done → ⊥) → ((task : Task) → c.first ≡ TooMany task → ⊥) → c.first ≡ Tests
 begins_by c fresh few = by c.first refl
   where
     by : (f : First) → c.first ≡ f → c.first ≡ Tests
@@ -243,7 +381,7 @@ begins_by c fresh few = by c.first refl
     by (TooMany task) is = absurd (few task is)
     by Done is = absurd (fresh is)
 
-none_yet : (u : Update) (c : Core) → (c.first ≡ Done → ⊥) → c.first ≡ Tests → StandsWhole u c → NoneRan c
+pub none_yet : (u : Update) (c : Core) → (c.first ≡ Done → ⊥) → c.first ≡ Tests → StandsWhole u c → NoneRan c
 none_yet u c fresh tests (inl begins) n = ((begins.1 tests).unstarted n).rested
 none_yet u c fresh tests (inr whole) n = absurd (fresh whole.exact.tested)
 
@@ -257,6 +395,19 @@ runs_each held fs codes digests roots s names c before after compiled begins fre
       let site : IsSiteNow u held = record { holds = here.holds; apart = here.separates; besides = here.met } in
       let tests = begins_by c fresh runs.few in
       runs.each u s.funcs digests site begun.0 begun.1 (knows u stored tests) (none_yet u c fresh tests begun.1);
+}
+
+-- where it has to start afresh for a cause
+pub begins_each : (held : Option Directory) (fs : List FunctionTree) (codes : List Code) (digests : List (List ℕ × List ℕ)) (roots : List Task)
+    (s : StoreImage) (names : List (List ℕ)) (c : Core) (cause : Cause) (before after : List Task) → AreCompiled fs codes
+    → BeginsNow fs codes roots s.funcs digests s.rows names c → (c.first ≡ Done → ⊥) → BeginsKnowing s.funcs digests s.rows names c
+    → RunsBefore held c cause before after → BeginsEach held fs digests roots s names cause before after
+begins_each held fs codes digests roots s names c cause before after compiled begins fresh knows runs = record {
+  each = λ u here stored.
+      let begun = begins.each u held here compiled stored in
+      let site : IsSiteNow u held = record { holds = here.holds; apart = here.separates; besides = here.met } in
+      runs.each u s.funcs digests site begun.0 begun.1
+      (λ few. let tests = begins_by c fresh few in (knows u stored tests, none_yet u c fresh tests begun.1));
 }
 
 -- what a report tells of them

@@ -69,7 +69,7 @@ module _ (own : OwnFiles) (held : List (List ℕ × List ℕ)) (rows : List Task
       (subst (λ w. Meets w (file_at d q) (file_at c q)) (changes_wanted p plan.places q off) (is q (ap (same_text q) (places p plan.places).marker ∙ off))))
       (Some (without_file c open_path)) refl (ap (option_map (λ f. f.0)) (get_without c open_path open_path))
 
-  placed : (c : Directory) → IsDone p d c → IsPlaced rows (contents_in contents) text.items d (without_file c open_path)
+  pub placed : (c : Directory) → IsDone p d c → IsPlaced rows (contents_in contents) text.items d (without_file c open_path)
   placed c is = is_placed own held rows contents text p plan d (without_file c open_path) known files
       (λ q off. subst (λ o. Meets (changes p q) (file_at d q) o) (sym (removal_apart c open_path q off))
       (subst (λ w. Meets w (file_at d q) (file_at c q)) (changes_wanted p plan.places q off) (is q (ap (same_text q) (places p plan.places).marker ∙ off))))
@@ -82,7 +82,7 @@ module _ (own : OwnFiles) (held : List (List ℕ × List ℕ)) (rows : List Task
   of_build : (c : Directory) → IsOfThree p d c → IsOfBuild rows contents text.items d c
   of_build c three = ⊎_elim (λ way. inl (begun c way)) (λ rest. ⊎_elim (λ same. inr (inl same)) (λ is. inr (inr (done c is))) rest) three
 
-  marked : (images : Directory → Type 0) → ((c : Directory) → images c → HasFile c p.marker ⊎ (c ≡ d))
+  pub marked : (images : Directory → Type 0) → ((c : Directory) → images c → HasFile c p.marker ⊎ (c ≡ d))
       → (c : Directory) → images c → HasFile c open_path ⊎ (c ≡ d)
   marked images h c is = ⊎_elim (λ file. inl (subst (HasFile c) (places p plan.places).marker file)) (λ same. inr same) (h c is)
 
@@ -130,3 +130,18 @@ module _ {S : Type 0} (holds : S → Option Directory) (images : S → Directory
       → OnErr result (IfSome (holds old) (λ d. Only d (images old) → LeavesMarked p d (images new)))
       → IfSome (holds old) (λ d. Only d (images old) → Marks p d (images new))
   ends_marked result brought rest same failed = ends (holds old) result brought rest same failed
+
+  told : {A : Type 0} (o : Option Directory) (result : Result A FilesError) → (is_empty p ≡ false → OnOk result (HasBrought (wanted_by p) o (holds new)))
+      → (is_empty p ≡ false → OnOk result (IfSome o (λ d. IsAtRest (holds new) (images new)))) → (is_empty p ≡ true → new ≡ old)
+      → OnErr result (IfSome o (λ d. Only d (images old) → LeavesMarked p d (images new)))
+      → IfSome o (λ d. Only d (images old) → LeavesMarked p d (images new))
+  told None result brought rest same failed = tt
+  told (Some d) (Ok a) brought rest same failed = λ only. ends_ok d brought rest same only
+  told (Some d) (Err e) brought rest same failed = λ only. failed only
+
+  -- the same of the plan itself
+  pub ends_told : {A : Type 0} (result : Result A FilesError) → (is_empty p ≡ false → OnOk result (HasBrought (wanted_by p) (holds old) (holds new)))
+      → (is_empty p ≡ false → OnOk result (IfSome (holds old) (λ d. IsAtRest (holds new) (images new)))) → (is_empty p ≡ true → new ≡ old)
+      → OnErr result (IfSome (holds old) (λ d. Only d (images old) → LeavesMarked p d (images new)))
+      → IfSome (holds old) (λ d. Only d (images old) → LeavesMarked p d (images new))
+  ends_told result brought rest same failed = told (holds old) result brought rest same failed

@@ -1,5 +1,6 @@
 -- A build by what changed, as a clean build: its beginning, its evaluation and its end.
-use Rattle.std.proofs.Common.{◌≡◌, ℕ, Bool, true, false, cond, List, map, Option, None, Some, Box, Global, Result, Ok, Err, refl, sym, ap, subst, ◌∙◌, codes}
+use Rattle.std.proofs.Common.{◌≡◌, ℕ, Bool, true, false, cond, List, ◌++◌, drop, length, map, Option, None, Some, Box, Global, Result, Ok, Err, refl, sym, ap, subst, ◌∙◌, codes}
+use Rattle.std.proofs.Math.Seq.{drop-append_seam}
 use Rattle.std.proofs.lemmas.List.Elements.{All-weaker}
 use Rattle.std.specs.Prelude.{All, IfOk, IfSome, IsSome}
 use Rattle.pie_bottomup.specs.inner.Loaded.{IsStoredIn}
@@ -31,15 +32,14 @@ use Rattle.pie_incremental.specs.declared.ending.Ending.{Ending}
 use Rattle.pie_incremental.specs.declared.run.Done.{Done}
 use Rattle.pie_incremental.specs.declared.run.Done.TheVariants.{Reported, Stopped}
 use Rattle.pie_incremental.specs.declared.run.Stop.{Stop}
-use Rattle.pie_incremental.specs.Clean.{IsAfresh}
 use Rattle.pie_incremental.specs.inner.Built.{IsKnown}
 use Rattle.pie_incremental.specs.inner.Clean.{BuildsCleanOf, LeavesAsClean}
 use Rattle.pie_incremental.specs.inner.Cleaned.{KnowsWhere, LeavesBy}
 use Rattle.pie_incremental.specs.inner.Digested.{digested, with_digests}
 use Rattle.pie_incremental.specs.inner.Evaluated.{IsResultOf, IsUpdateHere, MakesExact, StopsWhere}
 use Rattle.pie_incremental.specs.inner.Joined.{IsAsBefore, IsEndingOf}
-use Rattle.pie_incremental.specs.inner.Ran.{AreDue}
-use Rattle.pie_incremental.specs.inner.Updated.{GoesClean, GoesOn, IsUpdateFrom, RunsClean, RunsCleanOnce, RunsOrStops, StopsFrom}
+use Rattle.pie_incremental.specs.inner.Ran.{AreDue, BeginsEach, HaveBegun, HaveReasons, RanOf}
+use Rattle.pie_incremental.specs.inner.Updated.{BeginsFrom, BeginsOn, BeginsOrRuns, GoesClean, GoesOn, IsAfreshAfter, IsUpdateFrom, RanFrom, RunsClean, RunsCleanOnce, RunsOrStops, StopsFrom}
 
 -- ---- the end
 
@@ -152,6 +152,44 @@ runs_ok b e p list s before mid after (Ok done) same ending knows image goes =
     runs_then b e p list s before mid after done same ending knows image goes
 runs_ok b e p list s before mid after (Err x) same ending knows image goes = tt
 
+-- ---- the tasks that ran before it started afresh
+
+begins_from : (b : Base) (e : Ending) (p : Project) (list : List (List ℕ)) (s : StoreImage) (before mid : Option Directory) (cause : Cause) (old new : List Task)
+    → mid ≡ before → IsEndingOf b list e → IfSome before (λ d. KnowsWhere b d e) → IfSome before (λ d. s ≡ digested d p.digests.items b.image)
+    → BeginsEach mid p.typed p.digests.items p.roots.items s e.names.items cause old new → BeginsFrom b p list before cause old new
+begins_from b e p list s before mid cause old new same ending knows image begins = record {
+  each = λ u from.
+      subst (λ (x : StoreImage). HaveBegun u x.funcs p.digests.items cause old new) (is_digested b e p list s before u ending knows image from)
+      (begins.each u (subst (λ m. IsUpdateHere u m p.typed p.roots.items) (sym same) from.here) (begun_stored b e p list s before u ending knows image from));
+}
+
+begins_then : (b : Base) (e : Ending) (p : Project) (list : List (List ℕ)) (s : StoreImage) (before mid : Option Directory) (old new : List Task) (done : Done)
+    → mid ≡ before → IsEndingOf b list e → IfSome before (λ d. KnowsWhere b d e) → IfSome before (λ d. s ≡ digested d p.digests.items b.image)
+    → BeginsOn s e p mid old new done → BeginsOrRuns b p list before old new done
+begins_then b e p list s before mid old new (Reported r) same ending knows image begins = tt
+begins_then b e p list s before mid old new (Stopped stop) same ending knows image begins =
+    begins_from b e p list s before mid stop.value.cause old new same ending knows image begins
+
+pub begins_ok : (b : Base) (e : Ending) (p : Project) (list : List (List ℕ)) (s : StoreImage) (before mid : Option Directory) (old new : List Task)
+    (result : Result Done FilesError) → mid ≡ before → IsEndingOf b list e → IfSome before (λ d. KnowsWhere b d e)
+    → IfSome before (λ d. s ≡ digested d p.digests.items b.image) → IfOk result (BeginsOn s e p mid old new) → IfOk result (BeginsOrRuns b p list before old new)
+begins_ok b e p list s before mid old new (Ok done) same ending knows image begins =
+    begins_then b e p list s before mid old new done same ending knows image begins
+begins_ok b e p list s before mid old new (Err x) same ending knows image begins = tt
+
+-- those behind a place ran so
+ran_behind : (b : Base) (p : Project) (list : List (List ℕ)) (held : Option Directory) (cause : Cause) (n : ℕ) (old new : List Task) → n ≡ length old
+    → BeginsFrom b p list held cause old new → RanFrom b p list held cause (drop n new)
+ran_behind b p list held cause n old new is begins = record {
+  each = λ u from.
+      let h = begins.each u from in
+      subst (HaveReasons u (digested u.directory p.digests.items b.image).funcs p.digests.items) (sym (behind h.gained h.is)) h.ran;
+  told = λ u from. let h = begins.each u from in subst (RanOf u cause) (sym (behind h.gained h.is)) h.told;
+}
+  where
+    behind : (gained : List Task) → new ≡ old ++ gained → drop n new ≡ gained
+    behind gained e = ap (λ k. drop k new) is ∙ ap (drop (length old)) e ∙ drop-append_seam old gained
+
 -- ---- the whole build of a project
 
 -- roots of a project that is observable are within the limits of values
@@ -164,6 +202,7 @@ large_runs b p list before after (Ok r) ready large =
       once = λ d told none. absurd (never d told);
       afresh = λ d told some. absurd (never d told);
       cause = λ d told c is. absurd (never d told);
+      ran = λ d told some c is. absurd (never d told);
     }
   where
     never : (d : Directory) → before ≡ Some d → ⊥
@@ -183,6 +222,7 @@ reported_runs b p list before after done report r is same h =
       once = λ d told none. runs;
       afresh = λ d told some. absurd (no_cause r.fresh some runs.none);
       cause = λ d told c caused. absurd (apart c (sym runs.none ∙ caused));
+      ran = λ d told some c caused. absurd (no_cause r.fresh some runs.none);
     }
   where
     apart : (c : Cause) → None ≡ Some c → ⊥
@@ -194,16 +234,23 @@ as_before before mid done stop is h = subst (IsAsBefore before mid) is h
 
 -- and one that tells why it did
 pub again_runs : (b : Base) (p : Project) (list : List (List ℕ)) (before mid after : Option Directory) (done : Done) (stop : Box Stop Global)
-    (result : Result Report BuildError) → mid ≡ before → done ≡ Stopped stop → RunsOrStops b p list before mid done
-    → IfOk result (λ r. r.fresh ≡ Some stop.value.cause) → IfSome mid (λ d. IfOk result (λ r. IsAfresh d r after))
-    → IfOk result (RunsCleanOnce b p list before after)
-again_runs b p list before mid after done stop (Err e) same stopped stops why is = tt
-again_runs b p list before mid after done stop (Ok r) same stopped stops why is = record {
+    (result : Result Report BuildError) (n : ℕ) (old new : List Task) → mid ≡ before → done ≡ Stopped stop → RunsOrStops b p list before mid done
+    → IfOk result (λ r. r.fresh ≡ Some stop.value.cause) → n ≡ length old → BeginsOrRuns b p list before old new done
+    → IfSome mid (λ d. IfOk result (λ r. IsAfreshAfter d r after (drop n new))) → IfOk result (RunsCleanOnce b p list before after)
+again_runs b p list before mid after done stop (Err e) n old new same stopped stops why at begins is = tt
+again_runs b p list before mid after done stop (Ok r) n old new same stopped stops why at begins is = record {
   once = λ d told none. absurd (apart (sym why ∙ none));
-  afresh = λ d told some. subst (λ m. IfSome m (λ x. IsAfresh x r after)) (same ∙ told) is;
+  afresh = λ d told some. (afresh d told).afresh;
   cause = λ d told c caused. subst (StopsFrom b p list before) (one c (sym why ∙ caused)) (subst (RunsOrStops b p list before mid) stopped stops);
+  ran = λ d told some c caused.
+      subst (RanFrom b p list before c) (sym (afresh d told).is)
+      (subst (λ x. RanFrom b p list before x (drop n new)) (one c (sym why ∙ caused))
+      (ran_behind b p list before stop.value.cause n old new at (subst (BeginsOrRuns b p list before old new) stopped begins)));
 }
   where
+    afresh : (d : Directory) → before ≡ Some d → IsAfreshAfter d r after (drop n new)
+    afresh d told = subst (λ m. IfSome m (λ x. IsAfreshAfter x r after (drop n new))) (same ∙ told) is
+
     apart : Some stop.value.cause ≡ None → ⊥
     apart differ = cc
 

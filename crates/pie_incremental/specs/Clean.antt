@@ -19,6 +19,7 @@ use Rattle.pie_store.specs.declared.cause.Cause.{Cause}
 use Rattle.pie_value.specs.Canonical.{enc_task}
 use Rattle.pie_value.specs.declared.task.Task.{Task}
 use Rattle.pie_value.specs.declared.verdict.Verdict.TheVariants.{Accepted}
+use Rattle.pie_incremental.specs.Before.{AreBefore}
 use Rattle.pie_incremental.specs.Causes.{IsCauseFor}
 use Rattle.pie_incremental.specs.Earlier.{live_of, Earlier, GoesOnFrom}
 use Rattle.pie_incremental.specs.Own.{bytes_at}
@@ -74,10 +75,12 @@ pub record IsAfresh (d : Directory) (r : Report) (after : Option Directory) : Ty
 
 -- what a build with this list came to: a report that tells no cause to start afresh is as that of a clean build, where the directory goes on from an earlier
 -- one, and tells no task twice that ran, and each that had a reason to: those alone that are reached from a root, and all that a clean build enters; a report
--- that tells one is of a clean build, whatever was there, and where the directory goes on from an earlier one, the cause holds
+-- that tells one is of a clean build, whatever was there, and where the directory goes on from an earlier one, the cause holds, and the tasks that ran before
+-- it started afresh ran each once, for a reason, and are reached from a root
 pub record BuildsClean (list : List (List ℕ)) (d : Directory) (r : Report) (after : Option Directory) : Type 0 where
   pub goes_on : r.fresh ≡ None → (e : Earlier) → GoesOnFrom e list d → IsAsClean d r after
   pub ran : r.fresh ≡ None → (e : Earlier) → GoesOnFrom e list d → RanFor e d r.ran.items
   pub afresh : IsSome r.fresh → IsAfresh d r after
   pub cause : (c : Cause) → r.fresh ≡ Some c → (e : Earlier) → GoesOnFrom e list d → IsCauseFor e d c
   pub exactly : r.fresh ≡ None → (e : Earlier) → GoesOnFrom e list d → RanExactly e d r.ran.items
+  pub before : (some : IsSome r.fresh) (c : Cause) → r.fresh ≡ Some c → (e : Earlier) → GoesOnFrom e list d → AreBefore e d c (afresh some).before

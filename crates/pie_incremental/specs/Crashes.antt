@@ -1,11 +1,12 @@
 -- What a crash leaves of a build by what changed.
-use Rattle.std.specs.Prelude.{◌≡◌, ◌⊎◌, ◌||◌, ℕ, false, List, ◌++◌, map}
+use Rattle.std.specs.Prelude.{◌≡◌, ◌⊎◌, ◌||◌, ℕ, false, List, ◌++◌, map, Option, IfSome}
 use Rattle.pie_base.specs.Path.{is_out}
 use Rattle.pie_build.specs.Crashes.{IsDone}
 use Rattle.pie_build.specs.Left.{IsProjectOf, Leaves}
 use Rattle.pie_build.specs.Stored.{IsStoreOf}
 use Rattle.pie_commit.specs.Outcomes.{HasFile}
 use Rattle.pie_files.specs.Directory.{Directory, file_at, without_file}
+use Rattle.pie_files.specs.Images.{Only}
 use Rattle.pie_model.specs.Built.{store_rows, IsBuilt}
 use Rattle.pie_model_pipeline.specs.Rows.{record_of}
 use Rattle.pie_model_pipeline.specs.World.{world, project}
@@ -41,8 +42,25 @@ pub record KeepsList (list : List (List ℕ)) (d c : Directory) : Type 0 where
   pub is : IsBase d base
   pub names : HasNames (in_order (list ++ base.names.items)) d c
 
+-- names are kept, or a build is done, with or without the marker: as a build that started afresh, or as one that didn't
+abbrev pub HasEnded : List (List ℕ) → Directory → Directory → Type 0
+HasEnded list d c = KeepsList list d c ⊎ (IsDone Leaves d c ⊎ IsCleanBuilt d (without_file c open_path))
+
 -- a build that goes on from an earlier one has begun, it changed nothing yet, its names are kept, or it is done, with or without the marker: as a build that
 -- started afresh, or as one that didn't
 abbrev pub MayStop : List (List ℕ) → Directory → Directory → Type 0
-MayStop list d c = (e : Earlier) → GoesOnFrom e list d
-    → IsBegun d c ⊎ ((c ≡ d) ⊎ (KeepsList list d c ⊎ (IsDone Leaves d c ⊎ IsCleanBuilt d (without_file c open_path))))
+MayStop list d c = (e : Earlier) → GoesOnFrom e list d → IsBegun d c ⊎ ((c ≡ d) ⊎ HasEnded list d c)
+
+-- ---- at the end
+
+-- the marker stands in every image unless nothing changed, or every image has D
+abbrev pub MarkedBy : (Directory → Directory → Type 0) → Directory → (Directory → Type 0) → Type 0
+MarkedBy D d images = ((c : Directory) → images c → HasFile c open_path ⊎ (c ≡ d)) ⊎ ((c : Directory) → images c → D d c)
+
+-- so it is where nothing was pending
+abbrev pub EndsMarked : {S : Type 0} → (S → Option Directory) → (S → Directory → Type 0) → (Directory → Directory → Type 0) → S → S → Type 0
+EndsMarked holds images D old new = IfSome (holds old) (λ d. Only d (images old) → MarkedBy D d (images new))
+
+-- a build that goes on from an earlier one has kept its names, or is done, with or without the marker
+abbrev pub MayEnd : List (List ℕ) → Directory → Directory → Type 0
+MayEnd list d c = (e : Earlier) → GoesOnFrom e list d → HasEnded list d c

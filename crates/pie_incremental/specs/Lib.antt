@@ -7,8 +7,9 @@ pub mod Treated
 pub mod Runs
 pub mod Earlier
 pub mod Ran
-pub mod Causes
 pub mod Reached
+pub mod Causes
+pub mod Before
 pub mod Clean
 pub mod Refused
 pub mod inner

@@ -1,4 +1,5 @@
 -- Definitions that no clause of `pie_cli::run` rests on: invariants, and what crates say to each other.
+pub mod Asked
 pub mod Bases
 pub mod Built
 pub mod Causes
@@ -9,6 +10,7 @@ pub mod Crashed
 pub mod Digested
 pub mod Evaluated
 pub mod Joined
+pub mod Marked
 pub mod Plans
 pub mod Ran
 pub mod Updated

@@ -1,7 +1,9 @@
 //! A build that starts afresh after tasks ran.
 ghost use Rattle.std.specs.Prelude.{◌≡◌, ◌≤◌, ◌+◌, ◌++◌, drop, length, All, List, Some, IfOk, IfSome, OnOk};
+ghost use Rattle.pie_build.specs.Crashes.{StaysAtRest};
 ghost use Rattle.pie_build.specs.Left.{KeepsRest};
 ghost use Rattle.pie_commit.specs.Outcomes.{LeavesFromRest};
+ghost use Rattle.pie_incremental.specs.Crashes.{EndsMarked};
 ghost use Rattle.pie_incremental.specs.Kept.{IsOfNames};
 ghost use Rattle.pie_incremental.specs.inner.Changes.{bytes_of};
 ghost use Rattle.pie_incremental.specs.inner.Crashed.{MayRestart};
@@ -9,9 +11,11 @@ ghost use Rattle.pie_value.specs.declared.verdict.Verdict.TheVariants as verdict
 ghost use Rattle.pie_build.specs.inner.Rebuilt.{IsRefusal, Tells};
 ghost use Rattle.pie_value.specs.Canonical.{IsEncodableTask};
 ghost use Rattle.pie_value.specs.declared.task.Task.{Task as TaskOf};
-ghost use Rattle.pie_incremental.specs.Clean.{IsAfresh};
 ghost use Rattle.pie_incremental.specs.Refused.{RefusesRight};
 ghost use Rattle.pie_incremental.specs.inner.Joined.{IsRetold, KeepsAfter, Treats};
+ghost use Rattle.pie_incremental.specs.inner.Marked.{EndsNames, EndsRestart};
+ghost use Rattle.pie_incremental.specs.inner.Updated.{IsAfreshAfter};
+ghost use Rattle.pie_project.specs.Refusals.{IsVerdict};
 
 use crate::cause::put_cause;
 use crate::ending::Ending;
@@ -39,8 +43,10 @@ pub(crate) fn again<F: Files>(
     ensures rest { KeepsRest (F.holds files.old) (F.holds files.new) }
     ensures refused { IsRefusal result → F.holds files.new ≡ F.holds files.old }
     ensures names { IfOk result (λ r. Treats stop.value.ending.value.own stop.value.ending.value.names.items r.verdict (F.holds files.old) (F.holds files.new)) }
-    ensures afresh { IfSome (F.holds files.old) (λ d. IfOk result (λ r. IsAfresh d r (F.holds files.new))) }
+    ensures afresh { IfSome (F.holds files.old) (λ d. IfOk result (λ r. IsAfreshAfter d r (F.holds files.new) (drop before runs.old))) }
     ensures crash { LeavesFromRest F.holds F.moment F.left_since F.images (MayRestart stop.value.ending.value.own stop.value.ending.value.names.items) files.old files.new }
+    ensures marked { EndsMarked F.holds F.images (EndsRestart stop.value.ending.value.own stop.value.ending.value.names.items) files.old files.new }
+    ensures durable { IsVerdict result → StaysAtRest F.holds F.images files.old files.new }
     ensures fresh { IfOk result (λ r. r.fresh ≡ Some stop.value.cause) }
     ensures ran { IfOk result (λ r. r.ran.items ≡ drop before runs.new) }
     ensures grows { IfOk result (λ r. (more : List TaskOf) × (runs.new ≡ runs.old ++ more)) }
@@ -70,6 +76,8 @@ fn retell<F: Files>(
     ensures names { IfOk result (λ r. KeepsAfter report.verdict stop.value.ending.value.own stop.value.ending.value.names.items (F.holds files.old) (F.holds files.new)) }
     ensures quiet { report.verdict ≡ verdicts.Accepted → files.new ≡ files.old }
     ensures crash { LeavesFromRest F.holds F.moment F.left_since F.images (IsOfNames stop.value.ending.value.names.items (bytes_of stop.value.ending.value.own.pending)) files.old files.new }
+    ensures marked { EndsMarked F.holds F.images (EndsNames stop.value.ending.value.names.items (bytes_of stop.value.ending.value.own.pending)) files.old files.new }
+    ensures durable { IsVerdict result → StaysAtRest F.holds F.images files.old files.new }
     ensures verdict { IfOk result (λ r. r.verdict ≡ report.verdict) }
     ensures retold { IfOk result (IsRetold report) }
     ensures fresh { IfOk result (λ r. r.fresh ≡ Some stop.value.cause) }
@@ -83,7 +91,7 @@ fn retell<F: Files>(
 }
 
 // The report gets all tasks that were started, and the cause. A refused build keeps the names.
-#[tactic(auto, using(pie_build::proofs::OwnPaths::same_keeps, crate::proofs::Crashing::names_still))]
+#[tactic(auto, using(pie_build::proofs::OwnPaths::same_keeps, crate::proofs::Crashing::names_still, crate::proofs::Marking::marked_none, pie_build::proofs::Crashing::rests_none))]
 fn complete<F: Files>(
     alloc: Global,
     files: &mut F,
@@ -98,6 +106,8 @@ fn complete<F: Files>(
     ensures names { OnOk result (KeepsAfter report.old.verdict stop.value.ending.value.own stop.value.ending.value.names.items (F.holds files.old) (F.holds files.new)) }
     ensures quiet { report.old.verdict ≡ verdicts.Accepted → files.new ≡ files.old }
     ensures crash { LeavesFromRest F.holds F.moment F.left_since F.images (IsOfNames stop.value.ending.value.names.items (bytes_of stop.value.ending.value.own.pending)) files.old files.new }
+    ensures marked { EndsMarked F.holds F.images (EndsNames stop.value.ending.value.names.items (bytes_of stop.value.ending.value.own.pending)) files.old files.new }
+    ensures durable { IsVerdict result → StaysAtRest F.holds F.images files.old files.new }
     ensures verdict { report.new.verdict ≡ report.old.verdict }
     ensures retold { OnOk result (IsRetold report.old report.new) }
     ensures fresh { OnOk result (report.new.fresh ≡ Some stop.value.cause) }
@@ -132,7 +142,7 @@ fn put_ran(
 }
 
 // A refused build keeps the names for the next one.
-#[tactic(auto, using(pie_build::proofs::OwnPaths::same_keeps, crate::proofs::Crashing::names_still))]
+#[tactic(auto, using(pie_build::proofs::OwnPaths::same_keeps, crate::proofs::Crashing::names_still, crate::proofs::Marking::marked_none, pie_build::proofs::Crashing::rests_none))]
 fn keep<F: Files>(
     alloc: Global,
     files: &mut F,
@@ -144,6 +154,8 @@ fn keep<F: Files>(
     ensures names { OnOk result (KeepsAfter verdict.now ending.now.own ending.now.names.items (F.holds files.old) (F.holds files.new)) }
     ensures quiet { verdict.now ≡ verdicts.Accepted → files.new ≡ files.old }
     ensures crash { LeavesFromRest F.holds F.moment F.left_since F.images (IsOfNames ending.now.names.items (bytes_of ending.now.own.pending)) files.old files.new }
+    ensures marked { EndsMarked F.holds F.images (EndsNames ending.now.names.items (bytes_of ending.now.own.pending)) files.old files.new }
+    ensures durable { IsVerdict result → StaysAtRest F.holds F.images files.old files.new }
     ensures told { Tells F.faults files.old files.new result }
 {
     match verdict {

@@ -3,6 +3,8 @@ ghost use Rattle.std.specs.Prelude.{IfSome, IfOk};
 ghost use Rattle.pie_files.specs.Reading.{ReadsOnly};
 ghost use Rattle.pie_store.specs.Texts.{IsStoreText};
 ghost use Rattle.pie_incremental.specs.Starts.{HasStore, IsReadable, IsWhole, StartsFrom};
+ghost use Rattle.pie_named.specs.inner.Asking.{AsksFor};
+ghost use Rattle.pie_incremental.specs.inner.Asked.{IsProjectFile};
 ghost use Rattle.pie_incremental.specs.inner.Bases.{IsAfterPending, IsFrom};
 
 use crate::{Base, OwnFiles, Start};
@@ -13,10 +15,11 @@ use std::alloc::Global;
 
 /// What a build of this directory begins from: the first cause to start afresh that holds of `.pie/open`, `.pie/store` and
 /// `.pie/pending`, in this order, or else what these say. Rule: docs/BUILDING.md, "Starting afresh".
-#[tactic(auto, using(pie_files::proofs::Reading::reads))]
+#[tactic(auto, using(pie_files::proofs::Reading::reads, crate::proofs::Asking::looks_not, crate::proofs::Asking::looks_own))]
 pub fn find_start<F: Files>(alloc: Global, files: &mut F) -> Result<Start, FilesError>
     ensures starts { IfSome (F.holds files.old) (λ d. IfOk result (StartsFrom d)) }
     ensures whole { IfOk result IsWhole }
+    ensures asks { AsksFor IsProjectFile (F.asked files.old) (F.asked files.new) }
     ensures reads { ReadsOnly F.holds F.moment F.left_since F.images F.faults files.old files.new result }
 {
     let marker = Path::known(alloc, ".pie/open")?;
@@ -31,11 +34,12 @@ pub fn find_start<F: Files>(alloc: Global, files: &mut F) -> Result<Start, Files
 }
 
 // What a build begins from where these are the bytes of the store, and no marker stands.
-#[tactic(auto, using(pie_files::proofs::Reading::reads))]
+#[tactic(auto, using(pie_files::proofs::Reading::reads, crate::proofs::Asking::looks_not))]
 fn with_store<F: Files>(alloc: Global, files: &mut F, store: Vec<u8>) -> Result<Start, FilesError>
     requires { IfSome (F.holds files.old) (λ d. HasStore d store.items) }
     ensures starts { IfSome (F.holds files.old) (λ d. IfOk result (StartsFrom d)) }
     ensures whole { IfOk result IsWhole }
+    ensures asks { AsksFor IsProjectFile (F.asked files.old) (F.asked files.new) }
     ensures reads { ReadsOnly F.holds F.moment F.left_since F.images F.faults files.old files.new result }
 {
     match decode_store(alloc, store.as_slice()) {
@@ -49,7 +53,7 @@ fn with_store<F: Files>(alloc: Global, files: &mut F, store: Vec<u8>) -> Result<
 }
 
 // What a build begins from where the store says this.
-#[tactic(auto, using(pie_files::proofs::Reading::reads))]
+#[tactic(auto, using(pie_files::proofs::Reading::reads, crate::proofs::Asking::own_looks))]
 fn with_image<F: Files>(
     alloc: Global,
     files: &mut F,
@@ -60,6 +64,7 @@ fn with_image<F: Files>(
     requires says { IsStoreText image.value store.items }
     ensures starts { IfSome (F.holds files.old) (λ d. IfOk result (StartsFrom d)) }
     ensures whole { IfOk result IsWhole }
+    ensures asks { AsksFor IsProjectFile (F.asked files.old) (F.asked files.new) }
     ensures reads { ReadsOnly F.holds F.moment F.left_since F.images F.faults files.old files.new result }
 {
     let place = Path::known(alloc, ".pie/pending")?;

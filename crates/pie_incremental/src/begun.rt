@@ -1,6 +1,8 @@
 //! What a build by what changed begins with.
 ghost use Rattle.std.specs.Prelude.{◌≡◌, IfOk, IfSome};
 ghost use Rattle.pie_files.specs.Reading.{ReadsOnly};
+ghost use Rattle.pie_named.specs.inner.Asking.{AsksFor};
+ghost use Rattle.pie_incremental.specs.inner.Asked.{IsAtFirst};
 ghost use Rattle.pie_incremental.specs.inner.Cleaned.{KnowsWhere};
 ghost use Rattle.pie_incremental.specs.inner.Digested.{digested};
 ghost use Rattle.pie_incremental.specs.inner.Joined.{IsBase, IsEndingOf, IsImage};
@@ -36,6 +38,7 @@ pub(crate) fn begin<F: Files>(
     ensures ending { IfOk result (λ b. IsEndingOf base.value changes.now b.ending.value) }
     ensures digested { IfSome (F.holds files.old) (λ d. IfOk result (λ b. b.image.value ≡ digested d project.now.digests.items base.value.image)) }
     ensures known { IfSome (F.holds files.old) (λ d. IfOk result (λ b. KnowsWhere base.value d b.ending.value)) }
+    ensures asks { AsksFor (IsAtFirst changes.now base.value.names.items) (F.asked files.old) (F.asked files.new) }
     ensures reads { ReadsOnly F.holds F.moment F.left_since F.images F.faults files.old files.new result }
 {
     let Base { image, names, own } = Box::into_inner(base);

@@ -1,23 +1,26 @@
 //! A build by what changed.
-ghost use Rattle.std.specs.Prelude.{◌≡◌, ◌≤◌, ◌+◌, ◌++◌, true, false, None, Some, length, All, IfOk, IfSome, IsTrue};
+ghost use Rattle.std.specs.Prelude.{◌≡◌, ◌≤◌, ◌+◌, ◌++◌, [], true, false, None, Some, length, All, IfOk, IfSome, IsTrue, Ok};
 ghost use Rattle.pie_build.specs.Left.{KeepsRest, Leaves};
 ghost use Rattle.pie_build.specs.inner.Projects.{IsReady};
-ghost use Rattle.pie_build.specs.Crashes.{IsOfThree};
+ghost use Rattle.pie_build.specs.Crashes.{IsDone, IsOfThree, StaysAtRest};
 ghost use Rattle.pie_commit.specs.Outcomes.{LeavesFromRest};
-ghost use Rattle.pie_incremental.specs.Crashes.{MayStop};
+ghost use Rattle.pie_incremental.specs.Crashes.{MayStop, EndsMarked, MayEnd};
+ghost use Rattle.pie_incremental.specs.inner.Asked.{AsksRight, AsksUnlessAfresh, FromAsking};
 ghost use Rattle.pie_incremental.specs.inner.Crashed.{MayBuild, MayFrom};
-ghost use Rattle.pie_build.specs.inner.Rebuilt.{IsRefusal, Tells};
+ghost use Rattle.pie_incremental.specs.inner.Marked.{EndsBuild, EndsFrom};
+ghost use Rattle.pie_project.specs.Refusals.{IsVerdict};
+ghost use Rattle.pie_build.specs.inner.Rebuilt.{IsRefusal, Tells, RebuildSays};
 ghost use Rattle.pie_digest.specs.Digests.{HasNames};
 ghost use Rattle.pie_value.specs.Canonical.{IsEncodableTask};
 ghost use Rattle.pie_value.specs.Limits.{is_small_task};
 ghost use Rattle.pie_store.specs.Canonical.{AreFuncs};
 ghost use Rattle.pie_store.specs.inner.Pending.{in_order};
-ghost use Rattle.pie_incremental.specs.Clean.{BuildsClean, IsAfresh};
+ghost use Rattle.pie_incremental.specs.Clean.{BuildsClean};
 ghost use Rattle.pie_incremental.specs.Refused.{RefusesRight};
 ghost use Rattle.pie_incremental.specs.Runs.{TellsFew};
 ghost use Rattle.pie_incremental.specs.Treated.{AfreshBy, TreatsNames};
 ghost use Rattle.pie_incremental.specs.inner.Joined.{IsBase, Treats};
-ghost use Rattle.pie_incremental.specs.inner.Updated.{FromClean, RunsCleanOnce};
+ghost use Rattle.pie_incremental.specs.inner.Updated.{FromClean, IsAfreshAfter, RunsCleanOnce};
 
 use crate::again::again;
 use crate::cause::put_cause;
@@ -49,12 +52,17 @@ pub fn build<F: Files>(
     ensures refused { IsRefusal result → F.holds files.new ≡ F.holds files.old }
     ensures names { IfSome (F.holds files.old) (λ d. IfOk result (λ r. TreatsNames changes.now d r (F.holds files.new))) }
     ensures clean { IfSome (F.holds files.old) (λ d. IfOk result (λ r. BuildsClean changes.now d r (F.holds files.new))) }
+    ensures asks { IfSome (F.holds files.old) (λ d. IfOk result (λ r. AsksRight changes.now d r (F.asked files.old) (F.asked files.new))) }
     ensures crash { LeavesFromRest F.holds F.moment F.left_since F.images (MayStop changes.now) files.old files.new }
+    ensures marked { EndsMarked F.holds F.images (MayEnd changes.now) files.old files.new }
+    ensures durable { IsVerdict result → StaysAtRest F.holds F.images files.old files.new }
     ensures ran { IfOk result (λ r. runs.new ≡ runs.old ++ r.ran.items) }
     ensures few { length runs.new ≤ length runs.old + 100000 }
     ensures most { IfOk result TellsFew }
     ensures encodable { IfOk result (λ r. All IsEncodableTask r.ran.items) }
     ensures says { IfSome (F.holds files.old) (λ d. RefusesRight d result) }
+    ensures idle { IfSome (F.holds files.old) (λ d. IsRefusal result → runs.new ≡ runs.old) }
+    ensures project { IfSome (F.holds files.old) (λ d. IfOk result (λ r. RebuildSays d (Ok r))) }
     ensures told { Tells F.faults files.old files.new result }
 {
     match find_start(alloc, files) {
@@ -76,13 +84,17 @@ fn afresh<F: Files>(
     ensures rest { KeepsRest (F.holds files.old) (F.holds files.new) }
     ensures refused { IsRefusal result → F.holds files.new ≡ F.holds files.old }
     ensures names { IfSome (F.holds files.old) (λ d. IfOk result (λ r. AfreshBy r.verdict d (F.holds files.new))) }
-    ensures afresh { IfSome (F.holds files.old) (λ d. IfOk result (λ r. IsAfresh d r (F.holds files.new))) }
+    ensures afresh { IfSome (F.holds files.old) (λ d. IfOk result (λ r. IsAfreshAfter d r (F.holds files.new) [])) }
     ensures crash { LeavesFromRest F.holds F.moment F.left_since F.images (IsOfThree Leaves) files.old files.new }
+    ensures marked { EndsMarked F.holds F.images (IsDone Leaves) files.old files.new }
+    ensures durable { IsVerdict result → StaysAtRest F.holds F.images files.old files.new }
     ensures fresh { IfOk result (λ r. r.fresh ≡ Some cause) }
     ensures ran { IfOk result (λ r. runs.new ≡ runs.old ++ r.ran.items) }
     ensures few { length runs.new ≤ length runs.old + 50000 }
     ensures encodable { IfOk result (λ r. All IsEncodableTask r.ran.items) }
     ensures says { IfSome (F.holds files.old) (λ d. RefusesRight d result) }
+    ensures idle { IfSome (F.holds files.old) (λ d. IsRefusal result → runs.new ≡ runs.old) }
+    ensures project { IfSome (F.holds files.old) (λ d. IfOk result (λ r. RebuildSays d (Ok r))) }
     ensures told { Tells F.faults files.old files.new result }
 {
     match rebuild(alloc, files, runs) {
@@ -107,13 +119,18 @@ fn from<F: Files>(
     ensures rest { KeepsRest (F.holds files.old) (F.holds files.new) }
     ensures refused { IsRefusal result → F.holds files.new ≡ F.holds files.old }
     ensures clean { IfOk result (FromClean base.value changes.now (F.holds files.old) (F.holds files.new)) }
+    ensures asks { IfOk result (FromAsking base.value changes.now (F.holds files.old) (F.asked files.old) (F.asked files.new)) }
     ensures crash { LeavesFromRest F.holds F.moment F.left_since F.images (MayFrom base.value changes.now) files.old files.new }
+    ensures marked { EndsMarked F.holds F.images (EndsFrom base.value changes.now) files.old files.new }
+    ensures durable { IsVerdict result → StaysAtRest F.holds F.images files.old files.new }
     ensures names { IfOk result (λ r. Treats base.value.own (in_order (changes.now ++ base.value.names.items)) r.verdict (F.holds files.old) (F.holds files.new)) }
     ensures ran { IfOk result (λ r. runs.new ≡ runs.old ++ r.ran.items) }
     ensures few { length runs.new ≤ length runs.old + 100000 }
     ensures once { IfOk result (λ r. r.fresh ≡ None → length runs.new ≤ length runs.old + 50000) }
     ensures encodable { IfOk result (λ r. All IsEncodableTask r.ran.items) }
     ensures says { IfSome (F.holds files.old) (λ d. RefusesRight d result) }
+    ensures idle { IfSome (F.holds files.old) (λ d. IsRefusal result → runs.new ≡ runs.old) }
+    ensures project { IfSome (F.holds files.old) (λ d. IfOk result (λ r. RebuildSays d (Ok r))) }
     ensures told { Tells F.faults files.old files.new result }
 {
     match read_project(alloc, files) {
@@ -139,7 +156,10 @@ fn with_project<F: Files>(
     ensures rest { KeepsRest (F.holds files.old) (F.holds files.new) }
     ensures refused { IsRefusal result → F.holds files.new ≡ F.holds files.old }
     ensures clean { IfOk result (RunsCleanOnce base.value project.now changes.now (F.holds files.old) (F.holds files.new)) }
+    ensures asks { IfOk result (AsksUnlessAfresh base.value project.now changes.now (F.holds files.old) (F.asked files.old) (F.asked files.new)) }
     ensures crash { LeavesFromRest F.holds F.moment F.left_since F.images (MayBuild base.value project.now changes.now) files.old files.new }
+    ensures marked { EndsMarked F.holds F.images (EndsBuild base.value project.now changes.now) files.old files.new }
+    ensures durable { IsVerdict result → StaysAtRest F.holds F.images files.old files.new }
     ensures names { IfOk result (λ r. Treats base.value.own (in_order (changes.now ++ base.value.names.items)) r.verdict (F.holds files.old) (F.holds files.new)) }
     ensures ran { IfOk result (λ r. runs.new ≡ runs.old ++ r.ran.items) }
     ensures few { length runs.new ≤ length runs.old + 100000 }

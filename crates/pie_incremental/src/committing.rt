@@ -2,8 +2,10 @@
 ghost use Rattle.std.specs.Prelude.{◌≡◌, true, IfSome, OnOk};
 ghost use Rattle.pie_files.specs.Images.{Only};
 ghost use Rattle.pie_files.specs.Streams.{Counted};
-ghost use Rattle.pie_commit.specs.Outcomes.{IsAtRest, IsOfThree, KeepsOthers, LeavesFromRest};
+ghost use Rattle.pie_commit.specs.Outcomes.{IsAtRest, IsOfThree, KeepsOthers, LeavesFromRest, LeavesMarked};
 ghost use Rattle.pie_commit.specs.inner.Plans.{is_sound};
+ghost use Rattle.pie_named.specs.inner.Asking.{MakesOnly};
+ghost use Rattle.pie_incremental.specs.inner.Asked.{IsChange};
 ghost use Rattle.pie_incremental.specs.Own.{IsClosed};
 ghost use Rattle.pie_incremental.specs.inner.Plans.{HasChanged, Marks, MayPlace, MayPut, Places, Puts};
 
@@ -21,7 +23,9 @@ pub fn commit_plan<F: Files>(files: &mut F, plan: &Plan) -> Result<(), FilesErro
     ensures may_put { LeavesFromRest F.holds F.moment F.left_since F.images (MayPut plan.now) files.old files.new }
     ensures may_place { LeavesFromRest F.holds F.moment F.left_since F.images (MayPlace plan.now) files.old files.new }
     ensures marks { IfSome (F.holds files.old) (λ d. Only d (F.images files.old) → Marks plan.now d (F.images files.new)) }
+    ensures told { IfSome (F.holds files.old) (λ d. Only d (F.images files.old) → LeavesMarked plan.now d (F.images files.new)) }
     ensures durable { OnOk result (IfSome (F.holds files.old) (λ d. Only d (F.images files.old) → IsAtRest (F.holds files.new) (F.images files.new))) }
+    ensures asks { MakesOnly IsChange (F.asked files.old) (F.asked files.new) }
     ensures counted { Counted F.faults FilesError.Failed files.old files.new result }
 {
     commit(files, plan)

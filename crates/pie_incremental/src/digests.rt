@@ -2,6 +2,8 @@
 ghost use Rattle.std.specs.Prelude.{◌≡◌, codes, IfSome, IfOk, OnOk};
 ghost use Rattle.pie_files.specs.Reading.{ReadsOnly};
 ghost use Rattle.pie_diff.specs.Hashes.{hash_in, is_hash};
+ghost use Rattle.pie_named.specs.inner.Asking.{AsksFor};
+ghost use Rattle.pie_incremental.specs.inner.Asked.{IsProjectFile};
 ghost use Rattle.pie_incremental.specs.inner.Digested.{digested};
 
 use pie_base::{OutOfMemory, Path, Text};
@@ -10,7 +12,7 @@ use pie_store::{Funcs, StoreImage};
 use std::alloc::Global;
 
 /// Gives a store of version 1 the present digests, where it is of the pipeline that is there; another one stays as it is.
-#[tactic(auto, using(pie_files::proofs::Reading::reads))]
+#[tactic(auto, using(pie_files::proofs::Reading::reads, crate::proofs::Asking::own_looks))]
 pub fn put_digests<F: Files>(
     alloc: Global,
     files: &mut F,
@@ -19,6 +21,7 @@ pub fn put_digests<F: Files>(
 ) -> Result<(), FilesError>
     ensures rows { image.new.rows ≡ image.old.rows }
     ensures put { IfSome (F.holds files.old) (λ d. OnOk result (image.new ≡ digested d digests.now image.old)) }
+    ensures asks { AsksFor IsProjectFile (F.asked files.old) (F.asked files.new) }
     ensures reads { ReadsOnly F.holds F.moment F.left_since F.images F.faults files.old files.new result }
 {
     let Some(hash) = image.pipeline else {
@@ -33,9 +36,10 @@ pub fn put_digests<F: Files>(
 }
 
 // Whether the pipeline that is there has this SHA-256.
-#[tactic(auto, using(pie_files::proofs::Reading::reads))]
+#[tactic(auto, using(pie_files::proofs::Reading::reads, crate::proofs::Asking::own_looks))]
 fn is_there<F: Files>(alloc: Global, files: &mut F, hash: [u8; 32]) -> Result<bool, FilesError>
     ensures there { IfSome (F.holds files.old) (λ d. IfOk result (λ there. there ≡ is_hash (hash_in d (codes "pie.pipeline")) hash)) }
+    ensures asks { AsksFor IsProjectFile (F.asked files.old) (F.asked files.new) }
     ensures reads { ReadsOnly F.holds F.moment F.left_since F.images F.faults files.old files.new result }
 {
     let place = Path::known(alloc, "pie.pipeline")?;

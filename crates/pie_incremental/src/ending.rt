@@ -2,13 +2,18 @@
 ghost use Rattle.std.specs.Prelude.{◌≡◌, None, IfSome, IfOk, OnOk};
 ghost use Rattle.std.specs.Option.{option_copied};
 ghost use Rattle.pie_files.specs.Streams.{Counted};
+ghost use Rattle.pie_build.specs.Crashes.{StaysAtRest};
 ghost use Rattle.pie_build.specs.Left.{KeepsRest};
 ghost use Rattle.pie_commit.specs.Outcomes.{LeavesFromRest};
 ghost use Rattle.pie_value.specs.declared.verdict.Verdict.TheVariants as verdicts;
+ghost use Rattle.pie_named.specs.inner.Asking.{MakesOnly};
+ghost use Rattle.pie_incremental.specs.inner.Asked.{IsChange};
+ghost use Rattle.pie_incremental.specs.Crashes.{EndsMarked};
 ghost use Rattle.pie_incremental.specs.Kept.{IsOfNames, KeepsNames};
 ghost use Rattle.pie_incremental.specs.inner.Changes.{bytes_of};
 ghost use Rattle.pie_incremental.specs.inner.Cleaned.{LeavesBy, MayLeaveBy};
 ghost use Rattle.pie_incremental.specs.inner.Joined.{HasOwn, IsMade, Treats};
+ghost use Rattle.pie_incremental.specs.inner.Marked.{EndsBy, EndsNames};
 
 use crate::accepting::{Made, accept};
 use crate::{OwnFiles, keep_names};
@@ -48,6 +53,9 @@ impl Ending {
         ensures rest { KeepsRest (F.holds files.old) (F.holds files.new) }
         ensures names { IfSome (F.holds files.old) (λ d. HasOwn d self.now.own → OnOk result (KeepsNames self.now.names.items d (F.holds files.new))) }
         ensures crash { LeavesFromRest F.holds F.moment F.left_since F.images (IsOfNames self.now.names.items (bytes_of self.now.own.pending)) files.old files.new }
+        ensures asks { MakesOnly IsChange (F.asked files.old) (F.asked files.new) }
+        ensures marked { EndsMarked F.holds F.images (EndsNames self.now.names.items (bytes_of self.now.own.pending)) files.old files.new }
+        ensures durable { OnOk result (StaysAtRest F.holds F.images files.old files.new) }
         ensures counted { Counted F.faults FilesError.Failed files.old files.new result }
     {
         keep_names(alloc, files, self.names.as_slice(), self.pending())
@@ -66,11 +74,14 @@ pub(crate) fn finish<F: Files>(
     requires { IsMade project.now.digests.items project.now.roots.items built.value }
     ensures left { IfSome (F.holds files.old) (λ d. IfOk result (λ r. LeavesBy built.value.verdict ending.now.own ending.now.held project.now.digests.items project.now.roots.items built.value d r.value (F.holds files.new))) }
     ensures crash { LeavesFromRest F.holds F.moment F.left_since F.images (MayLeaveBy built.value.verdict ending.now.own ending.now.held project.now.digests.items project.now.roots.items built.value ending.now.names.items) files.old files.new }
+    ensures marked { EndsMarked F.holds F.images (EndsBy built.value.verdict ending.now.own ending.now.held project.now.digests.items project.now.roots.items built.value ending.now.names.items) files.old files.new }
+    ensures durable { OnOk result (StaysAtRest F.holds F.images files.old files.new) }
     ensures verdict { IfOk result (λ r. r.value.verdict ≡ built.value.verdict) }
     ensures fresh { IfOk result (λ r. r.value.fresh ≡ None) }
     ensures rest { KeepsRest (F.holds files.old) (F.holds files.new) }
     ensures ran { IfOk result (λ r. r.value.ran ≡ ran) }
     ensures names { IfOk result (λ r. Treats ending.now.own ending.now.names.items r.value.verdict (F.holds files.old) (F.holds files.new)) }
+    ensures asks { MakesOnly IsChange (F.asked files.old) (F.asked files.new) }
     ensures counted { Counted F.faults FilesError.Failed files.old files.new result }
 {
     let Built {
@@ -97,7 +108,7 @@ pub(crate) fn finish<F: Files>(
 }
 
 // Reports a refused build, which keeps the names for the next one. The report is made before the first write.
-#[tactic(auto, using(pie_build::proofs::OwnPaths::same_keeps))]
+#[tactic(auto, using(pie_build::proofs::OwnPaths::same_keeps, crate::proofs::Marking::marked_none))]
 fn refuse<F: Files>(
     alloc: Global,
     files: &mut F,
@@ -107,10 +118,13 @@ fn refuse<F: Files>(
 ) -> Result<Box<Report>, FilesError>
     ensures rest { KeepsRest (F.holds files.old) (F.holds files.new) }
     ensures crash { LeavesFromRest F.holds F.moment F.left_since F.images (IsOfNames ending.now.names.items (bytes_of ending.now.own.pending)) files.old files.new }
+    ensures marked { EndsMarked F.holds F.images (EndsNames ending.now.names.items (bytes_of ending.now.own.pending)) files.old files.new }
+    ensures durable { OnOk result (StaysAtRest F.holds F.images files.old files.new) }
     ensures verdict { IfOk result (λ r. r.value.verdict ≡ verdicts.Refused refusal) }
     ensures fresh { IfOk result (λ r. r.value.fresh ≡ None) }
     ensures ran { IfOk result (λ r. r.value.ran ≡ ran) }
     ensures names { IfOk result (λ r. Treats ending.now.own ending.now.names.items r.value.verdict (F.holds files.old) (F.holds files.new)) }
+    ensures asks { MakesOnly IsChange (F.asked files.old) (F.asked files.new) }
     ensures counted { Counted F.faults FilesError.Failed files.old files.new result }
 {
     let report = report_of(alloc, refusal, ran)?;

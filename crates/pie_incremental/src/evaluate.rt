@@ -7,6 +7,7 @@ ghost use Rattle.pie_value.specs.Canonical.{IsEncodableTask};
 ghost use Rattle.pie_bottomup.specs.declared.state.First.TheVariants.{Done};
 ghost use Rattle.pie_bottomup.specs.inner.Ran.{BeginsKnowing};
 ghost use Rattle.pie_bottomup.specs.inner.States.{HasSettled, IsCore, IsPlanOf, Spends, room};
+ghost use Rattle.pie_incremental.specs.inner.Asked.{AsksWhere, SettledAsking};
 ghost use Rattle.pie_incremental.specs.inner.Evaluated.{BeginsNow, EvaluatesExact, ResultsExact, SettlesExact};
 ghost use Rattle.pie_incremental.specs.inner.Joined.{IsImage, IsEnded, IsMade, Settles, Started};
 ghost use Rattle.pie_incremental.specs.inner.Ran.{RunsWhere, SettlesRuns};
@@ -46,6 +47,7 @@ pub(crate) fn evaluate<F: Files>(
     requires roots { All IsEncodableTask project.now.roots.items }
     ensures exact { IfOk result (EvaluatesExact (F.holds files.old) project.now.typed project.now.digests.items project.now.roots.items image.value names.now) }
     ensures ran { IfOk result (RunsWhere (F.holds files.old) project.now.typed project.now.digests.items project.now.roots.items image.value names.now runs.old runs.new) }
+    ensures asks { IfOk result (AsksWhere (F.holds files.old) project.now.typed project.now.digests.items project.now.roots.items image.value names.now runs.old runs.new (F.asked files.old) (F.asked files.new)) }
     ensures ended { IfOk result (IsEnded project.now.digests.items project.now.roots.items) }
     ensures started { Started runs.old runs.new }
     ensures few { length runs.new ≤ length runs.old + 50000 }
@@ -93,7 +95,7 @@ fn core_of<'a>(
 }
 
 // Goes on until the roots are settled, or the build has to start afresh: for this cause.
-#[tactic(auto, using(pie_files::proofs::Reading::reads, crate::proofs::Joining::started_none, crate::proofs::Joining::started_more, crate::proofs::Joining::spends, crate::proofs::Evaluating::stands_first, crate::proofs::Running::runs_first, crate::proofs::Running::many_first))]
+#[tactic(auto, using(pie_files::proofs::Reading::reads, crate::proofs::Joining::started_none, crate::proofs::Joining::started_more, crate::proofs::Joining::spends, crate::proofs::Evaluating::stands_first, crate::proofs::Running::runs_first, crate::proofs::Running::many_first, crate::proofs::Asking::settles_first, crate::proofs::Running::none_first))]
 fn settle<'a, F: Files>(
     core: &mut Core<'a>,
     files: &mut F,
@@ -104,6 +106,7 @@ fn settle<'a, F: Files>(
     ensures plan { OnOk result (core.new.plan ≡ core.old.plan) }
     ensures exact { IfOk result (SettlesExact (F.holds files.old) core.old core.new) }
     ensures ran { IfOk result (SettlesRuns (F.holds files.old) core.old runs.old runs.new) }
+    ensures asks { IfOk result (SettledAsking (F.holds files.old) core.old runs.old runs.new (F.asked files.old) (F.asked files.new)) }
     ensures started { Started runs.old runs.new }
     ensures few { length runs.new ≤ length runs.old + room core.old }
     ensures reads { ReadsOnly F.holds F.moment F.left_since F.images F.faults files.old files.new result }

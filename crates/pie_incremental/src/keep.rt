@@ -5,8 +5,12 @@ ghost use Rattle.pie_files.specs.Images.{Only};
 ghost use Rattle.pie_files.specs.Streams.{Counted};
 ghost use Rattle.pie_commit.specs.Outcomes.{IsAtRest, LeavesFromRest};
 ghost use Rattle.pie_commit.specs.inner.Plans.{is_sound};
+ghost use Rattle.pie_named.specs.inner.Asking.{MakesOnly};
+ghost use Rattle.pie_incremental.specs.inner.Asked.{IsChange};
+ghost use Rattle.pie_incremental.specs.Crashes.{EndsMarked};
 ghost use Rattle.pie_incremental.specs.Kept.{IsOfNames, KeepsAllFiles, KeepsNames};
 ghost use Rattle.pie_incremental.specs.Own.{bytes_at, pending_path, IsClosed};
+ghost use Rattle.pie_incremental.specs.inner.Marked.{EndsNames};
 ghost use Rattle.pie_incremental.specs.inner.Plans.{IsNamesPlan};
 
 use crate::committing::commit_plan;
@@ -27,7 +31,9 @@ pub fn keep_names<F: Files>(
     ensures kept { IfSome (F.holds files.old) (λ d. bytes_at d pending_path ≡ option_copied before.entry → IsClosed d → OnOk result (KeepsNames names.now d (F.holds files.new))) }
     ensures rest { KeepsAllFiles (F.holds files.old) (F.holds files.new) }
     ensures crash { LeavesFromRest F.holds F.moment F.left_since F.images (IsOfNames names.now (option_copied before.entry)) files.old files.new }
+    ensures marked { EndsMarked F.holds F.images (EndsNames names.now (option_copied before.entry)) files.old files.new }
     ensures durable { OnOk result (IfSome (F.holds files.old) (λ d. Only d (F.images files.old) → IsAtRest (F.holds files.new) (F.images files.new))) }
+    ensures asks { MakesOnly IsChange (F.asked files.old) (F.asked files.new) }
     ensures counted { Counted F.faults FilesError.Failed files.old files.new result }
 {
     let plan = names_plan(alloc, names, before)?;

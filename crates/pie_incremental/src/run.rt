@@ -1,15 +1,19 @@
 //! A build by what changed, from what the build before left to its report.
-ghost use Rattle.std.specs.Prelude.{◌≡◌, ◌≤◌, ◌+◌, ◌++◌, drop, length, All, IfOk};
+ghost use Rattle.std.specs.Prelude.{◌≡◌, ◌≤◌, ◌+◌, ◌++◌, drop, length, All, IfOk, OnOk};
 ghost use Rattle.pie_digest.specs.Digests.{HasNames};
 ghost use Rattle.pie_files.specs.Streams.{Counted};
+ghost use Rattle.pie_build.specs.Crashes.{StaysAtRest};
 ghost use Rattle.pie_build.specs.Left.{KeepsRest};
 ghost use Rattle.pie_store.specs.Canonical.{AreFuncs};
 ghost use Rattle.pie_value.specs.Canonical.{IsEncodableTask};
 ghost use Rattle.pie_store.specs.inner.Pending.{in_order};
 ghost use Rattle.pie_commit.specs.Outcomes.{LeavesFromRest};
+ghost use Rattle.pie_incremental.specs.inner.Asked.{GoesAsking, RunsAsking};
+ghost use Rattle.pie_incremental.specs.Crashes.{EndsMarked};
 ghost use Rattle.pie_incremental.specs.inner.Crashed.{MayGo, MayRun, StaysBefore};
 ghost use Rattle.pie_incremental.specs.inner.Joined.{IsAsBefore, IsBase, IsImage, Reports, TreatsIn};
-ghost use Rattle.pie_incremental.specs.inner.Updated.{GoesOn, RunsOrStops};
+ghost use Rattle.pie_incremental.specs.inner.Marked.{EndsGo, EndsRun};
+ghost use Rattle.pie_incremental.specs.inner.Updated.{BeginsOn, BeginsOrRuns, GoesOn, RunsOrStops};
 
 use crate::Base;
 use crate::begun::{Begun, begin};
@@ -58,7 +62,11 @@ pub(crate) fn run<F: Files>(
     ensures stopped { IfOk result (IsAsBefore (F.holds files.old) (F.holds files.new)) }
     ensures still { IfOk result (StaysBefore F.holds F.moment F.left_since F.images files.old files.new) }
     ensures clean { IfOk result (RunsOrStops base.value project.now changes.now (F.holds files.old) (F.holds files.new)) }
+    ensures asks { IfOk result (RunsAsking base.value project.now changes.now (F.holds files.old) (F.asked files.old) (F.asked files.new)) }
+    ensures before { IfOk result (BeginsOrRuns base.value project.now changes.now (F.holds files.old) runs.old runs.new) }
     ensures crash { LeavesFromRest F.holds F.moment F.left_since F.images (MayRun base.value project.now changes.now) files.old files.new }
+    ensures marked { EndsMarked F.holds F.images (EndsRun base.value project.now changes.now) files.old files.new }
+    ensures durable { OnOk result (StaysAtRest F.holds F.images files.old files.new) }
     ensures names { IfOk result (TreatsIn base.value.own (in_order (changes.now ++ base.value.names.items)) (F.holds files.old) (F.holds files.new)) }
     ensures ran { IfOk result (Reports runs.old runs.new) }
     ensures few { length runs.new ≤ length runs.old + 50000 }
@@ -85,7 +93,11 @@ fn go_on<F: Files>(
     ensures stopped { IfOk result (IsAsBefore (F.holds files.old) (F.holds files.new)) }
     ensures still { IfOk result (StaysBefore F.holds F.moment F.left_since F.images files.old files.new) }
     ensures clean { IfOk result (GoesOn begun.image.value begun.ending.value project.now (F.holds files.old) (F.holds files.new)) }
+    ensures asks { IfOk result (GoesAsking begun.image.value begun.ending.value project.now (F.holds files.old) (F.asked files.old) (F.asked files.new)) }
+    ensures before { IfOk result (BeginsOn begun.image.value begun.ending.value project.now (F.holds files.old) runs.old runs.new) }
     ensures crash { LeavesFromRest F.holds F.moment F.left_since F.images (MayGo begun.image.value begun.ending.value project.now) files.old files.new }
+    ensures marked { EndsMarked F.holds F.images (EndsGo begun.image.value begun.ending.value project.now) files.old files.new }
+    ensures durable { OnOk result (StaysAtRest F.holds F.images files.old files.new) }
     ensures names { IfOk result (TreatsIn begun.ending.value.own begun.ending.value.names.items (F.holds files.old) (F.holds files.new)) }
     ensures ran { IfOk result (Reports runs.old runs.new) }
     ensures few { length runs.new ≤ length runs.old + 50000 }

@@ -1,5 +1,5 @@
 -- Which tasks an evaluation runs, and why.
-use Rattle.std.specs.Prelude.{◌≡◌, ◌≢◌, ◌⊎◌, ℕ, false, List, ◌++◌, All, Option, Some, None, slice_get, slice_index_or, Contains}
+use Rattle.std.specs.Prelude.{◌≡◌, ◌≢◌, ◌⊎◌, ℕ, false, List, ◌++◌, map, All, Option, Some, None, slice_get, slice_index_or, Contains}
 use Rattle.std.specs.List.{AllPairs}
 use Rattle.pie_bottomup.specs.declared.state.Core.{Core}
 use Rattle.pie_bottomup.specs.declared.state.First.TheVariants.{TooMany}
@@ -7,17 +7,24 @@ use Rattle.pie_bottomup.specs.inner.Causes.{IsReached}
 use Rattle.pie_bottomup.specs.inner.Exact.{IsSiteNow}
 use Rattle.pie_bottomup.specs.inner.Going.{IsBuildNow, StandsWhole}
 use Rattle.pie_bottomup.specs.inner.Loaded.{IsStoredIn}
-use Rattle.pie_bottomup.specs.inner.Ran.{HasReason, IsEntered, KnowsCode}
+use Rattle.pie_bottomup.specs.inner.Ran.{HasReason, KnowsCode}
 use Rattle.pie_core_laws.specs.Update.{Update}
+use Rattle.pie_entering_laws.specs.Entering.{IsTaskOf, Enters}
+use Rattle.pie_entering_laws.specs.inner.Laws.{IsRoot}
 use Rattle.pie_files.specs.Directory.{Directory}
 use Rattle.pie_graph.specs.Numbers.{IsMarked}
 use Rattle.pie_parser.specs.FunctionTrees.{FunctionTree}
 use Rattle.pie_store.specs.declared.cause.Cause.{Cause}
+use Rattle.pie_store.specs.declared.cause.Cause.TheVariants as causes
 use Rattle.pie_store.specs.declared.image.StoreImage.{StoreImage}
 use Rattle.pie_tables.specs.declared.tables.Tables.{Tables}
+use Rattle.pie_types.specs.Whole.{number_from}
+use Rattle.pie_types.specs.inner.WholeRules.{IsTyped}
+use Rattle.pie_value.specs.Canonical.{enc_task}
 use Rattle.pie_value.specs.declared.task.Task.{Task}
 use Rattle.pie_incremental.specs.declared.evaluate.Ended.{Ended}
 use Rattle.pie_incremental.specs.declared.evaluate.Ended.TheVariants.{Built, Afresh}
+use Rattle.pie_incremental.specs.inner.Causes.{HasTooMany}
 use Rattle.pie_incremental.specs.inner.Evaluated.{IsUpdateHere}
 
 -- no task stands twice among those that ran in a build of an update, each has a reason to run, by the digests that the store kept and those of now, and
@@ -27,10 +34,17 @@ pub record HaveReasons (u : Update) (funcs digests : List (List ℕ × List ℕ)
   pub reasons : All (HasReason u funcs digests) ran
   pub reached : All (IsReached u) ran
 
+-- a clean build of an update whose functions are typed and whose roots are their tasks enters tasks of these functions alone, and each that has a reason is
+-- among these
+abbrev pub AllAreDue : Update → List (List ℕ × List ℕ) → List (List ℕ × List ℕ) → List Task → Type 0
+AllAreDue u funcs digests ran =
+    (roots : List Task) → map enc_task roots ≡ u.roots → IsTyped u.functions → All (IsRoot u.functions) roots → (x : List ℕ)
+    → Enters u.functions u.directory roots x → (of : IsTaskOf u.functions x) × (HasReason u funcs digests of.task → Contains ran of.task)
+
 -- and none is missing that has one and that a clean build enters
 pub record AreDue (u : Update) (funcs digests : List (List ℕ × List ℕ)) (ran : List Task) : Type 0 where
   pub have : HaveReasons u funcs digests ran
-  pub all : (t : Task) → IsEntered u t → HasReason u funcs digests t → Contains ran t
+  pub all : AllAreDue u funcs digests ran
 
 -- ---- between two steps
 
@@ -75,6 +89,33 @@ pub record HaveStarted (u : Update) (funcs digests : List (List ℕ × List ℕ)
   pub is : after ≡ before ++ gained
   pub ran : AreDue u funcs digests gained
 
+-- one of the tasks of a ring ran
+pub record RanOfRing (tasks ran : List Task) : Type 0 where
+  pub task : Task
+  pub listed : Contains tasks task
+  pub has : Contains ran task
+
+-- of the tasks that are too many, those that came ran, unless they are of no function of the pipeline
+pub record RanOfMany (u : Update) (old new : ℕ) (task : Task) (ran : List Task) : Type 0 where
+  pub many : HasTooMany u old new task
+  pub has : All (λ v. Contains ran v ⊎ (number_from 0 u.functions v ≡ None)) many.news
+
+-- so it is with the tasks that a cause tells
+abbrev pub RanOf : Update → Cause → List Task → Type 0
+RanOf u causes.Interrupted ran = Unit {0}
+RanOf u causes.NoStore ran = Unit {0}
+RanOf u (causes.Damaged fault) ran = Unit {0}
+RanOf u causes.BadPending ran = Unit {0}
+RanOf u (causes.UnionCycle tasks) ran = RanOfRing tasks ran
+RanOf u (causes.UnionMany old new task) ran = RanOfMany u old new task ran
+
+-- before it has to start afresh for a cause the tasks that were started ran each once and for a reason, and are reached from a root
+pub record HaveBegun (u : Update) (funcs digests : List (List ℕ × List ℕ)) (cause : Cause) (before after : List Task) : Type 0 where
+  pub gained : List Task
+  pub is : after ≡ before ++ gained
+  pub ran : HaveReasons u funcs digests gained
+  pub told : RanOf u cause gained
+
 -- no task has run
 abbrev pub NoneRan : Core → Type 0
 NoneRan c = (n : ℕ) → slice_index_or c.tables.ran.items n false ≡ false
@@ -85,9 +126,18 @@ pub record RunsWhole (held : Option Directory) (c : Core) (before after : List T
   pub each : (u : Update) (funcs digests : List (List ℕ × List ℕ)) → IsSiteNow u held → IsBuildNow u c.plan → StandsWhole u c → Knows u funcs digests c
       → NoneRan c → HaveStarted u funcs digests before after
 
+-- the old tasks are known, and none has run, where there aren't too many
+abbrev pub KnowsFirst : Update → List (List ℕ × List ℕ) → List (List ℕ × List ℕ) → Core → Type 0
+KnowsFirst u funcs digests c = ((task : Task) → c.first ≡ TooMany task → ⊥) → Knows u funcs digests c × NoneRan c
+
+-- so it is where it has to start afresh for a cause
+pub record RunsBefore (held : Option Directory) (c : Core) (cause : Cause) (before after : List Task) : Type 0 where
+  pub each : (u : Update) (funcs digests : List (List ℕ × List ℕ)) → IsSiteNow u held → IsBuildNow u c.plan → StandsWhole u c → KnowsFirst u funcs digests c
+      → HaveBegun u funcs digests cause before after
+
 abbrev pub SettlesRuns : Option Directory → Core → List Task → List Task → Option Cause → Type 0
 SettlesRuns held c before after None = RunsWhole held c before after
-SettlesRuns held c before after (Some cause) = Unit {0}
+SettlesRuns held c before after (Some cause) = RunsBefore held c cause before after
 
 -- ---- an evaluation
 
@@ -96,8 +146,12 @@ pub record RunsEach (held : Option Directory) (fs : List FunctionTree) (digests 
     (names : List (List ℕ)) (before after : List Task) : Type 0 where
   pub each : (u : Update) → IsUpdateHere u held fs roots → IsStoredIn u s.funcs digests s.rows names → HaveStarted u s.funcs digests before after
 
--- so it is unless it has to start afresh
+-- where it has to start afresh, those that were started before ran so
+pub record BeginsEach (held : Option Directory) (fs : List FunctionTree) (digests : List (List ℕ × List ℕ)) (roots : List Task) (s : StoreImage)
+    (names : List (List ℕ)) (cause : Cause) (before after : List Task) : Type 0 where
+  pub each : (u : Update) → IsUpdateHere u held fs roots → IsStoredIn u s.funcs digests s.rows names → HaveBegun u s.funcs digests cause before after
+
 abbrev pub RunsWhere : Option Directory → List FunctionTree → List (List ℕ × List ℕ) → List Task → StoreImage → List (List ℕ) → List Task → List Task → Ended
     → Type 0
 RunsWhere held fs digests roots s names before after (Built b) = RunsEach held fs digests roots s names before after
-RunsWhere held fs digests roots s names before after (Afresh cause) = Unit {0}
+RunsWhere held fs digests roots s names before after (Afresh cause) = BeginsEach held fs digests roots s names cause before after

@@ -8,6 +8,7 @@ use Rattle.pie_report.specs.declared.report.Report.{Report}
 use Rattle.pie_store.specs.declared.cause.Cause.{Cause}
 use Rattle.pie_store.specs.declared.image.StoreImage.{StoreImage}
 use Rattle.pie_store.specs.inner.Pending.{in_order}
+use Rattle.pie_value.specs.declared.task.Task.{Task}
 use Rattle.pie_incremental.specs.declared.base.Base.{Base}
 use Rattle.pie_incremental.specs.declared.ending.Ending.{Ending}
 use Rattle.pie_incremental.specs.declared.run.Done.{Done}
@@ -19,7 +20,7 @@ use Rattle.pie_incremental.specs.inner.Causes.{IsCauseNow}
 use Rattle.pie_incremental.specs.inner.Clean.{BuildsCleanOf}
 use Rattle.pie_incremental.specs.inner.Digested.{digested}
 use Rattle.pie_incremental.specs.inner.Evaluated.{IsUpdateHere, StopsWhere}
-use Rattle.pie_incremental.specs.inner.Ran.{AreDue}
+use Rattle.pie_incremental.specs.inner.Ran.{AreDue, BeginsEach, HaveBegun, HaveReasons, RanOf}
 
 -- a build from this store, with what its end needs, tells no cause to start afresh, and is that of each update to this project of which that is known; the
 -- tasks that it tells ran once and for a reason
@@ -56,12 +57,42 @@ abbrev pub RunsOrStops : Base → Project → List (List ℕ) → Option Directo
 RunsOrStops b p list before after (Reported r) = RunsClean b p list before after r.value
 RunsOrStops b p list before after (Stopped stop) = StopsFrom b p list before stop.value.cause
 
+-- ---- the tasks that ran before it started afresh
+
+-- where a build from this store has to, the tasks that were started ran each once, for a reason, and are reached from a root
+abbrev pub BeginsOn : StoreImage → Ending → Project → Option Directory → List Task → List Task → Done → Type 0
+BeginsOn s e p held before after (Reported r) = Unit {0}
+BeginsOn s e p held before after (Stopped stop) = BeginsEach held p.typed p.digests.items p.roots.items s e.names.items stop.value.cause before after
+
+-- so it is with a build from this base
+pub record BeginsFrom (b : Base) (p : Project) (list : List (List ℕ)) (held : Option Directory) (cause : Cause) (before after : List Task) : Type 0 where
+  pub each : (u : Update) → IsUpdateFrom u held b p list
+      → HaveBegun u (digested u.directory p.digests.items b.image).funcs p.digests.items cause before after
+
+abbrev pub BeginsOrRuns : Base → Project → List (List ℕ) → Option Directory → List Task → List Task → Done → Type 0
+BeginsOrRuns b p list held before after (Reported r) = Unit {0}
+BeginsOrRuns b p list held before after (Stopped stop) = BeginsFrom b p list held stop.value.cause before after
+
+-- of each such update, these tasks ran so before this cause
+pub record RanFrom (b : Base) (p : Project) (list : List (List ℕ)) (held : Option Directory) (cause : Cause) (ran : List Task) : Type 0 where
+  pub each : (u : Update) → IsUpdateFrom u held b p list → HaveReasons u (digested u.directory p.digests.items b.image).funcs p.digests.items ran
+  pub told : (u : Update) → IsUpdateFrom u held b p list → RanOf u cause ran
+
+-- a report is that of a clean build after these tasks
+pub record IsAfreshAfter (d : Directory) (r : Report) (after : Option Directory) (ran : List Task) : Type 0 where
+  pub afresh : IsAfresh d r after
+  pub is : afresh.before ≡ ran
+
+-- ---- all of it
+
 -- over files that tell their directory, a report that tells no cause to start afresh is that of such a build, and another one that of a clean build, and tells
--- a cause that is so
+-- a cause that is so, and the tasks that ran before
 pub record RunsCleanOnce (b : Base) (p : Project) (list : List (List ℕ)) (before after : Option Directory) (r : Report) : Type 0 where
   pub once : (d : Directory) → before ≡ Some d → r.fresh ≡ None → RunsClean b p list before after r
   pub afresh : (d : Directory) → before ≡ Some d → IsSome r.fresh → IsAfresh d r after
   pub cause : (d : Directory) → before ≡ Some d → (c : Cause) → r.fresh ≡ Some c → StopsFrom b p list before c
+  pub ran : (d : Directory) (told : before ≡ Some d) (some : IsSome r.fresh) (c : Cause) → r.fresh ≡ Some c
+      → RanFrom b p list before c (afresh d told some).before
 
 -- a build from the base that is there came to what a build with this list does
 pub record FromClean (b : Base) (list : List (List ℕ)) (before after : Option Directory) (r : Report) : Type 0 where

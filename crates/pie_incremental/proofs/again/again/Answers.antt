@@ -2,6 +2,7 @@ use Rattle.pie_incremental.proofs.Cleanly.{again_afresh}
 use Rattle.pie_incremental.proofs.Joining.{rest_both, retold_encodable}
 use Rattle.pie_incremental.proofs.Treating.{again_done}
 use Rattle.pie_incremental.proofs.Crashing.{crash_again, crash_failed}
+use Rattle.pie_incremental.proofs.Marking.{marked_again, marked_failed, rests_both}
 use Rattle.pie_incremental.proofs.again.again.Goals as goal
 
 pub returns-in-Ok-clause-rest : goal.returns-in-Ok-clause-rest
@@ -32,3 +33,19 @@ pub returns-in-Err-clause-crash : goal.returns-in-Err-clause-crash
 returns-in-Err-clause-crash g c =
     crash_failed g.F.Files.holds g.F.Files.moment g.F.Files.left_since g.F.Files.images c.args.stop.value.ending.value.own
     c.args.stop.value.ending.value.names.items c.args.files.now c.rebuild.new.files c.in-Err.ensures.crash
+
+pub returns-in-Ok-clause-marked : goal.returns-in-Ok-clause-marked
+returns-in-Ok-clause-marked g c =
+    marked_again g.F.Files.holds g.F.Files.moment g.F.Files.left_since g.F.Files.images c.args.stop.value.ending.value.own
+    c.args.stop.value.ending.value.names.items c.args.files.now c.rebuild.new.files c.retell.new.files c.in-Ok.report c.in-Ok.ensures.crash
+    (c.in-Ok.ensures.durable tt) c.in-Ok.ensures.left c.retell.ensures.quiet c.retell.ensures.marked
+
+pub returns-in-Err-clause-marked : goal.returns-in-Err-clause-marked
+returns-in-Err-clause-marked g c =
+    marked_failed g.F.Files.holds g.F.Files.moment g.F.Files.left_since g.F.Files.images c.args.stop.value.ending.value.own
+    c.args.stop.value.ending.value.names.items c.args.files.now c.rebuild.new.files c.in-Err.ensures.crash
+
+pub returns-in-Ok-clause-durable : goal.returns-in-Ok-clause-durable
+returns-in-Ok-clause-durable g c =
+    λ says.
+    rests_both g.F.Files.holds g.F.Files.moment g.F.Files.left_since g.F.Files.images c.args.files.now c.rebuild.new.files c.retell.new.files (c.in-Ok.ensures.durable tt) (c.retell.ensures.durable says)

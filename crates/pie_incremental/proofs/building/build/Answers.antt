@@ -8,6 +8,12 @@ use Rattle.pie_incremental.proofs.Crashing.{crash_afresh, crash_based, stop_firs
 use Rattle.std.proofs.Common.{subst}
 use Rattle.pie_incremental.specs.Starts.{IsWhole}
 use Rattle.pie_incremental.proofs.Storing.{image_of_text}
+use Rattle.pie_incremental.proofs.Asked.{asks_afresh, asks_from}
+use Rattle.pie_build.proofs.Crashing.{rests_then}
+use Rattle.pie_incremental.specs.Crashes.{MayEnd}
+use Rattle.pie_incremental.proofs.Marking.{marked_afresh, marked_based, marked_still}
+use Rattle.pie_files.proofs.Reading.{if_always}
+use Rattle.pie_incremental.proofs.Refusing.{idle_after, project_after}
 use Rattle.pie_incremental.proofs.building.build.Goals as goal
 
 pub returns-in-Ok-Afresh-clause-names : goal.returns-in-Ok-Afresh-clause-names
@@ -70,3 +76,75 @@ from-requires g c =
     let e = c.in-Ok-From in
     let b = e.base.value in
     image_of_text b.image b.own.store.items (subst IsWhole e.field-0-is e.ensures.whole).text
+
+pub returns-in-Ok-Afresh-clause-asks : goal.returns-in-Ok-Afresh-clause-asks
+returns-in-Ok-Afresh-clause-asks g c =
+    asks_afresh c.args.changes.now (g.F.Files.holds c.args.files.now) (g.F.Files.asked c.args.files.now) (g.F.Files.asked c.afresh.new.files) c.afresh.result
+    c.in-Ok-Afresh.cause c.afresh.ensures.fresh
+
+pub returns-in-Ok-From-clause-asks : goal.returns-in-Ok-From-clause-asks
+returns-in-Ok-From-clause-asks g c =
+    let e = c.in-Ok-From in
+    asks_from c.args.changes.now e.field-0 e.base (g.F.Files.holds c.args.files.now) (g.F.Files.holds c.find_start.new.files)
+    (g.F.Files.asked c.args.files.now) (g.F.Files.asked c.find_start.new.files) (g.F.Files.asked c.from.new.files) c.from.result e.field-0-is e.ensures.starts
+    e.ensures.reads.same e.ensures.asks c.from.ensures.asks
+
+pub returns-in-Ok-Afresh-clause-marked : goal.returns-in-Ok-Afresh-clause-marked
+returns-in-Ok-Afresh-clause-marked g c =
+    let e = c.in-Ok-Afresh in
+    marked_afresh g.F.Files.holds g.F.Files.moment g.F.Files.left_since g.F.Files.images c.args.changes.now c.args.files.now c.find_start.new.files
+    c.afresh.new.files e.ensures.reads.same e.ensures.reads.crash c.afresh.ensures.marked
+
+pub returns-in-Ok-From-clause-marked : goal.returns-in-Ok-From-clause-marked
+returns-in-Ok-From-clause-marked g c =
+    let e = c.in-Ok-From in
+    marked_based g.F.Files.holds g.F.Files.moment g.F.Files.left_since g.F.Files.images c.args.changes.now e.field-0 e.base c.args.files.now c.find_start.new.files
+    c.from.new.files e.field-0-is e.ensures.starts e.ensures.reads.same e.ensures.reads.crash c.from.ensures.marked
+
+pub returns-in-Err-Failed-clause-marked : goal.returns-in-Err-Failed-clause-marked
+returns-in-Err-Failed-clause-marked g c =
+    marked_still g.F.Files.holds g.F.Files.moment g.F.Files.left_since g.F.Files.images (MayEnd c.args.changes.now) c.args.files.now c.find_start.new.files c.in-Err-Failed.ensures.reads.crash
+
+pub returns-in-Err-OutOfMemory-clause-marked : goal.returns-in-Err-OutOfMemory-clause-marked
+returns-in-Err-OutOfMemory-clause-marked g c =
+    marked_still g.F.Files.holds g.F.Files.moment g.F.Files.left_since g.F.Files.images (MayEnd c.args.changes.now) c.args.files.now c.find_start.new.files c.in-Err-OutOfMemory.ensures.reads.crash
+
+pub returns-in-Ok-Afresh-clause-durable : goal.returns-in-Ok-Afresh-clause-durable
+returns-in-Ok-Afresh-clause-durable g c =
+    λ says.
+    rests_then g.F.Files.holds g.F.Files.moment g.F.Files.left_since g.F.Files.images c.args.files.now c.find_start.new.files c.afresh.new.files
+    c.in-Ok-Afresh.ensures.reads.same c.in-Ok-Afresh.ensures.reads.crash (c.afresh.ensures.durable says)
+
+pub returns-in-Ok-From-clause-durable : goal.returns-in-Ok-From-clause-durable
+returns-in-Ok-From-clause-durable g c =
+    λ says.
+    rests_then g.F.Files.holds g.F.Files.moment g.F.Files.left_since g.F.Files.images c.args.files.now c.find_start.new.files c.from.new.files
+    c.in-Ok-From.ensures.reads.same c.in-Ok-From.ensures.reads.crash (c.from.ensures.durable says)
+
+pub returns-in-Ok-Afresh-clause-idle : goal.returns-in-Ok-Afresh-clause-idle
+returns-in-Ok-Afresh-clause-idle g c = idle_after (g.F.Files.holds c.args.files.now) (g.F.Files.holds c.find_start.new.files) _ c.afresh.result
+    c.in-Ok-Afresh.ensures.reads.same c.afresh.ensures.idle
+
+pub returns-in-Ok-Afresh-clause-project : goal.returns-in-Ok-Afresh-clause-project
+returns-in-Ok-Afresh-clause-project g c = project_after (g.F.Files.holds c.args.files.now) (g.F.Files.holds c.find_start.new.files) c.afresh.result
+    c.in-Ok-Afresh.ensures.reads.same c.afresh.ensures.project
+
+pub returns-in-Ok-From-clause-idle : goal.returns-in-Ok-From-clause-idle
+returns-in-Ok-From-clause-idle g c = idle_after (g.F.Files.holds c.args.files.now) (g.F.Files.holds c.find_start.new.files) _ c.from.result
+    c.in-Ok-From.ensures.reads.same c.from.ensures.idle
+
+pub returns-in-Ok-From-clause-project : goal.returns-in-Ok-From-clause-project
+returns-in-Ok-From-clause-project g c = project_after (g.F.Files.holds c.args.files.now) (g.F.Files.holds c.find_start.new.files) c.from.result
+    c.in-Ok-From.ensures.reads.same c.from.ensures.project
+
+pub returns-in-Err-Failed-clause-idle : goal.returns-in-Err-Failed-clause-idle
+returns-in-Err-Failed-clause-idle g c = if_always (g.F.Files.holds c.args.files.now) (λ h. absurd h)
+
+pub returns-in-Err-Failed-clause-project : goal.returns-in-Err-Failed-clause-project
+returns-in-Err-Failed-clause-project g c = if_always (g.F.Files.holds c.args.files.now) tt
+
+pub returns-in-Err-OutOfMemory-clause-idle : goal.returns-in-Err-OutOfMemory-clause-idle
+returns-in-Err-OutOfMemory-clause-idle g c = if_always (g.F.Files.holds c.args.files.now) (λ h. absurd h)
+
+pub returns-in-Err-OutOfMemory-clause-project : goal.returns-in-Err-OutOfMemory-clause-project
+returns-in-Err-OutOfMemory-clause-project g c = if_always (g.F.Files.holds c.args.files.now) tt

@@ -9,7 +9,8 @@ use Rattle.pie_incremental.proofs.Commits.{commit_done, commit_rests, leaves_as}
 use Rattle.pie_incremental.proofs.OwnPaths.{and_left}
 use Rattle.pie_incremental.proofs.Placing.{places_by}
 use Rattle.pie_incremental.proofs.Putting.{puts_by}
-use Rattle.pie_incremental.proofs.Stopping.{ends_marked, may_place, may_put}
+use Rattle.pie_incremental.proofs.Stopping.{ends_marked, may_place, may_put, ends_told}
+use Rattle.pie_incremental.proofs.Asking.{commit_changes}
 use Rattle.pie_incremental.proofs.committing.commit_plan.Goals as goal
 
 pub returns-clause-done : goal.returns-clause-done
@@ -59,4 +60,13 @@ returns-clause-may_place g c =
 pub returns-clause-marks : goal.returns-clause-marks
 returns-clause-marks g c =
     ends_marked g.F.Files.holds g.F.Files.images c.args.plan.now c.args.files.now c.commit.new.files c.commit.result c.commit.ensures.done
+    c.commit.ensures.durable c.commit.ensures.empty c.commit.ensures.failed
+
+pub returns-clause-asks : goal.returns-clause-asks
+returns-clause-asks g c =
+    commit_changes g.F.Files.asked c.args.plan.now c.args.files.now c.commit.new.files c.commit.result c.commit.ensures.empty c.commit.ensures.makes
+
+pub returns-clause-told : goal.returns-clause-told
+returns-clause-told g c =
+    ends_told g.F.Files.holds g.F.Files.images c.args.plan.now c.args.files.now c.commit.new.files c.commit.result c.commit.ensures.done
     c.commit.ensures.durable c.commit.ensures.empty c.commit.ensures.failed

@@ -1,5 +1,5 @@
 use Rattle.std.proofs.Common.{◌≡◌, sym, subst}
-use Rattle.pie_bottomup.specs.inner.Loaded.{BeginsExact}
+use Rattle.pie_bottomup.specs.inner.Loaded.{BeginsExact, BeginsMany}
 use Rattle.pie_bottomup.specs.inner.Ran.{BeginsKnowing}
 use Rattle.pie_bottomup.specs.inner.States.{IsPlanOf}
 use Rattle.pie_store.specs.declared.image.StoreImage.{StoreImage}
@@ -15,12 +15,15 @@ returns-clause-exact c =
     let begins : BeginsExact c.args.image.value.funcs p.digests.items c.args.image.value.rows c.args.names.now core =
     subst (λ ds. BeginsExact c.args.image.value.funcs ds c.args.image.value.rows c.args.names.now core) digests
     (subst (λ (s : StoreImage). BeginsExact s.funcs c.as_slice.result.now s.rows c.args.names.now core) c.into_inner.ensures c.in_ok-core.ensures.exact) in
+    let past : BeginsMany c.args.image.value.funcs p.digests.items c.args.image.value.rows c.args.names.now core =
+    subst (λ ds. BeginsMany c.args.image.value.funcs ds c.args.image.value.rows c.args.names.now core) digests
+    (subst (λ (s : StoreImage). BeginsMany s.funcs c.as_slice.result.now s.rows c.args.names.now core) c.into_inner.ensures c.in_ok-core.ensures.past) in
     subst (BeginsNow p.typed c.args.code.now p.roots.items c.args.image.value.funcs p.digests.items c.args.image.value.rows c.args.names.now)
     (sym c.in_ok-core-2.ensures.ok)
     (subst (λ ts. BeginsNow p.typed c.args.code.now ts c.args.image.value.funcs p.digests.items c.args.image.value.rows c.args.names.now core)
     c.as_slice-2.ensures.value
     (begins_now p.typed c.args.code.now c.args.image.value.funcs p.digests.items c.args.image.value.rows c.args.names.now c.as_slice-2.result.now core
-    (subst (λ ds. IsPlanOf p.typed ds c.as_slice-2.result.now core.plan) digests c.in_ok-core.ensures.plan) c.in_ok-core.ensures.first c.in_ok-core.ensures.code begins))
+    (subst (λ ds. IsPlanOf p.typed ds c.as_slice-2.result.now core.plan) digests c.in_ok-core.ensures.plan) c.in_ok-core.ensures.first c.in_ok-core.ensures.code begins past))
 
 pub returns-clause-knows : goal.returns-clause-knows
 returns-clause-knows c =

@@ -1,9 +1,10 @@
 use Rattle.std.proofs.Common.{subst, ◌∙◌}
 use Rattle.pie_bottomup.specs.inner.States.{TurnsTo}
 use Rattle.pie_files.proofs.Reading.{both_before}
+use Rattle.pie_incremental.proofs.Asking.{settles_more}
 use Rattle.pie_incremental.proofs.Evaluating.{stands_end, stands_on, stops_for}
 use Rattle.pie_incremental.proofs.Joining.{spends_more, started_more}
-use Rattle.pie_incremental.proofs.Running.{many_on, runs_on, settles_runs}
+use Rattle.pie_incremental.proofs.Running.{many_on, none_on, runs_on, settles_runs, stops_runs}
 use Rattle.pie_incremental.proofs.evaluate.settle.Goals as goal
 
 pub steps-preserved : goal.steps-preserved
@@ -21,6 +22,9 @@ steps-preserved g c =
       runs_on (g.F.Files.holds c.args.files.now) (g.F.Files.holds c.steps.files) c.args.core.now c.steps.core c.step.new.self c.in_ok-step.field-0
           c.args.runs.now c.steps.runs c.step.new.runs i.3 i.2.plan s.spends.plan s.spends.tasks i.5 i.7 s.whole s.reasons c.in-Went.is,
       many_on c.args.core.now c.steps.core c.step.new.self c.in_ok-step.field-0 i.8 s.many c.in-Went.is,
+      none_on c.args.core.now c.steps.core c.in_ok-step.field-0 c.args.runs.now c.step.new.runs i.8 s.many c.in-Went.is,
+      settles_more (g.F.Files.holds c.args.files.now) c.args.core.now c.steps.core c.args.runs.now c.steps.runs c.step.new.runs
+          (g.F.Files.asked c.args.files.now) (g.F.Files.asked c.steps.files) (g.F.Files.asked c.step.new.files) i.2.plan i.5 i.7 s.starts s.asks i.10,
     )
 
 pub returns-in-Settled-clause-exact : goal.returns-in-Settled-clause-exact
@@ -39,6 +43,14 @@ returns-in-Settled-clause-ran g c =
     let s = c.in_ok-step.ensures in
     settles_runs (g.F.Files.holds c.args.files.now) (g.F.Files.holds c.steps.files) c.args.core.now c.steps.core c.step.new.self c.in_ok-step.field-0
     c.args.runs.now c.steps.runs c.step.new.runs i.3 i.2.plan s.spends.plan s.spends.tasks i.5 i.7 s.whole s.reasons c.in-Settled.is i.8 s.many s.all
+    (subst (TurnsTo c.step.new.self) c.in-Settled.is s.turns)
+
+pub returns-in-StartAfresh-clause-ran : goal.returns-in-StartAfresh-clause-ran
+returns-in-StartAfresh-clause-ran g c =
+    let i = c.steps.invariant in
+    let s = c.in_ok-step.ensures in
+    stops_runs (g.F.Files.holds c.args.files.now) (g.F.Files.holds c.steps.files) c.args.core.now c.steps.core c.step.new.self c.in_ok-step.field-0
+    c.args.runs.now c.steps.runs c.step.new.runs i.3 i.2.plan s.spends.plan s.spends.tasks i.5 i.7 s.whole s.reasons c.in-StartAfresh.cause c.in-StartAfresh.is i.8 s.many i.9 s.none
 
 pub returns-in_err-step-clause-started : goal.returns-in_err-step-clause-started
 returns-in_err-step-clause-started g c =
@@ -51,3 +63,10 @@ returns-in-Settled-clause-started g c =
 pub returns-in-StartAfresh-clause-started : goal.returns-in-StartAfresh-clause-started
 returns-in-StartAfresh-clause-started g c =
     started_more c.args.runs.now c.steps.runs c.step.new.runs c.steps.invariant.1 c.in_ok-step.ensures.starts
+
+pub returns-in-Settled-clause-asks : goal.returns-in-Settled-clause-asks
+returns-in-Settled-clause-asks g c =
+    let i = c.steps.invariant in
+    let s = c.in_ok-step.ensures in
+    settles_more (g.F.Files.holds c.args.files.now) c.args.core.now c.steps.core c.args.runs.now c.steps.runs c.step.new.runs
+    (g.F.Files.asked c.args.files.now) (g.F.Files.asked c.steps.files) (g.F.Files.asked c.step.new.files) i.2.plan i.5 i.7 s.starts s.asks i.10

@@ -2,7 +2,9 @@ use Rattle.std.specs.Option.{option_copied}
 use Rattle.pie_commit.specs.Outcomes.{IsOfThree}
 use Rattle.pie_incremental.specs.Kept.{IsOfNames}
 use Rattle.pie_incremental.proofs.Commits.{leaves_as}
-use Rattle.pie_incremental.proofs.Naming.{keeps_of, keeps_same, kept_of, names_crash}
+use Rattle.pie_incremental.proofs.Naming.{keeps_of, keeps_same, kept_of, names_crash, names_told}
+use Rattle.pie_incremental.specs.inner.Marked.{EndsNames}
+use Rattle.pie_incremental.proofs.Marking.{marked_none}
 use Rattle.pie_incremental.proofs.keep.keep_names.Goals as goal
 
 pub returns-in_err-plan-clause-rest : goal.returns-in_err-plan-clause-rest
@@ -36,3 +38,17 @@ returns-in_err-commit_plan-clause-crash g c =
     (IsOfNames c.args.names.now (option_copied c.args.before))
     (names_crash c.args.names.now (option_copied c.args.before) c.in_ok-plan.plan c.in_ok-plan.ensures.plan) c.args.files.now c.commit_plan.new.files
     c.in_err-commit_plan.ensures.crash
+
+pub returns-clause-marked : goal.returns-clause-marked
+returns-clause-marked g c =
+    names_told c.args.names.now (option_copied c.args.before) c.in_ok-plan.plan c.in_ok-plan.ensures.plan g.F.Files.holds g.F.Files.images
+    c.args.files.now c.commit_plan.new.files c.in_ok-commit_plan.ensures.told
+
+pub returns-in_err-commit_plan-clause-marked : goal.returns-in_err-commit_plan-clause-marked
+returns-in_err-commit_plan-clause-marked g c =
+    names_told c.args.names.now (option_copied c.args.before) c.in_ok-plan.plan c.in_ok-plan.ensures.plan g.F.Files.holds g.F.Files.images
+    c.args.files.now c.commit_plan.new.files c.in_err-commit_plan.ensures.told
+
+pub returns-in_err-plan-clause-marked : goal.returns-in_err-plan-clause-marked
+returns-in_err-plan-clause-marked g c =
+    marked_none g.F.Files.holds g.F.Files.moment g.F.Files.left_since g.F.Files.images (EndsNames c.args.names.now (option_copied c.args.before)) c.args.files.now
