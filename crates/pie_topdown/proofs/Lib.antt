@@ -3,6 +3,12 @@ pub mod Naming
 pub mod Growing
 pub mod Stacking
 pub mod Passing
+pub mod Writing
 pub mod Making
 pub mod Twice
 pub mod Going
+pub mod Entered
+pub mod Ended
+pub mod Checked
+pub mod Kept
+pub mod Failing

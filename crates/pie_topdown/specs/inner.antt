@@ -3,6 +3,9 @@ pub mod Ledgers
 pub mod Frames
 pub mod Turns
 pub mod Places
+pub mod Written
+pub mod Effects
+pub mod Right
 pub mod Entries
 pub mod Roots
 pub mod Ended

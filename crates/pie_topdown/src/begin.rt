@@ -1,14 +1,15 @@
 //! Entered tasks that begin: with the check of an old record, with offers, or with a run.
-ghost use Rattle.std.specs.Prelude.{◌≡◌, ◌<◌, ◌≤◌, ◌+◌, length, Some, true, slice_get, IfOk, IfSome, OnOk};
+ghost use Rattle.std.specs.Prelude.{◌≡◌, ◌<◌, ◌≤◌, ◌+◌, length, Some, true, false, slice_get, slice_index_or, IfOk, IfSome, OnOk};
 ghost use Rattle.pie_files.specs.Reading.{ReadsOnly};
 ghost use Rattle.pie_record.specs.Canonical.{IsStorable};
 ghost use Rattle.pie_results.specs.inner.Failures.{is_done as specs_is_done};
-ghost use Rattle.pie_topdown.specs.inner.Frames.{AreOffers, IsCheck, MayStart, IsSite};
+ghost use Rattle.pie_topdown.specs.inner.Frames.{AreOffers, IsCheck, IsOwnRecord, MayStart, IsSite};
+ghost use Rattle.pie_topdown.specs.inner.Right.{BeginsCheck};
 ghost use Rattle.pie_topdown.specs.inner.Turns.{TurnsTo, check_mass, rest_mass, below, Nearer, room, Spends, StartsOne, Keeps};
 
 use crate::builder::Builder;
 use crate::hand::{Check, Hand, Rest, Turn};
-use crate::stands::writes_stand;
+use crate::writes::writes_stand;
 use pie_base::OutOfMemory;
 use pie_code::Checked;
 use pie_files::{Files, FilesError};
@@ -52,7 +53,8 @@ impl<'a> Builder<'a> {
     fn old_record(&self, no: TaskNo) -> Result<Option<Box<TaskRecord>>, OutOfMemory>
         requires site { IsSite self.now }
         requires number { no.0 < length self.now.ledger.tables.names }
-        ensures { IfOk result (λ found. IfSome found (λ rec. IsStorable rec.value × (slice_get self.now.ledger.tables.names no.0 ≡ Some rec.value.task))) }
+        ensures storable { IfOk result (λ found. IfSome found (λ rec. IsStorable rec.value × (slice_get self.now.ledger.tables.names no.0 ≡ Some rec.value.task))) }
+        ensures own { IfOk result (λ found. IfSome found (λ rec. IsOwnRecord self.now.plan rec.value)) }
     {
         let _names = self.ledger.tables.names.as_slice();
         let task = self.ledger.tables.names.task(no);
@@ -116,6 +118,7 @@ impl<'a> Builder<'a> {
         requires rest { AreOffers rest }
         ensures check { IfOk result (λ c. IsCheck self.now.ledger c.value) }
         ensures mass { IfOk result (λ c. check_mass c.value ≡ 3000005 + rest_mass rest) }
+        ensures right { IfOk result (λ c. BeginsCheck self.now no.0 code.now rec.value contents rest c.value) }
     {
         let check = Check {
             no,
@@ -182,7 +185,9 @@ pub(crate) fn is_done(outcome: &Outcome) -> bool
 }
 
 // The flag of a task, false past the last.
-fn flag_of(flags: &[bool], no: TaskNo) -> bool {
+fn flag_of(flags: &[bool], no: TaskNo) -> bool
+    ensures { result ≡ slice_index_or flags.now no.0 false }
+{
     match flags.get(no.0 as usize) {
         Some(flag) => *flag,
         None => false,

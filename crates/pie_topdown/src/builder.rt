@@ -12,7 +12,7 @@ use pie_files::{Files, FilesError};
 use pie_graph::TaskNo;
 use pie_named::Named;
 use pie_store::Offers;
-use pie_value::Tasks;
+use pie_value::Refusal;
 use pie_view::Stage;
 use pie_vm::Runs;
 use std::alloc::Global;
@@ -28,8 +28,8 @@ pub(crate) struct Builder<'a> {
     pub(crate) named: Named,
     /// What waits, each for the one above it, the last for what is in hand.
     pub(crate) stack: Vec<Frame<'a>>,
-    /// The cycle that was met, if one was: the records of its tasks say only that there is one.
-    pub(crate) circle: Option<Tasks>,
+    /// Why the first task failed, if one did. The records of tasks that failed say only that, and how.
+    pub(crate) failure: Option<Refusal>,
     /// The tasks that ended with an offered record, in order.
     pub(crate) reused: Vec<TaskNo>,
 }

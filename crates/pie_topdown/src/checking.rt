@@ -1,30 +1,29 @@
 //! Records that are held against what is there now, one observation after another.
 ghost use Rattle.std.specs.List.{Contains};
-ghost use Rattle.std.specs.Prelude.{◌≡◌, ◌≤◌, ◌+◌, ◌-◌, ◌∷◌, [], length, IfOk, OnOk};
+ghost use Rattle.std.specs.Prelude.{◌≡◌, ◌<◌, ◌≤◌, ◌+◌, length, IfOk, OnOk};
 ghost use Rattle.pie_files.specs.Reading.{ReadsOnly};
 ghost use Rattle.pie_graph.specs.Numbers.{numbers, AllBelow};
 ghost use Rattle.pie_record.specs.Canonical.{IsStorableDep};
-ghost use Rattle.pie_store.specs.Canonical.{required_on};
 ghost use Rattle.pie_value.specs.Canonical.{IsEncodableTask};
-ghost use Rattle.pie_topdown.specs.declared.checking.Place.TheVariants as places;
+ghost use Rattle.pie_compare.specs.inner.Standing.{DepStands, Tells};
 ghost use Rattle.pie_topdown.specs.declared.entering.Entry.TheVariants.{May};
-ghost use Rattle.pie_topdown.specs.declared.ledger.Ledger.{Ledger};
 ghost use Rattle.pie_topdown.specs.inner.Entries.{MayEnter};
 ghost use Rattle.pie_topdown.specs.inner.Frames.{IsCheck, IsSite};
-ghost use Rattle.pie_topdown.specs.inner.Places.{Tells, IsPassed, IsPlace};
+ghost use Rattle.pie_topdown.specs.inner.Places.{beside, AsksSource, Finds, IsPassed, IsPlace, IsUnentered};
+ghost use Rattle.pie_topdown.specs.inner.Right.{PassesRight};
 ghost use Rattle.pie_topdown.specs.inner.Turns.{TurnsTo, check_mass, below, Nearer, room, Fits, Spends, StartsOne, Keeps};
 
 use crate::builder::Builder;
 use crate::entering::Entry;
 use crate::hand::{Check, Frame, Hand, Turn};
-use crate::stands::{is_of_task, outcome_stands};
 use pie_base::{MAX_TICKS, OutOfMemory, Path};
 use pie_code::Checked;
+use pie_compare::Present;
 use pie_files::{Files, FilesError};
 use pie_graph::TaskNo;
-use pie_record::{Dep, DepKind, DepOn};
+use pie_record::{Dep, DepOn};
 use pie_store::Offers;
-use pie_value::{Stamp, Task};
+use pie_value::Task;
 use pie_vm::Runs;
 
 /// What is found at the next observation of a record.
@@ -32,8 +31,8 @@ use pie_vm::Runs;
 pub(crate) enum Place {
     /// There is none: the record stands.
     Over,
-    /// It would have the stamp that was recorded. That of a task is told with its number.
-    Stands(Option<TaskNo>),
+    /// It would have the stamp that was recorded. The task that it is of, if it is of one, comes to the required ones.
+    Stands,
     Differs,
     /// It is of this task, which wasn't entered yet.
     Needs(Task),
@@ -59,7 +58,8 @@ impl<'a> Builder<'a> {
         ensures kept { OnOk result (Keeps self.old self.new) }
         ensures reads { ReadsOnly F.holds F.moment F.left_since F.images F.faults files.old files.new result }
     {
-        let place = self.look(&check, files)?;
+        let mut check = check;
+        let place = self.look(&mut check, files)?;
         self.go_on(check, place, offers, files, runs)
     }
 
@@ -74,7 +74,6 @@ impl<'a> Builder<'a> {
         runs: &mut Runs,
     ) -> Result<Turn<'a>, FilesError>
         requires site { IsSite self.old }
-        requires check { IsCheck self.old.ledger check.value }
         requires place { IsPlace self.old.ledger check.value place }
         ensures turns { IfOk result (TurnsTo self.new) }
         ensures nearer { IfOk result (Nearer (below self.old + check_mass check.entry.value) self.new) }
@@ -86,24 +85,24 @@ impl<'a> Builder<'a> {
     {
         match place {
             Place::Over => Ok(self.keep(check)?),
-            Place::Stands(no) => Ok(self.pass(check, no)?),
+            Place::Stands => Ok(self.pass(check)),
             Place::Differs => self.differs(check, offers, files, runs),
             Place::Needs(task) => self.descend(check, task, offers, files, runs),
         }
     }
 
     // The record stands in one place more.
-    fn pass(&self, check: Box<Check<'a>>, no: Option<TaskNo>) -> Result<Turn<'a>, OutOfMemory>
+    fn pass(&self, check: Box<Check<'a>>) -> Turn<'a>
         requires site { IsSite self.now }
-        requires check { IsCheck self.now.ledger check.value }
-        requires place { IsPlace self.now.ledger check.value (places.Stands no) }
-        ensures turns { IfOk result (TurnsTo self.now) }
-        ensures nearer { IfOk result (Nearer (below self.now + check_mass check.entry.value) self.now) }
-        ensures fits { IfOk result (Fits (room self.now + 1) self.now) }
+        requires place { IsPassed self.now.ledger check.value }
+        ensures turns { TurnsTo self.now result }
+        ensures nearer { Nearer (below self.now + check_mass check.entry.value) self.now result }
+        ensures fits { Fits (room self.now + 1) self.now result }
+        ensures right { PassesRight self.now check.entry.value result }
     {
         let mut check = check;
-        step_over(&mut check, no)?;
-        Ok(Turn::Goes(Hand::Checks(check)))
+        check.at += 1;
+        Turn::Goes(Hand::Checks(check))
     }
 
     // The next observation is of a task that wasn't entered: that is settled first.
@@ -159,108 +158,109 @@ impl<'a> Builder<'a> {
 
     // What is found at the next observation of a record.
     #[tactic(auto, using(pie_files::proofs::Reading::reads))]
-    fn look<F: Files>(&mut self, check: &Check<'a>, files: &mut F) -> Result<Place, FilesError>
+    fn look<F: Files>(&mut self, check: &mut Check<'a>, files: &mut F) -> Result<Place, FilesError>
         requires site { IsSite self.old }
-        requires check { IsCheck self.old.ledger check.now }
+        requires check { IsCheck self.old.ledger check.old }
         ensures same { self.new ≡ record self.old { named = self.new.named } }
-        ensures place { IfOk result (IsPlace self.old.ledger check.now) }
+        ensures check { check.new ≡ record check.old { required = check.new.required } }
+        ensures place { IfOk result (IsPlace self.old.ledger check.new) }
+        ensures finds { IfOk result (Finds (F.holds files.old) self.old self.new check.old check.new) }
         ensures reads { ReadsOnly F.holds F.moment F.left_since F.images F.faults files.old files.new result }
     {
-        let deps = check.rec.deps.as_slice();
-        if check.at >= deps.len() {
+        if check.at >= check.rec.deps.as_slice().len() {
             return Ok(Place::Over);
         }
         if check.at > MAX_TICKS as usize {
             return Ok(Place::Differs);
         }
-        self.look_at(check, &deps[check.at], files)
+        self.look_there(check, files)
     }
 
-    // What is found at this observation of a record.
-    #[tactic(auto, using(pie_files::proofs::Reading::reads, crate::proofs::Growing::check_below))]
-    fn look_at<F: Files>(
+    // The same where there is one.
+    #[tactic(auto, using(pie_files::proofs::Reading::reads))]
+    fn look_there<F: Files>(
         &mut self,
-        check: &Check<'a>,
-        dep: &Dep,
+        check: &mut Check<'a>,
         files: &mut F,
     ) -> Result<Place, FilesError>
         requires site { IsSite self.old }
-        requires check { IsCheck self.old.ledger check.now }
-        requires dep { IsStorableDep dep.now }
+        requires check { IsCheck self.old.ledger check.old }
+        requires inside { check.old.at < length check.old.rec.deps }
+        requires few { check.old.at ≤ 1000000 }
         ensures same { self.new ≡ record self.old { named = self.new.named } }
-        ensures place { IfOk result (Tells self.old.ledger (required_on dep.now.what)) }
+        ensures check { check.new ≡ record check.old { required = check.new.required } }
+        ensures place { IfOk result (IsPlace self.old.ledger check.new) }
+        ensures finds { IfOk result (Finds (F.holds files.old) self.old self.new check.old check.new) }
+        ensures reads { ReadsOnly F.holds F.moment F.left_since F.images F.faults files.old files.new result }
+    {
+        let dep = &check.rec.deps.as_slice()[check.at];
+        if let Some(task) = self.unentered(dep)? {
+            return Ok(Place::Needs(task));
+        }
+        if self.source_differs(dep, files)? {
+            return Ok(Place::Differs);
+        }
+        let own = check.rec.writes.as_slice();
+        if self.stands(check.no, own, &mut check.required, dep)? {
+            return Ok(Place::Stands);
+        }
+        Ok(Place::Differs)
+    }
+
+    // The task that an observation is of, if it wasn't entered.
+    fn unentered(&self, dep: &Dep) -> Result<Option<Task>, OutOfMemory>
+        requires site { IsSite self.now }
+        requires dep { IsStorableDep dep.now }
+        ensures { IfOk result (IsUnentered self.now.ledger dep.now.what) }
+    {
+        let DepOn::Called(task) = &dep.what else {
+            return Ok(None);
+        };
+        match self.ledger.tables.names.number(task)? {
+            Some(_) => Ok(None),
+            None => Ok(Some(task.copy()?)),
+        }
+    }
+
+    // Whether an observation of a source would have another stamp now. The files are asked, unless they were before.
+    #[tactic(auto, using(pie_files::proofs::Reading::reads))]
+    fn source_differs<F: Files>(&mut self, dep: &Dep, files: &mut F) -> Result<bool, FilesError>
+        ensures same { self.new ≡ record self.old { named = self.new.named } }
+        ensures asks { IfOk result (AsksSource (F.holds files.old) self.old.named self.new.named dep.now) }
         ensures reads { ReadsOnly F.holds F.moment F.left_since F.images F.faults files.old files.new result }
     {
         match &dep.what {
             DepOn::File(path) => {
-                if self.file_stands(check, dep.kind, path, &dep.stamp, files)? {
-                    return Ok(Place::Stands(None));
+                if !path.is_source() {
+                    return Ok(false);
                 }
-                Ok(Place::Differs)
+                self.named.differs(dep.kind, path, &dep.stamp, files)
             }
-            DepOn::Called(task) => Ok(self.look_at_task(task, dep.kind, &dep.stamp)?),
+            DepOn::Called(_) => Ok(false),
         }
     }
 
-    // Whether an observation of a path stands.
-    #[tactic(auto, using(pie_files::proofs::Reading::reads))]
-    fn file_stands<F: Files>(
-        &mut self,
-        check: &Check<'a>,
-        kind: DepKind,
-        path: &Path,
-        stamp: &Stamp,
-        files: &mut F,
-    ) -> Result<bool, FilesError>
-        requires { AllBelow (length self.old.ledger.rows) (numbers check.now.required.items) }
-        ensures same { self.new ≡ record self.old { named = self.new.named } }
-        ensures reads { ReadsOnly F.holds F.moment F.left_since F.images F.faults files.old files.new result }
-    {
-        if is_of_task(kind) {
-            return Ok(false);
-        }
-        if path.is_source() {
-            let differs = self.named.differs(kind, path, stamp, files)?;
-            return Ok(!differs);
-        }
-        if path.under_out() {
-            let stands = self.ledger.out_stands(check, kind, path, stamp)?;
-            return Ok(stands);
-        }
-        Ok(stamp.same(&Stamp::Absent))
-    }
-
-    // What is found at an observation of a task.
-    fn look_at_task(&self, task: &Task, kind: DepKind, stamp: &Stamp) -> Result<Place, OutOfMemory>
+    // Whether an observation of a task with these writes stands beside the records, the rows and what is known.
+    fn stands(
+        &self,
+        no: TaskNo,
+        own: &[(Path, [u8; 32])],
+        required: &mut Vec<TaskNo>,
+        dep: &Dep,
+    ) -> Result<bool, OutOfMemory>
         requires site { IsSite self.now }
-        requires encodable { IsEncodableTask task.now }
-        ensures place { IfOk result (Tells self.now.ledger (task.now ∷ [])) }
+        requires required { AllBelow (length self.now.ledger.rows) (numbers required.old.items) }
+        requires dep { IsStorableDep dep.now }
+        ensures { IfOk result (λ stands. Tells (DepStands (beside self.now own.now) (numbers required.old.items) dep.now) stands (numbers required.new.items)) }
     {
-        let Some(no) = self.ledger.tables.names.number(task)? else {
-            return Ok(Place::Needs(task.copy()?));
+        let present = Present {
+            alloc: self.alloc,
+            tables: &self.ledger.tables,
+            rows: &self.ledger.rows,
+            named: &self.named,
+            no,
+            own,
         };
-        match self.ledger.tables.records.get(no) {
-            Some(rec) => {
-                if outcome_stands(self.alloc, &rec.outcome, kind, stamp)? {
-                    return Ok(Place::Stands(Some(no)));
-                }
-                Ok(Place::Differs)
-            }
-            None => Ok(Place::Differs),
-        }
-    }
-}
-
-// One observation more was compared, of the task with this number if it is of one.
-fn step_over<'a>(check: &mut Check<'a>, no: Option<TaskNo>) -> Result<(), OutOfMemory>
-    requires { check.old.at ≤ 1000000 }
-    ensures at { check.new.at ≡ check.old.at + 1 }
-    ensures rest { check.new.rest ≡ check.old.rest }
-    ensures check { (l : Ledger) → IsCheck l check.old → IsPassed l check.old no → OnOk result (IsCheck l check.new) }
-{
-    check.at += 1;
-    match no {
-        Some(no) => Ok(check.required.push(no)?),
-        None => Ok(()),
+        present.dep_stands(required, dep)
     }
 }

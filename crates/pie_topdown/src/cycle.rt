@@ -1,22 +1,25 @@
 //! Cycles of tasks on the stack.
-ghost use Rattle.std.specs.Prelude.{◌≡◌};
+ghost use Rattle.std.specs.Prelude.{◌≡◌, None, IsSome, OnOk};
+ghost use Rattle.pie_topdown.specs.inner.Turns.{StaysFailed};
 
 use crate::builder::Builder;
 use crate::hand::Frame;
 use pie_base::OutOfMemory;
 use pie_graph::TaskNo;
-use pie_value::{Task, Tasks};
+use pie_value::{Refusal, Task, Tasks};
 
 impl<'a> Builder<'a> {
-    /// The task with this number, which stands on the stack, is required by the one above it: the cycle is kept, unless one was.
+    /// The task with this number, which stands on the stack, is required by the one above it: where no task failed before, that fails by their cycle.
     pub(crate) fn close(&mut self, from: TaskNo, top: &Task) -> Result<(), OutOfMemory>
-        ensures same { self.new ≡ record self.old { circle = self.new.circle } }
+        ensures same { self.new ≡ record self.old { failure = self.new.failure } }
+        ensures stays { StaysFailed self.old self.new }
+        ensures first { OnOk result (self.old.failure ≡ None → IsSome self.new.failure) }
     {
-        if self.circle.is_some() {
+        if self.failure.is_some() {
             return Ok(());
         }
         let tasks = self.cycle(from, top)?;
-        self.circle = Some(tasks);
+        self.failure = Some(Refusal::Cycle(tasks));
         Ok(())
     }
 

@@ -5,7 +5,8 @@ ghost use Rattle.pie_tables.specs.Tabled.{HasFailed};
 ghost use Rattle.pie_value.specs.Canonical.{IsEncodable};
 ghost use Rattle.pie_value.specs.Values.{tree_of};
 ghost use Rattle.pie_topdown.specs.inner.Frames.{IsNoted, IsSite};
-ghost use Rattle.pie_topdown.specs.inner.Turns.{TurnsTo, below, Nearer, room, Fits, Keeps};
+ghost use Rattle.pie_topdown.specs.inner.Right.{FailsSo};
+ghost use Rattle.pie_topdown.specs.inner.Turns.{TurnsTo, below, Nearer, room, Fits, Keeps, FailsFirst, StaysFailed};
 
 use crate::builder::Builder;
 use crate::hand::{Hand, Turn};
@@ -13,7 +14,7 @@ use pie_base::{FaultKind, OutOfMemory};
 use pie_graph::TaskNo;
 use pie_record::{Deps, Outcome, TaskRecord, Writes};
 use pie_running::{NoteParts, Notes};
-use pie_value::{Fault, Value};
+use pie_value::{Fault, Refusal, Value};
 
 impl<'a> Builder<'a> {
     /// The task that runs is done with this output.
@@ -81,6 +82,7 @@ impl<'a> Builder<'a> {
         ensures nearer { IfOk result (Nearer (below self.old + 1) self.new) }
         ensures fits { IfOk result (Fits (room self.old) self.new) }
         ensures kept { OnOk result (Keeps self.old self.new) }
+        ensures right { IfOk result (FailsSo self.old no.0 kind self.new) }
     {
         let task = self.ledger.tables.names.task(no).copy()?;
         self.fail_as(no, Outcome::Failed(Fault { task, kind }))
@@ -96,8 +98,25 @@ impl<'a> Builder<'a> {
         ensures nearer { IfOk result (Nearer (below self.old + 1) self.new) }
         ensures fits { IfOk result (Fits (room self.old) self.new) }
         ensures kept { OnOk result (Keeps self.old self.new) }
+        ensures first { OnOk result (FailsFirst self.old outcome self.new) }
     {
+        self.note_failure(&outcome)?;
         self.ledger.fail(no, outcome)?;
         Ok(Turn::Goes(Hand::Ended))
+    }
+
+    // How a task failed is why the build does, unless one failed before. That it closes a cycle is told by `close`.
+    fn note_failure(&mut self, outcome: &Outcome) -> Result<(), OutOfMemory>
+        ensures same { self.new ≡ record self.old { failure = self.new.failure } }
+        ensures stays { StaysFailed self.old self.new }
+        ensures first { OnOk result (FailsFirst self.old outcome.now self.new) }
+    {
+        if self.failure.is_some() {
+            return Ok(());
+        }
+        if let Outcome::Failed(fault) = outcome {
+            self.failure = Some(Refusal::Fault(fault.copy()?));
+        }
+        Ok(())
     }
 }

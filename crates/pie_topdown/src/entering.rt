@@ -3,8 +3,9 @@ ghost use Rattle.std.specs.List.{Contains};
 ghost use Rattle.std.specs.Prelude.{◌≡◌, ◌<◌, ◌+◌, length, IfOk, OnOk};
 ghost use Rattle.pie_digest.specs.Digests.{function_names};
 ghost use Rattle.pie_value.specs.Canonical.{IsEncodableTask};
-ghost use Rattle.pie_topdown.specs.inner.Entries.{MayEnter};
+ghost use Rattle.pie_topdown.specs.inner.Entries.{HasEntered, MayEnter};
 ghost use Rattle.pie_topdown.specs.inner.Frames.{MayStart, IsSite};
+ghost use Rattle.pie_topdown.specs.inner.Right.{EntersSite};
 ghost use Rattle.pie_topdown.specs.inner.Turns.{Keeps};
 
 use crate::builder::Builder;
@@ -52,6 +53,8 @@ impl<'a> Builder<'a> {
         ensures one { OnOk result (length self.new.ledger.tables.names ≡ length self.old.ledger.tables.names + 1) }
         ensures stack { self.new.stack ≡ self.old.stack }
         ensures kept { OnOk result (Keeps self.old self.new) }
+        ensures added { OnOk result (HasEntered self.old task self.new) }
+        ensures right { OnOk result (EntersSite self.old task self.new) }
     {
         let no = self.ledger.add(task)?;
         Ok(no)

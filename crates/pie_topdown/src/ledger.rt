@@ -1,8 +1,9 @@
 //! The tasks that were entered, by their numbers.
 ghost use Rattle.std.specs.List.{Contains};
 ghost use Rattle.std.specs.Option.{option_map};
-ghost use Rattle.std.specs.Prelude.{◌≡◌, ◌<◌, ◌++◌, ◌∷◌, [], length, map, All, Some, None, false, slice_get, slice_set, IfOk, IfSome, OnOk};
+ghost use Rattle.std.specs.Prelude.{◌≡◌, ◌<◌, ◌++◌, ◌∷◌, [], length, map, All, Some, None, is_some, slice_get, slice_set, IfOk, IfSome, OnOk};
 ghost use Rattle.pie_graph.specs.Numbers.{numbers};
+ghost use Rattle.pie_graph.specs.Rows.{no_edges};
 ghost use Rattle.pie_old.specs.inner.Rows.{paths_in, tasks_at};
 ghost use Rattle.pie_record.specs.Canonical.{IsStorable};
 ghost use Rattle.pie_record.specs.inner.Records.{record_of};
@@ -10,6 +11,7 @@ ghost use Rattle.pie_store.specs.Canonical.{needs as needs_by};
 ghost use Rattle.pie_tables.specs.Tabled.{HasFailed, IsGiven};
 ghost use Rattle.pie_value.specs.Canonical.{IsEncodableTask};
 ghost use Rattle.pie_topdown.specs.inner.Ledgers.{HasOutput, row_with, IsLedger, Grows};
+ghost use Rattle.pie_topdown.specs.inner.Effects.{HasAdded, HasEnded, HasStarted, EndsIfNew};
 
 use pie_base::{MAX_TASKS, OutOfMemory, Path};
 use pie_graph::{Edges, IndexedRows, TaskNo, TaskRows};
@@ -59,10 +61,12 @@ impl Ledger {
         ensures grows { OnOk result (Grows self.old self.new) }
         ensures names { OnOk result (self.new.tables.names ≡ self.old.tables.names ++ task ∷ []) }
         ensures number { IfOk result (λ no. no.0 ≡ length self.old.tables.names) }
+        ensures added { OnOk result (HasAdded self.old task self.new) }
     {
         let _no = self.rows.add()?;
         self.places.push(0)?;
         let no = self.tables.add(task)?;
+        let _names = self.tables.names.as_slice();
         Ok(no)
     }
 
@@ -83,6 +87,7 @@ impl Ledger {
         ensures ledger { IsLedger self.new }
         ensures names { self.new.tables.names ≡ self.old.tables.names }
         ensures grows { Grows self.old self.new }
+        ensures started { HasStarted self.old no.0 self.new }
     {
         self.tables.runs(no);
     }
@@ -102,6 +107,7 @@ impl Ledger {
         ensures ledger { OnOk result (IsLedger self.new) }
         ensures grows { OnOk result (Grows self.old self.new) }
         ensures names { OnOk result (self.new.tables.names ≡ self.old.tables.names) }
+        ensures ends { OnOk result (EndsIfNew self.old no.0 rec (numbers needs.items) self.new) }
     {
         if self.has_ended(no) {
             return Ok(());
@@ -110,7 +116,7 @@ impl Ledger {
     }
 
     fn has_ended(&self, no: TaskNo) -> bool
-        ensures { result ≡ false → record_of self.now.tables.records no.0 ≡ None }
+        ensures { result ≡ is_some (record_of self.now.tables.records no.0) }
     {
         self.tables.records.get(no).is_some()
     }
@@ -132,6 +138,7 @@ impl Ledger {
         ensures ledger { OnOk result (IsLedger self.new) }
         ensures grows { OnOk result (Grows self.old self.new) }
         ensures names { OnOk result (self.new.tables.names ≡ self.old.tables.names) }
+        ensures ends { OnOk result (HasEnded self.old no.0 rec (numbers needs.items) self.new) }
     {
         self.set_row(no, needs, rec.writes.as_slice())?;
         self.places[no.0 as usize] = self.order.len();

@@ -11,13 +11,12 @@ mod events;
 mod hand;
 mod ledger;
 mod offering;
-mod outs;
 mod plan;
 mod requiring;
 mod roots;
 mod settling;
 mod sight;
 mod standing;
-mod stands;
+mod writes;
 
 pub use settling::topdown;

@@ -3,7 +3,8 @@ ghost use Rattle.std.specs.Prelude.{◌≡◌, ◌<◌, ◌≤◌, ◌+◌, ◌*
 ghost use Rattle.pie_files.specs.Reading.{ReadsOnly};
 ghost use Rattle.pie_record.specs.Canonical.{IsStorable};
 ghost use Rattle.pie_store.specs.inner.Offers.{IsOffer};
-ghost use Rattle.pie_topdown.specs.inner.Frames.{IsCheck, MayStart, IsSite};
+ghost use Rattle.pie_topdown.specs.inner.Frames.{MayStart, IsSite};
+ghost use Rattle.pie_topdown.specs.inner.Places.{MayGiveWay};
 ghost use Rattle.pie_topdown.specs.inner.Turns.{TurnsTo, check_mass, below, Nearer, room, Fits, Spends, StartsOne, Keeps};
 
 use crate::begin::is_done;
@@ -33,7 +34,7 @@ impl<'a> Builder<'a> {
         runs: &mut Runs,
     ) -> Result<Turn<'a>, FilesError>
         requires site { IsSite self.old }
-        requires check { IsCheck self.old.ledger check.value }
+        requires check { MayGiveWay self.old.ledger check.value }
         ensures turns { IfOk result (TurnsTo self.new) }
         ensures nearer { IfOk result (Nearer (below self.old + check_mass check.entry.value) self.new) }
         ensures spends { IfOk result (Spends (room self.old + 1) runs.old runs.new self.new) }

@@ -16,7 +16,7 @@ use pie_code::Checked;
 use pie_files::{Files, FilesError};
 use pie_record::Outcome;
 use pie_store::Offers;
-use pie_value::{Fault, Refusal, Task, Tasks};
+use pie_value::{Fault, Refusal, Task};
 use pie_vm::Runs;
 
 impl<'a> Builder<'a> {
@@ -67,7 +67,7 @@ impl<'a> Builder<'a> {
         ensures reads { ReadsOnly F.holds F.moment F.left_since F.images F.faults files.old files.new result }
     {
         match self.ledger.tables.names.number(root)? {
-            Some(_) => Ok(self.refusal_of(root)?),
+            Some(_) => Ok(self.unless_done(root)?),
             None => self.settle_new(root, offers, files, runs),
         }
     }
@@ -122,10 +122,14 @@ impl<'a> Builder<'a> {
         ensures reads { ReadsOnly F.holds F.moment F.left_since F.images F.faults files.old files.new result }
     {
         let no = self.enter(root.copy()?, code)?;
-        if !self.run(Hand::Enters(no, code), offers, files, runs)? {
+        let rests = self.run(Hand::Enters(no, code), offers, files, runs)?;
+        if let Some(why) = self.failure.take() {
+            return Ok(Some(why));
+        }
+        if !rests {
             return Ok(Some(Refusal::Many));
         }
-        Ok(self.refusal_of(root)?)
+        Ok(self.unless_done(root)?)
     }
 
     // Goes on until nothing waits, or one task more was to be entered than a build may have.
@@ -155,17 +159,8 @@ impl<'a> Builder<'a> {
         }
     }
 
-    // The cycle that was met.
-    fn closed(&self) -> Result<Refusal, OutOfMemory> {
-        let mut tasks = Vec::new(self.alloc);
-        if let Some(circle) = &self.circle {
-            put_all(&mut tasks, circle.as_slice())?;
-        }
-        Ok(Refusal::Cycle(Tasks::new(tasks)))
-    }
-
-    // Why a root that was settled failed, if it did.
-    fn refusal_of(&self, root: &Task) -> Result<Option<Refusal>, OutOfMemory>
+    // Nothing, where a root has an output: it has one wherever no task failed.
+    fn unless_done(&self, root: &Task) -> Result<Option<Refusal>, OutOfMemory>
         requires site { IsSite self.now }
         requires root { IsEncodableTask root.now }
         ensures { IfOk result (λ why. why ≡ None → IsSettledRoot self.now.ledger root.now) }
@@ -175,9 +170,7 @@ impl<'a> Builder<'a> {
         };
         match self.ledger.outcome(no)? {
             Some(Outcome::Done(_)) => Ok(None),
-            Some(Outcome::Failed(fault)) => Ok(Some(Refusal::Fault(fault))),
-            Some(Outcome::Cycled(_)) => Ok(Some(self.closed()?)),
-            None => Ok(Some(unknown(root.copy()?))),
+            _ => Ok(Some(unknown(root.copy()?))),
         }
     }
 }
@@ -188,11 +181,4 @@ fn unknown(task: Task) -> Refusal {
         task,
         kind: FaultKind::Unknown,
     })
-}
-
-fn put_all(tasks: &mut Vec<Task>, more: &[Task]) -> Result<(), OutOfMemory> {
-    for task in more {
-        tasks.push(task.copy()?)?;
-    }
-    Ok(())
 }

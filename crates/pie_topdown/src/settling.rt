@@ -98,7 +98,7 @@ fn begun<'a>(
         stage: Stage::new(alloc),
         named: Named::new(alloc),
         stack: Vec::new(alloc),
-        circle: None,
+        failure: None,
         reused: Vec::new(alloc),
     };
     let builder = Box::new(alloc, builder)?;

@@ -6,6 +6,7 @@ ghost use Rattle.pie_record.specs.Canonical.{IsStorable};
 ghost use Rattle.pie_store.specs.Canonical.{needs as needs_by};
 ghost use Rattle.pie_topdown.specs.inner.Frames.{IsCheck, IsSite};
 ghost use Rattle.pie_topdown.specs.inner.Ledgers.{HasOutput};
+ghost use Rattle.pie_topdown.specs.inner.Right.{KeepsRight, EndsKept};
 ghost use Rattle.pie_topdown.specs.inner.Turns.{TurnsTo, below, Nearer, room, Fits, Keeps};
 
 use crate::builder::Builder;
@@ -25,6 +26,7 @@ impl<'a> Builder<'a> {
         ensures nearer { IfOk result (Nearer (below self.old + 1) self.new) }
         ensures fits { IfOk result (Fits (room self.old) self.new) }
         ensures kept { OnOk result (Keeps self.old self.new) }
+        ensures right { IfOk result (KeepsRight self.old check.entry.value self.new) }
     {
         let Check {
             no,
@@ -55,6 +57,7 @@ impl<'a> Builder<'a> {
         ensures nearer { IfOk result (Nearer (below self.old + 1) self.new) }
         ensures fits { IfOk result (Fits (room self.old) self.new) }
         ensures kept { OnOk result (Keeps self.old self.new) }
+        ensures ended { IfOk result (EndsKept self.old no.0 rec (numbers required.items) self.new) }
     {
         self.ledger.end(no, rec, required)?;
         Ok(Turn::Goes(Hand::Ended))

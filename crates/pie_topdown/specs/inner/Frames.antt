@@ -1,11 +1,14 @@
 -- What is in hand, and what waits for it.
-use Rattle.std.specs.Prelude.{◌≡◌, ℕ, ◌<◌, List, length, map, take, All, Some, slice_get, IfSome}
+use Rattle.std.specs.Prelude.{◌≡◌, ℕ, ◌<◌, true, false, List, length, map, take, All, Some, slice_get, slice_index_or, IfSome}
 use Rattle.std.specs.List.{Contains}
 use Rattle.pie_value.specs.declared.task.Task.{Task}
 use Rattle.pie_value.specs.Canonical.{IsEncodableTask}
 use Rattle.pie_digest.specs.Digests.{function_names}
 use Rattle.pie_graph.specs.Numbers.{numbers}
 use Rattle.pie_record.specs.Canonical.{IsStorable}
+use Rattle.pie_record.specs.declared.task_record.TaskRecord.{TaskRecord}
+use Rattle.pie_record.specs.inner.Records.{record_of}
+use Rattle.pie_results.specs.inner.Failures.{is_done}
 use Rattle.pie_tables.specs.Tabled.{IsTables}
 use Rattle.pie_old.specs.inner.Rows.{needs_in, tasks_at}
 use Rattle.pie_running.specs.declared.frame.Caller.{Caller}
@@ -76,6 +79,13 @@ IsHand l hands.Ended = Unit {0}
 -- each task is of a function of the pipeline
 abbrev pub AreKnown : Plan → List Task → Type 0
 AreKnown p names = All (λ (t : Task). Contains (function_names p.typed.now) t.func) names
+
+-- a record is one of the build before, of a task whose function stayed the same, and has an output
+pub record IsOwnRecord (p : Plan) (rec : TaskRecord) : Type 0 where
+  pub number : ℕ
+  pub kept : record_of p.earlier.records number ≡ Some rec
+  pub same : slice_index_or p.same.items number false ≡ true
+  pub done : is_done rec.outcome ≡ true
 
 -- what holds of a build beside what it does next
 pub record IsSite (b : Builder) : Type 0 where

@@ -1,7 +1,11 @@
 -- How a step ends, and by what a build falls.
-use Rattle.std.specs.Prelude.{◌≡◌, ◌⊎◌, ℕ, ◌+◌, ◌-◌, ◌*◌, ◌<◌, ◌≤◌, List, [], ◌∷◌, ◌++◌, length}
+use Rattle.std.specs.Prelude.{◌≡◌, ◌⊎◌, ℕ, ◌+◌, ◌-◌, ◌*◌, ◌<◌, ◌≤◌, List, [], ◌∷◌, ◌++◌, length, Some, None}
 use Rattle.pie_value.specs.declared.task.Task.{Task}
 use Rattle.pie_value.specs.Canonical.{IsEncodableTask}
+use Rattle.pie_value.specs.declared.verdict.Refusal.{Refusal}
+use Rattle.pie_value.specs.declared.verdict.Refusal.TheVariants.{Fault}
+use Rattle.pie_record.specs.declared.task_record.Outcome.{Outcome}
+use Rattle.pie_record.specs.declared.task_record.Outcome.TheVariants.{Done, Failed, Cycled}
 use Rattle.pie_running.specs.declared.frame.Told.{Told}
 use Rattle.pie_running.specs.declared.frame.Told.TheVariants as tolds
 use Rattle.pie_running.specs.inner.Frames.{IsReady}
@@ -106,10 +110,21 @@ Spends bound runs after b t = length after + turn_room b t ≤ length runs + bou
 abbrev pub StartsOne : List Task → List Task → Type 0
 StartsOne old new = (new ≡ old) ⊎ ((task : Task) × (new ≡ old ++ task ∷ []) × IsEncodableTask task)
 
+-- why the first task failed doesn't change
+abbrev pub StaysFailed : Builder → Builder → Type 0
+StaysFailed old new = (why : Refusal) → old.failure ≡ Some why → new.failure ≡ Some why
+
 -- a build of the same pipeline, in which tasks were entered or have ended
 pub record Keeps (old new : Builder) : Type 0 where
   pub plan : new.plan ≡ old.plan
   pub grows : Grows old.ledger new.ledger
+  pub failed : StaysFailed old new
+
+-- the first task that fails by itself, or as one that can't be entered, is why the build does
+abbrev pub FailsFirst : Builder → Outcome → Builder → Type 0
+FailsFirst old (Failed fault) new = old.failure ≡ None → new.failure ≡ Some (Fault fault)
+FailsFirst old (Cycled tasks) new = new.failure ≡ old.failure
+FailsFirst old (Done value) new = new.failure ≡ old.failure
 
 -- ---- a task that was told something
 

@@ -1,0 +1,9 @@
+use Rattle.std.proofs.Common.{rules, ◌≡◌, ◌+◌, ap}
+use Rattle.pie_topdown.specs.declared.hand.Check.{Check}
+use Rattle.pie_topdown.proofs.Checked.{passes_turn}
+use Rattle.pie_topdown.proofs.builder.Builder.pass.Goals as goal
+
+pub returns-clause-right : goal.returns-clause-right
+returns-clause-right c =
+    let same : c.deref_mut.result.now ≡ c.args.check.value = search rules in
+    passes_turn c.args.self.now c.args.check.value _ (ap (λ (x : Check). record x { at = x.at + 1 }) same) c.requires.place.next.storable
