@@ -1,5 +1,6 @@
 //! Numbers that look random, and are the same each time.
-ghost use Rattle.std.specs.Prelude.{◌<◌, ◌^◌};
+ghost use Rattle.std.specs.Prelude.{◌≡◌, ◌<◌, ◌%◌, ◌^◌};
+ghost use Rattle.pie_demo.specs.Draws.{next_state, state_after, drawn};
 
 /// The most files that a demo has.
 pub(crate) const MAX_SIZE: u32 = 1000;
@@ -12,13 +13,17 @@ pub(crate) struct Draws {
 
 impl Draws {
     /// The draws of a seed.
-    pub(crate) fn new(seed: u64) -> Draws {
+    pub(crate) fn new(seed: u64) -> Draws
+        ensures { result.state ≡ seed }
+    {
         Draws { state: seed }
     }
 
     /// The next number.
     fn draw(&mut self) -> u64
-        ensures { result < 2 ^ 31 }
+        ensures drawn { result ≡ drawn self.old.state }
+        ensures state { self.new.state ≡ next_state self.old.state }
+        ensures small { result < 2 ^ 31 }
     {
         self.state = self
             .state
@@ -30,13 +35,17 @@ impl Draws {
     /// The next number, modulo a bound.
     pub(crate) fn below(&mut self, bound: u32) -> u32
         requires { 0 < bound }
-        ensures { result < bound }
+        ensures below { result < bound }
+        ensures drawn { result ≡ drawn self.old.state % bound }
+        ensures state { self.new.state ≡ next_state self.old.state }
     {
         (self.draw() % bound as u64) as u32
     }
 
     /// Passes over so many numbers.
-    pub(crate) fn skip(&mut self, count: u32) {
+    pub(crate) fn skip(&mut self, count: u32)
+        ensures { self.new.state ≡ state_after self.old.state count }
+    {
         for _ in 0..count {
             self.draw();
         }

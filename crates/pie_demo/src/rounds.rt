@@ -1,5 +1,9 @@
 //! One round of a demo.
-ghost use Rattle.std.specs.Prelude.{◌≤◌, ◌<◌};
+ghost use Rattle.std.specs.Prelude.{◌≡◌, ◌≤◌, ◌<◌, ◌-◌, ℕ, IfOk, OnOk};
+ghost use Rattle.pie_files.specs.inner.SureFiles.{held_by};
+ghost use Rattle.pie_demo.specs.Sources.{HasSources};
+ghost use Rattle.pie_demo.specs.Rounds.{DoesRound};
+ghost use Rattle.pie_demo.specs.inner.Steps.{TellsLive, BuildsNamed, Rebuilds, Answers};
 
 use crate::comparing::are_same;
 use crate::copying::copy_of;
@@ -30,6 +34,8 @@ pub fn round(
     requires few { size ≤ 1000 }
     requires first { 0 < k }
     requires last { k ≤ 1000 }
+    ensures sources { HasSources seed size (k - 1) (held_by files.old) → OnOk result (HasSources seed size k (held_by files.new)) }
+    ensures round { HasSources seed size (k - 1) (held_by files.old) → IfOk result (λ same. (live : ℕ) × DoesRound seed size k (held_by files.old) (held_by files.new) runs.old runs.new clean.old clean.new live same) }
 {
     let done = go(alloc, files, seed, size, k, runs, clean)?;
     Ok(done.is_same)
@@ -58,13 +64,31 @@ pub(crate) fn go(
     requires few { size ≤ 1000 }
     requires first { 0 < k }
     requires last { k ≤ 1000 }
+    ensures sources { HasSources seed size (k - 1) (held_by files.old) → OnOk result (HasSources seed size k (held_by files.new)) }
+    ensures round { HasSources seed size (k - 1) (held_by files.old) → IfOk result (λ r. DoesRound seed size k (held_by files.old) (held_by files.new) runs.old runs.new clean.old clean.new r.live r.is_same) }
 {
     let path = change(alloc, files, seed, size, k)?;
     let was_built = build_named(alloc, files, from_ref(&path), runs)?;
     let mut copy = copy_of(alloc, files)?;
     let live = rebuilt(alloc, &mut copy, clean)?;
-    let is_same = was_built && are_same(alloc, files, &mut copy)?;
+    let is_same = answer(alloc, was_built, files, &mut copy)?;
     Ok(RoundResult { is_same, live })
+}
+
+// The answer of a round: whether the project was built, and both are the same.
+fn answer(
+    alloc: Global,
+    was_built: bool,
+    files: &mut SureFiles,
+    copy: &mut SureFiles,
+) -> Result<bool, OutOfMemory>
+    ensures told { IfOk result (Answers was_built (held_by files.old) (held_by copy.old)) }
+    ensures same { held_by files.new ≡ held_by files.old }
+{
+    if !was_built {
+        return Ok(false);
+    }
+    are_same(alloc, files, copy)
 }
 
 // Builds the project by one name. Answers whether it isn't refused.
@@ -73,7 +97,9 @@ fn build_named(
     files: &mut SureFiles,
     names: &[Path],
     runs: &mut Runs,
-) -> Result<bool, OutOfMemory> {
+) -> Result<bool, OutOfMemory>
+    ensures { IfOk result (BuildsNamed names.now (held_by files.old) (held_by files.new) runs.old runs.new) }
+{
     let live = live_of(build(alloc, files, names, runs))?;
     Ok(live.is_some())
 }
@@ -83,7 +109,9 @@ pub(crate) fn rebuilt(
     alloc: Global,
     files: &mut SureFiles,
     runs: &mut Runs,
-) -> Result<u32, OutOfMemory> {
+) -> Result<u32, OutOfMemory>
+    ensures { IfOk result (Rebuilds (held_by files.old) (held_by files.new) runs.old runs.new) }
+{
     match live_of(rebuild(alloc, files, runs))? {
         Some(live) => Ok(live),
         None => Ok(0),
@@ -91,7 +119,9 @@ pub(crate) fn rebuilt(
 }
 
 // How many tasks the roots reach, by a report; none where the project is refused. Files in memory don't fail.
-fn live_of(built: Result<Report, BuildError>) -> Result<Option<u32>, OutOfMemory> {
+fn live_of(built: Result<Report, BuildError>) -> Result<Option<u32>, OutOfMemory>
+    ensures { IfOk result (TellsLive built) }
+{
     match built {
         Ok(report) => Ok(Some(report.live)),
         Err(BuildError::Pipeline(_)) => Ok(None),

@@ -1,5 +1,8 @@
 //! The whole demo.
-ghost use Rattle.std.specs.Prelude.{◌≡◌, ◌≤◌, ◌<◌, IfOk};
+ghost use Rattle.std.specs.Prelude.{◌≡◌, ◌≤◌, ◌<◌, ◌-◌, length, IfOk};
+ghost use Rattle.std.specs.FinMap as fin;
+ghost use Rattle.pie_files.specs.inner.SureFiles.{held_by};
+ghost use Rattle.pie_demo.specs.Rounds.{IsDemo};
 
 use crate::rounds::{go, rebuilt};
 use crate::sources::put_sources;
@@ -38,6 +41,7 @@ pub fn demo(
     requires few { size ≤ 1000 }
     ensures rounds { IfOk result (λ s. s.rounds ≡ 10) }
     ensures same { IfOk result (λ s. s.same ≤ 10) }
+    ensures demo { held_by files.old ≡ fin.empty → IfOk result (IsDemo seed size (held_by files.new) runs.old runs.new clean.old clean.new) }
 {
     put_sources(alloc, files, seed, size)?;
     rebuilt(alloc, files, runs)?;
@@ -58,7 +62,9 @@ pub fn demo(
 }
 
 // How many tasks were started after so many others. More than a number of 32 bits holds have no room in memory.
-fn count_since(before: usize, runs: &Runs) -> Result<u32, OutOfMemory> {
+fn count_since(before: usize, runs: &Runs) -> Result<u32, OutOfMemory>
+    ensures { IfOk result (λ count. count ≡ length runs.now - before) }
+{
     match u32::try_from(runs.count().saturating_sub(before)) {
         Ok(count) => Ok(count),
         Err(_) => Err(OutOfMemory),

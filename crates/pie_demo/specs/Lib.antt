@@ -1,0 +1,5 @@
+pub mod Copies
+pub mod Draws
+pub mod Rounds
+pub mod Sources
+pub mod inner
