@@ -1,25 +1,68 @@
 -- What a demo says.
-use Rattle.std.proofs.Common.{◌≡◌, ◌⊎◌, ℕ, true, List, inl, inr, refl, sym, ◌∙◌}
-use Rattle.std.specs.Prelude.{Option}
+use Rattle.std.proofs.Common.{◌≡◌, ◌⊎◌, ◌≤◌, ℕ, true, List, [], inl, inr, refl, sym, ap, ◌∙◌, subst}
+use Rattle.std.specs.Prelude.{Option, Result, Ok, Err, IfOk, string_bytes}
+use Rattle.std.specs.FinMap as fin
+use Rattle.pie_base.specs.declared.memory.OutOfMemory.{OutOfMemory}
 use Rattle.pie_base.specs.declared.status.Status.{Status}
 use Rattle.pie_base.specs.declared.status.Status.TheVariants as status
 use Rattle.pie_files.specs.Faults.{Rose}
-use Rattle.pie_cli.specs.Demo.{IsDemoText, SaysDemo}
+use Rattle.pie_demo.specs.Rounds.{IsDemo}
+use Rattle.pie_demo.specs.declared.whole.Summary.{Summary}
+use Rattle.pie_files.specs.Directory.{Directory}
+use Rattle.pie_value.specs.declared.task.Task.{Task}
+use Rattle.pie_words.specs.declared.command.Command.{Command}
+use Rattle.pie_words.specs.declared.command.Command.TheVariants as commands
+use Rattle.pie_cli.specs.declared.told.CommandResult.{CommandResult}
+use Rattle.pie_cli.specs.Demo.{summary_text, IsDemoText, SaysDemo}
 use Rattle.pie_cli.specs.Run.{is_told, Ends, GainsPrefix, Shows}
 use Rattle.pie_cli.proofs.Statuses.{answer_is_told, memory_is_no_answer}
 
+-- the text of a demo in new files
+pub demo_text : (seed size : ℕ) (first after : Directory) (runs_first runs clean_first clean : List Task) (s : Summary)
+    (r : Result CommandResult OutOfMemory) → first ≡ fin.empty → runs_first ≡ [] → clean_first ≡ []
+    → (first ≡ fin.empty → IsDemo seed size after runs_first runs clean_first clean s) → s.rounds ≡ 10 → s.same ≤ 10
+    → IfOk r (λ told. string_bytes told.text ≡ summary_text s) → IfOk r (λ told. IsDemoText seed size (string_bytes told.text))
+demo_text seed size first after runs_first runs clean_first clean s (Err e) none runs_none clean_none demo rounds same text = tt
+demo_text seed size first after runs_first runs clean_first clean s (Ok told) none runs_none clean_none demo rounds same text = record {
+  summary = s;
+  after = after;
+  runs = runs;
+  clean = clean;
+  demo = subst (λ cs. IsDemo seed size after [] runs cs clean s) clean_none
+      (subst (λ rs. IsDemo seed size after rs runs clean_first clean s) runs_none (demo none));
+  rounds = rounds;
+  same = same;
+  told = text;
+}
+
+-- a command has one seed and one number of files
+seed_in : Command → ℕ
+seed_in (commands.Demo seed size) = seed
+seed_in other = 0
+
+size_in : Command → ℕ
+size_in (commands.Demo seed size) = size
+size_in other = 0
+
+pub at_demo : (P : ℕ → ℕ → Type 0) (command : Command) (seed size other number : ℕ) → command ≡ commands.Demo seed size
+    → command ≡ commands.Demo other number → P seed size → P other number
+unfolding seed_in size_in
+at_demo P command seed size other number first second p =
+    let both : commands.Demo seed size ≡ commands.Demo other number = sym first ∙ second in
+    subst (λ s. P s number) (ap seed_in both) (subst (P seed) (ap size_in both) p)
+
 -- there was no memory for it
-pub says_memory : (held : Option (List ℕ)) → SaysDemo held held status.Memory
-says_memory held = record {
+pub says_memory : (seed size : ℕ) (held : Option (List ℕ)) → SaysDemo seed size held held status.Memory
+says_memory seed size held = record {
   shown = λ a. absurd (memory_is_no_answer a);
   prefix = inr refl;
   ends = inr (inr refl);
 }
 
 -- what the output took of a summary
-pub says_shown : (held gained : Option (List ℕ)) (text : List ℕ) (ended : Status) → IsDemoText text → Shows held gained text status.Ok ended
-    → GainsPrefix held gained text → SaysDemo held gained ended
-says_shown held gained text ended is shows prefix = record {
+pub says_shown : (seed size : ℕ) (held gained : Option (List ℕ)) (text : List ℕ) (ended : Status) → IsDemoText seed size text
+    → Shows held gained text status.Ok ended → GainsPrefix held gained text → SaysDemo seed size held gained ended
+says_shown seed size held gained text ended is shows prefix = record {
   shown = λ a. let s = shows (answer_is_told ended a) in (s.0, text, is, s.1);
   prefix = inl (text, is, prefix);
   ends = by ended shows;
@@ -48,10 +91,11 @@ not_input ended (inr (inl a)) is = let both : status.Output ≡ status.Input = s
 not_input ended (inr (inr a)) is = let both : status.Memory ≡ status.Input = sym a ∙ is in absurd (cc)
 
 -- why a demo ended
-pub ends_demo : (Alone : Type 0) (asked read printed_before printed_after : ℕ) (held gained : Option (List ℕ)) (ended : Status) → SaysDemo held gained ended
+pub ends_demo : (Alone : Type 0) (seed size asked read printed_before printed_after : ℕ) (held gained : Option (List ℕ)) (ended : Status)
+    → SaysDemo seed size held gained ended
     → (ended ≡ status.Output → Rose printed_before printed_after) → (is_told ended ≡ true → printed_after ≡ printed_before)
     → Ends Alone asked asked read read printed_before printed_after held gained ended
-ends_demo Alone asked read printed_before printed_after held gained ended says output steady = record {
+ends_demo Alone seed size asked read printed_before printed_after held gained ended says output steady = record {
   files = λ is. absurd (not_files ended says.ends is);
   input = λ is. absurd (not_input ended says.ends is);
   output = output;

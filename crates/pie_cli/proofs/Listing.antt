@@ -20,8 +20,9 @@ use Rattle.pie_files.proofs.Reading.{none_before}
 use Rattle.pie_cli.specs.declared.listed.ByList.{ByList}
 use Rattle.pie_cli.specs.declared.listed.ByList.TheVariants.{Auto, Build, Scan}
 use Rattle.pie_auto.proofs.Finding.{outside_same}
+use Rattle.pie_build.proofs.Crashing.{rests_none}
 use Rattle.pie_cli.proofs.Rest.{keeps_same}
-use Rattle.pie_cli.specs.inner.ByList.{ChangesNone, KeepsBy, LeavesRead, LeavesWith}
+use Rattle.pie_cli.specs.inner.ByList.{ChangesNone, EndsRead, EndsWith, KeepsBy, LeavesRead, LeavesWith, RestsBy}
 use Rattle.pie_cli.specs.Run.{is_answer, input_fault_text, GainsAtMost, GainsPrefix, GainsSome, Shows}
 use Rattle.pie_cli.proofs.Statuses.{answer_is_told, memory_is_no_answer}
 
@@ -140,6 +141,26 @@ pub read_left : {S : Type 0} (holds : S → Option Directory) (moment : S → �
 read_left holds moment left_since images (Build json) names old new left after read h = inr (names, read, h)
 read_left holds moment left_since images Auto names old new left after read h = tt {0}
 read_left holds moment left_since images Scan names old new left after read h = tt {0}
+
+-- what every image has then
+pub none_ended : {S : Type 0} (holds : S → Option Directory) (images : S → Directory → Type 0) (which : ByList) (old : S) (left after : Option (List ℕ))
+    → EndsRead holds images which old old left after
+none_ended holds images (Build json) old left after = inl refl
+none_ended holds images Auto old left after = tt {0}
+none_ended holds images Scan old left after = tt {0}
+
+pub read_ended : {S : Type 0} (holds : S → Option Directory) (images : S → Directory → Type 0) (which : ByList) (names : List (List ℕ)) (old new : S)
+    (left after : Option (List ℕ)) → IsRead names left after → EndsWith holds images which names old new → EndsRead holds images which old new left after
+read_ended holds images (Build json) names old new left after read h = inr (names, read, h)
+read_ended holds images Auto names old new left after read h = tt {0}
+read_ended holds images Scan names old new left after read h = tt {0}
+
+-- and nothing is pending
+pub none_rests : {S : Type 0} (holds : S → Option Directory) (moment : S → ℕ) (left_since : S → ℕ → Directory → Type 0) (images : S → Directory → Type 0)
+    (which : ByList) (old : S) → RestsBy holds images which old old
+none_rests holds moment left_since images (Build json) old = rests_none holds moment left_since images old
+none_rests holds moment left_since images Auto old = tt {0}
+none_rests holds moment left_since images Scan old = tt {0}
 
 pub none_kept : (which : ByList) (before after : Option Directory) → after ≡ before → KeepsBy which before after
 none_kept (Build json) before after is = keeps_same before after is

@@ -5,6 +5,7 @@ use Rattle.pie_base.specs.declared.status.Status.TheVariants as status
 use Rattle.pie_commit.specs.Outcomes.{LeavesFromRest}
 use Rattle.pie_files.specs.Directory.{Directory}
 use Rattle.pie_files.specs.Faults.{Rose}
+use Rattle.pie_incremental.specs.Crashes.{EndsMarked}
 use Rattle.pie_input.specs.Names.{AreNames, IsBad}
 use Rattle.pie_report.specs.Refused.{bad_input_text}
 use Rattle.pie_script.specs.declared.fault.InputFault.{InputFault}
@@ -44,6 +45,12 @@ abbrev pub ListLeaves : {S : Type 0} → (List (List ℕ) → Directory → Dire
     → (S → Directory → Type 0) → S → S → Option (List ℕ) → Option (List ℕ) → Type 0
 ListLeaves P holds moment left_since images old new left after =
     (new ≡ old) ⊎ ((names : List (List ℕ)) × IsRead names left after × LeavesFromRest holds moment left_since images (P names) old new)
+
+-- where nothing was pending, what every image has at the end of such a command: nothing was asked of the files; or the list was read, and the marker stands in
+-- each unless nothing changed, or each has D of its paths
+abbrev pub ListEnds : {S : Type 0} → (List (List ℕ) → Directory → Directory → Type 0) → (S → Option Directory) → (S → Directory → Type 0) → S → S
+    → Option (List ℕ) → Option (List ℕ) → Type 0
+ListEnds D holds images old new left after = (new ≡ old) ⊎ ((names : List (List ℕ)) × IsRead names left after × EndsMarked holds images (D names) old new)
 
 -- what such a command says, whatever it ended with: an answer, what the output gained of one, and that a list that is refused, or an input that fails,
 -- leaves the files alone

@@ -13,7 +13,7 @@ use std::alloc::Global;
 pub(crate) fn tell_demo(alloc: Global, seed: u64, size: u32) -> Result<CommandResult, OutOfMemory>
     requires some { 0 < size }
     requires few { size ≤ 1000 }
-    ensures told { IfOk result (λ told. IsDemoText (string_bytes told.text)) }
+    ensures told { IfOk result (λ told. IsDemoText seed size (string_bytes told.text)) }
     ensures status { IfOk result (λ told. told.status ≡ Status.Ok) }
 {
     let mut files = SureFiles::new(alloc);

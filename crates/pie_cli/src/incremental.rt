@@ -1,9 +1,10 @@
 //! An incremental build, and what is told of it.
-ghost use Rattle.std.specs.Prelude.{◌≡◌, true, IfOk, string_bytes};
+ghost use Rattle.std.specs.Prelude.{◌≡◌, true, IfOk, OnOk, string_bytes};
+ghost use Rattle.pie_build.specs.Crashes.{StaysAtRest};
 ghost use Rattle.pie_build.specs.Left.{KeepsRest};
 ghost use Rattle.pie_commit.specs.Outcomes.{LeavesFromRest};
 ghost use Rattle.pie_files.specs.Streams.{Counted};
-ghost use Rattle.pie_incremental.specs.Crashes.{MayStop};
+ghost use Rattle.pie_incremental.specs.Crashes.{EndsMarked, MayEnd, MayStop};
 ghost use Rattle.pie_report.specs.Refused as refused;
 ghost use Rattle.pie_cli.specs.Build.{MakeSays};
 ghost use Rattle.pie_cli.specs.Run.{is_answer};
@@ -29,6 +30,8 @@ pub(crate) fn build<F: Files>(
     ensures answer { IfOk result (λ told. is_answer told.status ≡ true) }
     ensures rest { KeepsRest (F.holds files.old) (F.holds files.new) }
     ensures crash { LeavesFromRest F.holds F.moment F.left_since F.images (MayStop changes.now) files.old files.new }
+    ensures marked { EndsMarked F.holds F.images (MayEnd changes.now) files.old files.new }
+    ensures durable { OnOk result (StaysAtRest F.holds F.images files.old files.new) }
     ensures counted { Counted F.faults FilesError.Failed files.old files.new result }
 {
     let mut runs = Runs::new(alloc);

@@ -1,8 +1,8 @@
 //! Commands that read a list of paths.
-ghost use Rattle.std.specs.Prelude.{◌≡◌, true, IfOk, string_bytes};
+ghost use Rattle.std.specs.Prelude.{◌≡◌, true, IfOk, OnOk, string_bytes};
 ghost use Rattle.pie_files.specs.Streams.{Counted};
 ghost use Rattle.pie_cli.specs.Run.{is_answer};
-ghost use Rattle.pie_cli.specs.inner.ByList.{says_of, ChangesNone, KeepsBy, LeavesWith};
+ghost use Rattle.pie_cli.specs.inner.ByList.{says_of, ChangesNone, EndsWith, KeepsBy, LeavesWith, RestsBy};
 
 use crate::finding::auto;
 use crate::incremental::build;
@@ -36,6 +36,8 @@ pub(crate) fn with_list<F: Files>(
     ensures rest { KeepsBy which (F.holds files.old) (F.holds files.new) }
     ensures none { ChangesNone F.holds F.moment F.left_since F.images which files.old files.new }
     ensures crash { LeavesWith F.holds F.moment F.left_since F.images which paths.now files.old files.new }
+    ensures marked { EndsWith F.holds F.images which paths.now files.old files.new }
+    ensures durable { OnOk result (RestsBy F.holds F.images which files.old files.new) }
     ensures counted { Counted F.faults FilesError.Failed files.old files.new result }
 {
     match which {

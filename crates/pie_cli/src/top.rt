@@ -16,7 +16,7 @@ ghost use Rattle.pie_cli.specs.Listed.{RunsByList, RunsSaying};
 ghost use Rattle.pie_cli.specs.Run.{is_answer, is_told, Ends, GainsPrefix, IsNoScript, IsUsage, NeedsNoInput, PrintsUsage, Shows, StaysWithin};
 ghost use Rattle.pie_cli.specs.Scan.{RunsScan};
 ghost use Rattle.pie_cli.specs.Topdown.{RunsTopdown};
-ghost use Rattle.pie_cli.specs.inner.ByList.{says_of, ChangesNone, KeepsBy, LeavesRead, LeavesWith};
+ghost use Rattle.pie_cli.specs.inner.ByList.{says_of, ChangesNone, EndsRead, EndsWith, KeepsBy, LeavesRead, LeavesWith, RestsBy};
 ghost use Rattle.pie_cli.specs.inner.Played.{ChangesWithin, HasNoInput, HasNoScript, Plays};
 ghost use Rattle.pie_cli.specs.inner.Unread.{EndsUnread};
 ghost use Rattle.pie_replay.specs.Replays.{KeepsOthers};
@@ -68,7 +68,7 @@ pub fn run<F: Files, I: Source, K: Sink>(
     ensures cached { texts_of words.now ≡ words_of commands.Cached
         → RunsCached F.holds F.faults files.old files.new (K.held out.old) (K.held out.new) result }
     ensures demo { (seed size : ℕ) → is_allowed (commands.Demo seed size) ≡ true → texts_of words.now ≡ words_of (commands.Demo seed size)
-        → RunsDemo files.old files.new (K.held out.old) (K.held out.new) result }
+        → RunsDemo seed size files.old files.new (K.held out.old) (K.held out.new) result }
     ensures usage { IsUsage (texts_of words.now) → PrintsUsage files.old files.new (K.held out.old) (K.held out.new) result }
     ensures rest { StaysWithin (texts_of words.now) → KeepsRest (F.holds files.old) (F.holds files.new) }
     ensures ends { Ends (IsNoScript (texts_of words.now)) (F.faults files.old) (F.faults files.new) (I.faults input.old) (I.faults input.new) (K.faults out.old) (K.faults out.new) (K.held out.old) (K.held out.new) result }
@@ -109,7 +109,7 @@ fn run_command<F: Files, I: Source, K: Sink>(
         → RunsTopdown F.holds F.faults json files.old files.new (K.held out.old) (K.held out.new) result }
     ensures cached { command ≡ commands.Cached
         → RunsCached F.holds F.faults files.old files.new (K.held out.old) (K.held out.new) result }
-    ensures demo { (seed size : ℕ) → command ≡ commands.Demo seed size → RunsDemo files.old files.new (K.held out.old) (K.held out.new) result }
+    ensures demo { (seed size : ℕ) → command ≡ commands.Demo seed size → RunsDemo seed size files.old files.new (K.held out.old) (K.held out.new) result }
     ensures rest { ChangesWithin command → KeepsRest (F.holds files.old) (F.holds files.new) }
     ensures ends { Ends (HasNoScript command) (F.faults files.old) (F.faults files.new) (I.faults input.old) (I.faults input.new) (K.faults out.old) (K.faults out.new) (K.held out.old) (K.held out.new) result }
     ensures infallible { StaysInfallible K.infallible K.faults out.old out.new }
@@ -170,6 +170,8 @@ fn run_by_list<F: Files, I: Source, K: Sink>(
     ensures lists { RunsByList (says_of which) F.holds F.faults I.left I.faults files.old files.new input.old input.new (K.held out.old) (K.held out.new) result }
     ensures none { ChangesNone F.holds F.moment F.left_since F.images which files.old files.new }
     ensures crash { LeavesRead F.holds F.moment F.left_since F.images which files.old files.new (I.left input.old) (I.left input.new) }
+    ensures marked { EndsRead F.holds F.images which files.old files.new (I.left input.old) (I.left input.new) }
+    ensures durable { is_answer result ≡ true → RestsBy F.holds F.images which files.old files.new }
     ensures rest { KeepsBy which (F.holds files.old) (F.holds files.new) }
     ensures ends { Ends (Unit {0}) (F.faults files.old) (F.faults files.new) (I.faults input.old) (I.faults input.new) (K.faults out.old) (K.faults out.new) (K.held out.old) (K.held out.new) result }
     ensures infallible { StaysInfallible K.infallible K.faults out.old out.new }
@@ -194,6 +196,8 @@ fn do_by_list<F: Files, K: Sink>(
     ensures says { RunsSaying (says_of which paths.now) F.holds F.faults files.old files.new (K.held out.old) (K.held out.new) result }
     ensures none { ChangesNone F.holds F.moment F.left_since F.images which files.old files.new }
     ensures crash { LeavesWith F.holds F.moment F.left_since F.images which paths.now files.old files.new }
+    ensures marked { EndsWith F.holds F.images which paths.now files.old files.new }
+    ensures durable { is_answer result ≡ true → RestsBy F.holds F.images which files.old files.new }
     ensures rest { KeepsBy which (F.holds files.old) (F.holds files.new) }
     ensures ends { EndsUnread (F.faults files.old) (F.faults files.new) (K.faults out.old) (K.faults out.new) (K.held out.old) (K.held out.new) result }
     ensures infallible { StaysInfallible K.infallible K.faults out.old out.new }
@@ -277,7 +281,7 @@ fn play<F: Files, K: Sink>(
 fn run_demo<K: Sink>(alloc: Global, out: &mut K, seed: u64, size: u32) -> Status
     requires some { 0 < size }
     requires few { size ≤ 1000 }
-    ensures says { SaysDemo (K.held out.old) (K.held out.new) result }
+    ensures says { SaysDemo seed size (K.held out.old) (K.held out.new) result }
     ensures output { result ≡ Status.Output → Rose (K.faults out.old) (K.faults out.new) }
     ensures steady { is_told result ≡ true → K.faults out.new ≡ K.faults out.old }
     ensures infallible { StaysInfallible K.infallible K.faults out.old out.new }

@@ -6,12 +6,13 @@ use Rattle.pie_files.specs.Reading.{LeavesAsBefore}
 use Rattle.pie_cli.specs.declared.listed.ByList.{ByList}
 use Rattle.pie_cli.specs.declared.listed.ByList.TheVariants.{Auto, Build, Scan}
 use Rattle.pie_auto.specs.Found.{KeepsOutside}
+use Rattle.pie_build.specs.Crashes.{StaysAtRest}
 use Rattle.pie_build.specs.Left.{KeepsRest}
 use Rattle.pie_commit.specs.Outcomes.{LeavesFromRest}
-use Rattle.pie_incremental.specs.Crashes.{MayStop}
+use Rattle.pie_incremental.specs.Crashes.{EndsMarked, MayEnd, MayStop}
 use Rattle.pie_cli.specs.Auto.{AutoSays}
 use Rattle.pie_cli.specs.Build.{MakeSays}
-use Rattle.pie_cli.specs.Listed.{ListLeaves}
+use Rattle.pie_cli.specs.Listed.{ListEnds, ListLeaves}
 use Rattle.pie_cli.specs.Scan.{ScanSays}
 
 -- what a command says of its paths
@@ -39,6 +40,24 @@ abbrev pub LeavesRead : {S : Type 0} → (S → Option Directory) → (S → ℕ
 LeavesRead holds moment left_since images (Build json) old new left after = ListLeaves MayStop holds moment left_since images old new left after
 LeavesRead holds moment left_since images Scan old new left after = Unit {0}
 LeavesRead holds moment left_since images Auto old new left after = Unit {0}
+
+-- what every image has at the end of a build with these paths
+abbrev pub EndsWith : {S : Type 0} → (S → Option Directory) → (S → Directory → Type 0) → ByList → List (List ℕ) → S → S → Type 0
+EndsWith holds images (Build json) paths old new = EndsMarked holds images (MayEnd paths) old new
+EndsWith holds images Scan paths old new = Unit {0}
+EndsWith holds images Auto paths old new = Unit {0}
+
+-- and of one with the paths of its input
+abbrev pub EndsRead : {S : Type 0} → (S → Option Directory) → (S → Directory → Type 0) → ByList → S → S → Option (List ℕ) → Option (List ℕ) → Type 0
+EndsRead holds images (Build json) old new left after = ListEnds MayEnd holds images old new left after
+EndsRead holds images Scan old new left after = Unit {0}
+EndsRead holds images Auto old new left after = Unit {0}
+
+-- nothing is pending after a build, where nothing was
+abbrev pub RestsBy : {S : Type 0} → (S → Option Directory) → (S → Directory → Type 0) → ByList → S → S → Type 0
+RestsBy holds images (Build json) old new = StaysAtRest holds images old new
+RestsBy holds images Scan old new = Unit {0}
+RestsBy holds images Auto old new = Unit {0}
 
 -- the paths that have the files that they had
 abbrev pub KeepsBy : ByList → Option Directory → Option Directory → Type 0

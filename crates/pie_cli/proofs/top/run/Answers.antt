@@ -126,6 +126,8 @@ returns-in-Err-OutOfMemory-clause-build g c = λ json is. record {
   built = runs_memory (MakeSays json) g.F.Files.holds g.F.Files.faults g.I.Source.left g.I.Source.faults c.args.files.now c.args.input.now c.args.input.now
       (g.K.Sink.held c.args.out.now);
   crash = inl refl;
+  marked = inl refl;
+  durable = λ a. absurd (memory_is_no_answer a);
 }
 
 pub returns-in-Err-OutOfMemory-clause-input : goal.returns-in-Err-OutOfMemory-clause-input
@@ -149,7 +151,7 @@ pub returns-in-Err-Usage-clause-demo : goal.returns-in-Err-Usage-clause-demo
 returns-in-Err-Usage-clause-demo g c = λ seed size may is. absurd (c.in-Err-Usage.ensures.refused (ap Err c.in-Err-Usage.field-0-is) (commands.Demo seed size) may is)
 
 pub returns-in-Err-OutOfMemory-clause-demo : goal.returns-in-Err-OutOfMemory-clause-demo
-returns-in-Err-OutOfMemory-clause-demo g c = λ seed size may is. record { says = says_memory (g.K.Sink.held c.args.out.now); nothing_asked = refl }
+returns-in-Err-OutOfMemory-clause-demo g c = λ seed size may is. record { says = says_memory seed size (g.K.Sink.held c.args.out.now); nothing_asked = refl }
 
 pub returns-in-Ok-clause-scan : goal.returns-in-Ok-clause-scan
 returns-in-Ok-clause-scan g c = λ is. c.run_command.ensures.scan (same_command _ _ c.in-Ok.ensures.allowed refl (sym c.in-Ok.ensures.accepted ∙ is))

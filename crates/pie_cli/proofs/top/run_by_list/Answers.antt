@@ -4,7 +4,7 @@ use Rattle.pie_report.specs.Refused.{bad_input_text}
 use Rattle.pie_cli.specs.Listed.{IsRead}
 use Rattle.pie_cli.specs.Run.{GainsPrefix, Shows}
 use Rattle.pie_cli.specs.inner.ByList.{says_of}
-use Rattle.pie_cli.proofs.Listing.{bad_read, bad_told, none_changed, none_kept, none_left, read_left, runs_bad, runs_failed, runs_made, runs_memory}
+use Rattle.pie_cli.proofs.Listing.{bad_read, bad_told, none_changed, none_kept, none_ended, none_left, none_rests, read_ended, read_left, runs_bad, runs_failed, runs_made, runs_memory}
 use Rattle.pie_cli.proofs.Ending.{ends_failed, ends_memory, ends_shown, ends_unread}
 use Rattle.pie_cli.proofs.top.run_by_list.Goals as goal
 
@@ -98,3 +98,37 @@ returns-in-Err-Failed-clause-crash g c = none_left g.F.Files.holds g.F.Files.mom
 pub returns-in-Err-OutOfMemory-clause-crash : goal.returns-in-Err-OutOfMemory-clause-crash
 returns-in-Err-OutOfMemory-clause-crash g c = none_left g.F.Files.holds g.F.Files.moment g.F.Files.left_since g.F.Files.images c.args.which c.args.files.now
     (g.I.Source.left c.args.input.now) (g.I.Source.left c.read_names.new.input)
+
+pub returns-in-Ok-clause-marked : goal.returns-in-Ok-clause-marked
+returns-in-Ok-clause-marked g c =
+    read_ended g.F.Files.holds g.F.Files.images c.args.which c.as_slice.result.now c.args.files.now c.do_by_list.new.files
+    (g.I.Source.left c.args.input.now) (g.I.Source.left c.read_names.new.input)
+    (subst (λ (names : List (List ℕ)). IsRead names (g.I.Source.left c.args.input.now) (g.I.Source.left c.read_names.new.input)) (sym c.as_slice.ensures.value)
+    c.in-Ok.ensures.read) c.do_by_list.ensures.marked
+
+pub returns-in-Err-Bad-clause-marked : goal.returns-in-Err-Bad-clause-marked
+returns-in-Err-Bad-clause-marked g c =
+    none_ended g.F.Files.holds g.F.Files.images c.args.which c.args.files.now (g.I.Source.left c.args.input.now)
+    (g.I.Source.left c.read_names.new.input)
+
+pub returns-in-Err-Bad-clause-durable : goal.returns-in-Err-Bad-clause-durable
+returns-in-Err-Bad-clause-durable g c =
+    λ a. none_rests g.F.Files.holds g.F.Files.moment g.F.Files.left_since g.F.Files.images c.args.which c.args.files.now
+
+pub returns-in-Err-Failed-clause-marked : goal.returns-in-Err-Failed-clause-marked
+returns-in-Err-Failed-clause-marked g c =
+    none_ended g.F.Files.holds g.F.Files.images c.args.which c.args.files.now (g.I.Source.left c.args.input.now)
+    (g.I.Source.left c.read_names.new.input)
+
+pub returns-in-Err-Failed-clause-durable : goal.returns-in-Err-Failed-clause-durable
+returns-in-Err-Failed-clause-durable g c =
+    λ a. none_rests g.F.Files.holds g.F.Files.moment g.F.Files.left_since g.F.Files.images c.args.which c.args.files.now
+
+pub returns-in-Err-OutOfMemory-clause-marked : goal.returns-in-Err-OutOfMemory-clause-marked
+returns-in-Err-OutOfMemory-clause-marked g c =
+    none_ended g.F.Files.holds g.F.Files.images c.args.which c.args.files.now (g.I.Source.left c.args.input.now)
+    (g.I.Source.left c.read_names.new.input)
+
+pub returns-in-Err-OutOfMemory-clause-durable : goal.returns-in-Err-OutOfMemory-clause-durable
+returns-in-Err-OutOfMemory-clause-durable g c =
+    λ a. none_rests g.F.Files.holds g.F.Files.moment g.F.Files.left_since g.F.Files.images c.args.which c.args.files.now

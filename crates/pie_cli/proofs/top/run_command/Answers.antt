@@ -3,7 +3,8 @@ use Rattle.pie_cli.specs.Build.{RunsBuild}
 use Rattle.pie_cli.specs.Fresh.{RunsFresh}
 use Rattle.pie_cli.proofs.Listing.{at_build_flag, at_topdown_flag}
 use Rattle.pie_cli.specs.Topdown.{RunsTopdown}
-use Rattle.pie_cli.proofs.Demos.{ends_demo, not_input}
+use Rattle.pie_cli.proofs.Demos.{at_demo, ends_demo, not_input}
+use Rattle.pie_cli.specs.Demo.{RunsDemo}
 use Rattle.pie_cli.proofs.Ending.{ends_by, ends_unread}
 use Rattle.pie_cli.specs.inner.Played.{HasNoScript}
 use Rattle.pie_cli.specs.Replay.{RunsReplay}
@@ -24,7 +25,12 @@ returns-in-Build-clause-build g c = λ json is.
     (λ b. RunsBuild g.F.Files.holds g.F.Files.moment g.F.Files.left_since g.F.Files.images g.F.Files.faults g.I.Source.left g.I.Source.faults b
     c.args.files.now c.run_by_list.new.files c.args.input.now c.run_by_list.new.input (g.K.Sink.held c.args.out.now) (g.K.Sink.held c.run_by_list.new.out)
     c.run_by_list.result)
-    c.args.command c.in-Build.json json c.in-Build.is is (record { built = c.run_by_list.ensures.lists; crash = c.run_by_list.ensures.crash })
+    c.args.command c.in-Build.json json c.in-Build.is is (record {
+      built = c.run_by_list.ensures.lists;
+      crash = c.run_by_list.ensures.crash;
+      marked = c.run_by_list.ensures.marked;
+      durable = c.run_by_list.ensures.durable;
+    })
 
 pub returns-in-Build-clause-input : goal.returns-in-Build-clause-input
 returns-in-Build-clause-input g c = λ none. absurd ((none.0 c.in-Build.json).0 c.in-Build.is)
@@ -69,11 +75,14 @@ pub returns-in-Fresh-clause-input : goal.returns-in-Fresh-clause-input
 returns-in-Fresh-clause-input g c = λ none. (refl, c.run_fresh.ensures.ends.no_input)
 
 pub returns-in-Demo-clause-demo : goal.returns-in-Demo-clause-demo
-returns-in-Demo-clause-demo g c = λ seed size is. record { says = c.run_demo.ensures.says; nothing_asked = refl }
+returns-in-Demo-clause-demo g c = λ seed size is.
+    at_demo
+    (λ s n. RunsDemo s n c.args.files.now c.args.files.now (g.K.Sink.held c.args.out.now) (g.K.Sink.held c.run_demo.new.out) c.run_demo.result)
+    c.args.command c.in-Demo.seed c.in-Demo.size seed size c.in-Demo.is is (record { says = c.run_demo.ensures.says; nothing_asked = refl })
 
 pub returns-in-Demo-clause-ends : goal.returns-in-Demo-clause-ends
 returns-in-Demo-clause-ends g c =
-    ends_demo (HasNoScript c.args.command) _ (g.I.Source.faults c.args.input.now) (g.K.Sink.faults c.args.out.now) (g.K.Sink.faults c.run_demo.new.out)
+    ends_demo (HasNoScript c.args.command) c.in-Demo.seed c.in-Demo.size _ (g.I.Source.faults c.args.input.now) (g.K.Sink.faults c.args.out.now) (g.K.Sink.faults c.run_demo.new.out)
     (g.K.Sink.held c.args.out.now) (g.K.Sink.held c.run_demo.new.out) c.run_demo.result c.run_demo.ensures.says c.run_demo.ensures.output
     c.run_demo.ensures.steady
 
