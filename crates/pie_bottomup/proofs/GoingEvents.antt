@@ -191,7 +191,7 @@ pub grows_goes : {E : Type 0} (c mid new : Core) (task : TaskNo) (from : ℕ) (d
 grows_goes c mid new task from d callee r plan site w v grown last adds still left small =
     if_ok_more (ParksWhole mid task.0 from d callee.0 new) (RequiresWhole c task from d new)
     (λ turn parks u now e begins asks.
-    parks u (subst (IsBuildNow u) (sym plan) now) (adds v u (tried_required u c d.waiting d.required d.how e left small asks) e) (still begins)
+    parks u (subst (IsBuildNow u) (sym plan) now) (adds v u (tried_required u c d.waiting d.required d.how now site w e left small asks) e) (still begins)
     (subst (λ ps. MayMeet u mid (d ∷ callers_up ps.items) callee.0) (sym grown.parked)
     (subst (λ (p : Plan). MayMeet u (record mid { plan = p }) (d ∷ callers_up c.frames.parked.items) callee.0) (sym plan)
     (grown_meets u c mid d.required e site.tables w v site.sized grown.few grown asks.none (d ∷ callers_up c.frames.parked.items) callee.0 last asks.marked

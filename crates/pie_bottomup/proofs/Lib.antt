@@ -39,6 +39,7 @@ pub mod Parts
 pub mod Reasoning
 pub mod Rings
 pub mod Ringing
+pub mod Speaking
 pub mod Trying
 pub mod Overflowing
 pub mod Settling

@@ -3,7 +3,7 @@ use Rattle.std.proofs.Common.{◌≡◌, ◌≢◌, ◌⊎◌, ℕ, ◌+◌, ◌
 use Rattle.std.specs.Prelude.{bytes_eq, slice_get, slice_index_or, is_some, drop, take, IsSome}
 use Rattle.std.specs.List.{All, AllPairs, Contains}
 use Rattle.std.proofs.lemmas.List.{append-nil, get_or-drop, get_or-take, length-drop, length-take-le, take-append-drop}
-use Rattle.std.proofs.lemmas.List.Elements.{All-nil, All-weaker}
+use Rattle.std.proofs.lemmas.List.Elements.{All-contains, All-nil, All-weaker}
 use Rattle.std.proofs.lemmas.Option.{get_or_from_slice_get, slice_get-get_or, slice_get_within}
 use Rattle.pie_value.specs.declared.task.Task.{Task}
 use Rattle.pie_value.specs.Canonical.{enc_task}
@@ -25,6 +25,7 @@ use Rattle.pie_check_laws.proofs.Members.{none_in, here_or_there}
 use Rattle.pie_builder_laws.proofs.Naming.{among_from, canonical_at, one_place, placed}
 use Rattle.pie_compare_laws.proofs.Ways.{one_some}
 use Rattle.pie_earlier_laws.specs.Rows.{record_among}
+use Rattle.pie_entering_laws.specs.inner.Laws.{HasFunction}
 use Rattle.pie_core_laws.specs.Comparing.{IsOld}
 use Rattle.pie_core_laws.specs.Update.{Update}
 use Rattle.pie_core_laws.specs.Exact.{is_busy, runs}
@@ -34,7 +35,7 @@ use Rattle.pie_task_laws.specs.Whole.{NoneIsNew}
 use Rattle.pie_bottomup.specs.declared.state.Core.{Core}
 use Rattle.pie_bottomup.specs.declared.state.First.TheVariants.{TooMany, Done}
 use Rattle.pie_bottomup.specs.declared.state.Turn.TheVariants.{StartAfresh}
-use Rattle.pie_bottomup.specs.inner.Causes.{AreManyOld, AreTooMany, HadTooMany, HasAllTasks, HasRunIfKnown, IsOldTask, IsTried}
+use Rattle.pie_bottomup.specs.inner.Causes.{AreManyOld, AreTooMany, HadTooMany, HasAllTasks, HasRunIfKnown, IsKnownTask, IsOldTask, IsTried, IsTypedUpdate}
 use Rattle.pie_bottomup.specs.inner.Exact.{IsExactCore}
 use Rattle.pie_bottomup.specs.inner.Going.{build_of, StandsWhole, StepsWhole}
 use Rattle.pie_bottomup.specs.inner.Loaded.{IsPastLimit, IsStoredIn, BeginsMany}
@@ -99,6 +100,14 @@ module _ (u : Update) (c : Core) (e : IsExactCore u c) (w : Stands c.frames.walk
       by (done s) =
           let ended = e.are.tables.ended n s in rested s ended.0 ended.1 (slice_index_or c.tables.ran.items n false) refl
 
+  -- it is of a function of a typed pipeline
+  is_known : IsTypedUpdate u → (n : ℕ) (t : Task) → slice_get names n ≡ Some t → (IsOldTask u t → ⊥) → HasFunction u.functions t
+  is_known y n t named new = by (All-contains (IsTried u) names t e.tried.tried (placed names n t named)).known
+    where
+      by : IsKnownTask u t → HasFunction u.functions t
+      by (inl old) = absurd (new old)
+      by (inr known) = known y (canonical_at names e.are.tables.tasks n t named)
+
   whole : take c.earlier names ++ drop c.earlier names ≡ names
   whole = take-append-drop c.earlier names
 
@@ -119,6 +128,9 @@ module _ (u : Update) (c : Core) (e : IsExactCore u c) (w : Stands c.frames.walk
       once = subst (AllPairs (λ v w. v ≢ w)) (sym whole) e.are.tables.tasks.distinct;
       are_old = e.tried.old;
       are_new = λ i d inside. is_new (c.earlier + i) (get_or (drop c.earlier names) i d) (omega arith) (behind i d inside);
+      known = λ y i d inside.
+          is_known y (c.earlier + i) (get_or (drop c.earlier names) i d) (behind i d inside)
+          (is_new (c.earlier + i) (get_or (drop c.earlier names) i d) (omega arith) (behind i d inside));
       tried = subst (All (IsTried u)) (sym whole) e.tried.tried;
       none = λ within. other (subst (λ xs. Contains xs t) whole within);
       one = one;
@@ -191,6 +203,7 @@ many_tried u t task are = record {
     once = subst (AllPairs (λ v w. v ≢ w)) (sym (append-nil are.tasks)) are.once;
     are_old = are.old;
     are_new = All-nil (λ v. IsOldTask u v → ⊥);
+    known = λ y. All-nil (HasFunction u.functions);
     tried = subst (All (IsTried u)) (sym (append-nil are.tasks)) (All-weaker (IsOldTask u) (IsTried u) (old_tried u) are.tasks are.old);
     none = λ within. are.none (subst (λ xs. Contains xs task) (append-nil are.tasks) within);
     one = old_tried u task are.one;

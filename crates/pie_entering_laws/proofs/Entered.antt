@@ -42,22 +42,23 @@ own_task (suc n) P above x = inl refl
 ended_plain : (e : Outcome) (b : List ℕ) → e ≡ Ended b → is_plain e ≡ true
 ended_plain e b h = ap is_plain h
 
+-- a root whose bytes are those of a task is typed as this
+pub root_typed : (fs : List FunctionTree) (hs : List Heading) → AreNeverStuck fs hs → (r u : Task) → IsRoot fs r → IsCanonicalTask u (enc_task r)
+    → TaskIsTyped hs u
+root_typed fs hs never r u is c =
+    let like = tasks_alike r u (encodable_task_if_small r is.small) c.encodable c.bytes in
+    let k = (never.found r).1 (is.number, is.found) in
+    (k.0, ap (λ (n : List ℕ). function_in n hs) (sym like.0) ∙ k.1, kinds_stay (parts_of (types_in k.0.params)) (items_of r.args) (items_of u.args) like.1 k.2)
+
 module _ (fs : List FunctionTree) (hs : List Heading) (never : AreNeverStuck fs hs) (d : Directory) where
   -- a task of the language that stands in the evaluation of a root stands there with its value
-  spoken_node : (root : List ℕ) (m : Node) → StandsIn m (evaluation world (project fs d) root) → IsSpoken fs d (task_of m) → IsSpokenNode m
+  pub spoken_node : (root : List ℕ) (m : Node) → StandsIn m (evaluation world (project fs d) root) → IsSpoken fs d (task_of m) → IsSpokenNode m
   spoken_node root m s is = record {
     task = is.task;
     canonical = is.canonical;
     gives = λ b e. is.gives b
         (ap outcome_of (sym (node_alone (world.most_tasks - length {A = List ℕ} []) world (project fs d) [] root m (omega arith) s (ended_plain (outcome_of m) b e))) ∙ e);
   }
-
-  -- a root whose bytes are those of a task is typed as this
-  root_typed : (r u : Task) → IsRoot fs r → IsCanonicalTask u (enc_task r) → TaskIsTyped hs u
-  root_typed r u is c =
-      let like = tasks_alike r u (encodable_task_if_small r is.small) c.encodable c.bytes in
-      let k = (never.found r).1 (is.number, is.found) in
-      (k.0, ap (λ (n : List ℕ). function_in n hs) (sym like.0) ∙ k.1, kinds_stay (parts_of (types_in k.0.params)) (items_of r.args) (items_of u.args) like.1 k.2)
 
   module _ (r : Task) (root : IsRoot fs r) (spoken : (x : List ℕ) → HasTask x (evaluation world (project fs d) (enc_task r)) → IsSpoken fs d x) where
     all_spoken : AllSpoken (evaluation world (project fs d) (enc_task r))
@@ -73,7 +74,7 @@ module _ (fs : List FunctionTree) (hs : List Heading) (never : AreNeverStuck fs 
         let same : enc_task r ≡ enc_task its_task.task = its_task.canonical.bytes in
         let well : IsWell hs its_task.task.func (evaluation world (project fs d) (enc_task its_task.task)) =
         evaluates_well fs hs never d (world.most_tasks - length {A = List ℕ} []) [] its_task.task
-        (subst (IsCanonicalTask its_task.task) same its_task.canonical) (root_typed r its_task.task root its_task.canonical)
+        (subst (IsCanonicalTask its_task.task) same its_task.canonical) (root_typed fs hs never r its_task.task root its_task.canonical)
         (subst (λ (y : List ℕ). AllSpoken (evaluation world (project fs d) y)) same all_spoken) in
         let stands : StandsIn at.found (evaluation world (project fs d) (enc_task its_task.task)) =
         subst (λ (y : List ℕ). StandsIn at.found (evaluation world (project fs d) y)) same at.stands in

@@ -101,45 +101,22 @@ module _ (fs : List FunctionTree) (hs : List Heading) (d : Directory) (t : Task)
     (kids : (u : Task) → IsCanonicalTask u (enc_task u) → TaskIsTyped hs u → AllSpoken (child (enc_task u)) → IsWell hs u.func (child (enc_task u)))
     (named : (x : List ℕ) → task_of (child x) ≡ x) where
   -- what the function gives after these answers
-  abbrev gives_next : List ModelAnswer → Gives Val
+  abbrev pub gives_next : List ModelAnswer → Gives Val
   gives_next given = (next_of f t.args (map answer_of given)).0
 
-  next_is : (given : List ModelAnswer) → next fs (enc_task t) given ≡ event_of (gives_next given)
+  pub next_is : (given : List ModelAnswer) → next fs (enc_task t) given ≡ event_of (gives_next given)
   next_is given =
       means_itself fs t c given ∙ ap (λ (o : Option FunctionTree). event_of (outcome_by o t (map answer_of given))) (ap (function_at fs) numbered ∙ at)
 
   -- the answers so far fit
-  abbrev Fit : Progress → Type 0
+  abbrev pub Fit : Progress → Type 0
   Fit g = AnswersFit hs f t.args (map answer_of g.answers)
 
-  module _ (go : Progress → Trace) (goes : (g : Progress) → Fit g → SpokenBelow (go g) → GoesWell hs t.func (go g)) (g : Progress) (fit : Fit g) where
+  module _ (g : Progress) (fit : Fit g) where
     -- one answer more
-    more : (e : Event) (a : ModelAnswer) → gives_next g.answers ≡ wants e → AnswerFits hs e (answer_of a)
+    pub more : (e : Event) (a : ModelAnswer) → gives_next g.answers ≡ wants e → AnswerFits hs e (answer_of a)
         → AnswersFit hs f t.args (map answer_of (g.answers ++ a ∷ []))
     more e a asks fits = more_fit hs f t.args g.answers e a asks fits fit
-
-    look_well : (e : Event) (l : Look) (p : Path) (s : Seen) → gives_next g.answers ≡ wants e → AnswerFits hs e (answer_of (absent_answer l))
-        → ((b : List ℕ) → AnswerFits hs e (answer_of (present_answer world b l))) → SpokenBelow (on_seen world (enc_task t) l p g go s)
-        → GoesWell hs t.func (on_seen world (enc_task t) l p g go s)
-    look_well e l p Nothing asks absent present spoken =
-        let w = goes (answered g (absent_answer l)) (more e (absent_answer l) asks absent) spoken in record { typed = w.typed; fits = w.fits }
-    look_well e l p (Holds b m) asks absent present spoken =
-        let w = goes (answered g (present_answer world b l)) (more e (present_answer world b l) asks (present b)) spoken in
-        record { typed = w.typed; fits = w.fits }
-    look_well e l p Clashing asks absent present spoken =
-        let w = ends_well hs t.func (Failed (enc_task t) faults.Clash) refl in record { typed = w.typed; fits = w.fits }
-
-    list_well : (p : Path) (es : Option (List Path)) → gives_next g.answers ≡ wants (events.List p) → SpokenBelow (on_listing (enc_task t) p g go es)
-        → GoesWell hs t.func (on_listing (enc_task t) p g go es)
-    list_well p None asks spoken =
-        let w = ends_well hs t.func (Failed (enc_task t) faults.Big) refl in record { typed = w.typed; fits = w.fits }
-    list_well p (Some es) asks spoken =
-        let w = goes (answered g (Entries es)) (more (events.List p) (Entries es) asks (paths_fit es)) spoken in record { typed = w.typed; fits = w.fits }
-
-    write_well : (p b : List ℕ) → gives_next g.answers ≡ wants (events.Write p b) → SpokenBelow (writes p b (go (wrote g p b)))
-        → GoesWell hs t.func (writes p b (go (wrote g p b)))
-    write_well p b asks spoken =
-        let w = goes (wrote g p b) (more (events.Write p b) Wrote asks tt) spoken in record { typed = w.typed; fits = w.fits }
 
     -- a required task
     module _ (u : Task) (how : How) (asks : gives_next g.answers ≡ wants (events.Require u how)) (small : is_small_task u ≡ true)
@@ -174,17 +151,44 @@ module _ (fs : List FunctionTree) (hs : List Heading) (d : Directory) (t : Task)
           subst (λ (n : List ℕ). OutputFits (function_in n hs) (tree_of (value_with b))) (sym its_typed.0)
           (subst (λ (z : Value). OutputFits (function_in its.task.func hs) (tree_of z)) (sym told) (its_well.fits b v.0 e v.1))
 
-      answer_fits : (k : How) (b : List ℕ) → outcome_of (child (enc_task u)) ≡ Ended b
+      pub answer_fits : (k : How) (b : List ℕ) → outcome_of (child (enc_task u)) ≡ Ended b
           → AnswerFits hs (events.Require u k) (answer_of (output_answer b (how_of k)))
       answer_fits Whole b e = value_fits b e
       answer_fits Hashed b e = value_fits b e
       answer_fits Ran b e = tt
 
+  module _ (go : Progress → Trace) (goes : (g : Progress) → Fit g → SpokenBelow (go g) → GoesWell hs t.func (go g)) (g : Progress) (fit : Fit g) where
+    look_well : (e : Event) (l : Look) (p : Path) (s : Seen) → gives_next g.answers ≡ wants e → AnswerFits hs e (answer_of (absent_answer l))
+        → ((b : List ℕ) → AnswerFits hs e (answer_of (present_answer world b l))) → SpokenBelow (on_seen world (enc_task t) l p g go s)
+        → GoesWell hs t.func (on_seen world (enc_task t) l p g go s)
+    look_well e l p Nothing asks absent present spoken =
+        let w = goes (answered g (absent_answer l)) (more g fit e (absent_answer l) asks absent) spoken in record { typed = w.typed; fits = w.fits }
+    look_well e l p (Holds b m) asks absent present spoken =
+        let w = goes (answered g (present_answer world b l)) (more g fit e (present_answer world b l) asks (present b)) spoken in
+        record { typed = w.typed; fits = w.fits }
+    look_well e l p Clashing asks absent present spoken =
+        let w = ends_well hs t.func (Failed (enc_task t) faults.Clash) refl in record { typed = w.typed; fits = w.fits }
+
+    list_well : (p : Path) (es : Option (List Path)) → gives_next g.answers ≡ wants (events.List p) → SpokenBelow (on_listing (enc_task t) p g go es)
+        → GoesWell hs t.func (on_listing (enc_task t) p g go es)
+    list_well p None asks spoken =
+        let w = ends_well hs t.func (Failed (enc_task t) faults.Big) refl in record { typed = w.typed; fits = w.fits }
+    list_well p (Some es) asks spoken =
+        let w = goes (answered g (Entries es)) (more g fit (events.List p) (Entries es) asks (paths_fit es)) spoken in record { typed = w.typed; fits = w.fits }
+
+    write_well : (p b : List ℕ) → gives_next g.answers ≡ wants (events.Write p b) → SpokenBelow (writes p b (go (wrote g p b)))
+        → GoesWell hs t.func (writes p b (go (wrote g p b)))
+    write_well p b asks spoken =
+        let w = goes (wrote g p b) (more g fit (events.Write p b) Wrote asks tt) spoken in record { typed = w.typed; fits = w.fits }
+
+    -- what follows a required task
+    module _ (u : Task) (how : How) (asks : gives_next g.answers ≡ wants (events.Require u how)) (small : is_small_task u ≡ true)
+        (spoken : AllSpoken (child (enc_task u))) where
       rest_well : (o : Outcome) → outcome_of (child (enc_task u)) ≡ o → SpokenBelow (on_outcome (how_of how) g (child (enc_task u)) go o)
           → GoesWell hs t.func (on_outcome (how_of how) g (child (enc_task u)) go o)
       rest_well (Ended b) e below =
           goes (required g (child (enc_task u)) (output_answer b (how_of how)))
-          (more (events.Require u how) (output_answer b (how_of how)) asks (answer_fits how b e)) below
+          (more g fit (events.Require u how) (output_answer b (how_of how)) asks (answer_fits g fit u how asks small spoken how b e)) below
       rest_well (Failed x k) e below = ends_well hs t.func (Failed x k) refl
       rest_well (Cycled ts) e below = ends_well hs t.func (Cycled ts) refl
       rest_well Many e below = ends_well hs t.func Many refl
@@ -197,7 +201,7 @@ module _ (fs : List FunctionTree) (hs : List Heading) (d : Directory) (t : Task)
           by : GoesWell hs t.func (on_outcome (how_of how) g (child (enc_task u)) go (outcome_of (child (enc_task u)))) → (m : Node)
               → StandsIn m (child (enc_task u)) ⊎ StandsBelow m (on_outcome (how_of how) g (child (enc_task u)) go (outcome_of (child (enc_task u))))
               → IsTypedAs hs (task_of m)
-          by w m (inl s) = its_well.typed m s
+          by w m (inl s) = (its_well g fit u how asks small spoken).typed m s
           by w m (inr s) = w.typed m s
 
     -- what the task does for an event
@@ -272,7 +276,7 @@ with_task hs t k c typed w = record { typed = by; fits = w.fits }
     by m (inl e) = subst (IsTypedAs hs) (sym (ap task_of e)) (record { task = t; canonical = c; typed = typed })
     by m (inr s) = w.typed m s
 
-task_stays : (n : ℕ) (P : Project) (above : List (List ℕ)) (x : List ℕ) → task_of (evaluation_with n world P above x) ≡ x
+pub task_stays : (n : ℕ) (P : Project) (above : List (List ℕ)) (x : List ℕ) → task_of (evaluation_with n world P above x) ≡ x
 task_stays zero P above x = refl
 task_stays (suc n) P above x = refl
 

@@ -1,4 +1,6 @@
 pub mod Alike
 pub mod Answering
 pub mod Following
+pub mod Requiring
 pub mod Entered
+pub mod Known

@@ -3,4 +3,4 @@
 
 mod laws;
 
-pub use laws::entered_tasks_are_known;
+pub use laws::{entered_tasks_are_known, required_tasks_have_functions};

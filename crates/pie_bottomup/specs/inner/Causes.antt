@@ -2,17 +2,19 @@
 use Rattle.std.specs.Prelude.{◌≡◌, ◌≢◌, ◌⊎◌, ℕ, ◌+◌, ◌-◌, ◌≤◌, true, List, [], ◌∷◌, ◌++◌, drop, take, length, map, All, None, Some, IsSome, slice_get}
 use Rattle.std.specs.List.{AllPairs, Contains}
 use Rattle.pie_value.specs.declared.task.Task.{Task}
-use Rattle.pie_value.specs.Canonical.{enc_task}
+use Rattle.pie_value.specs.Canonical.{enc_task, IsCanonicalTask}
 use Rattle.pie_graph.specs.Numbers.{IsMarked}
 use Rattle.pie_tables.specs.declared.tables.Tables.{Tables}
 use Rattle.pie_types.specs.Whole.{number_from}
+use Rattle.pie_types.specs.inner.WholeRules.{IsTyped}
 use Rattle.pie_store.specs.declared.cause.Cause.{Cause}
 use Rattle.pie_store.specs.declared.cause.Cause.TheVariants as causes
 use Rattle.pie_model.specs.Paths.{among}
 use Rattle.pie_model.specs.Built.{store_rows}
-use Rattle.pie_model.specs.inner.Changes.{IsUnionEdge}
+use Rattle.pie_model.specs.inner.Changes.{IsTried as IsTriedNow, IsUnionEdge}
 use Rattle.pie_model_pipeline.specs.World.{world}
 use Rattle.pie_builder_laws.specs.Views.{AreNumbersOf}
+use Rattle.pie_entering_laws.specs.inner.Laws.{HasFunction, IsRoot}
 use Rattle.pie_core_laws.specs.Update.{Update, earlier, present, old_record}
 use Rattle.pie_bottomup.specs.declared.state.Core.{Core}
 use Rattle.pie_bottomup.specs.declared.state.First.TheVariants.{TooMany}
@@ -76,11 +78,28 @@ pub record ClosesRing (u : Update) (t : Tables) (tasks : List Task) : Type 0 whe
 abbrev pub IsOldTask : Update → Task → Type 0
 IsOldTask u t = IsSome (old_record u (enc_task t))
 
--- a task is tried: it is an old one or a root, or union edges lead to it from one
+-- a task stands in the evaluation now of an old live task or of a root
+abbrev pub StandsNow : Update → Task → Type 0
+StandsNow u t = IsTriedNow world (earlier u) (present u) u.old_roots u.roots (enc_task t)
+
+-- the pipeline is typed, and the roots are tasks of its functions
+pub record IsTypedUpdate (u : Update) : Type 0 where
+  pub roots : List Task
+  pub are : map enc_task roots ≡ u.roots
+  pub typed : IsTyped u.functions
+  pub all : All (IsRoot u.functions) roots
+
+-- a task is an old one, or of a function of a typed pipeline
+abbrev pub IsKnownTask : Update → Task → Type 0
+IsKnownTask u t = IsOldTask u t ⊎ (IsTypedUpdate u → IsCanonicalTask t (enc_task t) → HasFunction u.functions t)
+
+-- a task is tried: it is an old one or a root, or union edges lead to it from one; it stands in the evaluation now of an old one or of a root, and is known
 pub record IsTried (u : Update) (t : Task) : Type 0 where
   pub base : Task
   pub is_base : IsOldTask u base ⊎ (among (enc_task base) u.roots ≡ true)
   pub leads : (base ≡ t) ⊎ ((between : List Task) × Leads (HasUnionEdge u) base between t)
+  pub stands : StandsNow u t
+  pub known : IsKnownTask u t
 
 -- the first of these tasks, so many, are the old ones, and each is tried
 pub record AreTried (u : Update) (earlier : ℕ) (names : List Task) : Type 0 where
@@ -102,7 +121,7 @@ pub record AreManyOld (u : Update) (task : Task) : Type 0 where
 abbrev pub HasRunIfKnown : Update → Tables → Task → Type 0
 HasRunIfKnown u t task = HasRunAs t task ⊎ (number_from 0 u.functions task ≡ None)
 
--- beside a task these are 50,000 others, each once, so many old ones, and so many that came; all are tried
+-- beside a task these are 50,000 others, each once, so many old ones, and so many that came, which are of functions of a typed pipeline; all are tried
 pub record AreThese (u : Update) (old new : ℕ) (task : Task) (olds news : List Task) : Type 0 where
   pub left : length olds ≡ old
   pub came : length news ≡ new
@@ -110,6 +129,7 @@ pub record AreThese (u : Update) (old new : ℕ) (task : Task) (olds news : List
   pub once : AllPairs (λ v w. v ≢ w) (olds ++ news)
   pub are_old : All (IsOldTask u) olds
   pub are_new : All (λ v. IsOldTask u v → ⊥) news
+  pub known : IsTypedUpdate u → All (HasFunction u.functions) news
   pub tried : All (IsTried u) (olds ++ news)
   pub none : Contains (olds ++ news) task → ⊥
   pub one : IsTried u task

@@ -38,4 +38,5 @@ returns-then-is_full-clause-whole c = λ small u now e begins asks.
     c.is_full.ensures.most (subst (λ (t : Task). Contains c.args.self.now.tables.names t → ⊥) (sym c.in_ok-required.ensures) c.requires.absent)
     c.too_many.ensures c.requires.holds.taken.stands asks.none asks.marked
     (subst (IsTried u) (sym c.in_ok-required.ensures)
-    (tried_required u c.args.self.now c.args.caller.waiting c.args.caller.required c.args.caller.how e c.requires.waits.left small asks))
+    (tried_required u c.args.self.now c.args.caller.waiting c.args.caller.required c.args.caller.how now c.requires.site c.requires.holds.taken.stands e
+    c.requires.waits.left small asks))
