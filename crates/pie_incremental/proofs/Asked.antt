@@ -30,7 +30,8 @@ use Rattle.pie_incremental.specs.declared.ending.Ending.{Ending}
 use Rattle.pie_incremental.specs.declared.run.Done.{Done}
 use Rattle.pie_incremental.specs.declared.run.Done.TheVariants.{Reported, Stopped}
 use Rattle.pie_incremental.specs.Starts.{StartsFrom}
-use Rattle.pie_incremental.specs.inner.Asked.{IsProjectFile, IsAtFirst, MayAskIn, AsksEach, BuildsAsking, GoesAsking, RunsAsking, AsksUnlessAfresh, AsksRight}
+use Rattle.pie_incremental.specs.Asked.{AsksRight}
+use Rattle.pie_incremental.specs.inner.Asked.{IsProjectFile, IsAtFirst, MayAskIn, AsksEach, BuildsAsking, GoesAsking, RunsAsking, AsksUnlessAfresh}
 use Rattle.pie_incremental.specs.inner.Asked.{FromAsking, IsChange}
 use Rattle.pie_incremental.specs.inner.Cleaned.{KnowsWhere}
 use Rattle.pie_incremental.specs.inner.Digested.{digested}

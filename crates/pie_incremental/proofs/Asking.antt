@@ -44,7 +44,8 @@ use Rattle.pie_store.specs.declared.image.StoreImage.{StoreImage}
 use Rattle.pie_store.specs.inner.Pending.{in_order}
 use Rattle.pie_value.specs.Canonical.{enc_task}
 use Rattle.pie_value.specs.declared.task.Task.{Task}
-use Rattle.pie_incremental.specs.inner.Asked.{IsChange, LooksOnlyAt, IsProjectFile, IsAtFirst, MayAskIn, AsksWith, SettlesAsking, AsksEach, BuildsAsking}
+use Rattle.pie_incremental.specs.Asked.{LooksOnlyAt}
+use Rattle.pie_incremental.specs.inner.Asked.{IsChange, IsProjectFile, IsAtFirst, MayAskIn, AsksWith, SettlesAsking, AsksEach, BuildsAsking}
 use Rattle.pie_incremental.specs.inner.Evaluated.{BeginsNow, StaysStanding}
 use Rattle.pie_incremental.specs.inner.Ran.{IsOneOf, RunsOn, RunsWhole}
 use Rattle.pie_incremental.proofs.Running.{begins_by, none_yet}

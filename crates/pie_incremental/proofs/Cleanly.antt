@@ -1,11 +1,11 @@
 -- A build of a directory by a list, as a clean build.
-use Rattle.std.proofs.Common.{◌≡◌, ◌⊎◌, inl, inr, ℕ, ◌≤◌, Bool, true, false, cond, List, [], ◌∷◌, ◌++◌, length, drop, map, Option, None, Some, Result, Ok, Err, Global, refl, sym, ap, subst, ◌∙◌}
-use Rattle.std.specs.Prelude.{All, Box, IfOk, IfSome, IsSome, bytes_eq}
+use Rattle.std.proofs.Common.{◌≡◌, ◌⊎◌, inl, inr, ℕ, ◌≤◌, Bool, true, false, cond, List, [], ◌∷◌, ◌++◌, length, drop, map, get_or, Option, None, Some, Result, Ok, Err, Global, refl, sym, ap, subst, ◌∙◌}
+use Rattle.std.specs.Prelude.{All, Box, Contains, IfOk, IfSome, IsSome, bytes_eq}
 use Rattle.std.specs.Option.{option_map}
 use Rattle.std.proofs.lemmas.List.{drop-append-le}
 use Rattle.std.proofs.lemmas.List.Elements.{All-weaker}
 use Rattle.sha2.specs.Sha256.{sha256}
-use Rattle.pie_bottomup.specs.inner.Causes.{HasUnionEdge as HasUnionEdgeOf, IsOldTask as IsOldTaskOf, IsReached as IsReachedOf, IsRing as IsRingOf, IsTried as IsTriedOf, Leads as LeadsOf}
+use Rattle.pie_bottomup.specs.inner.Causes.{HasUnionEdge as HasUnionEdgeOf, IsOldTask as IsOldTaskOf, IsReached as IsReachedOf, IsRing as IsRingOf, IsTried as IsTriedOf, IsTypedUpdate, Leads as LeadsOf}
 use Rattle.pie_bottomup.specs.inner.Ran.{HasReason as HasReasonOf}
 use Rattle.pie_build.specs.Left.{Leaves}
 use Rattle.pie_build.specs.inner.Projects.{IsReady}
@@ -15,7 +15,7 @@ use Rattle.pie_diff.specs.Hashes.{is_hash}
 use Rattle.pie_earlier_laws.specs.Functions.{digest_under}
 use Rattle.pie_earlier_laws.specs.Rows.{record_among}
 use Rattle.pie_digest.specs.Digests.{HasNames}
-use Rattle.pie_entering_laws.specs.inner.Laws.{IsRoot}
+use Rattle.pie_entering_laws.specs.inner.Laws.{HasFunction, IsRoot}
 use Rattle.pie_files.proofs.Reading.{if_always, if_each, if_two}
 use Rattle.pie_files.specs.Directory.{Directory, file_at}
 use Rattle.pie_fresh.specs.Cleans.{IsRootOf}
@@ -37,6 +37,7 @@ use Rattle.pie_store.specs.Canonical.{AreFuncs}
 use Rattle.pie_store.specs.declared.cause.Cause.{Cause}
 use Rattle.pie_store.specs.declared.cause.Cause.TheVariants as causes
 use Rattle.pie_store.specs.inner.Pending.{in_order}
+use Rattle.pie_types.specs.Whole.{number_from}
 use Rattle.pie_value.specs.Canonical.{enc_task}
 use Rattle.pie_value.specs.declared.task.Task.{Task}
 use Rattle.pie_value.specs.declared.value.Value.{Value}
@@ -223,6 +224,16 @@ module _ (e : Earlier) (list : List (List ℕ)) (d : Directory) (b : Base) (p : 
       (subst (λ o. RunReason world (project p.typed d) d (record_in before (enc_task t)) o (digest_under p.digests.items t.func)) (sym (same_digest kept t.func))
       (subst (λ o. RunReason world (project p.typed d) d (record_in before (enc_task t)) (digest_in kept t.func) o) (sym (same_digest p.digests.items t.func)) r))
 
+  -- the pipeline is typed, and the roots are its tasks
+  ready : IsReady p.typed p.roots.items
+  ready = is_ready (Some d) (Some d) p says refl
+
+  roots_are : All (IsRoot p.typed) p.roots.items
+  roots_are = All-weaker (IsRootOf p.typed) (IsRoot p.typed) (λ t r. record { number = r.number; found = r.found; small = r.small }) p.roots.items ready.roots
+
+  typed_update : IsTypedUpdate update_of
+  typed_update = record { roots = p.roots.items; are = refl; typed = ready.typed; all = roots_are }
+
   ran_exactly : (ran : List Task) → AreDue update_of (digested d p.digests.items b.image).funcs p.digests.items ran → RanExactly e d ran
   ran_exactly ran due = record {
     funcs = p.digests.items;
@@ -232,14 +243,9 @@ module _ (e : Earlier) (list : List (List ℕ)) (d : Directory) (b : Base) (p : 
     is = base;
     reached = All-weaker (IsReachedOf update_of) (IsReached e d p.typed p.roots.items) reached_of ran due.have.reached;
     all = λ x enters.
-        (let one = due.all p.roots.items refl ready.typed
-        (All-weaker (IsRootOf p.typed) (IsRoot p.typed) (λ t r. record { number = r.number; found = r.found; small = r.small }) p.roots.items ready.roots) x enters in
+        (let one = due.all p.roots.items refl ready.typed roots_are x enters in
         record { of = one.0; due = λ reason. one.1 (of_reason one.0.task reason) });
   }
-    where
-      -- the pipeline is typed, and the roots are its tasks
-      ready : IsReady p.typed p.roots.items
-      ready = is_ready (Some d) (Some d) p says refl
 
   -- the tasks that ran before it started afresh
   ran_before : (ran : List Task) → HaveReasons update_of (digested d p.digests.items b.image).funcs p.digests.items ran → RanBefore e d ran
@@ -265,7 +271,7 @@ module _ (e : Earlier) (list : List (List ℕ)) (d : Directory) (b : Base) (p : 
   of_old t is = subst IsSome (sym (same_record (earlier_rows e) (enc_task t))) is
 
   tried_of : (t : Task) → IsTriedOf update_of t → IsTried e d p.typed p.roots.items t
-  tried_of t is = record { base = is.base; is_base = base_of is.is_base; leads = by is.leads }
+  tried_of t is = record { base = is.base; is_base = base_of is.is_base; leads = by is.leads; stands = is.stands }
     where
       base_of : IsOldTaskOf update_of is.base ⊎ (among (enc_task is.base) (map enc_task p.roots.items) ≡ true)
           → IsOldTask e is.base ⊎ (among (enc_task is.base) (map enc_task p.roots.items) ≡ true)
@@ -299,6 +305,18 @@ module _ (e : Earlier) (list : List (List ℕ)) (d : Directory) (b : Base) (p : 
         };
       }
 
+  -- each task that came ran, as it is of a function
+  news_ran : (old new : ℕ) (task : Task) (is : HasTooManyOf update_of old new task) (ran : List Task)
+      → All (λ v. Contains ran v ⊎ (number_from 0 p.typed v ≡ None)) is.news → All (λ v. Contains ran v) is.news
+  news_ran old new task is ran has i d inside = by (get_or is.news i d) (has i d inside) (is.these.known typed_update i d inside)
+    where
+      by : (v : Task) → Contains ran v ⊎ (number_from 0 p.typed v ≡ None) → HasFunction p.typed v → Contains ran v
+      by v (inl does) known = does
+      by v (inr none) known = absurd (no_some known.0 (sym none ∙ known.1))
+        where
+          no_some : (n : ℕ) → None ≡ Some n → ⊥
+          no_some n h = cc
+
   are_before : (c : Cause) (ran : List Task) → IsCauseNow update_of c
       → HaveReasons update_of (digested d p.digests.items b.image).funcs p.digests.items ran → RanOf update_of c ran → AreBefore e d c ran
   unfolding too_many
@@ -307,7 +325,10 @@ module _ (e : Earlier) (list : List (List ℕ)) (d : Directory) (b : Base) (p : 
   are_before (causes.Damaged fault) ran is have told = absurd is
   are_before causes.BadPending ran is have told = absurd is
   are_before (causes.UnionCycle tasks) ran is have told = (ran_before ran have, record { task = told.task; listed = told.listed; ran = told.has })
-  are_before (causes.UnionMany old new task) ran is have told = (ran_before ran have, record { many = too_many old new task told.many; ran = told.has })
+  are_before (causes.UnionMany old new task) ran is have told = (
+    ran_before ran have,
+    record { many = too_many old new task told.many; ran = news_ran old new task told.many ran told.has },
+  )
 
   cause_for : (c : Cause) → IsCauseNow update_of c → IsCauseFor e d c
   cause_for causes.Interrupted is = absurd is

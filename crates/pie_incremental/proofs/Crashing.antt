@@ -309,11 +309,17 @@ module _ (b : Base) (p : Project) (list : List (List ℕ)) (d c : Directory) (sa
       }
 
 stop_of_three : (list : List (List ℕ)) (d c : Directory) → IsOfThree Leaves d c → MayStop list d c
-stop_of_three list d c three e from = ⊎_elim (λ way. inl (begun_by d c way))
-    (λ rest. ⊎_elim (λ same. inr (inl same)) (λ done. inr (inr (inr (inl done)))) rest) three
+stop_of_three list d c three = record {
+  goes_on = λ e from. ⊎_elim (λ way. inl (begun_by d c way)) (λ rest. ⊎_elim (λ same. inr (inl same)) (λ done. inr (inr (inr (inl done)))) rest) three;
+  afresh = λ none. three;
+}
+
+-- where there is a base
+stop_based : (list : List (List ℕ)) (d c : Directory) (b : Base) → IsBase d b → MayFrom b list d c → MayStop list d c
+stop_based list d c b is may = record { goes_on = may is; afresh = λ none. absurd (none b is) }
 
 pub stop_first : (list : List (List ℕ)) (d : Directory) → MayStop list d d
-stop_first list d e from = inr (inl refl)
+stop_first list d = record { goes_on = λ e from. inr (inl refl); afresh = λ none. inr (inl refl) }
 
 module _ {S : Type 0} (holds : S → Option Directory) (moment : S → ℕ) (left_since : S → ℕ → Directory → Type 0) (images : S → Directory → Type 0) where
   pub crash_from : (b : Base) (p : Project) (list : List (List ℕ)) (old mid new : S) → holds mid ≡ holds old
@@ -333,8 +339,8 @@ module _ {S : Type 0} (holds : S → Option Directory) (moment : S → ℕ) (lef
   crash_based list start b old mid new is begins same before h =
       then_rest holds moment left_since images (MayStop list) (stop_first list) old mid new same before
       (leaves_where holds moment left_since images (MayFrom b.value list) (MayStop list) mid new
-      (λ d c told may. may (subst (λ o. IfSome o (λ x. StartsFrom x (From b))) (sym same ∙ told)
-      (subst (λ (s : Start). IfSome (holds old) (λ x. StartsFrom x s)) is begins))) h)
+      (λ d c told may. stop_based list d c b.value (subst (λ o. IfSome o (λ x. StartsFrom x (From b))) (sym same ∙ told)
+      (subst (λ (s : Start). IfSome (holds old) (λ x. StartsFrom x s)) is begins)) may) h)
 
   pub crash_afresh : (list : List (List ℕ)) (old mid new : S) → holds mid ≡ holds old → LeavesAsBefore holds moment left_since images old mid
       → LeavesFromRest holds moment left_since images (IsOfThree Leaves) mid new → LeavesFromRest holds moment left_since images (MayStop list) old new

@@ -241,6 +241,10 @@ module _ (b : Base) (p : Project) (list : List (List ℕ)) (d c : Directory) (sa
         store = clean.clean.store;
       }
 
+-- where there is a base
+end_based : (list : List (List ℕ)) (d c : Directory) (b : Base) → IsBase d b → EndsFrom b list d c → MayEnd list d c
+end_based list d c b is ends = record { goes_on = ends is; afresh = λ none. absurd (none b is) }
+
 module _ {S : Type 0} (holds : S → Option Directory) (moment : S → ℕ) (left_since : S → ℕ → Directory → Type 0) (images : S → Directory → Type 0) where
   pub marked_from : (b : Base) (p : Project) (list : List (List ℕ)) (old mid new : S) → holds mid ≡ holds old
       → LeavesAsBefore holds moment left_since images old mid → IfSome (holds old) (λ d. ProjectSays d (Ok (front_of p)))
@@ -256,10 +260,11 @@ module _ {S : Type 0} (holds : S → Option Directory) (moment : S → ℕ) (lef
       → EndsMarked holds images (EndsFrom b.value list) mid new → EndsMarked holds images (MayEnd list) old new
   marked_based list start b old mid new is begins same before h =
       marked_then holds moment left_since images (EndsFrom b.value list) (MayEnd list) old mid new same before
-      (λ d c told ends. ends (subst (λ o. IfSome o (λ x. StartsFrom x (From b))) told
-      (subst (λ (s : Start). IfSome (holds old) (λ x. StartsFrom x s)) is begins))) h
+      (λ d c told ends. end_based list d c b.value (subst (λ o. IfSome o (λ x. StartsFrom x (From b))) told
+      (subst (λ (s : Start). IfSome (holds old) (λ x. StartsFrom x s)) is begins)) ends) h
 
   pub marked_afresh : (list : List (List ℕ)) (old mid new : S) → holds mid ≡ holds old → LeavesAsBefore holds moment left_since images old mid
       → EndsMarked holds images (IsDone Leaves) mid new → EndsMarked holds images (MayEnd list) old new
   marked_afresh list old mid new same before h =
-      marked_then holds moment left_since images (IsDone Leaves) (MayEnd list) old mid new same before (λ d c told done e from. inr (inl done)) h
+      marked_then holds moment left_since images (IsDone Leaves) (MayEnd list) old mid new same before
+      (λ d c told done. record { goes_on = λ e from. inr (inl done); afresh = λ none. done }) h

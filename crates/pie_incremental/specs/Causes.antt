@@ -4,6 +4,8 @@ use Rattle.std.specs.List.{AllPairs}
 use Rattle.pie_build.specs.Left.{IsProjectOf}
 use Rattle.pie_files.specs.Directory.{Directory}
 use Rattle.pie_model.specs.Paths.{among}
+use Rattle.pie_model.specs.inner.Changes.{IsTried as StandsInTried}
+use Rattle.pie_model_pipeline.specs.World.{world, project}
 use Rattle.pie_parser.specs.FunctionTrees.{FunctionTree}
 use Rattle.pie_store.specs.declared.cause.Cause.{Cause}
 use Rattle.pie_store.specs.declared.cause.Cause.TheVariants as causes
@@ -31,11 +33,18 @@ pub record HasRing (e : Earlier) (d : Directory) (tasks : List Task) : Type 0 wh
 abbrev pub IsOldTask : Earlier → Task → Type 0
 IsOldTask e t = IsSome (earlier_record e t)
 
--- a task is tried: it is an old one or a root, or tasks lead to it from one, of which each requires the next, then or now
+-- a task stands in the evaluation, by these functions in the directory, of a live task of the earlier build or of one of these roots
+abbrev pub StandsNow : Earlier → Directory → List FunctionTree → List Task → Task → Type 0
+StandsNow e d fs roots t =
+    StandsInTried world (project e.found.functions e.built) (project fs d) (map enc_task e.roots) (map enc_task roots) (enc_task t)
+
+-- a task is tried: it is an old one or a root, or tasks lead to it from one, of which each requires the next, then or now; and it stands in the evaluation now
+-- of an old one or a root
 pub record IsTried (e : Earlier) (d : Directory) (fs : List FunctionTree) (roots : List Task) (t : Task) : Type 0 where
   pub base : Task
   pub is_base : IsOldTask e base ⊎ (among (enc_task base) (map enc_task roots) ≡ true)
   pub leads : (base ≡ t) ⊎ ((between : List Task) × Leads (HasUnionEdge e d fs) base between t)
+  pub stands : StandsNow e d fs roots t
 
 -- beside a task these are 50,000 others, each once, so many old ones, and so many that aren't; all are tried
 pub record AreThese (e : Earlier) (d : Directory) (fs : List FunctionTree) (roots : List Task) (old new : ℕ) (task : Task) (olds news : List Task)

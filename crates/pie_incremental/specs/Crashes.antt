@@ -1,7 +1,7 @@
 -- What a crash leaves of a build by what changed.
 use Rattle.std.specs.Prelude.{◌≡◌, ◌⊎◌, ◌||◌, ℕ, false, List, ◌++◌, map, Option, IfSome}
 use Rattle.pie_base.specs.Path.{is_out}
-use Rattle.pie_build.specs.Crashes.{IsDone}
+use Rattle.pie_build.specs.Crashes.{IsDone, IsOfThree}
 use Rattle.pie_build.specs.Left.{IsProjectOf, Leaves}
 use Rattle.pie_build.specs.Stored.{IsStoreOf}
 use Rattle.pie_commit.specs.Outcomes.{HasFile}
@@ -48,8 +48,17 @@ HasEnded list d c = KeepsList list d c ⊎ (IsDone Leaves d c ⊎ IsCleanBuilt d
 
 -- a build that goes on from an earlier one has begun, it changed nothing yet, its names are kept, or it is done, with or without the marker: as a build that
 -- started afresh, or as one that didn't
-abbrev pub MayStop : List (List ℕ) → Directory → Directory → Type 0
-MayStop list d c = (e : Earlier) → GoesOnFrom e list d → IsBegun d c ⊎ ((c ≡ d) ⊎ HasEnded list d c)
+abbrev pub StopsGoingOn : List (List ℕ) → Directory → Directory → Type 0
+StopsGoingOn list d c = (e : Earlier) → GoesOnFrom e list d → IsBegun d c ⊎ ((c ≡ d) ⊎ HasEnded list d c)
+
+-- there is nothing that a build can go on from
+abbrev pub HasNoBase : Directory → Type 0
+HasNoBase d = (b : Base) → IsBase d b → ⊥
+
+-- so it is with a build that goes on from an earlier one; and where there is nothing to go on from, a clean build is under way, changed nothing yet, or is done
+pub record MayStop (list : List (List ℕ)) (d c : Directory) : Type 0 where
+  pub goes_on : StopsGoingOn list d c
+  pub afresh : HasNoBase d → IsOfThree Leaves d c
 
 -- ---- at the end
 
@@ -62,5 +71,10 @@ abbrev pub EndsMarked : {S : Type 0} → (S → Option Directory) → (S → Dir
 EndsMarked holds images D old new = IfSome (holds old) (λ d. Only d (images old) → MarkedBy D d (images new))
 
 -- a build that goes on from an earlier one has kept its names, or is done, with or without the marker
-abbrev pub MayEnd : List (List ℕ) → Directory → Directory → Type 0
-MayEnd list d c = (e : Earlier) → GoesOnFrom e list d → HasEnded list d c
+abbrev pub EndsGoingOn : List (List ℕ) → Directory → Directory → Type 0
+EndsGoingOn list d c = (e : Earlier) → GoesOnFrom e list d → HasEnded list d c
+
+-- so it is with a build that goes on from an earlier one; and where there is nothing to go on from, a clean build is done
+pub record MayEnd (list : List (List ℕ)) (d c : Directory) : Type 0 where
+  pub goes_on : EndsGoingOn list d c
+  pub afresh : HasNoBase d → IsDone Leaves d c

@@ -1,3 +1,4 @@
+pub mod Asked
 pub mod Own
 pub mod Starts
 pub mod Names

@@ -4,14 +4,13 @@ use Rattle.pie_bottomup.specs.declared.state.Core.{Core}
 use Rattle.pie_bottomup.specs.inner.Exact.{IsSiteNow}
 use Rattle.pie_bottomup.specs.inner.Going.{IsBuildNow, StandsWhole}
 use Rattle.pie_bottomup.specs.inner.Loaded.{IsStoredIn}
-use Rattle.pie_build.specs.Left.{IsProjectOf}
 use Rattle.pie_core_laws.specs.Update.{Update, present}
 use Rattle.pie_files.specs.Directory.{Directory}
 use Rattle.pie_files.specs.declared.files.Call.{Call}
 use Rattle.pie_files.specs.declared.files.Call.TheVariants.{Read, Names, AllUnder, Write, Remove, Sync}
 use Rattle.pie_model.specs.Paths.{among}
 use Rattle.pie_model.specs.inner.Reasons.{MayAsk, project_files}
-use Rattle.pie_model_pipeline.specs.World.{world, project}
+use Rattle.pie_model_pipeline.specs.World.{world}
 use Rattle.pie_named.specs.inner.Asking.{AsksFor, MakesOnly}
 use Rattle.pie_parser.specs.FunctionTrees.{FunctionTree}
 use Rattle.pie_project.specs.declared.project.Project.{Project}
@@ -27,7 +26,7 @@ use Rattle.pie_incremental.specs.declared.evaluate.Ended.{Ended}
 use Rattle.pie_incremental.specs.declared.evaluate.Ended.TheVariants.{Built, Afresh}
 use Rattle.pie_incremental.specs.declared.run.Done.{Done}
 use Rattle.pie_incremental.specs.declared.run.Done.TheVariants.{Reported, Stopped}
-use Rattle.pie_incremental.specs.Earlier.{Earlier, GoesOnFrom}
+use Rattle.pie_incremental.specs.Asked.{AsksRight, LooksOnlyAt}
 use Rattle.pie_incremental.specs.Starts.{IsBase}
 use Rattle.pie_incremental.specs.inner.Evaluated.{IsUpdateHere}
 use Rattle.pie_incremental.specs.inner.Ran.{Knows, NoneRan}
@@ -43,15 +42,6 @@ IsChange (AllUnder p) = ⊥
 IsChange (Write p mark) = Unit {0}
 IsChange (Remove p) = Unit {0}
 IsChange Sync = Unit {0}
-
--- where a call looks at a file or lists a directory, it is such a one
-abbrev pub LooksOnlyAt : (List ℕ → Type 0) → Call → Type 0
-LooksOnlyAt P (Read p) = P p
-LooksOnlyAt P (Names p) = P p
-LooksOnlyAt P (AllUnder p) = P p
-LooksOnlyAt P (Write p mark) = Unit {0}
-LooksOnlyAt P (Remove p) = Unit {0}
-LooksOnlyAt P Sync = Unit {0}
 
 -- ---- the beginning
 
@@ -118,21 +108,6 @@ pub record AsksUnlessAfresh (b : Base) (p : Project) (list : List (List ℕ)) (h
       → BuildsAsking u r.ran.items asked asked_now
 
 -- ---- in the words of an earlier build
-
--- by what an earlier build left, only such paths are looked at: the project's files and the builder's own, the names of the list, pending ones, directories
--- above them, and what tasks observe that ran
-pub record AsksAsMay (list : List (List ℕ)) (d : Directory) (r : Report) (asked asked_now : Option (List Call)) : Type 0 where
-  pub funcs : List (List ℕ × List ℕ)
-  pub roots : List Task
-  pub found : IsProjectOf d funcs roots
-  pub base : Base
-  pub is : IsBase d base
-  pub asks : MakesOnly
-      (LooksOnlyAt (MayAsk world (project found.functions d) (in_order (list ++ base.names.items)) (map enc_task r.ran.items))) asked asked_now
-
--- so it is with a build that goes on from an earlier one, and doesn't start afresh
-abbrev pub AsksRight : List (List ℕ) → Directory → Report → Option (List Call) → Option (List Call) → Type 0
-AsksRight list d r asked asked_now = r.fresh ≡ None → (e : Earlier) → GoesOnFrom e list d → AsksAsMay list d r asked asked_now
 
 -- so it is from the base that is there
 pub record FromAsking (b : Base) (list : List (List ℕ)) (held : Option Directory) (asked asked_now : Option (List Call)) (r : Report) : Type 0 where

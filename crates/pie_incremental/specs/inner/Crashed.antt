@@ -22,7 +22,7 @@ use Rattle.pie_incremental.specs.declared.run.Done.TheVariants.{Reported, Stoppe
 use Rattle.pie_incremental.specs.Kept.{HasNames, IsOfNames}
 use Rattle.pie_incremental.specs.Own.{open_path}
 use Rattle.pie_incremental.specs.Starts.{IsBase}
-use Rattle.pie_incremental.specs.Crashes.{IsBegun, MayStop}
+use Rattle.pie_incremental.specs.Crashes.{IsBegun, StopsGoingOn}
 use Rattle.pie_incremental.specs.inner.Built.{IsKnown}
 use Rattle.pie_incremental.specs.inner.Changes.{bytes_of}
 use Rattle.pie_incremental.specs.inner.Cleaned.{IsClean}
@@ -72,4 +72,4 @@ MayBuild b p list d c = (u : Update) → IsUpdateFrom u (Some d) b p list
 
 -- so it is from the base that is there
 abbrev pub MayFrom : Base → List (List ℕ) → Directory → Directory → Type 0
-MayFrom b list d c = IsBase d b → MayStop list d c
+MayFrom b list d c = IsBase d b → StopsGoingOn list d c

@@ -18,7 +18,7 @@ use Rattle.pie_value.specs.declared.verdict.Verdict.TheVariants.{Accepted, Refus
 use Rattle.pie_incremental.specs.declared.base.Base.{Base}
 use Rattle.pie_incremental.specs.declared.base.OwnFiles.{OwnFiles}
 use Rattle.pie_incremental.specs.declared.ending.Ending.{Ending}
-use Rattle.pie_incremental.specs.Crashes.{MayEnd}
+use Rattle.pie_incremental.specs.Crashes.{EndsGoingOn}
 use Rattle.pie_incremental.specs.Kept.{HasNames}
 use Rattle.pie_incremental.specs.Own.{bytes_at, open_path, pending_path}
 use Rattle.pie_incremental.specs.Starts.{IsBase}
@@ -69,4 +69,4 @@ EndsBuild b p list d c = (u : Update) → IsUpdateFrom u (Some d) b p list
 
 -- so it has from the base that is there
 abbrev pub EndsFrom : Base → List (List ℕ) → Directory → Directory → Type 0
-EndsFrom b list d c = IsBase d b → MayEnd list d c
+EndsFrom b list d c = IsBase d b → EndsGoingOn list d c
