@@ -7,6 +7,7 @@ use Rattle.pie_build.specs.Left.{KeepsRest, may_change}
 use Rattle.pie_build.proofs.OwnPaths.{or_left, or_right}
 use Rattle.pie_commit.proofs.Bringing.{get_with, get_without}
 use Rattle.pie_files.specs.Directory.{Directory, file_at, with_file, without_file}
+use Rattle.pie_files.specs.declared.files.Call.{Call}
 use Rattle.pie_files.specs.inner.Calls.{MayHaveWritten, MayHaveRemoved}
 use Rattle.pie_project.specs.declared.fault.BuildError.{BuildError}
 use Rattle.pie_report.specs.declared.report.Report.{Report}
@@ -98,6 +99,12 @@ module _ {S : Type 0} (holds : S → Option Directory) where
   traced start d is _ _ _ _ (built {steps = s} {old = o} {new = n} report t h) =
       one_more s BuildNow [] d (holds o) (holds n) (traced start d is _ _ _ _ t) (build_one (holds o) (holds n) h.rest)
 
+  -- where the first directory is told, so is the last one
+  pub told_since : {start : S} {steps : List Plain} {names : List (List ℕ)} {reports : List Report} {now : S} → Trace holds start steps names reports now
+      → (d : Directory) → holds start ≡ Some d → (e : Directory) × (holds now ≡ Some e)
+  told_since {start = start} {steps = steps} {names = names} {reports = reports} {now = now} t d is =
+      let kept = traced start d is steps names reports now t in (kept.0, kept.1)
+
   went_keeps : {T : Type 0} (steps : List Plain) (gained : List Report) (old new : S) (result : Result T BuildError) (d : Directory) → holds old ≡ Some d
       → Went holds steps gained old new result → Kept steps d (holds new)
   went_keeps steps gained old new (Ok done) d is went = traced old d is steps went.0 gained new went.1
@@ -107,9 +114,10 @@ module _ {S : Type 0} (holds : S → Option Directory) where
       (failed_one s.step e s.mid new s.failed))
 
   -- whatever was answered
-  pub replays_keep : {T : Type 0} (steps : List Plain) (old new : S) (before after : List Report) (runs ran : List Task) (result : Result T BuildError)
-      → Replays holds steps old new before after runs ran result → KeepsOthers steps (holds old) (holds new)
-  replays_keep steps old new before after runs ran result r = record {
+  pub replays_keep : {T : Type 0} (moment : S → ℕ) (left_since : S → ℕ → Directory → Type 0) (images : S → Directory → Type 0)
+      (asked : S → Option (List Call)) (steps : List Plain) (old new : S) (before after : List Report) (runs ran : List Task) (result : Result T BuildError)
+      → Replays holds moment left_since images asked steps old new before after runs ran result → KeepsOthers steps (holds old) (holds new)
+  replays_keep moment left_since images asked steps old new before after runs ran result r = record {
     kept = elim (holds old) as (λ o. holds old ≡ o → IfSome o (λ d. Kept steps d (holds new))) [
       | None ↦ λ is. tt
       | Some d ↦ λ is. went_keeps steps r.gained old new result d is r.went

@@ -1,3 +1,5 @@
+pub mod Building
 pub mod Keeping
+pub mod Leaving
 pub mod Refusing
 pub mod Tracing

@@ -12,7 +12,8 @@ use pie_script::Step;
 use pie_vm::Runs;
 use std::alloc::Global;
 
-/// Does the steps of a script in their order, and appends one report for each build. A build has the names since the build before.
+/// Does the steps of a script in their order, and appends one report for each build. A build has the names since the build before,
+/// and begins with nothing pending: what was put and removed before it is made to last first.
 /// It ends at the first step that fails; the reports of the builds before it stay. A build that is refused by its verdict doesn't end it.
 /// Rule: docs/BUILDING.md, "Scripts".
 pub fn replay<F: Files>(
@@ -22,7 +23,7 @@ pub fn replay<F: Files>(
     runs: &mut Runs,
     done: &mut Vec<Report>,
 ) -> Result<(), BuildError>
-    ensures replays { Replays F.holds (map plain steps.now) files.old files.new done.old.items done.new.items runs.old runs.new result }
+    ensures replays { Replays F.holds F.moment F.left_since F.images F.asked (map plain steps.now) files.old files.new done.old.items done.new.items runs.old runs.new result }
     ensures rest { KeepsOthers (map plain steps.now) (F.holds files.old) (F.holds files.new) }
     ensures told { Tells F.faults files.old files.new result }
 {

@@ -1,9 +1,13 @@
 //! One step of a script.
 ghost use Rattle.std.specs.Prelude.{◌≡◌, ◌<◌, ◌∷◌, [], ◌++◌, vec_len, vec_capacity, IfErr, OnOk, OnErr};
+ghost use Rattle.pie_build.specs.Crashes.{StaysAtRest};
 ghost use Rattle.pie_build.specs.inner.Rebuilt.{Tells};
+ghost use Rattle.pie_commit.specs.Outcomes.{LeavesFromRest};
+ghost use Rattle.pie_files.specs.Images.{MayLeave, MayRemove, MayWrite};
+ghost use Rattle.pie_incremental.specs.Crashes.{MayStop};
 ghost use Rattle.pie_replay.specs.Replays.{Fails};
 ghost use Rattle.pie_replay.specs.Trace.{HasPut, HasDeleted};
-ghost use Rattle.pie_replay.specs.inner.Goes.{Goes};
+ghost use Rattle.pie_replay.specs.inner.Goes.{Goes, LeavesGoing, RestsAfter};
 ghost use Rattle.pie_script.specs.Steps.{plain, BuildNow, DelFile, PutFile};
 
 use pie_base::{OutOfMemory, Path};
@@ -24,8 +28,10 @@ pub(crate) fn go<F: Files>(
     runs: &mut Runs,
     done: &mut Vec<Report>,
 ) -> Result<(), BuildError>
-    ensures goes { OnOk result (Goes F.holds (plain step.now) files.old files.new names.old.items names.new.items done.old.items done.new.items runs.old runs.new) }
+    ensures goes { OnOk result (Goes F.holds F.asked (plain step.now) files.old files.new names.old.items names.new.items done.old.items done.new.items runs.old runs.new) }
     ensures fails { IfErr result (λ e. Fails F.holds (plain step.now) e files.old files.new) }
+    ensures crash { LeavesGoing F.holds F.moment F.left_since F.images (plain step.now) names.old.items files.old files.new }
+    ensures rests { OnOk result (RestsAfter F.holds F.images (plain step.now) files.old files.new) }
     ensures reports { OnErr result (done.new.items ≡ done.old.items) }
     ensures told { Tells F.faults files.old files.new result }
 {
@@ -40,6 +46,7 @@ pub(crate) fn go<F: Files>(
 fn put<F: Files>(files: &mut F, path: &Path, bytes: &[u8]) -> Result<(), BuildError>
     ensures put { OnOk result (HasPut F.holds path.now bytes.now files.old files.new) }
     ensures fails { IfErr result (λ e. Fails F.holds (PutFile path.now bytes.now) e files.old files.new) }
+    ensures crash { MayLeave F.holds F.moment F.left_since F.images (MayWrite path.now) files.old files.new }
     ensures told { Tells F.faults files.old files.new result }
 {
     match files.write(path, bytes) {
@@ -52,6 +59,7 @@ fn put<F: Files>(files: &mut F, path: &Path, bytes: &[u8]) -> Result<(), BuildEr
 fn delete<F: Files>(files: &mut F, path: &Path) -> Result<(), BuildError>
     ensures deleted { OnOk result (HasDeleted F.holds path.now files.old files.new) }
     ensures fails { IfErr result (λ e. Fails F.holds (DelFile path.now) e files.old files.new) }
+    ensures crash { MayLeave F.holds F.moment F.left_since F.images (MayRemove path.now) files.old files.new }
     ensures told { Tells F.faults files.old files.new result }
 {
     match files.remove(path) {
@@ -87,14 +95,39 @@ fn build_now<F: Files>(
     runs: &mut Runs,
     done: &mut Vec<Report>,
 ) -> Result<(), BuildError>
-    ensures goes { OnOk result (Goes F.holds BuildNow files.old files.new names.old.items names.new.items done.old.items done.new.items runs.old runs.new) }
+    ensures goes { OnOk result (Goes F.holds F.asked BuildNow files.old files.new names.old.items names.new.items done.old.items done.new.items runs.old runs.new) }
     ensures fails { IfErr result (λ e. Fails F.holds BuildNow e files.old files.new) }
+    ensures crash { LeavesGoing F.holds F.moment F.left_since F.images BuildNow names.old.items files.old files.new }
+    ensures rests { OnOk result (RestsAfter F.holds F.images BuildNow files.old files.new) }
     ensures reports { OnErr result (done.new.items ≡ done.old.items) }
     ensures told { Tells F.faults files.old files.new result }
 {
     match done.reserve(1) {
-        Ok(()) => build_into(alloc, files, names, runs, done),
+        Ok(()) => build_from_rest(alloc, files, names, runs, done),
         Err(_) => Err(BuildError::OutOfMemory),
+    }
+}
+
+// What was put and removed is made to last before the build begins, so that a crash in it leaves what it may leave of the directory that it finds.
+fn build_from_rest<F: Files>(
+    alloc: Global,
+    files: &mut F,
+    names: &mut Vec<Path>,
+    runs: &mut Runs,
+    done: &mut Vec<Report>,
+) -> Result<(), BuildError>
+    requires { vec_len done.old < vec_capacity done.old }
+    ensures goes { OnOk result (Goes F.holds F.asked BuildNow files.old files.new names.old.items names.new.items done.old.items done.new.items runs.old runs.new) }
+    ensures fails { IfErr result (λ e. Fails F.holds BuildNow e files.old files.new) }
+    ensures crash { LeavesGoing F.holds F.moment F.left_since F.images BuildNow names.old.items files.old files.new }
+    ensures rests { OnOk result (RestsAfter F.holds F.images BuildNow files.old files.new) }
+    ensures reports { OnErr result (done.new.items ≡ done.old.items) }
+    ensures told { Tells F.faults files.old files.new result }
+{
+    match files.sync() {
+        Ok(()) => build_into(alloc, files, names, runs, done),
+        Err(FilesError::Failed) => Err(BuildError::Files),
+        Err(FilesError::OutOfMemory) => Err(BuildError::OutOfMemory),
     }
 }
 
@@ -106,8 +139,10 @@ fn build_into<F: Files>(
     done: &mut Vec<Report>,
 ) -> Result<(), BuildError>
     requires { vec_len done.old < vec_capacity done.old }
-    ensures goes { OnOk result (Goes F.holds BuildNow files.old files.new names.old.items names.new.items done.old.items done.new.items runs.old runs.new) }
+    ensures goes { OnOk result (Goes F.holds F.asked BuildNow files.old files.new names.old.items names.new.items done.old.items done.new.items runs.old runs.new) }
     ensures fails { IfErr result (λ e. Fails F.holds BuildNow e files.old files.new) }
+    ensures crash { LeavesFromRest F.holds F.moment F.left_since F.images (MayStop names.old.items) files.old files.new }
+    ensures rests { OnOk result (StaysAtRest F.holds F.images files.old files.new) }
     ensures reports { OnErr result (done.new.items ≡ done.old.items) }
     ensures told { Tells F.faults files.old files.new result }
 {

@@ -2,6 +2,9 @@ use Rattle.std.proofs.Common.{ℕ, List, subst, rules}
 use Rattle.std.specs.Prelude.{IfSome}
 use Rattle.pie_incremental.specs.Clean.{BuildsClean}
 use Rattle.pie_incremental.specs.Treated.{TreatsNames}
+use Rattle.pie_incremental.specs.Asked.{AsksRight}
+use Rattle.pie_incremental.specs.Crashes.{MayStop}
+use Rattle.pie_commit.specs.Outcomes.{LeavesFromRest}
 use Rattle.pie_replay.proofs.Refusing.{is_refusal}
 use Rattle.pie_replay.proofs.step.build_into.Goals as goal
 
@@ -20,7 +23,19 @@ returns-in-Ok-clause-goes g c = (
         c.as_slice.ensures.value c.in-Ok.ensures.clean;
     encodable = c.in-Ok.ensures.encodable;
   },
+  subst (λ (ns : List (List ℕ)). IfSome (g.F.Files.holds c.args.files.now) (λ d. AsksRight ns d c.in-Ok.report (g.F.Files.asked c.args.files.now)
+      (g.F.Files.asked c.build.new.files))) c.as_slice.ensures.value c.in-Ok.ensures.asks,
   search rules,
   search rules,
   search rules,
 )
+
+pub returns-in-Ok-clause-crash : goal.returns-in-Ok-clause-crash
+returns-in-Ok-clause-crash g c =
+    subst (λ (ns : List (List ℕ)). LeavesFromRest g.F.Files.holds g.F.Files.moment g.F.Files.left_since g.F.Files.images (MayStop ns) c.args.files.now
+    c.build.new.files) c.as_slice.ensures.value c.build.ensures.crash
+
+pub returns-in-Err-clause-crash : goal.returns-in-Err-clause-crash
+returns-in-Err-clause-crash g c =
+    subst (λ (ns : List (List ℕ)). LeavesFromRest g.F.Files.holds g.F.Files.moment g.F.Files.left_since g.F.Files.images (MayStop ns) c.args.files.now
+    c.build.new.files) c.as_slice.ensures.value c.build.ensures.crash
