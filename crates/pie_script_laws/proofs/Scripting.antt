@@ -22,11 +22,11 @@ use Rattle.pie_incremental.specs.Earlier.{Earlier, GoesOnFrom}
 use Rattle.pie_incremental.specs.Own.{bytes_at, open_path, pending_path, store_path}
 use Rattle.pie_incremental.specs.Starts.{AreNames, IsBase, IsCause, StartsFrom}
 use Rattle.pie_incremental.specs.Treated.{NamesBy, NamesFrom, AfreshBy}
-use Rattle.pie_script_laws.specs.Basing.{IsBaseOfNext, IsBasedOn}
+use Rattle.pie_clean_laws.specs.Basing.{IsBaseOfNext, IsBasedOn}
 use Rattle.pie_script_laws.specs.Scripts.{HasBytes, IsBuilt, IsCleanStep, IsScript, NextBase, Step}
-use Rattle.pie_script_laws.proofs.Going.{edits_go_on}
-use Rattle.pie_script_laws.proofs.Cleaning.{clean_base, afresh_base}
-use Rattle.pie_script_laws.proofs.Refusing.{refused_base}
+use Rattle.pie_clean_laws.proofs.Going.{edits_go_on}
+use Rattle.pie_clean_laws.proofs.Cleaning.{clean_base, afresh_base}
+use Rattle.pie_clean_laws.proofs.Refusing.{refused_base}
 
 -- ---- a directory that can be begun from has no cause to start afresh
 

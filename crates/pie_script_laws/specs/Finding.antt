@@ -14,7 +14,7 @@ use Rattle.pie_listing.specs.declared.listing.Listing.TheVariants.{Listed, Unlis
 use Rattle.pie_report.specs.declared.report.Report.{Report}
 use Rattle.pie_scan.specs.Covering.{DiffersBelow, IsSeparate}
 use Rattle.pie_value.specs.declared.verdict.Verdict.TheVariants.{Accepted}
-use Rattle.pie_script_laws.specs.Basing.{IsApart, IsBasedOn}
+use Rattle.pie_clean_laws.specs.Basing.{IsApart, IsBasedOn}
 
 -- a directory goes on from one whose manifest it holds, and which was based on an earlier build: the builder's own files stayed, each source that differs
 -- lies at or below a top, no path has two contents with one hash, and what is met is separate

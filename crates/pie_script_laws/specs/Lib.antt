@@ -1,4 +1,3 @@
-pub mod Basing
 pub mod Scripts
 pub mod Played
 pub mod Finding

@@ -4,7 +4,7 @@ use Rattle.pie_files.specs.Directory.{Directory, with_file, without_file}
 use Rattle.pie_incremental.specs.Earlier.{Earlier}
 use Rattle.pie_report.specs.declared.report.Report.{Report}
 use Rattle.pie_script.specs.Steps.{Plain, PutFile, DelFile, Name, BuildNow}
-use Rattle.pie_script_laws.specs.Basing.{IsBasedOn}
+use Rattle.pie_clean_laws.specs.Basing.{IsBasedOn}
 use Rattle.pie_script_laws.specs.Scripts.{Step, IsBuilt, IsScript, IsCleanStep}
 
 -- what some steps came to: the names since the last build, the builds, and the directory that is there then; a constructor for each kind of step

@@ -11,7 +11,7 @@ use Rattle.pie_incremental.specs.Earlier.{Earlier}
 use Rattle.pie_incremental.specs.Own.{bytes_at}
 use Rattle.pie_incremental.specs.Ran.{RanFor}
 use Rattle.pie_incremental.specs.Treated.{TreatsNames}
-use Rattle.pie_script_laws.specs.Basing.{IsBasedOn, IsEdit, IsApart}
+use Rattle.pie_clean_laws.specs.Basing.{IsBasedOn, IsEdit, IsApart}
 
 -- one build of a script: the directory that it found, its list, its report, and the directory that it left
 pub record Step : Type 0 where

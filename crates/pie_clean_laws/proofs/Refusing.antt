@@ -18,9 +18,9 @@ use Rattle.pie_incremental.specs.Kept.{KeepsNames}
 use Rattle.pie_incremental.specs.Names.{kept_names, kept_text}
 use Rattle.pie_incremental.specs.Own.{bytes_at, store_path}
 use Rattle.pie_incremental.specs.Starts.{AreNames, IsBase}
-use Rattle.pie_script_laws.specs.Basing.{IsBasedOn}
-use Rattle.pie_script_laws.proofs.Members.{among_ordered}
-use Rattle.pie_script_laws.proofs.Cleaning.{one_store}
+use Rattle.pie_clean_laws.specs.Basing.{IsBasedOn}
+use Rattle.pie_clean_laws.proofs.Members.{among_ordered}
+use Rattle.pie_clean_laws.proofs.Cleaning.{one_store}
 
 -- ---- names that were kept
 

@@ -11,8 +11,8 @@ use Rattle.pie_incremental.specs.Earlier.{Earlier, GoesOnFrom}
 use Rattle.pie_incremental.specs.Kept.{is_builders}
 use Rattle.pie_incremental.specs.Own.{bytes_at, open_path, pending_path, store_path}
 use Rattle.pie_incremental.specs.Starts.{IsBase}
-use Rattle.pie_script_laws.specs.Basing.{IsApart, IsBasedOn, IsEdit}
-use Rattle.pie_script_laws.proofs.Members.{among_ordered}
+use Rattle.pie_clean_laws.specs.Basing.{IsApart, IsBasedOn, IsEdit}
+use Rattle.pie_clean_laws.proofs.Members.{among_ordered}
 
 -- what is read of the builder's own files is read of others that have the same
 pub same_base : (left now : Directory) (b : Base) → ((q : List ℕ) → is_builders q ≡ true → bytes_at now q ≡ bytes_at left q) → IsBase now b → IsBase left b

@@ -36,7 +36,7 @@ use Rattle.pie_incremental.specs.Clean.{IsAfresh, IsAsClean, LeavesClean}
 use Rattle.pie_incremental.specs.Earlier.{Earlier, IsStoreOfEarlier, TellsFunctions, live_of}
 use Rattle.pie_incremental.specs.Own.{bytes_at, open_path, pending_path, store_path}
 use Rattle.pie_left_laws.proofs.Putting.{is_false, kept_open, kept_pending}
-use Rattle.pie_script_laws.specs.Basing.{IsBaseOfNext, IsBasedOn}
+use Rattle.pie_clean_laws.specs.Basing.{IsBaseOfNext, IsBasedOn}
 
 -- ---- the store
 
@@ -170,7 +170,7 @@ content_none (f ∷ fs) q b h i =
 module _ (fs : List FunctionTree) (d : Directory) (roots : List (List ℕ)) (files : List (List ℕ × Vec ℕ Global)) (provides : AreProvided fs d roots (contents_in files))
   where
     -- what is found at a path is the content that it has there
-    provided_content : (q : List ℕ) → content_at files q ≡ provided_at (live_evaluations world (project fs d) roots) q
+    pub provided_content : (q : List ℕ) → content_at files q ≡ provided_at (live_evaluations world (project fs d) roots) q
     provided_content q = by (content_at files q) refl (provided_at (live_evaluations world (project fs d) roots) q) refl
       where
         by : (x : Option (List ℕ)) → content_at files q ≡ x → (y : Option (List ℕ)) → provided_at (live_evaluations world (project fs d) roots) q ≡ y
@@ -183,10 +183,18 @@ kept_store : kind_of store_path ≡ Kept
 unfolding kind_of
 kept_store = refl
 
+-- a path that no build changes
+pub rests : (a b c e : Bool) → a ≡ false → b ≡ false → c ≡ false → e ≡ false → (a || b || c || e) ≡ false
+rests false false false false h i j k = refl
+rests false false false true h i j k = cc
+rests false false true e h i j k = cc
+rests false true c e h i j k = cc
+rests true b c e h i j k = cc
+
 -- a source isn't changed
-source_rests : (p : Path) → kind_of p ≡ Source → may_change p ≡ false
+pub source_rests : (p : Path) → kind_of p ≡ Source → may_change p ≡ false
 source_rests p k =
-    ors (is_out p) (same_text p open_path) (same_text p store_path) (same_text p pending_path)
+    rests (is_out p) (same_text p open_path) (same_text p store_path) (same_text p pending_path)
     (is_false (is_out p) (λ e. out_source (sym (out_kind p e) ∙ k))) (off open_path kept_open) (off store_path kept_store) (off pending_path kept_pending)
   where
     out_source : Out ≡ Source → ⊥
@@ -197,13 +205,6 @@ source_rests p k =
 
     off : (q : List ℕ) → kind_of q ≡ Kept → same_text p q ≡ false
     off q kept = is_false (same_text p q) (λ e. kept_source (sym kept ∙ ap kind_of (sym (same_bytes p q e)) ∙ k))
-
-    ors : (a b c e : Bool) → a ≡ false → b ≡ false → c ≡ false → e ≡ false → (a || b || c || e) ≡ false
-    ors false false false false h i j k = refl
-    ors false false false true h i j k = cc
-    ors false false true e h i j k = cc
-    ors false true c e h i j k = cc
-    ors true b c e h i j k = cc
 
 module _ (d left : Directory) (r : Report) (fs : List FunctionTree) (funcs : List (List ℕ × List ℕ)) (roots : List Task) (project_is : IsProjectOf d funcs roots)
     (leaves : LeavesBuilt project_is.functions funcs roots d r (Some left)) where

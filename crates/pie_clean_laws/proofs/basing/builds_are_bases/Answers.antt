@@ -1,7 +1,7 @@
-use Rattle.pie_script_laws.proofs.Going.{edits_go_on}
-use Rattle.pie_script_laws.proofs.Cleaning.{clean_base, afresh_base}
-use Rattle.pie_script_laws.proofs.Refusing.{refused_base}
-use Rattle.pie_script_laws.proofs.basing.builds_are_bases.Goals as goal
+use Rattle.pie_clean_laws.proofs.Going.{edits_go_on}
+use Rattle.pie_clean_laws.proofs.Cleaning.{clean_base, afresh_base}
+use Rattle.pie_clean_laws.proofs.Refusing.{refused_base}
+use Rattle.pie_clean_laws.proofs.basing.builds_are_bases.Goals as goal
 
 pub returns-clause-edits : goal.returns-clause-edits
 returns-clause-edits c = λ e left now list based edit apart. edits_go_on e left now list based edit apart

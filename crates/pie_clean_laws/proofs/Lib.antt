@@ -1,0 +1,11 @@
+pub mod Members
+pub mod Going
+pub mod Cleaning
+pub mod Refusing
+pub mod Alike
+pub mod Ascending
+pub mod OneTree
+pub mod OneProject
+pub mod Tables
+pub mod Leaving
+pub mod Same

@@ -1,0 +1,3 @@
+pub mod Basing
+pub mod Left
+pub mod inner
