@@ -1,8 +1,11 @@
 pub mod Answering
 pub mod Building
 pub mod Changing
+pub mod Going
+pub mod Lexing
 pub mod Listing
 pub mod Owned
 pub mod Parts
 pub mod Playing
+pub mod Project
 pub mod Setting

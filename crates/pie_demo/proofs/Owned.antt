@@ -1,12 +1,12 @@
 -- Where a directory has the files of a demo, what is copied is all but what builds keep, and what is compared is all.
 use Rattle.std.proofs.Common.{◌≡◌, ◌==◌, ℕ, zero, suc, ◌+◌, ◌%◌, ◌-◌, Bool, true, false, cond, not}
-use Rattle.std.proofs.Common.{List, [], ◌∷◌, codes, None, Some, refl, sym, ap, ◌∙◌}
+use Rattle.std.proofs.Common.{List, [], ◌∷◌, codes, Option, None, Some, refl, sym, ap, ◌∙◌}
 use Rattle.std.specs.Prelude.{◌&&◌, ◌||◌, is_some}
 use Rattle.std.specs.Option.{option_map}
 use Rattle.std.proofs.lemmas.Bool.{false≢true, and_parts, eqb-true}
 use Rattle.pie_base.specs.Path.{same_text, is_below, rest_below}
 use Rattle.pie_build.specs.Left.{KeepsRest, may_change}
-use Rattle.pie_files.specs.Directory.{Directory}
+use Rattle.pie_files.specs.Directory.{Directory, file_at}
 use Rattle.pie_demo.specs.Draws.{draw_after}
 use Rattle.pie_incremental.specs.Own.{bytes_at}
 use Rattle.pie_demo.specs.Sources.{item_path, first_text, item_at, roots_text, pipeline_text}
@@ -25,15 +25,15 @@ not_so false h = refl
 so_not : (b : Bool) → b ≡ false → not b ≡ true
 so_not b h = ap not h
 
-neither : (a b : Bool) → (a || b) ≡ false → (a ≡ false) × (b ≡ false)
+pub neither : (a b : Bool) → (a || b) ≡ false → (a ≡ false) × (b ≡ false)
 neither true b h = absurd (false≢true (sym h))
 neither false b h = (refl, h)
 
-both_off : (a b : Bool) → a ≡ false → b ≡ false → (a || b) ≡ false
+pub both_off : (a b : Bool) → a ≡ false → b ≡ false → (a || b) ≡ false
 both_off a b h k = ap (λ x. x || b) h ∙ k
 
 -- a path for which a test fails is none for which it holds
-apart : (test : List ℕ → Bool) (q path : List ℕ) → test q ≡ false → test path ≡ true → same_text q path ≡ false
+pub apart : (test : List ℕ → Bool) (q path : List ℕ) → test q ≡ false → test path ≡ true → same_text q path ≡ false
 apart test q path off on = by (same_text q path) refl
   where
     by : (b : Bool) → same_text q path ≡ b → b ≡ false
@@ -103,12 +103,25 @@ none_other seed size (suc k) q off =
     (not_item q (draw_after seed (size + (suc k - 1)) % size) (not_copied q off).0)
     ∙ none_other seed size k q off
 
+-- a path below `.pie` isn't copied
+pub below_not_copied : (q : List ℕ) → is_below (codes ".pie") q ≡ true → is_copied q ≡ false
+below_not_copied q below = by (is_copied q) refl
+  where
+    by : (b : Bool) → is_copied q ≡ b → b ≡ false
+    by true copied = absurd (false≢true (sym (own_parts q (copied_own q copied)).1 ∙ below))
+    by false copied = refl
+
 -- ---- what builds keep
 
+pub keeps_file : (d e : Directory) → KeepsRest (Some d) (Some e) → (q : List ℕ) → may_change q ≡ false → file_at e q ≡ file_at d q
+keeps_file d e keeps q rests = ap (λ (x : Directory). file_at x q) (some_is e keeps.kept.0 keeps.kept.1) ∙ keeps.kept.2 q rests
+
+bytes_of : Option (List ℕ × ℕ) → Option (List ℕ)
+bytes_of = option_map (λ (f : List ℕ × ℕ). f.0)
+
 pub keeps_bytes : (d e : Directory) → KeepsRest (Some d) (Some e) → (q : List ℕ) → is_own q ≡ true → bytes_at e q ≡ bytes_at d q
-keeps_bytes d e keeps q own =
-    ap (λ x. bytes_at x q) (some_is e keeps.kept.0 keeps.kept.1)
-    ∙ ap (option_map (λ (f : List ℕ × ℕ). f.0)) (keeps.kept.2 q (own_stays q own))
+unfolding bytes_of
+keeps_bytes d e keeps q own = ap bytes_of (keeps_file d e keeps q (own_stays q own))
 
 pub sources_kept : (seed size k : ℕ) (d e : Directory) → KeepsRest (Some d) (Some e) → HasSources seed size k d → HasSources seed size k e
 sources_kept seed size k d e keeps has q own = keeps_bytes d e keeps q own ∙ has q own
@@ -118,9 +131,13 @@ pub copy_whole : (seed size k : ℕ) (d e copy : Directory) → HasSources seed 
     → IsCopy d copy
 copy_whole seed size k d e copy has keeps part q = part q ∙ by (is_own q) (is_copied q) refl refl
   where
-    by : (o c : Bool) → is_own q ≡ o → is_copied q ≡ c → cond c (bytes_at e q) None ≡ cond o (bytes_at d q) None
-    by true true own copied = keeps_bytes d e keeps q own
-    by true false own copied = sym (has q own ∙ none_other seed size k q copied)
+    nothing : (file : Option (List ℕ × ℕ)) → option_map (λ f. f.0) file ≡ None → file ≡ None
+    nothing None e = refl
+    nothing (Some f) e = cc
+
+    by : (o c : Bool) → is_own q ≡ o → is_copied q ≡ c → cond c (file_at e q) None ≡ cond o (file_at d q) None
+    by true true own copied = keeps_file d e keeps q (own_stays q own)
+    by true false own copied = sym (nothing (file_at d q) (has q own ∙ none_other seed size k q copied))
     by false true own copied = absurd (false≢true (sym own ∙ copied_own q copied))
     by false false own copied = refl
 
@@ -140,6 +157,7 @@ not_compared q off =
 -- what is the same where it is compared is the same everywhere
 pub same_whole : (seed size k : ℕ) (e copy left : Directory) → HasSources seed size k e → HasPart e copy is_copied → KeepsRest (Some copy) (Some left)
     → AreSameAt is_compared e left → HaveSame e left
+unfolding bytes_of
 same_whole seed size k e copy left has part keeps same q = by (is_compared q) refl
   where
     by : (b : Bool) → is_compared q ≡ b → bytes_at e q ≡ bytes_at left q
@@ -147,4 +165,4 @@ same_whole seed size k e copy left has part keeps same q = by (is_compared q) re
     by false off =
         let parts = not_compared q off in
         has q parts.0 ∙ none_other seed size k q parts.1
-        ∙ sym (keeps_bytes copy left keeps q parts.0 ∙ part q ∙ ap (λ b. cond b (bytes_at e q) None) parts.1)
+        ∙ sym (keeps_bytes copy left keeps q parts.0 ∙ ap bytes_of (part q) ∙ ap (λ b. bytes_of (cond b (file_at e q) None)) parts.1)

@@ -14,6 +14,12 @@ use Rattle.pie_demo.specs.Sources.{SetsFile}
 pub same_path : (q path : List ℕ) → same_text q path ≡ true → q ≡ path
 same_path q path e = tells_apart antisymmetric q path (sym (texts_ties q path) ∙ e)
 
+pub file_set : (d : Directory) (path bytes : List ℕ) (mark : ℕ) (q : List ℕ)
+    → file_at (with_file d path bytes mark) q ≡ cond (same_text q path) (Some (bytes, mark)) (file_at d q)
+file_set d path bytes mark q =
+    fin.get-insert nat_list_cmp_total d path (bytes, mark) q
+    ∙ ap (λ b. cond b (Some (bytes, mark)) (file_at d q)) (sym (texts_ties q path))
+
 bytes_of : (b : Bool) (bytes : List ℕ) (mark : ℕ) (file : Option (List ℕ × ℕ))
     → option_map (λ f. f.0) (cond b (Some (bytes, mark)) file) ≡ cond b (Some bytes) (option_map (λ f. f.0) file)
 bytes_of true bytes mark file = refl
@@ -22,8 +28,7 @@ bytes_of false bytes mark file = refl
 pub bytes_set : (d : Directory) (path bytes : List ℕ) (mark : ℕ) (q : List ℕ)
     → bytes_at (with_file d path bytes mark) q ≡ cond (same_text q path) (Some bytes) (bytes_at d q)
 bytes_set d path bytes mark q =
-    ap (option_map (λ (f : List ℕ × ℕ). f.0)) (fin.get-insert nat_list_cmp_total d path (bytes, mark) q
-    ∙ ap (λ b. cond b (Some (bytes, mark)) (file_at d q)) (sym (texts_ties q path)))
+    ap (option_map (λ (f : List ℕ × ℕ). f.0)) (file_set d path bytes mark q)
     ∙ bytes_of (same_text q path) bytes mark (file_at d q)
 
 pub on_ok : {T E A B : Type 0} (r : Result T E) → (A → B) → OnOk r A → OnOk r B

@@ -1,16 +1,16 @@
 -- A copy of the sources of a project, and when two projects are equal.
 use Rattle.std.specs.Prelude.{◌≡◌, ℕ, Bool, true, false, ◌||◌, cond, List, codes, Option, None, Some, Result, OnOk}
 use Rattle.pie_base.specs.Path.{same_text, is_below}
-use Rattle.pie_files.specs.Directory.{Directory}
+use Rattle.pie_files.specs.Directory.{Directory, file_at}
 use Rattle.pie_incremental.specs.Own.{bytes_at}
 
 -- a path that a copy takes over: one of the project's own two files, or one below `src`
 abbrev pub is_copied : List ℕ → Bool
 is_copied path = is_below (codes "src") path || (same_text path (codes "pie.roots") || same_text path (codes "pie.pipeline"))
 
--- a directory has what another one has at the paths that pass a test, and nothing else
+-- a directory has the files that another one has at the paths that pass a test, with their marks, and no others
 abbrev pub HasPart : Directory → Directory → (List ℕ → Bool) → Type 0
-HasPart d part test = (path : List ℕ) → bytes_at part path ≡ cond (test path) (bytes_at d path) None
+HasPart d part test = (path : List ℕ) → file_at part path ≡ cond (test path) (file_at d path) None
 
 -- a copy gains what a directory has at the paths that pass a test
 abbrev pub GainsPart : {T E : Type 0} → Result T E → (List ℕ → Bool) → Directory → Directory → Directory → Type 0

@@ -6,12 +6,12 @@ ghost use Rattle.pie_files.specs.Directory.{files_under};
 ghost use Rattle.pie_files.specs.inner.SureFiles.{held_by};
 ghost use Rattle.pie_demo.specs.Copies.{is_copied, HasPart, GainsPart};
 
-use crate::sources::{found_at, put, sure};
+use crate::sources::{found_at, sure};
 use pie_base::{OutOfMemory, Path};
 use pie_files::{Files, SureFiles};
 use std::alloc::Global;
 
-/// New files with the project's own two and all that stand under `src/`.
+/// New files with the project's own two and all that stand under `src/`, each with its mark.
 pub(crate) fn copy_of(alloc: Global, files: &mut SureFiles) -> Result<SureFiles, OutOfMemory>
     ensures part { IfOk result (λ copy. HasPart (held_by files.old) (held_by copy) is_copied) }
     ensures same { held_by files.new ≡ held_by files.old }
@@ -57,13 +57,13 @@ pub(crate) fn under(files: &mut SureFiles, top: &Path) -> Result<Vec<Path>, OutO
     }
 }
 
-// Copies the file at a path, if there is one.
+// Copies the file at a path, if there is one, with its mark.
 fn copy_file(files: &mut SureFiles, copy: &mut SureFiles, path: &Path) -> Result<(), OutOfMemory>
     ensures part { GainsPart result (λ q. same_text q path.now) (held_by files.old) (held_by copy.old) (held_by copy.new) }
     ensures same { held_by files.new ≡ held_by files.old }
 {
     match found_at(files, path)? {
-        Some(found) => put(copy, path, found.bytes.as_slice()),
+        Some(found) => copy.put(path, found.bytes.as_slice(), found.mark),
         None => Ok(()),
     }
 }

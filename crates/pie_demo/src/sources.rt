@@ -2,6 +2,7 @@
 ghost use Rattle.std.specs.Prelude.{◌≡◌, [], ◌∷◌, ◌++◌, ◌%◌, ◌-◌, ◌≤◌, ◌<◌, codes, decimal, IfOk, OnOk};
 ghost use Rattle.std.specs.FinMap as fin;
 ghost use Rattle.std.specs.Option.{option_map};
+ghost use Rattle.pie_files.specs.Directory.{file_at};
 ghost use Rattle.pie_files.specs.inner.SureFiles.{held_by};
 ghost use Rattle.pie_demo.specs.Draws.{next_state, drawn};
 ghost use Rattle.pie_incremental.specs.Own.{bytes_at};
@@ -113,6 +114,7 @@ fn bytes_at(alloc: Global, files: &mut SureFiles, path: &Path) -> Result<Vec<u8>
 /// The file at a path, if there is one.
 pub(crate) fn found_at(files: &mut SureFiles, path: &Path) -> Result<Option<Found>, OutOfMemory>
     ensures found { IfOk result (λ found. option_map (λ f. f.bytes.items) found ≡ bytes_at (held_by files.old) path.now) }
+    ensures file { IfOk result (λ found. option_map (λ f. (f.bytes.items, f.mark)) found ≡ file_at (held_by files.old) path.now) }
     ensures same { held_by files.new ≡ held_by files.old }
 {
     match files.read(path) {

@@ -1,5 +1,5 @@
 -- What the parts of a round say to each other.
-use Rattle.std.specs.Prelude.{◌≡◌, ◌⊎◌, ◌↔◌, ℕ, Bool, true, false, List, ◌++◌, Option, None, Some, Result, Ok, Err, IsTrue}
+use Rattle.std.specs.Prelude.{◌≡◌, ◌⊎◌, ◌↔◌, ℕ, Bool, true, false, List, [], ◌++◌, Option, None, Some, Result, Ok, Err, IsTrue}
 use Rattle.pie_build.specs.inner.Rebuilt.{IsRefusal}
 use Rattle.pie_files.specs.Directory.{Directory}
 use Rattle.pie_parser.specs.FunctionTrees.{FunctionTree}
@@ -9,12 +9,19 @@ use Rattle.pie_project.specs.Refusals.{Refusal}
 use Rattle.pie_report.specs.declared.report.Report.{Report}
 use Rattle.pie_value.specs.declared.task.Task.{Task}
 use Rattle.pie_demo.specs.Copies.{is_compared, AreSameAt}
-use Rattle.pie_demo.specs.Rounds.{Refuses, BuildsAfresh, BuildsByNames}
+use Rattle.pie_demo.specs.Rounds.{BuildsAfresh, BuildsByNames}
 
 -- how many tasks a report calls live, or none where the project is refused
 abbrev pub TellsLive : Result Report BuildError → Option ℕ → Type 0
 TellsLive result None = IsRefusal result
 TellsLive result (Some live) = (r : Report) × (result ≡ Ok r) × (live ≡ r.live)
+
+-- a project is refused, which changes nothing and starts no task
+pub record Refuses (before after : Directory) (started : List Task) : Type 0 where
+  pub refusal : Refusal
+  pub says : ProjectSays before (Err refusal)
+  pub kept : after ≡ before
+  pub none : started ≡ []
 
 -- a project was built by names, or refused; the tasks that were started are added
 pub record BuildsNamed (names : List (List ℕ)) (before after : Directory) (runs runs_after : List Task) (built : Bool) : Type 0 where

@@ -9,7 +9,8 @@ loop-done-init c = record {
   few = omega arith;
   ten = refl;
   sources = λ has. has;
-  plays = λ has. plays_none c.args.seed c.args.size (held_by c.rebuilt.new.files) c.rebuilt.new.runs c.args.clean.now;
+  plays = λ first has.
+      plays_none c.args.seed c.args.size (record { now = first; left = held_by c.rebuilt.new.files }) c.rebuilt.new.runs c.args.clean.now;
 }
 
 pub loop-done-preserved : goal.loop-done-preserved
@@ -23,13 +24,13 @@ loop-done-preserved c =
       few = omega (arith, c.loop-done.invariant.few, c.from.ensures, byte_small c.in_ok-round.round.is_same);
       ten = c.loop-done.invariant.ten;
       sources = λ has. c.in_ok-round.ensures.sources (before has);
-      plays = λ has.
-          subst (Plays c.args.seed c.args.size (k + 1) (held_by c.rebuilt.new.files) (held_by c.go.new.files) c.rebuilt.new.runs c.go.new.runs
-          c.args.clean.now c.go.new.clean c.in_ok-round.round.live)
+      plays = λ first has.
+          subst (Plays c.args.seed c.args.size (k + 1) (record { now = first; left = held_by c.rebuilt.new.files }) (held_by c.go.new.files)
+          c.rebuilt.new.runs c.go.new.runs c.args.clean.now c.go.new.clean c.in_ok-round.round.live)
           (ap (λ n. c.loop-done.summary.same + n) (sym (c.from.ensures ∙ byte_is c.in_ok-round.round.is_same)))
-          (plays_more c.args.seed c.args.size k (held_by c.rebuilt.new.files) (held_by c.loop-done.files) (held_by c.go.new.files) c.rebuilt.new.runs
-          c.loop-done.runs c.go.new.runs c.args.clean.now c.loop-done.clean c.go.new.clean c.loop-done.summary.tasks c.in_ok-round.round.live
-          c.loop-done.summary.same c.in_ok-round.round.is_same (c.loop-done.invariant.plays has) (c.in_ok-round.ensures.round (before has)));
+          (plays_more c.args.seed c.args.size k (record { now = first; left = held_by c.rebuilt.new.files }) (held_by c.loop-done.files)
+          (held_by c.go.new.files) c.rebuilt.new.runs c.loop-done.runs c.go.new.runs c.args.clean.now c.loop-done.clean c.go.new.clean c.loop-done.summary.tasks c.in_ok-round.round.live
+          c.loop-done.summary.same c.in_ok-round.round.is_same (c.loop-done.invariant.plays first has) (c.in_ok-round.ensures.round (before has)));
     }
 
 pub returns-clause-demo : goal.returns-clause-demo
@@ -45,6 +46,6 @@ returns-clause-demo c = λ empty.
     let counted = c.in_ok-summary.ensures ∙ ap (λ n. length c.loop-done.runs - n) c.count-before.ensures in
     demo_done seed size first built (held_by c.loop-done.files) c.args.runs.now c.rebuilt.new.runs c.loop-done.runs c.args.clean.now c.loop-done.clean live _
     has c.in_ok-rebuilt.ensures
-    (subst (λ n. Plays seed size n built (held_by c.loop-done.files) c.rebuilt.new.runs c.loop-done.runs c.args.clean.now c.loop-done.clean
-    c.loop-done.summary.tasks c.loop-done.summary.same) ten (c.loop-done.invariant.plays sources))
+    (subst (λ n. Plays seed size n (record { now = first; left = built }) (held_by c.loop-done.files) c.rebuilt.new.runs c.loop-done.runs
+    c.args.clean.now c.loop-done.clean c.loop-done.summary.tasks c.loop-done.summary.same) ten (c.loop-done.invariant.plays first sources))
     (subst (λ n. HasSources seed size n (held_by c.loop-done.files)) ten (c.loop-done.invariant.sources sources)) counted
