@@ -217,7 +217,7 @@ module _ (b c : Builder) (t : Task) (e : HasEntered b t c) (fresh : kept_of b.le
 
 -- ---- all of it
 
-last_unrecorded : (l : Ledger) → IsLedger l → kept_of l.tables.records (length l.tables.names) ≡ None
+pub last_unrecorded : (l : Ledger) → IsLedger l → kept_of l.tables.records (length l.tables.names) ≡ None
 last_unrecorded l is = by (kept_of l.tables.records (length l.tables.names)) refl (is.tables.records (length l.tables.names))
   where
     by : (o : Option TaskRecord) → kept_of l.tables.records (length l.tables.names) ≡ o → IfSome o (IsRecordAt l.tables.names (length l.tables.names))

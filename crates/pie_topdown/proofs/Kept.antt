@@ -53,10 +53,10 @@ gave (Failed f) h = absurd (cc)
 gave (Cycled ts) h = absurd (cc)
 
 -- a task under way has no record
-not_recorded : (R : List ℕ → Option Record) (names : List (List ℕ)) (t : List ℕ) (ts : List (List ℕ)) → AreUnderWay R names (t ∷ ts) → R t ≡ None
+pub not_recorded : (R : List ℕ → Option Record) (names : List (List ℕ)) (t : List ℕ) (ts : List (List ℕ)) → AreUnderWay R names (t ∷ ts) → R t ≡ None
 not_recorded R names t ts busy = no_record R t (busy.each t (among_here t ts))
 
-no_kept : (names : List Task) (records : Records) (n : ℕ) (t : Task) → AreTasks names → slice_get names n ≡ Some t → recorded names records (enc_task t) ≡ None
+pub no_kept : (names : List Task) (records : Records) (n : ℕ) (t : Task) → AreTasks names → slice_get names n ≡ Some t → recorded names records (enc_task t) ≡ None
     → kept_of records n ≡ None
 no_kept names records n t are at none = by (kept_of records n) (sym (record_by_number names records n t are at) ∙ none)
   where

@@ -12,3 +12,13 @@ pub mod Ended
 pub mod Checked
 pub mod Kept
 pub mod Failing
+pub mod Waited
+pub mod Touched
+pub mod Fetched
+pub mod Topmost
+pub mod Happening
+pub mod Finished
+pub mod Pushed
+pub mod Answering
+pub mod Rounds
+pub mod Resumed

@@ -9,3 +9,6 @@ pub mod Right
 pub mod Entries
 pub mod Roots
 pub mod Ended
+pub mod Sights
+pub mod Asking
+pub mod Calling

@@ -1,5 +1,6 @@
 //! Cycles of tasks on the stack.
-ghost use Rattle.std.specs.Prelude.{◌≡◌, None, IsSome, OnOk};
+ghost use Rattle.std.specs.Prelude.{◌≡◌, ◌++◌, ◌∷◌, [], None, IfOk, OnOk};
+ghost use Rattle.pie_topdown.specs.inner.Calling.{ClosesBy, joins, joins_by, tasks_from};
 ghost use Rattle.pie_topdown.specs.inner.Turns.{StaysFailed};
 
 use crate::builder::Builder;
@@ -13,7 +14,7 @@ impl<'a> Builder<'a> {
     pub(crate) fn close(&mut self, from: TaskNo, top: &Task) -> Result<(), OutOfMemory>
         ensures same { self.new ≡ record self.old { failure = self.new.failure } }
         ensures stays { StaysFailed self.old self.new }
-        ensures first { OnOk result (self.old.failure ≡ None → IsSome self.new.failure) }
+        ensures first { OnOk result (ClosesBy self.old from.0 top.now self.new) }
     {
         if self.failure.is_some() {
             return Ok(());
@@ -23,9 +24,10 @@ impl<'a> Builder<'a> {
         Ok(())
     }
 
-    // The tasks on the stack from the one with this number on, and the one above them. Tasks are numbered as they are entered, so those that stand
-    // above a task have greater numbers.
-    fn cycle(&self, from: TaskNo, top: &Task) -> Result<Tasks, OutOfMemory> {
+    // The tasks on the stack from the one with this number on, and the one above them.
+    fn cycle(&self, from: TaskNo, top: &Task) -> Result<Tasks, OutOfMemory>
+        ensures { IfOk result (λ tasks. tasks ≡ tasks_from from.0 self.now.stack.items ++ top.now ∷ []) }
+    {
         let mut tasks = Vec::new(self.alloc);
         for frame in &self.stack {
             note(&mut tasks, frame, from)?;
@@ -35,8 +37,10 @@ impl<'a> Builder<'a> {
     }
 }
 
-// The task of a frame is in the cycle where it has this number or a greater one.
-fn note(tasks: &mut Vec<Task>, frame: &Frame, from: TaskNo) -> Result<(), OutOfMemory> {
+// The task of a frame is in the cycle where it has this number, or one below it does.
+fn note(tasks: &mut Vec<Task>, frame: &Frame, from: TaskNo) -> Result<(), OutOfMemory>
+    ensures { OnOk result (tasks.new.items ≡ joins_by from.0 tasks.old.items frame.now) }
+{
     match frame {
         Frame::Checks(check) => put(tasks, check.no, &check.rec.task, from),
         Frame::Waits(caller) => {
@@ -46,9 +50,12 @@ fn note(tasks: &mut Vec<Task>, frame: &Frame, from: TaskNo) -> Result<(), OutOfM
     }
 }
 
-fn put(tasks: &mut Vec<Task>, no: TaskNo, task: &Task, from: TaskNo) -> Result<(), OutOfMemory> {
-    if no.0 >= from.0 {
-        tasks.push(task.copy()?)?;
+fn put(tasks: &mut Vec<Task>, no: TaskNo, task: &Task, from: TaskNo) -> Result<(), OutOfMemory>
+    ensures { OnOk result (tasks.new.items ≡ joins from.0 tasks.old.items no.0 task.now) }
+{
+    if tasks.is_empty() && no.0 != from.0 {
+        return Ok(());
     }
+    tasks.push(task.copy()?)?;
     Ok(())
 }

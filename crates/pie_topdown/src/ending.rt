@@ -1,9 +1,11 @@
 //! Tasks that end.
-ghost use Rattle.std.specs.Prelude.{◌≡◌, ◌<◌, ◌+◌, length, IfOk, OnOk};
+ghost use Rattle.std.specs.Prelude.{◌≡◌, ◌<◌, ◌+◌, length, true, IfOk, OnOk};
 ghost use Rattle.pie_running.specs.inner.Noted.{IsSound};
 ghost use Rattle.pie_tables.specs.Tabled.{HasFailed};
-ghost use Rattle.pie_value.specs.Canonical.{IsEncodable};
+ghost use Rattle.pie_value.specs.Canonical.{IsEncodable, HasTrueLeaves};
+ghost use Rattle.pie_value.specs.Limits.{is_small};
 ghost use Rattle.pie_value.specs.Values.{tree_of};
+ghost use Rattle.pie_topdown.specs.inner.Asking.{EndsSo};
 ghost use Rattle.pie_topdown.specs.inner.Frames.{IsNoted, IsSite};
 ghost use Rattle.pie_topdown.specs.inner.Right.{FailsSo};
 ghost use Rattle.pie_topdown.specs.inner.Turns.{TurnsTo, below, Nearer, room, Fits, Keeps, FailsFirst, StaysFailed};
@@ -14,7 +16,7 @@ use pie_base::{FaultKind, OutOfMemory};
 use pie_graph::TaskNo;
 use pie_record::{Deps, Outcome, TaskRecord, Writes};
 use pie_running::{NoteParts, Notes};
-use pie_value::{Fault, Refusal, Value};
+use pie_value::{Fault, Refusal, Value, encode};
 
 impl<'a> Builder<'a> {
     /// The task that runs is done with this output.
@@ -32,10 +34,12 @@ impl<'a> Builder<'a> {
         ensures nearer { IfOk result (Nearer (below self.old + 1) self.new) }
         ensures fits { IfOk result (Fits (room self.old) self.new) }
         ensures kept { OnOk result (Keeps self.old self.new) }
+        ensures right { IfOk result (EndsSo self.old notes output self.new) }
     {
         if !output.is_small() {
             return self.fail(no, FaultKind::Big);
         }
+        let _bytes = encode(self.alloc, &output)?;
         self.done_small(no, notes, output)
     }
 
@@ -52,10 +56,13 @@ impl<'a> Builder<'a> {
         requires noted { IsNoted self.old.ledger notes }
         requires number { no.0 ≡ notes.number }
         requires output { IsEncodable (tree_of output) }
+        requires leaves { HasTrueLeaves (tree_of output) }
+        requires small { is_small (tree_of output) ≡ true }
         ensures turns { IfOk result (TurnsTo self.new) }
         ensures nearer { IfOk result (Nearer (below self.old + 1) self.new) }
         ensures fits { IfOk result (Fits (room self.old) self.new) }
         ensures kept { OnOk result (Keeps self.old self.new) }
+        ensures right { IfOk result (EndsSo self.old notes output self.new) }
     {
         let NoteParts {
             task,

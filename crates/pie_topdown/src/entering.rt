@@ -50,6 +50,7 @@ impl<'a> Builder<'a> {
         requires known { Contains (function_names self.old.plan.typed.now) task.func }
         ensures site { OnOk result (IsSite self.new) }
         ensures starts { IfOk result (λ no. MayStart self.new.ledger no.0 code.now.params) }
+        ensures number { IfOk result (λ no. no.0 ≡ length self.old.ledger.tables.names) }
         ensures one { OnOk result (length self.new.ledger.tables.names ≡ length self.old.ledger.tables.names + 1) }
         ensures stack { self.new.stack ≡ self.old.stack }
         ensures kept { OnOk result (Keeps self.old self.new) }

@@ -2,6 +2,8 @@
 ghost use Rattle.std.specs.Prelude.{◌≡◌, ◌<◌, ◌+◌, ◌*◌, length, IfOk, OnOk};
 ghost use Rattle.pie_files.specs.Reading.{ReadsOnly};
 ghost use Rattle.pie_running.specs.inner.Frames.{IsWaiting};
+ghost use Rattle.pie_value.specs.declared.event.Event.TheVariants as events;
+ghost use Rattle.pie_topdown.specs.inner.Asking.{ActsSo, AsksSo, LooksSo, ToldSo};
 ghost use Rattle.pie_topdown.specs.inner.Frames.{IsNoted, IsRunning, IsSite};
 ghost use Rattle.pie_topdown.specs.inner.Turns.{TurnsTo, below, Nearer, room, Fits, Keeps, MayGo, told_mass};
 
@@ -84,6 +86,7 @@ impl<'a> Builder<'a> {
         ensures fits { IfOk result (Fits (room self.old) self.new) }
         ensures kept { OnOk result (Keeps self.old self.new) }
         ensures reads { ReadsOnly F.holds F.moment F.left_since F.images F.faults files.old files.new result }
+        ensures right { IfOk result (AsksSo (F.holds files.old) self.old waiting.entry (events.Exists path) self.new) }
     {
         self.fetch(&waiting.notes, &path, files)?;
         self.exists_there(no, waiting, path, files)
@@ -106,6 +109,7 @@ impl<'a> Builder<'a> {
         ensures fits { IfOk result (Fits (room self.old) self.new) }
         ensures kept { OnOk result (Keeps self.old self.new) }
         ensures reads { ReadsOnly F.holds F.moment F.left_since F.images F.faults files.old files.new result }
+        ensures right { IfOk result (LooksSo (F.holds files.old) self.old waiting.entry (events.Exists path) path self.new) }
     {
         let told = waiting.exists(&self.sight(), path, files)?;
         Ok(self.told(no, told)?)
@@ -129,6 +133,7 @@ impl<'a> Builder<'a> {
         ensures fits { IfOk result (Fits (room self.old) self.new) }
         ensures kept { OnOk result (Keeps self.old self.new) }
         ensures reads { ReadsOnly F.holds F.moment F.left_since F.images F.faults files.old files.new result }
+        ensures right { IfOk result (AsksSo (F.holds files.old) self.old waiting.entry (events.Read path by) self.new) }
     {
         self.fetch(&waiting.notes, &path, files)?;
         self.read_there(no, waiting, path, by, files)
@@ -152,6 +157,7 @@ impl<'a> Builder<'a> {
         ensures fits { IfOk result (Fits (room self.old) self.new) }
         ensures kept { OnOk result (Keeps self.old self.new) }
         ensures reads { ReadsOnly F.holds F.moment F.left_since F.images F.faults files.old files.new result }
+        ensures right { IfOk result (LooksSo (F.holds files.old) self.old waiting.entry (events.Read path by) path self.new) }
     {
         let told = waiting.read(self.alloc, &self.sight(), path, by, files)?;
         Ok(self.told(no, told)?)
@@ -174,6 +180,7 @@ impl<'a> Builder<'a> {
         ensures fits { IfOk result (Fits (room self.old) self.new) }
         ensures kept { OnOk result (Keeps self.old self.new) }
         ensures reads { ReadsOnly F.holds F.moment F.left_since F.images F.faults files.old files.new result }
+        ensures right { IfOk result (AsksSo (F.holds files.old) self.old waiting.entry (events.Digest path) self.new) }
     {
         self.fetch(&waiting.notes, &path, files)?;
         self.digest_there(no, waiting, path, files)
@@ -196,6 +203,7 @@ impl<'a> Builder<'a> {
         ensures fits { IfOk result (Fits (room self.old) self.new) }
         ensures kept { OnOk result (Keeps self.old self.new) }
         ensures reads { ReadsOnly F.holds F.moment F.left_since F.images F.faults files.old files.new result }
+        ensures right { IfOk result (LooksSo (F.holds files.old) self.old waiting.entry (events.Digest path) path self.new) }
     {
         let told = waiting.digest(&self.sight(), path, files)?;
         Ok(self.told(no, told)?)
@@ -218,6 +226,7 @@ impl<'a> Builder<'a> {
         ensures fits { IfOk result (Fits (room self.old) self.new) }
         ensures kept { OnOk result (Keeps self.old self.new) }
         ensures reads { ReadsOnly F.holds F.moment F.left_since F.images F.faults files.old files.new result }
+        ensures right { IfOk result (AsksSo (F.holds files.old) self.old waiting.entry (events.List dir) self.new) }
     {
         let told = waiting.list(self.alloc, dir, files)?;
         Ok(self.told(no, told)?)
@@ -238,6 +247,7 @@ impl<'a> Builder<'a> {
         ensures nearer { IfOk result (Nearer (below self.old + (2 * waiting.entry.notes.left + 1)) self.new) }
         ensures fits { IfOk result (Fits (room self.old) self.new) }
         ensures kept { OnOk result (Keeps self.old self.new) }
+        ensures right { IfOk result (ActsSo self.old waiting.entry (events.Write path bytes) self.new) }
     {
         let told = waiting.write(self.alloc, &mut self.stage, path, &bytes)?;
         self.told(no, told)
@@ -252,6 +262,7 @@ impl<'a> Builder<'a> {
         ensures nearer { IfOk result (Nearer (below self.old + told_mass told.entry) self.new) }
         ensures fits { IfOk result (Fits (room self.old) self.new) }
         ensures kept { OnOk result (Keeps self.old self.new) }
+        ensures right { IfOk result (ToldSo self.old no.0 told.entry self.new) }
     {
         match told {
             Told::Goes(task) => Ok(Turn::Goes(Hand::Runs(task))),

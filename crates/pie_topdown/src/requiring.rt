@@ -5,6 +5,7 @@ ghost use Rattle.pie_running.specs.inner.Frames.{IsWaiting};
 ghost use Rattle.pie_value.specs.Canonical.{IsEncodable};
 ghost use Rattle.pie_value.specs.Values.{tree_of};
 ghost use Rattle.pie_topdown.specs.declared.entering.Entry.TheVariants.{May};
+ghost use Rattle.pie_topdown.specs.inner.Calling.{GivesSo, LosesSo, NeedsSo};
 ghost use Rattle.pie_topdown.specs.inner.Entries.{MayEnter};
 ghost use Rattle.pie_topdown.specs.inner.Frames.{IsNoted, IsCaller, IsSite};
 ghost use Rattle.pie_topdown.specs.inner.Ledgers.{HasOutput};
@@ -104,6 +105,7 @@ impl<'a> Builder<'a> {
         ensures turns { IfOk result (TurnsTo self.now) }
         ensures nearer { IfOk result (Nearer (below self.now + (2 * caller.entry.waiting.notes.left + 1)) self.now) }
         ensures fits { IfOk result (Fits (room self.now) self.now) }
+        ensures right { IfOk result (GivesSo self.now caller.entry callee.0 output self.now) }
     {
         let Caller {
             waiting,
@@ -128,6 +130,7 @@ impl<'a> Builder<'a> {
         ensures nearer { IfOk result (Nearer (below self.old + (2 * caller.entry.waiting.notes.left + 1)) self.new) }
         ensures fits { IfOk result (Fits (room self.old) self.new) }
         ensures kept { OnOk result (Keeps self.old self.new) }
+        ensures right { IfOk result (NeedsSo self.old caller.entry self.new) }
     {
         match self.entry(&caller.required) {
             Entry::May(code) => self.push_caller(caller, code),
@@ -150,6 +153,7 @@ impl<'a> Builder<'a> {
         ensures nearer { IfOk result (Nearer (below self.old + (2 * caller.entry.waiting.notes.left + 1)) self.new) }
         ensures fits { IfOk result (Fits (room self.old) self.new) }
         ensures kept { OnOk result (Keeps self.old self.new) }
+        ensures right { IfOk result (NeedsSo self.old caller.entry self.new) }
     {
         let no = self.enter(caller.required.copy()?, code)?;
         self.stack.push(Frame::Waits(caller))?;
@@ -164,6 +168,7 @@ impl<'a> Builder<'a> {
         ensures nearer { IfOk result (Nearer (below self.old + (2 * caller.entry.waiting.notes.left + 1)) self.new) }
         ensures fits { IfOk result (Fits (room self.old) self.new) }
         ensures kept { OnOk result (Keeps self.old self.new) }
+        ensures right { IfOk result (LosesSo self.old caller.entry self.new) }
     {
         let no = caller.waiting.notes.no();
         let task = caller.required.copy()?;

@@ -1,18 +1,23 @@
 //! What a task that runs sees under `out/`.
-ghost use Rattle.std.specs.Prelude.{◌≡◌, length};
+ghost use Rattle.std.specs.Option.{option_map};
+ghost use Rattle.std.specs.Prelude.{◌≡◌, length, None, Some, IfOk, IfSome, OnOk};
 ghost use Rattle.pie_files.specs.Reading.{ReadsOnly};
 ghost use Rattle.pie_graph.specs.Numbers.{AllBelow};
+ghost use Rattle.pie_view.specs.Content.{content};
+ghost use Rattle.pie_view.specs.Seen.{Visible, IsOnly};
+ghost use Rattle.pie_builder_laws.specs.Views.{unmarked};
+ghost use Rattle.pie_running.specs.inner.Sights.{provided_sight};
+ghost use Rattle.pie_task_laws.specs.Sights.{sight_by};
+ghost use Rattle.pie_topdown.specs.inner.Asking.{FetchesSo, StagesFile};
+ghost use Rattle.pie_topdown.specs.inner.Sights.{Lacks, SeenIsStaged, ShowsOthers, ShowsOut};
 
 use crate::builder::Builder;
 use pie_base::{OutOfMemory, Path};
-use pie_files::{Files, FilesError, Within};
+use pie_files::{Files, FilesError};
 use pie_graph::{IndexedRows, TaskNo};
 use pie_running::{Notes, Provided, Shows};
 use pie_view::{Seen, Stage, view};
 use std::alloc::Global;
-
-/// The most bytes of a file that a task wrote: as a value it has five more.
-const MAX_CONTENT_BYTES: usize = 1_048_571;
 
 /// What tasks see under `out/`.
 #[derive(Drop)]
@@ -25,34 +30,53 @@ pub(crate) struct OutSight<'b> {
 impl<'b> Shows for OutSight<'b> {
     ghost use Rattle.std.specs.Prelude.{length};
     ghost use Rattle.pie_graph.specs.Numbers.{AllBelow};
+    ghost use Rattle.pie_topdown.specs.inner.Sights.{ShowsOut};
 
     ghost knows = { λ s n. AllBelow (length s.rows.now) n.needs };
 
-    ghost sees = { λ _ _ _ _. Unit {0} };
+    ghost sees = { λ s n path sight. ShowsOut s.rows.now s.stage.now n.number n.needs path sight };
 
     fn shown<'c>(&'c self, notes: &Notes, path: &Path) -> Result<Provided<'c>, OutOfMemory> {
+        self.provided(notes, path)
+    }
+}
+
+impl<'b> OutSight<'b> {
+    // What the task sees: what it wrote itself, else what those wrote that it required.
+    fn provided<'c>(&'c self, notes: &Notes, path: &Path) -> Result<Provided<'c>, OutOfMemory>
+        requires { AllBelow (length self.now.rows.now) notes.now.needs }
+        ensures { IfOk result (λ p. ShowsOut self.now.rows.now self.now.stage.now notes.now.number notes.now.needs path.now (provided_sight p)) }
+    {
         match self.stage.get(notes.no(), path) {
             Some(content) => Ok(Provided::Content(content)),
             None => self.by_others(notes, path),
         }
     }
-}
 
-impl<'b> OutSight<'b> {
     // What tasks wrote that this one required.
     fn by_others<'c>(&'c self, notes: &Notes, path: &Path) -> Result<Provided<'c>, OutOfMemory>
         requires { AllBelow (length self.now.rows.now) notes.now.needs }
+        ensures { IfOk result (λ p. ShowsOthers self.now.rows.now self.now.stage.now notes.now.needs path.now (provided_sight p)) }
     {
-        match self.seen(notes, path)? {
-            Seen::Absent => Ok(Provided::Nothing),
-            Seen::By(no) => Ok(content_of(self.stage.get(no, path))),
-            Seen::Clash => Ok(Provided::Clash),
+        let seen = self.seen(notes, path)?;
+        Ok(self.content_seen(seen, path))
+    }
+
+    // The content that is seen.
+    fn content_seen<'c>(&'c self, seen: Seen, path: &Path) -> Provided<'c>
+        ensures { provided_sight result ≡ sight_by (λ k. content self.now.stage.now k path.now) seen }
+    {
+        match seen {
+            Seen::Absent => Provided::Nothing,
+            Seen::By(no) => content_of(self.stage.get(no, path)),
+            Seen::Clash => Provided::Clash,
         }
     }
 
     // Whose file the task sees that wrote nothing there.
     fn seen(&self, notes: &Notes, path: &Path) -> Result<Seen, OutOfMemory>
         requires { AllBelow (length self.now.rows.now) notes.now.needs }
+        ensures { IfOk result (IsOnly (Visible self.now.rows.now notes.now.needs path.now)) }
     {
         let needs = notes.needs();
         let seen = view(self.alloc, self.rows, notes.no(), &[], needs, path)?;
@@ -62,6 +86,8 @@ impl<'b> OutSight<'b> {
     // Whose file it is that the task sees, where its content isn't staged.
     fn lacking(&self, notes: &Notes, path: &Path) -> Result<Option<TaskNo>, OutOfMemory>
         requires { AllBelow (length self.now.rows.now) notes.now.needs }
+        ensures lacks { IfOk result (λ writer. IfSome writer (λ w. Lacks self.now.rows.now self.now.stage.now notes.now.needs path.now w.0)) }
+        ensures has { IfOk result (λ writer. writer ≡ None → SeenIsStaged self.now.rows.now self.now.stage.now notes.now.number notes.now.needs path.now) }
     {
         if self.stage.get(notes.no(), path).is_some() {
             return Ok(None);
@@ -80,7 +106,8 @@ impl<'b> OutSight<'b> {
 impl<'a> Builder<'a> {
     /// What tasks see under `out/`.
     pub(crate) fn sight<'b>(&'b self) -> OutSight<'b>
-        ensures { result.rows.now ≡ self.now.ledger.rows }
+        ensures rows { result.rows.now ≡ self.now.ledger.rows }
+        ensures stage { result.stage.now ≡ self.now.stage }
     {
         OutSight {
             alloc: self.alloc,
@@ -100,6 +127,7 @@ impl<'a> Builder<'a> {
         requires { AllBelow (length self.old.ledger.rows) notes.now.needs }
         ensures same { self.new ≡ record self.old { stage = self.new.stage } }
         ensures reads { ReadsOnly F.holds F.moment F.left_since F.images F.faults files.old files.new result }
+        ensures fetches { OnOk result (FetchesSo (F.holds files.old) self.old notes.now path.now self.new) }
     {
         if !path.under_out() {
             return Ok(());
@@ -110,7 +138,7 @@ impl<'a> Builder<'a> {
         }
     }
 
-    // A file of a task that didn't run is staged as it is there.
+    // A file of a task that didn't run is staged as it is there. It is what a task wrote, so it is no longer than a value may be.
     #[tactic(auto, using(pie_files::proofs::Reading::reads))]
     fn stage_file<F: Files>(
         &mut self,
@@ -120,18 +148,21 @@ impl<'a> Builder<'a> {
     ) -> Result<(), FilesError>
         ensures same { self.new ≡ record self.old { stage = self.new.stage } }
         ensures reads { ReadsOnly F.holds F.moment F.left_since F.images F.faults files.old files.new result }
+        ensures stages { OnOk result (StagesFile (F.holds files.old) self.old writer.0 path.now self.new) }
     {
-        match files.read_within(path, MAX_CONTENT_BYTES)? {
-            Within::Whole(found) => {
+        match files.read(path)? {
+            Some(found) => {
                 self.stage.put(writer, path.copy()?, found.bytes)?;
                 Ok(())
             }
-            _ => Ok(()),
+            None => Ok(()),
         }
     }
 }
 
-fn content_of<'b>(content: Option<&'b [u8]>) -> Provided<'b> {
+fn content_of<'b>(content: Option<&'b [u8]>) -> Provided<'b>
+    ensures { provided_sight result ≡ Some (unmarked (option_map (λ c. c.now) content.entry)) }
+{
     match content {
         Some(content) => Provided::Content(content),
         None => Provided::Nothing,

@@ -1,7 +1,12 @@
-use Rattle.std.proofs.Common.{[], ◌∷◌, ◌++◌, ◌+◌, ◌*◌, length, refl, ap, ◌∙◌, arith}
+use Rattle.std.proofs.Common.{[], ◌∷◌, ◌++◌, ◌+◌, ◌*◌, length, refl, ap, subst, ◌∙◌, arith}
 use Rattle.pie_topdown.specs.declared.hand.Frame.TheVariants as frames
 use Rattle.pie_topdown.proofs.Growing.{caller_grows}
 use Rattle.pie_topdown.proofs.Stacking.{pushed_site, pushed_nearer, pushed_room}
+use Rattle.pie_value.specs.declared.task.Task.{Task}
+use Rattle.pie_topdown.specs.inner.Entries.{HasEntered}
+use Rattle.pie_topdown.specs.inner.Right.{EntersSite}
+use Rattle.pie_topdown.proofs.Entered.{last_unrecorded}
+use Rattle.pie_topdown.proofs.Pushed.{caller_pushed}
 use Rattle.pie_topdown.proofs.builder.Builder.push_caller.Goals as goal
 
 pub returns-clause-turns : goal.returns-clause-turns
@@ -24,3 +29,11 @@ returns-clause-fits c =
     c.push.new.self.items (frames.Waits c.args.caller) c.requires.may.few c.in_ok-no.ensures.one
     (c.in_ok-push.ensures.items ∙ ap (λ v. v.items ++ frames.Waits c.args.caller ∷ []) c.in_ok-no.ensures.stack) in
     omega (arith, r)
+
+pub returns-clause-right : goal.returns-clause-right
+returns-clause-right c =
+    let same = c.in_ok-copy.ensures in
+    caller_pushed c.args.self.now c.enter.new.self c.args.caller c.args.code c.in_ok-no.no c.push.new.self c.in_ok-no.ensures.number
+    (subst (λ (t : Task). HasEntered c.args.self.now t c.enter.new.self) same c.in_ok-no.ensures.added)
+    (subst (λ (t : Task). EntersSite c.args.self.now t c.enter.new.self) same c.in_ok-no.ensures.right) c.requires.may
+    (last_unrecorded c.args.self.now.ledger c.requires.site.ledger) c.requires.absent c.requires.caller.waits.left c.in_ok-push.ensures.items

@@ -2,6 +2,8 @@ use Rattle.std.proofs.Common.{ap}
 use Rattle.pie_topdown.proofs.Twice.{reads_then}
 use Rattle.pie_topdown.proofs.Growing.{noted_below}
 use Rattle.pie_topdown.proofs.Stacking.{same_site}
+use Rattle.pie_value.specs.declared.event.Event.TheVariants as events
+use Rattle.pie_topdown.proofs.Happening.{fetched_looks}
 use Rattle.pie_topdown.proofs.builder.Builder.read.Goals as goal
 
 pub fetch-requires : goal.fetch-requires
@@ -16,3 +18,9 @@ pub returns-clause-reads : goal.returns-clause-reads
 returns-clause-reads g c =
     reads_then g.F.Files.holds g.F.Files.moment g.F.Files.left_since g.F.Files.images g.F.Files.faults c.args.files.now c.fetch.new.files
     c.read_there.new.files _ c.read_there.result c.in_ok-fetch.ensures.reads c.read_there.ensures.reads
+
+pub returns-clause-right : goal.returns-clause-right
+returns-clause-right g c =
+    fetched_looks (g.F.Files.holds c.args.files.now) (g.F.Files.holds c.fetch.new.files) c.args.self.now c.fetch.new.self c.read_there.new.self c.args.waiting
+    (events.Read c.args.path c.args.by) c.args.path c.read_there.result c.in_ok-fetch.ensures.reads.same c.fetch.ensures.same c.requires.site c.requires.noted.ended
+    c.in_ok-fetch.ensures.fetches c.read_there.ensures.right

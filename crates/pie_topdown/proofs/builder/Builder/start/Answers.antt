@@ -2,6 +2,7 @@ use Rattle.std.proofs.Common.{◌∙◌, refl, ap}
 use Rattle.std.specs.Prelude.{slice_get}
 use Rattle.pie_topdown.proofs.Growing.{begun_noted}
 use Rattle.pie_topdown.proofs.Stacking.{grown_site}
+use Rattle.pie_topdown.proofs.Resumed.{starts_turn}
 use Rattle.pie_topdown.proofs.builder.Builder.start.Goals as goal
 
 pub returns-clause-turns : goal.returns-clause-turns
@@ -13,3 +14,8 @@ returns-clause-turns c = record {
         (ap (λ ts. slice_get ts c.args.no.0) c.runs.ensures.names ∙ c.task.ensures) c.in_ok-task.ensures.started.notes;
   };
 }
+
+pub returns-clause-right : goal.returns-clause-right
+returns-clause-right c =
+    starts_turn c.args.self.now _ c.args.no.0 c.args.code.now c.task.result.now c.in_ok-task.task c.runs.ensures.started refl c.task.ensures
+    c.in_ok-task.ensures.started c.requires.site
