@@ -1,16 +1,28 @@
 -- A build by what was found, and the manifest after it.
 use Rattle.std.proofs.Common.{◌≡◌, ℕ, Bool, true, false, List, refl, sym, ap, subst, ◌∙◌}
-use Rattle.std.specs.Prelude.{◌||◌, Option, None, Some, IfSome}
-use Rattle.pie_base.specs.Path.{is_out, same_text}
+use Rattle.std.specs.Prelude.{◌||◌, ◌&&◌, not, Option, None, Some, IfSome, Result, Ok, Err, IfOk, OnOk, Vec}
+use Rattle.std.specs.declared.alloc.Global.{Global}
+use Rattle.std.proofs.lemmas.Bool.{false≢true}
+use Rattle.pie_base.specs.Path.{is_kept, is_out, is_source, same_text}
 use Rattle.pie_build.specs.Left.{may_change, KeepsRest}
 use Rattle.pie_files.specs.Directory.{Directory, file_at}
 use Rattle.pie_incremental.proofs.OwnPaths.{or_left, or_right}
 use Rattle.pie_incremental.specs.Kept.{is_builders}
 use Rattle.pie_incremental.specs.Own.{open_path, pending_path, store_path}
 use Rattle.pie_listing.specs.Held.{manifest_path}
+use Rattle.pie_listing.specs.declared.listing.Scan.{Scan}
+use Rattle.pie_listing.specs.inner.Steps.{HasSeen}
+use Rattle.pie_listing.proofs.Joining.{still_sources}
+use Rattle.pie_scan.specs.Scanned.{AreScanned}
+use Rattle.pie_scan.specs.declared.entry.Entry.{Entry}
+use Rattle.pie_report.specs.declared.report.Report.{Report}
 use Rattle.pie_value.specs.declared.verdict.Verdict.TheVariants.{Accepted}
-use Rattle.pie_auto.specs.Found.{Follows, KeepsOutside, may_find}
+use Rattle.pie_auto.specs.declared.automatic.Automatic.{Automatic}
+use Rattle.pie_auto.specs.Found.{BuildsBy, Follows, KeepsOutside, may_find}
+use Rattle.pie_auto.specs.inner.Parts.{IsFollowed}
 use Rattle.pie_auto.specs.Kept.{KeepsAllButManifest, Wrote}
+use Rattle.pie_auto.specs.inner.Drafts.{AreSeen, AreSeenIn}
+use Rattle.pie_auto.proofs.Keeping.{apart}
 
 none_of_four : (a b c d : Bool) → a ≡ false → b ≡ false → c ≡ false → d ≡ false → (a || (b || c || d)) ≡ false
 none_of_four a b c d p q r s =
@@ -61,7 +73,49 @@ pub ruleset outside = (of_build, of_both, outside_then, outside_same)
 -- ---- what follows a build
 
 -- the manifest was kept, or there was no store
-pub kept_follows : (before after : Option Directory) (tops : List (List ℕ)) (wrote : Bool) → IfSome before (λ d. Wrote wrote tops d after)
-    → Follows Accepted tops before after
-kept_follows None after tops wrote h = tt
-kept_follows (Some d) after tops wrote h = (wrote, h)
+pub kept_follows : (before after : Option Directory) (tops : List (List ℕ)) (seen : Option (Vec Entry Global)) (wrote : Bool)
+    → IfSome before (λ d. AreSeen d tops seen → Wrote wrote tops d after) → AreSeenIn before tops seen → Follows Accepted tops before after
+kept_follows None after tops seen wrote h right = tt
+kept_follows (Some d) after tops seen wrote h right = (wrote, h right)
+
+-- ---- what was seen before the build
+
+not_first : (a b : Bool) → (not a && b) ≡ true → a ≡ false
+not_first true b e = absurd (false≢true e)
+not_first false b e = refl
+
+none_in_row : (a b c d : Bool) → a ≡ false → b ≡ false → c ≡ false → d ≡ false → (a || b || c || d) ≡ false
+none_in_row a b c d p q r s =
+    ap (λ x. x || b || c || d) p ∙ ap (λ x. false || x || c || d) q ∙ ap (λ x. false || false || x || d) r ∙ ap (λ x. false || false || false || x) s
+
+-- a build changes no source
+source_stays : (q : List ℕ) → is_source q ≡ true → may_change q ≡ false
+source_stays q on =
+    none_in_row (is_out q) (same_text q open_path) (same_text q store_path) (same_text q pending_path) (not_first (is_out q) (not (is_kept q)) on)
+    (apart is_source q open_path on refl) (apart is_source q store_path on refl) (apart is_source q pending_path on refl)
+
+-- what a scan saw of sources is right still after it
+pub seen_still : (d : Directory) (mid : Option Directory) (tops : List (List ℕ)) (s : Scan) → HasSeen d tops s → KeepsRest (Some d) mid
+    → AreSeenIn mid tops s.entries
+seen_still d mid tops s seen keeps =
+    subst (λ m. AreSeenIn m tops s.entries) (sym keeps.kept.1) (by s.entries seen)
+  where
+    by : (entries : Option (Vec Entry Global)) → IfSome entries (λ es. AreScanned d tops es.items) → AreSeen keeps.kept.0 tops entries
+    by None h = tt
+    by (Some es) h = still_sources d keeps.kept.0 tops es.items (λ q on. keeps.kept.2 q (source_stays q on)) h
+
+-- what follows the build, by what was seen before it
+module _ {E : Type 0} (mid after : Option Directory) (tops : List (List ℕ)) (s : Scan) (report : Report) where
+  followed_by : (d : Directory) (result : Result Automatic E) → BuildsBy s.listing d report mid → KeepsRest (Some d) mid
+      → (AreSeenIn mid tops s.entries → OnOk result (Follows report.verdict tops mid after)) → IfOk result (λ f. f.listing ≡ s.listing)
+      → IfOk result (λ f. f.report ≡ report) → HasSeen d tops s → IfOk result (λ f. IsFollowed tops d f.listing f.report after)
+  followed_by d (Ok f) built keeps follows listing told seen =
+      subst (λ l. IsFollowed tops d l f.report after) (sym listing)
+      (subst (λ r. IsFollowed tops d s.listing r after) (sym told) (mid, built, follows (seen_still d mid tops s seen keeps)))
+  followed_by d (Err e) built keeps follows listing told seen = tt
+
+  pub followed_if : (o : Option Directory) (result : Result Automatic E) → IfSome o (λ d. BuildsBy s.listing d report mid) → KeepsRest o mid
+      → (AreSeenIn mid tops s.entries → OnOk result (Follows report.verdict tops mid after)) → IfOk result (λ f. f.listing ≡ s.listing)
+      → IfOk result (λ f. f.report ≡ report) → IfSome o (λ d. HasSeen d tops s → IfOk result (λ f. IsFollowed tops d f.listing f.report after))
+  followed_if None result built keeps follows listing told = tt
+  followed_if (Some d) result built keeps follows listing told = followed_by d result built keeps follows listing told

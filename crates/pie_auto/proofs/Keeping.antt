@@ -1,6 +1,6 @@
 -- What the plan leaves that writes a manifest.
 use Rattle.std.proofs.Common.{◌≡◌, ℕ, Bool, true, false, cond, List, [], ◌∷◌, refl, sym, ap, subst, ◌∙◌}
-use Rattle.std.specs.Prelude.{◌&&◌, ◌||◌, Option, None, Some, Result, Ok, Err, IfSome, OnOk, Vec}
+use Rattle.std.specs.Prelude.{◌&&◌, ◌||◌, is_some, Option, None, Some, Result, Ok, Err, IfSome, OnOk, Vec}
 use Rattle.std.specs.List.{list_all, list_any}
 use Rattle.std.specs.Option.{option_map}
 use Rattle.std.specs.declared.alloc.Global.{Global}
@@ -9,20 +9,21 @@ use Rattle.sha2.specs.Sha256.{sha256}
 use Rattle.pie_base.specs.Path.{is_out, same_text}
 use Rattle.pie_commit.proofs.Standing.{same_path}
 use Rattle.pie_commit.specs.Outcomes.{HasBrought, KeepsOthers}
-use Rattle.pie_commit.specs.declared.plan.Pending.{Pending}
 use Rattle.pie_commit.specs.declared.plan.Plan.{Plan}
 use Rattle.pie_commit.specs.inner.Plans.{Brings, Bytes, Gone, Meets, Same, Wanted, at, changes, has_own_places, is_empty, is_none, is_own, is_sound, keeps, later, may_be_written, pended, removed, stored, stores_none, wanted_by, written}
 use Rattle.pie_files.specs.Directory.{Directory, file_at}
 use Rattle.pie_files.specs.declared.files.FilesError.{FilesError}
+use Rattle.pie_files.specs.declared.files.Found.{Found}
 use Rattle.pie_incremental.proofs.Commits.{changes_wanted, cond_same}
 use Rattle.pie_incremental.proofs.OwnPaths.{or_left, or_right, five_off, places}
 use Rattle.pie_incremental.specs.Kept.{is_builders}
 use Rattle.pie_incremental.specs.Own.{open_path, pending_path}
 use Rattle.pie_listing.specs.Held.{bytes_at, hash_in, manifest_path, store_path}
+use Rattle.pie_scan.proofs.Naming.{same_is}
 use Rattle.pie_scan.specs.Scanned.{AreScanned, entry_in, entry_of, is_scanned}
 use Rattle.pie_scan.specs.declared.entry.Entry.{Entry}
 use Rattle.pie_auto.specs.Kept.{HasWritten, KeepsAllButManifest, KeepsButManifest, Wrote}
-use Rattle.pie_auto.specs.inner.Drafts.{IsManifestPlan, WritesManifest, WritesOne}
+use Rattle.pie_auto.specs.inner.Drafts.{AreSeen, HoldsText, IsTextOf, StandsThere, WritesManifest, WritesOne}
 
 later_same : (x : Wanted) → later x Same ≡ x
 later_same Same = refl
@@ -60,7 +61,7 @@ marker_gone : (p : Plan) → has_own_places p ≡ true → wanted_by p open_path
 marker_gone p own = ap (λ m. later (at m Gone open_path) (changes p open_path)) (places p own).marker
 
 -- a path for which a test holds is none for which it doesn't
-apart : (test : List ℕ → Bool) (q path : List ℕ) → test q ≡ true → test path ≡ false → same_text q path ≡ false
+pub apart : (test : List ℕ → Bool) (q path : List ℕ) → test q ≡ true → test path ≡ false → same_text q path ≡ false
 apart test q path on off = elim (same_text q path) as (λ b. same_text q path ≡ b → b ≡ false) [
   | true ↦ λ e. absurd (false≢true (sym off ∙ (ap test (sym (same_path q path e)) ∙ on)))
   | false ↦ λ e. refl
@@ -98,37 +99,114 @@ has_work p (b, one) =
     ∙ ap (λ ws. true && is_none ws && stores_none p.store && keeps p.pending) one.writes
 
 -- the plan done
-written_by : (d left : Directory) (tops : List (List ℕ)) (store : List ℕ) (p : Plan) → IsManifestPlan d tops store p
-    → hash_in d store_path ≡ Some store → Brings (wanted_by p) d left → HasWritten tops d (Some left)
-written_by d left tops store p plan is brings =
-    let one = plan.draft.one in
-    let b = plan.draft.bytes in
-    let text = plan.draft.text in
+held_by : (d left : Directory) (p : Plan) (b : Vec ℕ Global) → WritesOne b p → Brings (wanted_by p) d left → HoldsText b.items d (Some left)
+held_by d left p b one brings =
     let changed : (q : List ℕ) → same_text q open_path ≡ false → Meets (changes p q) (file_at d q) (file_at left q) =
     λ q off. subst (λ w. Meets w (file_at d q) (file_at left q)) (changes_wanted p one.places q off) (brings q) in
     let gone = subst (λ w. Meets w (file_at d open_path) (file_at left open_path)) (marker_gone p one.places) (brings open_path) in
-    let rest = elsewhere p b one d left changed in
     record {
       left = left;
       told = refl;
-      manifest = record {
-        manifest = text.manifest;
-        held = record { bytes = b.items; there = there p b one d left changed; text = text.text };
-        its_store = store_still tops d left rest ∙ (is ∙ ap Some (sym text.its_store));
-        its_tops = text.its_tops;
-        scanned = subst (AreScanned left tops) (sym text.its_entries) (scanned_still tops d left rest plan.entries plan.scanned);
-      };
-      rest = rest;
-      closed = ap (option_map (λ (f : List ℕ × ℕ). f.0)) gone;
+      stands = record { there = there p b one d left changed; closed = ap (option_map (λ (f : List ℕ × ℕ). f.0)) gone };
+      rest = elsewhere p b one d left changed;
     }
 
-pub written_if : {A : Type 0} (o after : Option Directory) (tops : List (List ℕ)) (store : List ℕ) (p : Plan) (result : Result A FilesError)
-    → IfSome o (λ d. IsManifestPlan d tops store p) → OnOk result (HasBrought (wanted_by p) o after)
-    → IfSome o (λ d. hash_in d store_path ≡ Some store → OnOk result (Wrote true tops d after))
-written_if None after tops store p result plan done = tt
-written_if (Some d) after tops store p (Ok a) plan done = λ is.
-    subst (HasWritten tops d) (sym done.1) (written_by d done.0 tops store p plan is done.2)
-written_if (Some d) after tops store p (Err e) plan done = λ is. tt
+pub held_if : {A : Type 0} (o after : Option Directory) (p : Plan) (b : Vec ℕ Global) (result : Result A FilesError) → WritesOne b p
+    → OnOk result (HasBrought (wanted_by p) o after) → IfSome o (λ d. OnOk result (HoldsText b.items d after))
+held_if None after p b result one done = tt
+held_if (Some d) after p b (Ok a) one done = subst (HoldsText b.items d) (sym done.1) (held_by d done.0 p b one done.2)
+held_if (Some d) after p b (Err e) one done = tt
+
+no_file : (o : Option (List ℕ × ℕ)) → false ≡ is_some o → o ≡ None
+no_file None e = refl
+no_file (Some f) e = absurd (false≢true e)
+
+-- a file with this text is at the place of the manifest, and there is none at that of the marker
+module _ (marker place text bytes : List ℕ) (there same : Bool) (seen : Option Found) (found : Found) (at_marker : marker ≡ open_path)
+    (at_place : place ≡ manifest_path) (some : seen ≡ Some found) (none : there ≡ false) (its : bytes ≡ found.bytes.items) (is : same ≡ same_text bytes text) where
+  stands_in : (d : Directory) → there ≡ is_some (file_at d marker) → option_map (λ (f : Found). (f.bytes.items, f.mark)) seen ≡ file_at d place → same ≡ true
+      → StandsThere d text
+  stands_in d looked read on =
+      let file : Some (found.bytes.items, found.mark) ≡ file_at d manifest_path =
+      ap (option_map (λ (f : Found). (f.bytes.items, f.mark))) (sym some) ∙ read ∙ ap (λ (q : List ℕ). file_at d q) at_place in
+      let no_marker : file_at d open_path ≡ None =
+      no_file (file_at d open_path) (sym none ∙ looked ∙ ap (λ (q : List ℕ). is_some (file_at d q)) at_marker) in
+      let text_is : found.bytes.items ≡ text = sym its ∙ same_is bytes text (sym is ∙ on) in
+      record {
+        there = ap (option_map (λ (f : List ℕ × ℕ). f.0)) (sym file) ∙ ap Some text_is;
+        closed = ap (option_map (λ (f : List ℕ × ℕ). f.0)) no_marker;
+      }
+
+  pub stands_if : (o mid : Option Directory) → mid ≡ o → IfSome o (λ d. there ≡ is_some (file_at d marker))
+      → IfSome mid (λ d. option_map (λ (f : Found). (f.bytes.items, f.mark)) seen ≡ file_at d place) → IfSome o (λ d. same ≡ true → StandsThere d text)
+  stands_if o mid still looked read =
+      by o looked (subst (λ m. IfSome m (λ d. option_map (λ (f : Found). (f.bytes.items, f.mark)) seen ≡ file_at d place)) still read)
+    where
+      by : (m : Option Directory) → IfSome m (λ d. there ≡ is_some (file_at d marker))
+          → IfSome m (λ d. option_map (λ (f : Found). (f.bytes.items, f.mark)) seen ≡ file_at d place) → IfSome m (λ d. same ≡ true → StandsThere d text)
+      by None a b = tt
+      by (Some d) a b = stands_in d a b
+
+-- where the look found that it stands
+pub held_there : (o after : Option Directory) (text items : List ℕ) (stood : Bool) → after ≡ o → text ≡ items → stood ≡ true
+    → IfSome o (λ d. stood ≡ true → StandsThere d text) → IfSome o (λ d. HoldsText items d after)
+held_there None after text items stood same is on h = tt
+held_there (Some d) after text items stood same is on h =
+    record { left = d; told = same; stands = subst (StandsThere d) is (h on); rest = λ q off. refl }
+
+-- where it was put there after the look
+pub held_then : {A : Type 0} (o mid after : Option Directory) (p : Plan) (b : Vec ℕ Global) (result : Result A FilesError) → mid ≡ o → WritesOne b p
+    → OnOk result (HasBrought (wanted_by p) mid after) → IfSome o (λ d. OnOk result (HoldsText b.items d after))
+held_then o mid after p b result same one done = held_if o after p b result one (subst (λ m. OnOk result (HasBrought (wanted_by p) m after)) same done)
+
+-- the text of a manifest of a directory, once it stands there
+written_by : (d : Directory) (after : Option Directory) (tops : List (List ℕ)) (store text : List ℕ) (entries : List Entry) → AreScanned d tops entries
+    → IsTextOf tops store entries text → hash_in d store_path ≡ Some store → HoldsText text d after → HasWritten tops d after
+written_by d after tops store text entries scanned of is h = record {
+  left = h.left;
+  told = h.told;
+  manifest = record {
+    manifest = of.manifest;
+    held = record { bytes = text; there = h.stands.there; text = of.text };
+    its_store = store_still tops d h.left h.rest ∙ (is ∙ ap Some (sym of.its_store));
+    its_tops = of.its_tops;
+    scanned = subst (AreScanned h.left tops) (sym of.its_entries) (scanned_still tops d h.left h.rest entries scanned);
+  };
+  rest = h.rest;
+  closed = h.stands.closed;
+}
+
+module _ {A : Type 0} (o mid after : Option Directory) (tops : List (List ℕ)) (store text : List ℕ) (entries : List Entry)
+    (seen : Option (Vec Entry Global)) (result : Result A FilesError) where
+  pub written_if : IfSome o (λ d. AreSeen d tops seen → AreScanned d tops entries) → IsTextOf tops store entries text → mid ≡ o
+      → IfSome mid (λ d. OnOk result (HoldsText text d after))
+      → IfSome o (λ d. AreSeen d tops seen → hash_in d store_path ≡ Some store → OnOk result (Wrote true tops d after))
+  written_if scanned of same h = by o scanned (subst (λ m. IfSome m (λ d. OnOk result (HoldsText text d after))) same h)
+    where
+      by_result : (r : Result A FilesError) (d : Directory) → AreScanned d tops entries → hash_in d store_path ≡ Some store → OnOk r (HoldsText text d after)
+          → OnOk r (HasWritten tops d after)
+      by_result (Ok a) d are is k = written_by d after tops store text entries are of is k
+      by_result (Err e) d are is k = tt
+
+      by : (m : Option Directory) → IfSome m (λ d. AreSeen d tops seen → AreScanned d tops entries)
+          → IfSome m (λ d. OnOk result (HoldsText text d after))
+          → IfSome m (λ d. AreSeen d tops seen → hash_in d store_path ≡ Some store → OnOk result (HasWritten tops d after))
+      by None are k = tt
+      by (Some d) are k = λ right is. by_result result d (are right) is k
+
+-- with the store that was hashed before
+pub wrote_if : (o mid after : Option Directory) (tops : List (List ℕ)) (seen : Option (Vec Entry Global)) (hash : Option (List ℕ)) (store : List ℕ) → mid ≡ o
+    → hash ≡ Some store → IfSome o (λ d. hash ≡ hash_in d store_path)
+    → IfSome mid (λ d. AreSeen d tops seen → hash_in d store_path ≡ Some store → HasWritten tops d after)
+    → IfSome o (λ d. AreSeen d tops seen → HasWritten tops d after)
+wrote_if o mid after tops seen hash store same is hashed kept =
+    by o hashed (subst (λ m. IfSome m (λ d. AreSeen d tops seen → hash_in d store_path ≡ Some store → HasWritten tops d after)) same kept)
+  where
+    by : (m : Option Directory) → IfSome m (λ d. hash ≡ hash_in d store_path)
+        → IfSome m (λ d. AreSeen d tops seen → hash_in d store_path ≡ Some store → HasWritten tops d after)
+        → IfSome m (λ d. AreSeen d tops seen → HasWritten tops d after)
+    by None a b = tt
+    by (Some d) a b = λ right. b right (sym a ∙ is)
 
 -- ---- the paths that it may change
 

@@ -8,15 +8,18 @@ ghost use Rattle.pie_value.specs.Canonical.{IsEncodableTask};
 ghost use Rattle.pie_value.specs.declared.verdict.Verdict.TheVariants.{Accepted};
 ghost use Rattle.pie_auto.specs.Found.{BuildsBy, Follows, HasFound, KeepsOutside};
 ghost use Rattle.pie_auto.specs.Kept.{KeepsAllButManifest};
+ghost use Rattle.pie_auto.specs.inner.Drafts.{AreSeenIn};
 ghost use Rattle.pie_auto.specs.inner.Parts.{IsFollowed};
+ghost use Rattle.pie_listing.specs.inner.Steps.{AreOrdered, HasSeen};
 
 use crate::keep_manifest;
 use pie_base::Path;
 use pie_files::{Files, FilesError};
 use pie_incremental::build;
-use pie_listing::{Listing, list};
+use pie_listing::{Listing, Scan, list_scanned};
 use pie_project::BuildError;
 use pie_report::Report;
+use pie_scan::Entry;
 use pie_topdown_build::build_topdown;
 use pie_value::Verdict;
 use pie_vm::Runs;
@@ -50,8 +53,8 @@ pub fn auto<F: Files>(
     ensures says { IfSome (F.holds files.old) (λ d. RefusesRight d result) }
     ensures told { Tells F.faults files.old files.new result }
 {
-    match list(alloc, files, tops) {
-        Ok(listing) => with_listing(alloc, files, tops, listing, runs),
+    match list_scanned(alloc, files, tops) {
+        Ok(scan) => with_scan(alloc, files, tops, scan, runs),
         Err(FilesError::Failed) => Err(BuildError::Files),
         Err(FilesError::OutOfMemory) => Err(BuildError::OutOfMemory),
     }
@@ -59,15 +62,16 @@ pub fn auto<F: Files>(
 
 // Builds by what was found, and keeps the manifest.
 #[tactic(auto, using(crate::proofs::Finding::outside, crate::proofs::Refusing::found, crate::proofs::Refusing::never))]
-fn with_listing<F: Files>(
+fn with_scan<F: Files>(
     alloc: Global,
     files: &mut F,
     tops: &[Path],
-    listing: Listing,
+    scan: Scan,
     runs: &mut Runs,
 ) -> Result<Automatic, BuildError>
-    ensures listing { IfOk result (λ found. found.listing ≡ listing) }
-    ensures followed { IfSome (F.holds files.old) (λ d. IfOk result (λ found. IsFollowed tops.now d found.listing found.report (F.holds files.new))) }
+    requires { AreOrdered scan.entries }
+    ensures listing { IfOk result (λ found. found.listing ≡ scan.listing) }
+    ensures followed { IfSome (F.holds files.old) (λ d. HasSeen d tops.now scan → IfOk result (λ found. IsFollowed tops.now d found.listing found.report (F.holds files.new))) }
     ensures rest { KeepsOutside (F.holds files.old) (F.holds files.new) }
     ensures refused { IsRefusal result → F.holds files.new ≡ F.holds files.old }
     ensures ran { IfOk result (λ found. runs.new ≡ runs.old ++ found.report.ran.items) }
@@ -76,8 +80,8 @@ fn with_listing<F: Files>(
     ensures says { IfSome (F.holds files.old) (λ d. RefusesRight d result) }
     ensures told { Tells F.faults files.old files.new result }
 {
-    match build_by(alloc, files, &listing, runs) {
-        Ok(report) => finish(alloc, files, tops, listing, report),
+    match build_by(alloc, files, &scan.listing, runs) {
+        Ok(report) => finish(alloc, files, tops, scan, report),
         Err(error) => Err(error),
     }
 }
@@ -109,17 +113,19 @@ fn finish<F: Files>(
     alloc: Global,
     files: &mut F,
     tops: &[Path],
-    listing: Listing,
+    scan: Scan,
     report: Report,
 ) -> Result<Automatic, BuildError>
-    ensures listing { IfOk result (λ found. found.listing ≡ listing) }
+    requires { AreOrdered scan.entries }
+    ensures listing { IfOk result (λ found. found.listing ≡ scan.listing) }
     ensures report { IfOk result (λ found. found.report ≡ report) }
-    ensures follows { OnOk result (Follows report.verdict tops.now (F.holds files.old) (F.holds files.new)) }
+    ensures follows { AreSeenIn (F.holds files.old) tops.now scan.entries → OnOk result (Follows report.verdict tops.now (F.holds files.old) (F.holds files.new)) }
     ensures rest { KeepsAllButManifest (F.holds files.old) (F.holds files.new) }
     ensures accepted { IsRefusal result → ⊥ }
     ensures told { Tells F.faults files.old files.new result }
 {
-    match keep(alloc, files, tops, &report.verdict) {
+    let Scan { listing, entries } = scan;
+    match keep(alloc, files, tops, entries, &report.verdict) {
         Ok(()) => Ok(Automatic { listing, report }),
         Err(error) => Err(error),
     }
@@ -130,26 +136,34 @@ fn keep<F: Files>(
     alloc: Global,
     files: &mut F,
     tops: &[Path],
+    seen: Option<Vec<Entry>>,
     verdict: &Verdict,
 ) -> Result<(), BuildError>
-    ensures follows { OnOk result (Follows verdict.now tops.now (F.holds files.old) (F.holds files.new)) }
+    requires { AreOrdered seen }
+    ensures follows { AreSeenIn (F.holds files.old) tops.now seen → OnOk result (Follows verdict.now tops.now (F.holds files.old) (F.holds files.new)) }
     ensures rest { KeepsAllButManifest (F.holds files.old) (F.holds files.new) }
     ensures accepted { IsRefusal result → ⊥ }
     ensures told { Tells F.faults files.old files.new result }
 {
     match verdict {
-        Verdict::Accepted => keep_accepted(alloc, files, tops),
+        Verdict::Accepted => keep_accepted(alloc, files, tops, seen),
         Verdict::Refused(_) => Ok(()),
     }
 }
 
-fn keep_accepted<F: Files>(alloc: Global, files: &mut F, tops: &[Path]) -> Result<(), BuildError>
-    ensures follows { OnOk result (Follows Accepted tops.now (F.holds files.old) (F.holds files.new)) }
+fn keep_accepted<F: Files>(
+    alloc: Global,
+    files: &mut F,
+    tops: &[Path],
+    seen: Option<Vec<Entry>>,
+) -> Result<(), BuildError>
+    requires { AreOrdered seen }
+    ensures follows { AreSeenIn (F.holds files.old) tops.now seen → OnOk result (Follows Accepted tops.now (F.holds files.old) (F.holds files.new)) }
     ensures rest { KeepsAllButManifest (F.holds files.old) (F.holds files.new) }
     ensures accepted { IsRefusal result → ⊥ }
     ensures told { Tells F.faults files.old files.new result }
 {
-    match keep_manifest(alloc, files, tops) {
+    match keep_manifest(alloc, files, tops, seen) {
         Ok(_) => Ok(()),
         Err(FilesError::Failed) => Err(BuildError::Files),
         Err(FilesError::OutOfMemory) => Err(BuildError::OutOfMemory),

@@ -5,32 +5,38 @@ ghost use Rattle.pie_commit.specs.inner.Plans.{wanted_by};
 ghost use Rattle.pie_files.specs.Reading.{ReadsOnly};
 ghost use Rattle.pie_files.specs.Streams.{Counted};
 ghost use Rattle.pie_listing.specs.Held.{hash_in, store_path};
+ghost use Rattle.pie_listing.specs.inner.Steps.{AreOrdered};
 ghost use Rattle.pie_scan.specs.Entries.{AreInOrder};
+ghost use Rattle.pie_scan.specs.Scanned.{AreScanned};
 ghost use Rattle.pie_scan.specs.Texts.{HasMark};
 ghost use Rattle.pie_auto.specs.Kept.{KeepsAllButManifest, Wrote};
-ghost use Rattle.pie_auto.specs.inner.Drafts.{IsDraft, IsManifestPlan, IsTextOf, WritesManifest, WritesOne};
+ghost use Rattle.pie_auto.specs.inner.Drafts.{AreSeen, HoldsText, IsTextOf, StandsThere, WritesManifest, WritesOne};
 
 use pie_base::{OutOfMemory, Path};
 use pie_commit::{Pending, Plan, commit};
 use pie_files::{Files, FilesError};
+use pie_listing::rescan;
 use pie_scan::{Entries, Entry, Manifest, Tops, in_path_order, scan, write_manifest};
 use std::alloc::Global;
 
-/// Writes the manifest of what the directory holds, of the sources at or below these tops and of the files under `out/`, and answers whether it
-/// did: without a store there is none. It is made whole before the first write. Rule: docs/FORMATS.md, "The manifest".
+/// Sees to it that the directory holds its own manifest, of the sources at or below these tops and of the files under `out/`, and answers whether it
+/// does: without a store there is none. Where the entries of the sources were seen before, and no source has changed since, no source is read. The
+/// manifest is made whole before the first write, and where it stands there already nothing is written. Rule: docs/FORMATS.md, "The manifest".
 #[tactic(auto, using(crate::proofs::Keeping::all_but))]
 pub fn keep_manifest<F: Files>(
     alloc: Global,
     files: &mut F,
     tops: &[Path],
+    seen: Option<Vec<Entry>>,
 ) -> Result<bool, FilesError>
-    ensures wrote { IfSome (F.holds files.old) (λ d. IfOk result (λ wrote. Wrote wrote tops.now d (F.holds files.new))) }
+    requires { AreOrdered seen }
+    ensures wrote { IfSome (F.holds files.old) (λ d. AreSeen d tops.now seen → IfOk result (λ wrote. Wrote wrote tops.now d (F.holds files.new))) }
     ensures rest { KeepsAllButManifest (F.holds files.old) (F.holds files.new) }
     ensures counted { Counted F.faults FilesError.Failed files.old files.new result }
 {
     match store_hash(alloc, files)? {
         Some(store) => {
-            put_manifest(alloc, files, tops, store)?;
+            put_manifest(alloc, files, tops, store, seen)?;
             Ok(true)
         }
         None => Ok(false),
@@ -48,20 +54,74 @@ fn store_hash<F: Files>(alloc: Global, files: &mut F) -> Result<Option<[u8; 32]>
     Ok(hash)
 }
 
-// Writes the manifest of a directory with this store.
+// Sees to the manifest of a directory with this store.
 #[tactic(auto, using(crate::proofs::Keeping::all_but))]
 fn put_manifest<F: Files>(
     alloc: Global,
     files: &mut F,
     tops: &[Path],
     store: [u8; 32],
+    seen: Option<Vec<Entry>>,
 ) -> Result<(), FilesError>
-    ensures kept { IfSome (F.holds files.old) (λ d. hash_in d store_path ≡ Some store → OnOk result (Wrote true tops.now d (F.holds files.new))) }
+    requires { AreOrdered seen }
+    ensures kept { IfSome (F.holds files.old) (λ d. AreSeen d tops.now seen → hash_in d store_path ≡ Some store → OnOk result (Wrote true tops.now d (F.holds files.new))) }
     ensures rest { KeepsAllButManifest (F.holds files.old) (F.holds files.new) }
     ensures counted { Counted F.faults FilesError.Failed files.old files.new result }
 {
-    let plan = plan_of(alloc, files, tops, store)?;
+    let entries = entries_now(alloc, files, tops, seen)?;
+    let text = text_of(alloc, tops, store, entries)?;
+    put_text(alloc, files, text)
+}
+
+// The entries of what is scanned: those of sources as they were seen, if they were.
+#[tactic(auto, using(pie_files::proofs::Reading::reads))]
+fn entries_now<F: Files>(
+    alloc: Global,
+    files: &mut F,
+    tops: &[Path],
+    seen: Option<Vec<Entry>>,
+) -> Result<Vec<Entry>, FilesError>
+    requires { AreOrdered seen }
+    ensures scanned { IfSome (F.holds files.old) (λ d. AreSeen d tops.now seen → IfOk result (λ entries. AreScanned d tops.now entries.items)) }
+    ensures ordered { IfOk result (λ entries. AreInOrder entries.items) }
+    ensures marks { IfOk result (λ entries. All HasMark entries.items) }
+    ensures reads { ReadsOnly F.holds F.moment F.left_since F.images F.faults files.old files.new result }
+{
+    match seen {
+        Some(seen) => rescan(alloc, files, seen.as_slice()),
+        None => scan(alloc, files, tops),
+    }
+}
+
+// Sees to it that this text stands at the place of the manifest, and no marker stands.
+#[tactic(auto, using(crate::proofs::Keeping::all_but))]
+fn put_text<F: Files>(alloc: Global, files: &mut F, text: Vec<u8>) -> Result<(), FilesError>
+    ensures held { IfSome (F.holds files.old) (λ d. OnOk result (HoldsText text.items d (F.holds files.new))) }
+    ensures rest { KeepsAllButManifest (F.holds files.old) (F.holds files.new) }
+    ensures counted { Counted F.faults FilesError.Failed files.old files.new result }
+{
+    if stands(alloc, files, text.as_slice())? {
+        return Ok(());
+    }
+    let plan = plan_with(alloc, text)?;
     put(files, &plan)
+}
+
+// Whether this text stands there already, and no marker does.
+#[tactic(auto, using(pie_files::proofs::Reading::reads))]
+fn stands<F: Files>(alloc: Global, files: &mut F, text: &[u8]) -> Result<bool, FilesError>
+    ensures there { IfSome (F.holds files.old) (λ d. IfOk result (λ there. there ≡ true → StandsThere d text.now)) }
+    ensures reads { ReadsOnly F.holds F.moment F.left_since F.images F.faults files.old files.new result }
+{
+    let marker = Path::known(alloc, ".pie/open")?;
+    if files.exists(&marker)? {
+        return Ok(false);
+    }
+    let place = Path::known(alloc, ".pie/manifest")?;
+    match files.read(&place)? {
+        Some(found) => Ok(found.bytes.as_slice() == text),
+        None => Ok(false),
+    }
 }
 
 // Does what such a plan says.
@@ -72,40 +132,6 @@ fn put<F: Files>(files: &mut F, plan: &Plan) -> Result<(), FilesError>
     ensures counted { Counted F.faults FilesError.Failed files.old files.new result }
 {
     commit(files, plan)
-}
-
-// The plan that writes it.
-#[tactic(auto, using(pie_files::proofs::Reading::reads))]
-fn plan_of<F: Files>(
-    alloc: Global,
-    files: &mut F,
-    tops: &[Path],
-    store: [u8; 32],
-) -> Result<Plan, FilesError>
-    ensures plan { IfSome (F.holds files.old) (λ d. IfOk result (IsManifestPlan d tops.now store)) }
-    ensures one { IfOk result WritesManifest }
-    ensures reads { ReadsOnly F.holds F.moment F.left_since F.images F.faults files.old files.new result }
-{
-    let entries = scan(alloc, files, tops)?;
-    let plan = draft(alloc, tops, store, entries)?;
-    Ok(plan)
-}
-
-// The plan that writes the manifest of these entries.
-fn draft(
-    alloc: Global,
-    tops: &[Path],
-    store: [u8; 32],
-    entries: Vec<Entry>,
-) -> Result<Plan, OutOfMemory>
-    requires ordered { AreInOrder entries.items }
-    requires marks { All HasMark entries.items }
-    ensures draft { IfOk result (IsDraft tops.now store entries.items) }
-    ensures one { IfOk result WritesManifest }
-{
-    let text = text_of(alloc, tops, store, entries)?;
-    let plan = plan_with(alloc, text)?;
-    Ok(plan)
 }
 
 // The text of the manifest. Where the number of tops has more than 32 bits, it is out of memory.

@@ -3,5 +3,7 @@
 
 mod kept;
 mod listing;
+mod renewing;
 
-pub use listing::{Listing, Reason, list};
+pub use listing::{Listing, Reason, Scan, list, list_scanned};
+pub use renewing::rescan;

@@ -3,7 +3,7 @@ use crate::cases::SITE_FILES;
 use crate::tests::{GONE, below, clean, fill, fill_sources, path, text_of};
 use pie_auto::auto;
 use pie_base::Path;
-use pie_files::SureFiles;
+use pie_files::{Call, Logged, SureFiles};
 use pie_listing::{Listing, Reason};
 use pie_vm::Runs;
 use std::alloc::Global;
@@ -188,4 +188,40 @@ fn run_turns(rt: &impl Abort, alloc: Global) -> Result<(), Fail> {
 #[test]
 fn what_changed_is_found_and_built(rt: HostRuntime) -> Result<(), Fail> {
     run_turns(&rt, rt.alloc())
+}
+
+// How often this path was looked at after so many calls, and whether something was written, removed or synced then.
+fn looks_after(files: &SureFiles, before: usize, path: &Path) -> (u64, bool) {
+    let mut looks = 0_u64;
+    let mut changed = false;
+    for (i, logged) in files.log().iter().enumerate() {
+        match logged {
+            _ if i < before => {}
+            Logged::Asked(Call::Read(of)) if of == path => looks = looks.wrapping_add(1),
+            Logged::Asked(_) => {}
+            _ => changed = true,
+        }
+    }
+    (looks, changed)
+}
+
+#[test]
+fn nothing_changed_is_one_look_at_each_source_and_no_write(rt: HostRuntime) -> Result<(), Fail> {
+    let alloc = rt.alloc();
+    let mut files = SureFiles::new(alloc);
+    let mut tops = Vec::new(alloc);
+    tops.push(path(alloc, "inc")?)?;
+    tops.push(path(alloc, "src")?)?;
+    fill(alloc, &mut files, &SITE_FILES)?;
+    told(alloc, &mut files, tops.as_slice())?;
+    let before = files.log().len();
+    let text = told(alloc, &mut files, tops.as_slice())?;
+    let (looks, changed) = looks_after(&files, before, &path(alloc, "src/a")?);
+    assert!(rt;
+        looks == 1 && !changed,
+        "{} looks: {}",
+        looks,
+        text.as_str()
+    );
+    Ok(())
 }

@@ -1,16 +1,19 @@
 -- The steps of a listing.
-use Rattle.std.specs.Prelude.{◌≡◌, ℕ, true, false, List, Option, Some, None, Ok, Err}
+use Rattle.std.specs.Prelude.{◌≡◌, ℕ, true, false, List, All, Option, Some, None, Ok, Err, IfSome, Vec}
+use Rattle.std.specs.declared.alloc.Global.{Global}
 use Rattle.pie_files.specs.Directory.{Directory, file_at, in_path_order}
 use Rattle.pie_scan.specs.declared.entry.Entry.{Entry}
 use Rattle.pie_scan.specs.declared.manifest.Manifest.{Manifest}
 use Rattle.pie_scan.specs.Changes.{AreChanged}
+use Rattle.pie_scan.specs.Entries.{AreInOrder}
 use Rattle.pie_scan.specs.Scanned.{AreScanned}
-use Rattle.pie_scan.specs.Texts.{IsManifest, IsManifestText}
+use Rattle.pie_scan.specs.Texts.{HasMark, IsManifest, IsManifestText}
 use Rattle.pie_scan.specs.inner.Reading.{manifest_says}
 use Rattle.pie_listing.specs.declared.kept.Kept.{Kept}
 use Rattle.pie_listing.specs.declared.kept.Kept.TheVariants.{Good, Bad}
 use Rattle.pie_listing.specs.declared.listing.Listing.{Listing}
 use Rattle.pie_listing.specs.declared.listing.Listing.TheVariants.{Listed, Unlisted}
+use Rattle.pie_listing.specs.declared.listing.Scan.{Scan}
 use Rattle.pie_listing.specs.declared.listing.Reason.TheVariants.{NoManifest, BadManifest, OtherStore, OtherTops}
 use Rattle.pie_listing.specs.Held.{manifest_path, store_path, bytes_at, hash_in, is_hash, same_paths}
 use Rattle.pie_listing.specs.Listings.{HoldsManifest, IsListing}
@@ -47,3 +50,11 @@ FollowsFrom d tops m (Unlisted NoManifest) = ⊥
 FollowsFrom d tops m (Unlisted (BadManifest fault)) = ⊥
 FollowsFrom d tops m (Unlisted OtherStore) = is_hash (hash_in d store_path) m.store ≡ false
 FollowsFrom d tops m (Unlisted OtherTops) = (is_hash (hash_in d store_path) m.store ≡ true) × (same_paths (in_path_order tops) m.tops ≡ false)
+
+-- where a directory was scanned for a listing, its entries were seen
+abbrev pub HasSeen : Directory → List (List ℕ) → Scan → Type 0
+HasSeen d tops s = IfSome s.entries (λ entries. AreScanned d tops entries.items)
+
+-- entries that were seen, if any, stand in path order, and a manifest has room for their marks
+abbrev pub AreOrdered : Option (Vec Entry Global) → Type 0
+AreOrdered seen = IfSome seen (λ entries. AreInOrder entries.items × All HasMark entries.items)

@@ -1,13 +1,8 @@
-use Rattle.std.proofs.Common.{subst}
-use Rattle.std.specs.Prelude.{OnOk}
-use Rattle.pie_commit.specs.Outcomes.{HasBrought}
-use Rattle.pie_commit.specs.inner.Plans.{wanted_by}
 use Rattle.pie_auto.proofs.Keeping.{written_if}
 use Rattle.pie_auto.proofs.manifest.put_manifest.Goals as goal
 
 pub returns-clause-kept : goal.returns-clause-kept
 returns-clause-kept g c =
-    written_if (g.F.Files.holds c.args.files.now) (g.F.Files.holds c.put.new.files) c.args.tops.now c.args.store c.in_ok-plan.plan c.put.result
-    c.in_ok-plan.ensures.plan
-    (subst (λ o. OnOk c.put.result (HasBrought (wanted_by c.in_ok-plan.plan) o (g.F.Files.holds c.put.new.files))) c.in_ok-plan.ensures.reads.same
-    c.put.ensures.done)
+    written_if (g.F.Files.holds c.args.files.now) (g.F.Files.holds c.entries_now.new.files) (g.F.Files.holds c.put_text.new.files) c.args.tops.now c.args.store
+    c.in_ok-text.text.items c.in_ok-entries.entries.items c.args.seen c.put_text.result c.in_ok-entries.ensures.scanned c.in_ok-text.ensures
+    c.in_ok-entries.ensures.reads.same c.put_text.ensures.held

@@ -1,0 +1,13 @@
+use Rattle.pie_auto.proofs.Finding.{of_both, followed_if}
+use Rattle.pie_auto.proofs.automatic.with_scan.Goals as goal
+
+pub returns-in-Ok-clause-rest : goal.returns-in-Ok-clause-rest
+returns-in-Ok-clause-rest g c =
+    of_both (g.F.Files.holds c.args.files.now) (g.F.Files.holds c.build_by.new.files) (g.F.Files.holds c.finish.new.files) c.in-Ok.ensures.rest
+    c.finish.ensures.rest
+
+pub returns-in-Ok-clause-followed : goal.returns-in-Ok-clause-followed
+returns-in-Ok-clause-followed g c =
+    followed_if (g.F.Files.holds c.build_by.new.files) (g.F.Files.holds c.finish.new.files) c.args.tops.now c.args.scan c.in-Ok.report
+    (g.F.Files.holds c.args.files.now) c.finish.result c.in-Ok.ensures.built c.in-Ok.ensures.rest c.finish.ensures.follows c.finish.ensures.listing
+    c.finish.ensures.report
