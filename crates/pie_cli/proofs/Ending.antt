@@ -6,6 +6,7 @@ use Rattle.pie_base.specs.declared.status.Status.TheVariants as status
 use Rattle.pie_files.specs.Faults.{Rose}
 use Rattle.pie_cli.specs.Run.{files_fault_text, is_answer, is_told, input_fault_text, Ends, Gains, GainsLine, Shows}
 use Rattle.pie_files.specs.Directory.{Directory}
+use Rattle.pie_files.specs.declared.files.Call.{Call}
 use Rattle.pie_script.specs.Steps.{Plain}
 use Rattle.pie_cli.specs.inner.Played.{Plays}
 use Rattle.pie_cli.specs.inner.Unread.{EndsUnread}
@@ -107,18 +108,20 @@ ends_memory Alone asked read_before read_after printed held gained = record {
 }
 
 -- where the steps of a script were done
-pub ends_played : {S : Type 0} (holds : S → Option Directory) (faults : S → ℕ) (json : Bool) (steps : List Plain) (old new : S)
+pub ends_played : {S : Type 0} (holds : S → Option Directory) (moment : S → ℕ) (left_since : S → ℕ → Directory → Type 0) (images : S → Directory → Type 0)
+    (asked : S → Option (List Call)) (faults : S → ℕ) (json : Bool) (steps : List Plain) (old new : S)
     (read_before read_after printed_before printed_after : ℕ) (held gained : Option (List ℕ)) (ended : Status)
-    → Plays holds faults json steps old new held gained ended → (ended ≡ status.Output → Rose printed_before printed_after)
+    → Plays holds moment left_since images asked faults json steps old new held gained ended → (ended ≡ status.Output → Rose printed_before printed_after)
     → (is_told ended ≡ true → printed_after ≡ printed_before) → read_after ≡ read_before
     → Ends ⊥ (faults old) (faults new) read_before read_after printed_before printed_after held gained ended
-ends_played holds faults json steps old new read_before read_after printed_before printed_after held gained ended p output steady same = record {
-  files = λ is. let f = p.failed is in
-      (f.0, (f.2.earlier, λ none. absurd none, subst (λ (text : List ℕ). Gains held gained text) f.2.is f.3));
-  input = λ is. absurd (p.no_input is);
-  output = output;
-  steady = λ a. ((p.played a).0, same, steady (answer_is_told ended a));
-  output_steady = λ is. steady (subst (λ s. is_told s ≡ true) (sym is) refl);
-  input_steady = λ is. same;
-  input_alone = λ is. absurd (p.no_input is);
-}
+ends_played holds moment left_since images asked faults json steps old new read_before read_after printed_before printed_after held gained ended p output
+    steady same = record {
+      files = λ is. let f = p.failed is in
+          (f.0, (f.2.earlier, λ none. absurd none, subst (λ (text : List ℕ). Gains held gained text) f.2.is f.3));
+      input = λ is. absurd (p.no_input is);
+      output = output;
+      steady = λ a. ((p.played a).0, same, steady (answer_is_told ended a));
+      output_steady = λ is. steady (subst (λ s. is_told s ≡ true) (sym is) refl);
+      input_steady = λ is. same;
+      input_alone = λ is. absurd (p.no_input is);
+    }

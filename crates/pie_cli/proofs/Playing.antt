@@ -10,11 +10,13 @@ use Rattle.pie_base.specs.declared.status.Status.{Status}
 use Rattle.pie_base.specs.declared.status.Status.TheVariants as status
 use Rattle.pie_build.specs.inner.Rebuilt.{Tells}
 use Rattle.pie_files.specs.Directory.{Directory}
+use Rattle.pie_files.specs.declared.files.Call.{Call}
 use Rattle.pie_files.specs.Faults.{Rose}
 use Rattle.pie_project.specs.declared.fault.BuildError.{BuildError}
 use Rattle.pie_project.specs.declared.fault.BuildError.TheVariants as errors
 use Rattle.pie_project.specs.Refusals.{OfPipeline, OfRoots, plain}
-use Rattle.pie_replay.specs.Replays.{Replays, Stopped, Went}
+use Rattle.pie_replay.specs.Looks.{LooksRight}
+use Rattle.pie_replay.specs.Replays.{Replays, Stopped, SurvivesStop, Went, WentLooking, WentSurviving}
 use Rattle.pie_replay.specs.Trace.{Trace}
 use Rattle.pie_replay.specs.Trace.Trace.{nothing, put, deleted, named, built}
 use Rattle.pie_report.specs.declared.report.Report.{Report}
@@ -25,7 +27,7 @@ use Rattle.pie_value.specs.declared.task.Task.{Task}
 use Rattle.pie_value.specs.declared.verdict.Verdict.{Verdict}
 use Rattle.pie_value.specs.declared.verdict.Verdict.TheVariants as verdicts
 use Rattle.pie_cli.specs.Fresh.{verdict_status}
-use Rattle.pie_cli.specs.Replay.{ArePrinted, HasFailed, HasStopped, ReplaySays, heading, last_status}
+use Rattle.pie_cli.specs.Replay.{ArePrinted, HasFailed, HasStopped, ReplaySays, StepsLeave, heading, last_status}
 use Rattle.pie_cli.specs.Run.{files_fault_text, is_answer, is_told, GainsPrefix, GainsSome, Shows}
 use Rattle.pie_cli.specs.inner.Played.{Adds, IsBefore, IsTellable, PlaySays, Plays, TellsScript}
 use Rattle.pie_cli.proofs.Statuses.{answer_is_told, fault_is_no_answer, memory_is_no_answer}
@@ -119,7 +121,8 @@ traced_tell holds start _ _ _ _ (deleted path t h) = traced_tell holds start _ _
 traced_tell holds start _ _ _ _ (named path t) = traced_tell holds start _ _ _ _ t
 traced_tell holds start _ _ _ _ (built {reports = rs} r t h) = All-push IsTellable rs r (traced_tell holds start _ _ _ _ t) h.encodable
 
-module _ {S : Type 0} (holds : S → Option Directory) where
+module _ {S : Type 0} (holds : S → Option Directory) (moment : S → ℕ) (left_since : S → ℕ → Directory → Type 0) (images : S → Directory → Type 0)
+    (asked : S → Option (List Call)) where
   went_tell : {T : Type 0} (steps : List Plain) (gained : List Report) (old new : S) (result : Result T BuildError) → Went holds steps gained old new result
       → All IsTellable gained
   went_tell steps gained old new (Ok done) went = traced_tell holds old steps went.0 gained new went.1
@@ -127,16 +130,21 @@ module _ {S : Type 0} (holds : S → Option Directory) where
 
   -- of a script that began with no reports
   pub replays_tell : {T : Type 0} (steps : List Plain) (old new : S) (after : List Report) (before : List Report) (runs ran : List Task)
-      (result : Result T BuildError) → before ≡ [] → Replays holds steps old new before after runs ran result → All IsTellable after
+      (result : Result T BuildError) → before ≡ [] → Replays holds moment left_since images asked steps old new before after runs ran result
+      → All IsTellable after
   replays_tell steps old new after before runs ran result none r =
       subst (All IsTellable) (sym (r.appended ∙ ap (λ (rs : List Report). rs ++ r.gained) none)) (went_tell steps r.gained old new result r.went)
 
   stopped_so : (json : Bool) (steps : List Plain) (reports : List Report) (old new : S) (e : BuildError) (line text : List ℕ)
-      → Stopped holds steps reports e old new → IsBefore json reports line text → HasStopped holds json steps old new e line text
-  stopped_so json steps reports old new e line text s b = record {
+      → (stopped : Stopped holds steps reports e old new) → SurvivesStop holds moment left_since images steps reports e old new stopped
+      → LooksRight holds asked old stopped.done → IsBefore json reports line text
+      → HasStopped holds moment left_since images asked json steps old new e line text
+  stopped_so json steps reports old new e line text s survives looks b = record {
     reports = reports;
     stopped = s;
     clean = traces_are_clean holds old s.front s.names reports s.mid s.done;
+    looks = looks;
+    crash = survives;
     earlier = b.0;
     printed = b.1;
     is = b.2;
@@ -144,9 +152,11 @@ module _ {S : Type 0} (holds : S → Option Directory) where
 
   -- what it came to is what is told
   says : {T : Type 0} (faults : S → ℕ) (json : Bool) (steps : List Plain) (old new : S) (reports : List Report) (result : Result T BuildError)
-      (text : List ℕ) (ended : Status) → Went holds steps reports old new result → Tells faults old new result
-      → TellsScript json reports result text ended → PlaySays holds faults json steps old new text ended
-  says faults json steps old new reports (Ok done) text ended went told tells =
+      (text : List ℕ) (ended : Status) → (went : Went holds steps reports old new result)
+      → WentSurviving holds moment left_since images steps reports old new result went → WentLooking holds asked steps reports old new result went
+      → Tells faults old new result
+      → TellsScript json reports result text ended → PlaySays holds moment left_since images asked faults json steps old new text ended
+  says faults json steps old new reports (Ok done) text ended went survives looks told tells =
       inl (
         ap is_answer tells.1 ∙ last_answers reports,
         told.steady (tt {0}),
@@ -155,11 +165,13 @@ module _ {S : Type 0} (holds : S → Option Directory) where
           names = went.0;
           trace = went.1;
           clean = traces_are_clean holds old steps went.0 reports new went.1;
+          looks = looks;
+          crash = survives;
           printed = tells.0;
           status = tells.1;
         }),
       )
-  says faults json steps old new reports (Err (errors.Pipeline fault)) text ended went told tells =
+  says faults json steps old new reports (Err (errors.Pipeline fault)) text ended went survives looks told tells =
       inl (
         ap is_answer tells.1,
         told.steady (tt {0}),
@@ -167,11 +179,11 @@ module _ {S : Type 0} (holds : S → Option Directory) where
           errors.Pipeline fault,
           OfPipeline (plain fault),
           refl,
-          stopped_so json steps reports old new (errors.Pipeline fault) (refusal_line (OfPipeline (plain fault))) text went tells.0,
+          stopped_so json steps reports old new (errors.Pipeline fault) (refusal_line (OfPipeline (plain fault))) text went survives looks tells.0,
           tells.1,
         ),
       )
-  says faults json steps old new reports (Err (errors.Roots reason)) text ended went told tells =
+  says faults json steps old new reports (Err (errors.Roots reason)) text ended went survives looks told tells =
       inl (
         ap is_answer tells.1,
         told.steady (tt {0}),
@@ -179,57 +191,68 @@ module _ {S : Type 0} (holds : S → Option Directory) where
           errors.Roots reason,
           OfRoots reason,
           refl,
-          stopped_so json steps reports old new (errors.Roots reason) (refusal_line (OfRoots reason)) text went tells.0,
+          stopped_so json steps reports old new (errors.Roots reason) (refusal_line (OfRoots reason)) text went survives looks tells.0,
           tells.1,
         ),
       )
-  says faults json steps old new reports (Err errors.Files) text ended went told tells =
-      inr (tells.1, told.cause refl, stopped_so json steps reports old new errors.Files files_fault_text text went tells.0)
-  says faults json steps old new reports (Err errors.OutOfMemory) text ended went told tells = absurd tells
+  says faults json steps old new reports (Err errors.Files) text ended went survives looks told tells =
+      inr (tells.1, told.cause refl, stopped_so json steps reports old new errors.Files files_fault_text text went survives looks tells.0)
+  says faults json steps old new reports (Err errors.OutOfMemory) text ended went survives looks told tells = absurd tells
 
   pub play_says : {T : Type 0} (faults : S → ℕ) (json : Bool) (steps : List Plain) (old new : S) (before after : List Report) (runs ran : List Task)
-      (result : Result T BuildError) (text : List ℕ) (ended : Status) → before ≡ [] → Replays holds steps old new before after runs ran result
-      → Tells faults old new result → TellsScript json after result text ended → PlaySays holds faults json steps old new text ended
+      (result : Result T BuildError) (text : List ℕ) (ended : Status) → before ≡ []
+      → Replays holds moment left_since images asked steps old new before after runs ran result
+      → Tells faults old new result → TellsScript json after result text ended
+      → PlaySays holds moment left_since images asked faults json steps old new text ended
   play_says {T} faults json steps old new before after runs ran result text ended none r told tells =
       let all : after ≡ r.gained = r.appended ∙ ap (λ (rs : List Report). rs ++ r.gained) none in
-      says faults json steps old new r.gained result text ended r.went told
+      says faults json steps old new r.gained result text ended r.went r.crash r.looks told
       (subst (λ (rs : List Report). TellsScript {T = T} json rs result text ended) all tells)
+
+  -- what a crash leaves of it
+  pub steps_leave : {T : Type 0} (steps : List Plain) (old new : S) (before after : List Report) (runs ran : List Task) (result : Result T BuildError)
+      → Replays holds moment left_since images asked steps old new before after runs ran result → StepsLeave holds moment left_since images steps old new
+  steps_leave steps old new before after runs ran (Ok done) r = (Ok (tt {0}), r.gained, r.went, r.crash)
+  steps_leave steps old new before after runs ran (Err e) r = (Err e, r.gained, r.went, r.crash)
 
   -- a status of which the text is printed whole
   pub play_told : (faults : S → ℕ) (json : Bool) (steps : List Plain) (old new : S) (text : List ℕ) (ended : Status)
-      → PlaySays holds faults json steps old new text ended → is_told ended ≡ true
+      → PlaySays holds moment left_since images asked faults json steps old new text ended → is_told ended ≡ true
   play_told faults json steps old new text ended (inl p) = answer_is_told ended p.0
   play_told faults json steps old new text ended (inr p) = ap is_told p.0
 
   -- ---- what was printed
 
   answered : (faults : S → ℕ) (json : Bool) (steps : List Plain) (old new : S) (text : List ℕ) (ended : Status) → is_answer ended ≡ true
-      → PlaySays holds faults json steps old new text ended → (faults new ≡ faults old) × ReplaySays holds json steps old new text ended
+      → PlaySays holds moment left_since images asked faults json steps old new text ended
+      → (faults new ≡ faults old) × ReplaySays holds moment left_since images asked json steps old new text ended
   answered faults json steps old new text ended a (inl p) = (p.1, p.2)
   answered faults json steps old new text ended a (inr p) = absurd (fault_is_no_answer ended a p.0)
 
   failed : (faults : S → ℕ) (json : Bool) (steps : List Plain) (old new : S) (text : List ℕ) (ended : Status) → ended ≡ status.Files
-      → PlaySays holds faults json steps old new text ended → Rose (faults old) (faults new) × HasFailed holds json steps old new text
+      → PlaySays holds moment left_since images asked faults json steps old new text ended
+      → Rose (faults old) (faults new) × HasFailed holds moment left_since images asked json steps old new text
   failed faults json steps old new text ended is (inl p) = absurd (fault_is_no_answer ended p.0 is)
   failed faults json steps old new text ended is (inr p) = (p.1, p.2)
 
   never_input : (faults : S → ℕ) (json : Bool) (steps : List Plain) (old new : S) (text : List ℕ) (ended : Status)
-      → PlaySays holds faults json steps old new text ended → ended ≢ status.Input
+      → PlaySays holds moment left_since images asked faults json steps old new text ended → ended ≢ status.Input
   never_input faults json steps old new text ended (inl p) is = false≢true (subst (λ s. is_answer s ≡ true) is p.0)
   never_input faults json steps old new text ended (inr p) is = let both : status.Files ≡ status.Input = sym p.0 ∙ is in absurd (cc)
 
   pub play_shown : (faults : S → ℕ) (json : Bool) (steps : List Plain) (old new : S) (text : List ℕ) (told ended : Status) (held gained : Option (List ℕ))
-      → PlaySays holds faults json steps old new text told → Shows held gained text told ended → GainsPrefix held gained text
-      → Plays holds faults json steps old new held gained ended
+      → PlaySays holds moment left_since images asked faults json steps old new text told → Shows held gained text told ended → GainsPrefix held gained text
+      → Plays holds moment left_since images asked faults json steps old new held gained ended
   play_shown faults json steps old new text told ended held gained p shows prefix =
-      let some : GainsSome (λ text. (said : Status) × PlaySays holds faults json steps old new text said) ⊥ held gained = inl (text, (told, p), prefix) in
+      let some : GainsSome (λ text. (said : Status) × PlaySays holds moment left_since images asked faults json steps old new text said) ⊥ held gained =
+      inl (text, (told, p), prefix) in
       let is_files : ended ≡ status.Files → is_told ended ≡ true = λ is. ap is_told is in
       let is_input : ended ≡ status.Input → is_told ended ≡ true = λ is. ap is_told is in
       record {
         played = λ a.
             let s = shows (answer_is_told ended a) in
             let h = answered faults json steps old new text told (ap is_answer (sym s.0) ∙ a) p in
-            (h.0, text, subst (λ x. ReplaySays holds json steps old new text x) (sym s.0) h.1, s.1);
+            (h.0, text, subst (λ x. ReplaySays holds moment left_since images asked json steps old new text x) (sym s.0) h.1, s.1);
         failed = λ is.
             let s = shows (is_files is) in
             let h = failed faults json steps old new text told (sym s.0 ∙ is) p in
@@ -240,7 +263,7 @@ module _ {S : Type 0} (holds : S → Option Directory) where
 
   -- out of memory
   pub play_none : (faults : S → ℕ) (json : Bool) (steps : List Plain) (old new : S) (held : Option (List ℕ))
-      → Plays holds faults json steps old new held held status.Memory
+      → Plays holds moment left_since images asked faults json steps old new held held status.Memory
   play_none faults json steps old new held = record {
     played = λ a. absurd (memory_is_no_answer a);
     failed = λ is. absurd (cc);

@@ -26,7 +26,7 @@ pub(crate) fn build<F: Files>(
     changes: &[Path],
     json: bool,
 ) -> Result<CommandResult, FilesError>
-    ensures says { IfOk result (λ told. MakeSays json changes.now (F.holds files.old) (F.holds files.new) (string_bytes told.text) told.status) }
+    ensures says { IfOk result (λ told. MakeSays json (F.asked files.old) (F.asked files.new) changes.now (F.holds files.old) (F.holds files.new) (string_bytes told.text) told.status) }
     ensures answer { IfOk result (λ told. is_answer told.status ≡ true) }
     ensures rest { KeepsRest (F.holds files.old) (F.holds files.new) }
     ensures crash { LeavesFromRest F.holds F.moment F.left_since F.images (MayStop changes.now) files.old files.new }

@@ -31,7 +31,7 @@ pub(crate) fn with_list<F: Files>(
     paths: &[Path],
     which: ByList,
 ) -> Result<CommandResult, FilesError>
-    ensures says { IfOk result (λ told. says_of which paths.now (F.holds files.old) (F.holds files.new) (string_bytes told.text) told.status) }
+    ensures says { IfOk result (λ told. says_of which (F.asked files.old) (F.asked files.new) paths.now (F.holds files.old) (F.holds files.new) (string_bytes told.text) told.status) }
     ensures answer { IfOk result (λ told. is_answer told.status ≡ true) }
     ensures rest { KeepsBy which (F.holds files.old) (F.holds files.new) }
     ensures none { ChangesNone F.holds F.moment F.left_since F.images which files.old files.new }

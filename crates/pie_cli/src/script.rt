@@ -1,6 +1,6 @@
 //! The steps of a script, and what is told of them.
 ghost use Rattle.std.specs.Prelude.{◌≡◌, ◌++◌, All, true, IfOk, OnOk, map, string_bytes};
-ghost use Rattle.pie_cli.specs.Replay.{heading, last_status as status_of_last, ArePrinted};
+ghost use Rattle.pie_cli.specs.Replay.{heading, last_status as status_of_last, ArePrinted, StepsLeave};
 ghost use Rattle.pie_cli.specs.Run.{files_fault_text, is_told};
 ghost use Rattle.pie_cli.specs.inner.Played.{Adds, IsBefore, IsTellable, PlaySays, TellsScript};
 ghost use Rattle.pie_replay.specs.Replays.{KeepsOthers};
@@ -25,9 +25,10 @@ pub(crate) fn replay_script<F: Files>(
     steps: &[Step],
     json: bool,
 ) -> Result<CommandResult, OutOfMemory>
-    ensures says { IfOk result (λ told. PlaySays F.holds F.faults json (map plain steps.now) files.old files.new (string_bytes told.text) told.status) }
+    ensures says { IfOk result (λ told. PlaySays F.holds F.moment F.left_since F.images F.asked F.faults json (map plain steps.now) files.old files.new (string_bytes told.text) told.status) }
     ensures told { IfOk result (λ told. is_told told.status ≡ true) }
     ensures rest { KeepsOthers (map plain steps.now) (F.holds files.old) (F.holds files.new) }
+    ensures crash { StepsLeave F.holds F.moment F.left_since F.images (map plain steps.now) files.old files.new }
 {
     let mut runs = Runs::new(alloc);
     let mut done = Vec::new(alloc);

@@ -11,7 +11,7 @@ ghost use Rattle.pie_cli.specs.Cached.{RunsCached};
 ghost use Rattle.pie_cli.specs.Check.{RunsCheck};
 ghost use Rattle.pie_cli.specs.Demo.{RunsDemo, SaysDemo};
 ghost use Rattle.pie_cli.specs.Fresh.{RunsFresh};
-ghost use Rattle.pie_cli.specs.Replay.{RunsReplay};
+ghost use Rattle.pie_cli.specs.Replay.{RunsReplay, StepsLeave};
 ghost use Rattle.pie_cli.specs.Listed.{RunsByList, RunsSaying};
 ghost use Rattle.pie_cli.specs.Run.{is_answer, is_told, Ends, GainsPrefix, IsNoScript, IsUsage, NeedsNoInput, PrintsUsage, Shows, StaysWithin};
 ghost use Rattle.pie_cli.specs.Scan.{RunsScan};
@@ -56,9 +56,9 @@ pub fn run<F: Files, I: Source, K: Sink>(
     ensures check { texts_of words.now ≡ words_of commands.Check
         → RunsCheck F.holds F.moment F.left_since F.images F.asked F.faults files.old files.new (K.held out.old) (K.held out.new) result }
     ensures build { (json : Bool) → texts_of words.now ≡ words_of (commands.Build json)
-        → RunsBuild F.holds F.moment F.left_since F.images F.faults I.left I.faults json files.old files.new input.old input.new (K.held out.old) (K.held out.new) result }
+        → RunsBuild F.holds F.moment F.left_since F.images F.asked F.faults I.left I.faults json files.old files.new input.old input.new (K.held out.old) (K.held out.new) result }
     ensures replay { (json : Bool) → texts_of words.now ≡ words_of (commands.Replay json)
-        → RunsReplay F.holds F.faults I.left I.faults json files.old files.new input.old input.new (K.held out.old) (K.held out.new) result }
+        → RunsReplay F.holds F.moment F.left_since F.images F.asked F.faults I.left I.faults json files.old files.new input.old input.new (K.held out.old) (K.held out.new) result }
     ensures scan { texts_of words.now ≡ words_of commands.Scan
         → RunsScan F.holds F.moment F.left_since F.images F.faults I.left I.faults files.old files.new input.old input.new (K.held out.old) (K.held out.new) result }
     ensures auto { texts_of words.now ≡ words_of commands.Auto
@@ -98,9 +98,9 @@ fn run_command<F: Files, I: Source, K: Sink>(
     ensures check { command ≡ commands.Check
         → RunsCheck F.holds F.moment F.left_since F.images F.asked F.faults files.old files.new (K.held out.old) (K.held out.new) result }
     ensures build { (json : Bool) → command ≡ commands.Build json
-        → RunsBuild F.holds F.moment F.left_since F.images F.faults I.left I.faults json files.old files.new input.old input.new (K.held out.old) (K.held out.new) result }
+        → RunsBuild F.holds F.moment F.left_since F.images F.asked F.faults I.left I.faults json files.old files.new input.old input.new (K.held out.old) (K.held out.new) result }
     ensures replay { (json : Bool) → command ≡ commands.Replay json
-        → RunsReplay F.holds F.faults I.left I.faults json files.old files.new input.old input.new (K.held out.old) (K.held out.new) result }
+        → RunsReplay F.holds F.moment F.left_since F.images F.asked F.faults I.left I.faults json files.old files.new input.old input.new (K.held out.old) (K.held out.new) result }
     ensures scan { command ≡ commands.Scan
         → RunsScan F.holds F.moment F.left_since F.images F.faults I.left I.faults files.old files.new input.old input.new (K.held out.old) (K.held out.new) result }
     ensures auto { command ≡ commands.Auto
@@ -167,7 +167,7 @@ fn run_by_list<F: Files, I: Source, K: Sink>(
     out: &mut K,
     which: ByList,
 ) -> Status
-    ensures lists { RunsByList (says_of which) F.holds F.faults I.left I.faults files.old files.new input.old input.new (K.held out.old) (K.held out.new) result }
+    ensures lists { RunsByList (says_of which (F.asked files.old) (F.asked files.new)) F.holds F.faults I.left I.faults files.old files.new input.old input.new (K.held out.old) (K.held out.new) result }
     ensures none { ChangesNone F.holds F.moment F.left_since F.images which files.old files.new }
     ensures crash { LeavesRead F.holds F.moment F.left_since F.images which files.old files.new (I.left input.old) (I.left input.new) }
     ensures marked { EndsRead F.holds F.images which files.old files.new (I.left input.old) (I.left input.new) }
@@ -193,7 +193,7 @@ fn do_by_list<F: Files, K: Sink>(
     paths: &[Path],
     which: ByList,
 ) -> Status
-    ensures says { RunsSaying (says_of which paths.now) F.holds F.faults files.old files.new (K.held out.old) (K.held out.new) result }
+    ensures says { RunsSaying (says_of which (F.asked files.old) (F.asked files.new) paths.now) F.holds F.faults files.old files.new (K.held out.old) (K.held out.new) result }
     ensures none { ChangesNone F.holds F.moment F.left_since F.images which files.old files.new }
     ensures crash { LeavesWith F.holds F.moment F.left_since F.images which paths.now files.old files.new }
     ensures marked { EndsWith F.holds F.images which paths.now files.old files.new }
@@ -244,7 +244,7 @@ fn run_replay<F: Files, I: Source, K: Sink>(
     out: &mut K,
     json: bool,
 ) -> Status
-    ensures replay { RunsReplay F.holds F.faults I.left I.faults json files.old files.new input.old input.new (K.held out.old) (K.held out.new) result }
+    ensures replay { RunsReplay F.holds F.moment F.left_since F.images F.asked F.faults I.left I.faults json files.old files.new input.old input.new (K.held out.old) (K.held out.new) result }
     ensures ends { Ends ⊥ (F.faults files.old) (F.faults files.new) (I.faults input.old) (I.faults input.new) (K.faults out.old) (K.faults out.new) (K.held out.old) (K.held out.new) result }
     ensures infallible { StaysInfallible K.infallible K.faults out.old out.new }
     ensures input_infallible { StaysInfallible I.infallible I.faults input.old input.new }
@@ -265,8 +265,9 @@ fn play<F: Files, K: Sink>(
     steps: &[Step],
     json: bool,
 ) -> Status
-    ensures plays { Plays F.holds F.faults json (map plain steps.now) files.old files.new (K.held out.old) (K.held out.new) result }
+    ensures plays { Plays F.holds F.moment F.left_since F.images F.asked F.faults json (map plain steps.now) files.old files.new (K.held out.old) (K.held out.new) result }
     ensures rest { KeepsOthers (map plain steps.now) (F.holds files.old) (F.holds files.new) }
+    ensures crash { StepsLeave F.holds F.moment F.left_since F.images (map plain steps.now) files.old files.new }
     ensures output { result ≡ Status.Output → Rose (K.faults out.old) (K.faults out.new) }
     ensures steady { is_told result ≡ true → K.faults out.new ≡ K.faults out.old }
     ensures infallible { StaysInfallible K.infallible K.faults out.old out.new }

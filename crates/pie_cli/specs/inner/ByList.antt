@@ -2,6 +2,7 @@
 use Rattle.std.specs.Prelude.{◌≡◌, ℕ, List, Option}
 use Rattle.pie_base.specs.declared.status.Status.{Status}
 use Rattle.pie_files.specs.Directory.{Directory}
+use Rattle.pie_files.specs.declared.files.Call.{Call}
 use Rattle.pie_files.specs.Reading.{LeavesAsBefore}
 use Rattle.pie_cli.specs.declared.listed.ByList.{ByList}
 use Rattle.pie_cli.specs.declared.listed.ByList.TheVariants.{Auto, Build, Scan}
@@ -15,11 +16,11 @@ use Rattle.pie_cli.specs.Build.{MakeSays}
 use Rattle.pie_cli.specs.Listed.{ListEnds, ListLeaves}
 use Rattle.pie_cli.specs.Scan.{ScanSays}
 
--- what a command says of its paths
-abbrev pub says_of : ByList → List (List ℕ) → Option Directory → Option Directory → List ℕ → Status → Type 0
-says_of (Build json) = MakeSays json
-says_of Scan = ScanSays
-says_of Auto = AutoSays
+-- what a command says of its paths, before and after which these calls had been made
+abbrev pub says_of : ByList → Option (List Call) → Option (List Call) → List (List ℕ) → Option Directory → Option Directory → List ℕ → Status → Type 0
+says_of (Build json) asked asked_now = MakeSays json asked asked_now
+says_of Scan asked asked_now = ScanSays
+says_of Auto asked asked_now = AutoSays
 
 -- a command that scans changes no file
 abbrev pub ChangesNone : {S : Type 0} → (S → Option Directory) → (S → ℕ) → (S → ℕ → Directory → Type 0) → (S → Directory → Type 0) → ByList → S → S → Type 0

@@ -3,6 +3,7 @@ use Rattle.std.specs.Prelude.{◌≡◌, ◌≢◌, ◌⊎◌, ℕ, Bool, true, 
 use Rattle.pie_base.specs.declared.status.Status.{Status}
 use Rattle.pie_base.specs.declared.status.Status.TheVariants as status
 use Rattle.pie_files.specs.Directory.{Directory}
+use Rattle.pie_files.specs.declared.files.Call.{Call}
 use Rattle.pie_files.specs.Faults.{Rose}
 use Rattle.pie_project.specs.declared.fault.BuildError.{BuildError}
 use Rattle.pie_project.specs.declared.fault.BuildError.TheVariants as errors
@@ -51,14 +52,19 @@ TellsScript json reports (Err errors.Files) text ended = IsBefore json reports f
 TellsScript json reports (Err errors.OutOfMemory) text ended = ⊥
 
 -- what the steps of a script came to, or that a call on the files failed
-abbrev pub PlaySays : {S : Type 0} → (S → Option Directory) → (S → ℕ) → Bool → List Plain → S → S → List ℕ → Status → Type 0
-PlaySays holds faults json steps old new text ended = ((is_answer ended ≡ true) × (faults new ≡ faults old) × ReplaySays holds json steps old new text ended)
-    ⊎ ((ended ≡ status.Files) × Rose (faults old) (faults new) × HasFailed holds json steps old new text)
+abbrev pub PlaySays : {S : Type 0} → (S → Option Directory) → (S → ℕ) → (S → ℕ → Directory → Type 0) → (S → Directory → Type 0)
+    → (S → Option (List Call)) → (S → ℕ) → Bool → List Plain → S → S → List ℕ → Status → Type 0
+PlaySays holds moment left_since images asked faults json steps old new text ended =
+    ((is_answer ended ≡ true) × (faults new ≡ faults old) × ReplaySays holds moment left_since images asked json steps old new text ended)
+    ⊎ ((ended ≡ status.Files) × Rose (faults old) (faults new) × HasFailed holds moment left_since images asked json steps old new text)
 
 -- the steps of a script were done, whatever it ended with
-pub record Plays {S : Type 0} (holds : S → Option Directory) (faults : S → ℕ) (json : Bool) (steps : List Plain) (old new : S)
-    (held gained : Option (List ℕ)) (ended : Status) : Type 0 where
-  pub played : is_answer ended ≡ true → (faults new ≡ faults old) × (text : List ℕ) × ReplaySays holds json steps old new text ended × Gains held gained text
-  pub failed : ended ≡ status.Files → Rose (faults old) (faults new) × (text : List ℕ) × HasFailed holds json steps old new text × Gains held gained text
-  pub printed : GainsAtMost (λ text. (said : Status) × PlaySays holds faults json steps old new text said) ⊥ held gained ended
+pub record Plays {S : Type 0} (holds : S → Option Directory) (moment : S → ℕ) (left_since : S → ℕ → Directory → Type 0) (images : S → Directory → Type 0)
+    (asked : S → Option (List Call)) (faults : S → ℕ) (json : Bool) (steps : List Plain) (old new : S) (held gained : Option (List ℕ)) (ended : Status)
+    : Type 0 where
+  pub played : is_answer ended ≡ true → (faults new ≡ faults old)
+      × (text : List ℕ) × ReplaySays holds moment left_since images asked json steps old new text ended × Gains held gained text
+  pub failed : ended ≡ status.Files → Rose (faults old) (faults new)
+      × (text : List ℕ) × HasFailed holds moment left_since images asked json steps old new text × Gains held gained text
+  pub printed : GainsAtMost (λ text. (said : Status) × PlaySays holds moment left_since images asked faults json steps old new text said) ⊥ held gained ended
   pub no_input : ended ≢ status.Input

@@ -7,7 +7,12 @@ use Rattle.pie_cli.proofs.incremental.build.Goals as goal
 pub returns-in-Ok-clause-says : goal.returns-in-Ok-clause-says
 returns-in-Ok-clause-says g c =
     let told = c.in_ok-of_report-in-Ok in
-    inr (c.in-Ok.report, record { treated = c.in-Ok.ensures.names; few = c.in-Ok.ensures.most; clean = c.in-Ok.ensures.clean }, told.ensures.text, told.ensures.status)
+    inr (
+      c.in-Ok.report,
+      record { treated = c.in-Ok.ensures.names; few = c.in-Ok.ensures.most; clean = c.in-Ok.ensures.clean; asks = c.in-Ok.ensures.asks },
+      told.ensures.text,
+      told.ensures.status,
+    )
 
 pub returns-in-Err-Pipeline-clause-says : goal.returns-in-Err-Pipeline-clause-says
 returns-in-Err-Pipeline-clause-says g c =

@@ -108,7 +108,8 @@ returns-in-Err-Usage-clause-replay g c = λ json is. absurd (c.in-Err-Usage.ensu
 
 pub returns-in-Err-OutOfMemory-clause-replay : goal.returns-in-Err-OutOfMemory-clause-replay
 returns-in-Err-OutOfMemory-clause-replay g c = λ json is.
-    runs_none g.F.Files.holds g.F.Files.faults g.I.Source.left g.I.Source.faults json c.args.files.now c.args.input.now c.args.input.now
+    runs_none g.F.Files.holds g.F.Files.moment g.F.Files.left_since g.F.Files.images g.F.Files.asked g.F.Files.faults
+    g.I.Source.left g.I.Source.faults json c.args.files.now c.args.input.now c.args.input.now
     (g.K.Sink.held c.args.out.now)
 
 pub returns-in-Err-Usage-clause-build : goal.returns-in-Err-Usage-clause-build
@@ -123,7 +124,8 @@ returns-in-Err-Usage-clause-input g c = λ none. (
 
 pub returns-in-Err-OutOfMemory-clause-build : goal.returns-in-Err-OutOfMemory-clause-build
 returns-in-Err-OutOfMemory-clause-build g c = λ json is. record {
-  built = runs_memory (MakeSays json) g.F.Files.holds g.F.Files.faults g.I.Source.left g.I.Source.faults c.args.files.now c.args.input.now c.args.input.now
+  built = runs_memory (MakeSays json (g.F.Files.asked c.args.files.now) (g.F.Files.asked c.args.files.now))
+      g.F.Files.holds g.F.Files.faults g.I.Source.left g.I.Source.faults c.args.files.now c.args.input.now c.args.input.now
       (g.K.Sink.held c.args.out.now);
   crash = inl refl;
   marked = inl refl;

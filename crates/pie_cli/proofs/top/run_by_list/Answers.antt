@@ -10,7 +10,8 @@ use Rattle.pie_cli.proofs.top.run_by_list.Goals as goal
 
 pub returns-in-Ok-clause-lists : goal.returns-in-Ok-clause-lists
 returns-in-Ok-clause-lists g c =
-    runs_made (says_of c.args.which) g.F.Files.holds g.F.Files.faults g.I.Source.left g.I.Source.faults c.args.files.now c.do_by_list.new.files c.args.input.now
+    runs_made (says_of c.args.which (g.F.Files.asked c.args.files.now) (g.F.Files.asked c.do_by_list.new.files))
+    g.F.Files.holds g.F.Files.faults g.I.Source.left g.I.Source.faults c.args.files.now c.do_by_list.new.files c.args.input.now
     c.read_names.new.input c.as_slice.result.now (g.K.Sink.held c.args.out.now) (g.K.Sink.held c.do_by_list.new.out) c.do_by_list.result
     (subst (λ (names : List (List ℕ)). IsRead names (g.I.Source.left c.args.input.now) (g.I.Source.left c.read_names.new.input)) (sym c.as_slice.ensures.value)
     c.in-Ok.ensures.read) c.do_by_list.ensures.says c.do_by_list.ensures.ends.no_input
@@ -25,7 +26,8 @@ returns-in-Err-Bad-clause-lists g c =
     let held = g.K.Sink.held c.args.out.now in
     let gained = g.K.Sink.held c.show_bad.new.out in
     let told = c.in-Err-Bad.fault-is in
-    runs_bad (says_of c.args.which) g.F.Files.holds g.F.Files.faults g.I.Source.left g.I.Source.faults c.args.files.now c.args.input.now
+    runs_bad (says_of c.args.which (g.F.Files.asked c.args.files.now) (g.F.Files.asked c.args.files.now))
+    g.F.Files.holds g.F.Files.faults g.I.Source.left g.I.Source.faults c.args.files.now c.args.input.now
     c.read_names.new.input c.in-Err-Bad.fault (g.K.Sink.held c.args.out.now) (g.K.Sink.held c.show_bad.new.out) c.show_bad.result
     (bad_read (g.I.Source.left c.args.input.now) (g.I.Source.left c.read_names.new.input) c.in-Err-Bad.field-0 c.in-Err-Bad.fault c.in-Err-Bad.field-0-is
     c.in-Err-Bad.ensures.read) (subst (λ f. Shows held gained (bad_input_text f) status.BadInput c.show_bad.result) told c.show_bad.ensures.shown)
@@ -42,7 +44,8 @@ returns-in-Err-Bad-clause-ends g c =
 
 pub returns-in-Err-Failed-clause-lists : goal.returns-in-Err-Failed-clause-lists
 returns-in-Err-Failed-clause-lists g c =
-    runs_failed (says_of c.args.which) g.F.Files.holds g.F.Files.faults g.I.Source.left g.I.Source.faults c.args.files.now c.args.input.now
+    runs_failed (says_of c.args.which (g.F.Files.asked c.args.files.now) (g.F.Files.asked c.args.files.now))
+    g.F.Files.holds g.F.Files.faults g.I.Source.left g.I.Source.faults c.args.files.now c.args.input.now
     c.read_names.new.input (g.K.Sink.held c.args.out.now) (g.K.Sink.held c.show.new.out) c.show.result
     (c.in-Err-Failed.ensures.told.cause (ap Err c.in-Err-Failed.field-0-is)) c.show.ensures.shown c.show.ensures.prefix
 
@@ -54,7 +57,8 @@ returns-in-Err-Failed-clause-ends g c =
 
 pub returns-in-Err-OutOfMemory-clause-lists : goal.returns-in-Err-OutOfMemory-clause-lists
 returns-in-Err-OutOfMemory-clause-lists g c =
-    runs_memory (says_of c.args.which) g.F.Files.holds g.F.Files.faults g.I.Source.left g.I.Source.faults c.args.files.now c.args.input.now
+    runs_memory (says_of c.args.which (g.F.Files.asked c.args.files.now) (g.F.Files.asked c.args.files.now))
+    g.F.Files.holds g.F.Files.faults g.I.Source.left g.I.Source.faults c.args.files.now c.args.input.now
     c.read_names.new.input (g.K.Sink.held c.args.out.now)
 
 pub returns-in-Err-OutOfMemory-clause-ends : goal.returns-in-Err-OutOfMemory-clause-ends

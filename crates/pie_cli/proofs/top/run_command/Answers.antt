@@ -22,7 +22,8 @@ returns-in-Fresh-clause-fresh g c = λ json is.
 pub returns-in-Build-clause-build : goal.returns-in-Build-clause-build
 returns-in-Build-clause-build g c = λ json is.
     at_build_flag
-    (λ b. RunsBuild g.F.Files.holds g.F.Files.moment g.F.Files.left_since g.F.Files.images g.F.Files.faults g.I.Source.left g.I.Source.faults b
+    (λ b. RunsBuild g.F.Files.holds g.F.Files.moment g.F.Files.left_since g.F.Files.images g.F.Files.asked g.F.Files.faults
+    g.I.Source.left g.I.Source.faults b
     c.args.files.now c.run_by_list.new.files c.args.input.now c.run_by_list.new.input (g.K.Sink.held c.args.out.now) (g.K.Sink.held c.run_by_list.new.out)
     c.run_by_list.result)
     c.args.command c.in-Build.json json c.in-Build.is is (record {
@@ -43,7 +44,8 @@ returns-in-Build-clause-ends g c =
 pub returns-in-Replay-clause-replay : goal.returns-in-Replay-clause-replay
 returns-in-Replay-clause-replay g c = λ json is.
     at_replay_flag
-    (λ b. RunsReplay g.F.Files.holds g.F.Files.faults g.I.Source.left g.I.Source.faults b c.args.files.now c.run_replay.new.files c.args.input.now
+    (λ b. RunsReplay g.F.Files.holds g.F.Files.moment g.F.Files.left_since g.F.Files.images g.F.Files.asked g.F.Files.faults
+    g.I.Source.left g.I.Source.faults b c.args.files.now c.run_replay.new.files c.args.input.now
     c.run_replay.new.input (g.K.Sink.held c.args.out.now) (g.K.Sink.held c.run_replay.new.out) c.run_replay.result)
     c.args.command c.in-Replay.json json c.in-Replay.is is c.run_replay.ensures.replay
 
