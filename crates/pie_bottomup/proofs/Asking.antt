@@ -6,8 +6,8 @@ use Rattle.pie_value.specs.declared.event.Event.TheVariants as events
 use Rattle.pie_value.specs.Canonical.{enc_task}
 use Rattle.pie_files.specs.declared.files.Call.{Call}
 use Rattle.pie_named.specs.declared.named.Named.{Named}
-use Rattle.pie_named.specs.Names.{SameNames}
-use Rattle.pie_named.specs.inner.Asking.{AsksFor, IsNamedOrAbove, LooksAt}
+use Rattle.pie_named.specs.inner.Names.{SameNames}
+use Rattle.pie_named.specs.Asking.{AsksFor, IsNamedOrAbove, LooksAt}
 use Rattle.pie_named.proofs.Calls.{no_calls, one_call, calls_then, asks_as}
 use Rattle.pie_compare.specs.inner.Asked.{MayAskOf}
 use Rattle.pie_walk.proofs.StateSteps.{top_runs}
@@ -22,7 +22,7 @@ use Rattle.pie_model.specs.declared.words.Look.{Look}
 use Rattle.pie_model.specs.declared.words.Look.TheVariants as looks
 use Rattle.pie_model.specs.declared.words.Event.TheVariants as model
 use Rattle.pie_model.specs.declared.words.FaultKind.TheVariants as model_faults
-use Rattle.pie_model.specs.inner.Reasons.{observed_paths}
+use Rattle.pie_model.specs.Reasons.{observed_paths}
 use Rattle.pie_model.specs.inner.RecordLaws.{Passes}
 use Rattle.pie_model_pipeline.specs.Words.{effect_of, look_by}
 use Rattle.pie_model_pipeline.specs.World.{world}

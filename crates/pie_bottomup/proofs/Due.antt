@@ -15,7 +15,7 @@ use Rattle.pie_model.specs.Evaluation.{evaluation}
 use Rattle.pie_model.specs.Records.{Record, record_of as model_record}
 use Rattle.pie_model.specs.Running.{entered_all}
 use Rattle.pie_model.specs.Forest.{only_if, forest, entered_tasks}
-use Rattle.pie_model.specs.inner.Reasons.{RunReason}
+use Rattle.pie_model.specs.Reasons.{RunReason}
 use Rattle.pie_model.specs.inner.RecordLaws.{HasItsRecord}
 use Rattle.pie_model.proofs.Basics.{clash}
 use Rattle.pie_settle_laws.proofs.Entering.{entered_split}

@@ -19,7 +19,7 @@ use Rattle.pie_frames.specs.inner.Standing.{Holds, IsParked, number_of, numbers_
 use Rattle.pie_order.specs.Cycles.{WouldCall}
 use Rattle.pie_model.specs.Paths.{among}
 use Rattle.pie_model.specs.Records.{needs_of}
-use Rattle.pie_model.specs.inner.Changes.{IsUnionEdge}
+use Rattle.pie_model.specs.Changes.{IsUnionEdge}
 use Rattle.pie_model.specs.inner.Stack.{Frame}
 use Rattle.pie_model.specs.inner.Present.Way.{here as arrived}
 use Rattle.pie_model.specs.inner.RecordLaws.{Passes}

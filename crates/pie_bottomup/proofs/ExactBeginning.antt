@@ -22,7 +22,7 @@ use Rattle.pie_record.specs.declared.task_record.TaskRecord.{TaskRecord}
 use Rattle.pie_record.specs.inner.Records.{record_of as kept_of}
 use Rattle.pie_tables.specs.declared.tables.Tables.{Tables}
 use Rattle.pie_named.specs.declared.named.Named.{Named}
-use Rattle.pie_named.specs.Names.{is_named, is_above}
+use Rattle.pie_named.specs.inner.Names.{is_named, is_above}
 use Rattle.pie_named.specs.inner.Known.{IsTrueOf}
 use Rattle.pie_view.specs.Content.{content}
 use Rattle.pie_old.specs.inner.Code.{is_same_code}

@@ -6,7 +6,7 @@ use Rattle.pie_files.specs.Directory.{Directory}
 use Rattle.pie_record.specs.declared.task_record.TaskRecord.{TaskRecord}
 use Rattle.pie_record.specs.inner.Records.{record_of}
 use Rattle.pie_named.specs.declared.named.Named.{Named}
-use Rattle.pie_named.specs.Names.{SameNames}
+use Rattle.pie_named.specs.inner.Names.{SameNames}
 use Rattle.pie_named.specs.inner.Known.{StaysKnown}
 use Rattle.pie_tables.specs.declared.tables.Tables.{Tables}
 use Rattle.pie_compare.specs.inner.Touching.{IsTouched, IsKnownTouched, FindsBy, Shows}

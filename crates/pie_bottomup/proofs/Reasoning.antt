@@ -18,8 +18,8 @@ use Rattle.pie_frames.specs.declared.frames.Frames.{Frames}
 use Rattle.pie_frames.specs.inner.Standing.{Rests, Holds}
 use Rattle.pie_frames.specs.inner.Turns.{HasTaken}
 use Rattle.pie_model.specs.Records.{Record}
-use Rattle.pie_model.specs.inner.Reasons.{RunReason}
-use Rattle.pie_model.specs.inner.Reasons.RunReason.{is_new, code}
+use Rattle.pie_model.specs.Reasons.{RunReason}
+use Rattle.pie_model.specs.Reasons.RunReason.{is_new, code}
 use Rattle.pie_model.proofs.Basics.{clash}
 use Rattle.pie_model_pipeline.specs.Rows.{record_of}
 use Rattle.pie_model_pipeline.specs.World.{world}

@@ -16,7 +16,7 @@ use Rattle.pie_model.specs.Records.{Record, record_of as model_record}
 use Rattle.pie_model.specs.declared.words.Outcome.TheVariants.{Ended}
 use Rattle.pie_model.specs.inner.Consistent.{IsSettled}
 use Rattle.pie_model.specs.inner.RecordLaws.{HasItsRecord, Passes}
-use Rattle.pie_model.specs.inner.StampNow.{Told}
+use Rattle.pie_model.specs.StampNow.{Told}
 use Rattle.pie_model.specs.Paths.{Path}
 use Rattle.pie_settle_laws.specs.Known.{IsKnown}
 use Rattle.pie_settle_laws.proofs.Ending.{stands_reach}

@@ -18,7 +18,7 @@ use Rattle.pie_model.specs.Evaluation.{World, Project, on_event, on_outcome, eva
 use Rattle.pie_model.specs.Records.{Record, needs_of, observations_of}
 use Rattle.pie_model.specs.Running.{rest_of_run}
 use Rattle.pie_model.specs.Forest.{entered_tasks}
-use Rattle.pie_model.specs.inner.Changes.{IsUnionEdge}
+use Rattle.pie_model.specs.Changes.{IsUnionEdge}
 use Rattle.pie_model.specs.inner.Stack.{Frame}
 use Rattle.pie_model.specs.declared.words.Event.{Event as ModelEvent}
 use Rattle.pie_model.specs.declared.words.Event.TheVariants as model

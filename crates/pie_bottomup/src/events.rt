@@ -5,7 +5,7 @@ ghost use Rattle.pie_running.specs.inner.Frames.{IsWaiting};
 ghost use Rattle.pie_frames.specs.inner.Standing.{Holds};
 ghost use Rattle.pie_bottomup.specs.inner.Going.{AsksWhole, GoesWhole, LooksWhole, ToldWhole};
 ghost use Rattle.pie_bottomup.specs.inner.Asked.{GoesAsking, IsAskedBy};
-ghost use Rattle.pie_named.specs.inner.Asking.{AsksFor};
+ghost use Rattle.pie_named.specs.Asking.{AsksFor};
 ghost use Rattle.pie_value.specs.declared.event.Event.TheVariants as events;
 ghost use Rattle.pie_bottomup.specs.inner.States.{IsInHand, IsOwn, IsSite, MayGo, GoesTo, Keeps, Nearer, rest, told_mass};
 

@@ -13,7 +13,7 @@ ghost use Rattle.pie_task_laws.specs.Sights.{sight_by};
 ghost use Rattle.pie_bottomup.specs.inner.Exact.{FetchesExact, FilesExact, Lacks};
 ghost use Rattle.pie_bottomup.specs.inner.Fetched.{Fetches, StagesFile};
 ghost use Rattle.pie_bottomup.specs.inner.Sights.{SeenIsStaged, ShowsOthers, ShowsOut};
-ghost use Rattle.pie_named.specs.inner.Asking.{AsksFor};
+ghost use Rattle.pie_named.specs.Asking.{AsksFor};
 
 use crate::state::Core;
 use pie_base::{OutOfMemory, Path};

@@ -10,7 +10,7 @@ ghost use Rattle.pie_bottomup.specs.inner.Loaded.{TestsExact};
 ghost use Rattle.pie_bottomup.specs.inner.Going.{StepsWhole, TestsWhole};
 ghost use Rattle.pie_bottomup.specs.inner.Ran.{StepsFor};
 ghost use Rattle.pie_bottomup.specs.inner.Asked.{IsTestedPath};
-ghost use Rattle.pie_named.specs.inner.Asking.{AsksFor, IsNamedOrAbove};
+ghost use Rattle.pie_named.specs.Asking.{AsksFor, IsNamedOrAbove};
 
 use crate::flags::flag_of;
 use crate::state::{Core, First, Turn};

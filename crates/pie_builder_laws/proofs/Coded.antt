@@ -19,7 +19,7 @@ use Rattle.pie_model.specs.declared.words.Answer.{Answer as ModelAnswer}
 use Rattle.pie_model.specs.declared.words.Event.TheVariants.{Fail}
 use Rattle.pie_model.specs.declared.words.FaultKind.TheVariants.{Unknown}
 use Rattle.pie_model_pipeline.specs.Words.{event_of}
-use Rattle.pie_model_pipeline.specs.inner.Answers.{answer_of}
+use Rattle.pie_model_pipeline.specs.Answers.{answer_of}
 use Rattle.pie_model_pipeline.specs.World.{function_at, outcome_by, next}
 use Rattle.pie_model_pipeline.proofs.Joining.{means_itself}
 use Rattle.pie_builder_laws.specs.Events.{AreCompiled}

@@ -10,7 +10,7 @@ use Rattle.pie_value.specs.Canonical.{enc, enc_task, IsCanonical}
 use Rattle.pie_model.specs.Evaluation.{output_answer}
 use Rattle.pie_model.specs.Records.{Required, observed, value_stamp}
 use Rattle.pie_model_pipeline.specs.Words.{how_of}
-use Rattle.pie_model_pipeline.specs.inner.Answers.{answer_of}
+use Rattle.pie_model_pipeline.specs.Answers.{answer_of}
 use Rattle.pie_model_pipeline.specs.Rows.{observation_of}
 use Rattle.pie_model_pipeline.specs.World.{world}
 use Rattle.pie_model_pipeline.proofs.Joining.{values_told}

@@ -14,7 +14,7 @@ use Rattle.pie_model.specs.declared.words.Answer.{Answer as ModelAnswer}
 use Rattle.pie_model.specs.declared.words.Event.TheVariants.{Fail}
 use Rattle.pie_model.specs.declared.words.FaultKind.TheVariants.{Unknown}
 use Rattle.pie_model_pipeline.specs.Words.{event_of}
-use Rattle.pie_model_pipeline.specs.inner.Answers.{answer_of}
+use Rattle.pie_model_pipeline.specs.Answers.{answer_of}
 use Rattle.pie_model_pipeline.specs.World.{next}
 
 -- these are the codes of a pipeline's functions, as they are compiled

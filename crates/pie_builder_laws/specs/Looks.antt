@@ -29,7 +29,7 @@ use Rattle.pie_model.specs.Seen.{seen_file}
 use Rattle.pie_model.specs.Evaluation.{absent_answer, present_answer, listing}
 use Rattle.pie_model.specs.Records.{Hash, Looked, Listed, observed, look_stamp}
 use Rattle.pie_model_pipeline.specs.Words.{look_by}
-use Rattle.pie_model_pipeline.specs.inner.Answers.{answer_of}
+use Rattle.pie_model_pipeline.specs.Answers.{answer_of}
 use Rattle.pie_model_pipeline.specs.Rows.{observation_of}
 use Rattle.pie_model_pipeline.specs.World.{world, project}
 

@@ -18,7 +18,7 @@ use Rattle.pie_record.specs.declared.dep.DepOn.TheVariants.{Called}
 use Rattle.pie_model.specs.Evaluation.{output_answer}
 use Rattle.pie_model.specs.Records.{Required, observed, value_stamp}
 use Rattle.pie_model_pipeline.specs.Words.{how_of}
-use Rattle.pie_model_pipeline.specs.inner.Answers.{answer_of}
+use Rattle.pie_model_pipeline.specs.Answers.{answer_of}
 use Rattle.pie_model_pipeline.specs.Rows.{observation_of}
 use Rattle.pie_model_pipeline.specs.World.{world}
 

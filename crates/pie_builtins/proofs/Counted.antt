@@ -8,8 +8,8 @@ use Rattle.std.proofs.lemmas.List.{append-nil}
 use Rattle.pie_base.specs.declared.fault.FaultKind.TheVariants.{Big}
 use Rattle.pie_value.specs.Tree.{Tree, TInt, TList, Cons, items_of}
 use Rattle.pie_value.specs.Size.{sizes_of}
-use Rattle.pie_value.specs.inner.BuiltinItems.{ints_from}
-use Rattle.pie_value.specs.inner.BuiltinForms.{made}
+use Rattle.pie_value.specs.BuiltinItems.{ints_from}
+use Rattle.pie_value.specs.BuiltinForms.{made}
 use Rattle.pie_builtins.proofs.Joining.{large}
 
 -- so many integers from one on, as a plain list

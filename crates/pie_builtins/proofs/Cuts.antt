@@ -4,8 +4,8 @@ use Rattle.std.specs.Prelude.{nat_le}
 use Rattle.std.specs.Prelude.{pos}
 use Rattle.std.proofs.lemmas.List.{drop-take}
 use Rattle.pie_value.specs.Tree.{TText}
-use Rattle.pie_value.specs.inner.BuiltinTexts.{is_between_characters}
-use Rattle.pie_value.specs.inner.BuiltinForms.{made, cut_out}
+use Rattle.pie_value.specs.BuiltinTexts.{is_between_characters}
+use Rattle.pie_value.specs.BuiltinForms.{made, cut_out}
 
 -- what stands between two places
 pub between : (s : List ℕ) (i j : ℕ) → i ≤ j → drop i (take j s) ≡ take (j - i) (drop i s)

@@ -4,9 +4,9 @@ use Rattle.std.specs.Prelude.{Some, None}
 use Rattle.std.proofs.lemmas.List.{append-nil}
 use Rattle.pie_base.specs.declared.fault.FaultKind.TheVariants.{Unknown}
 use Rattle.pie_value.specs.Tree.{Tree, Trees, TText, TList, Nil, Cons, items_of, list_of}
-use Rattle.pie_value.specs.inner.BuiltinForms.{given, made}
-use Rattle.pie_value.specs.inner.BuiltinItems.{all_as, as_text, as_list, joined, all_joined}
-use Rattle.pie_value.specs.inner.BuiltinTexts.{with_between}
+use Rattle.pie_value.specs.BuiltinForms.{given, made}
+use Rattle.pie_value.specs.BuiltinItems.{all_as, as_text, as_list, joined, all_joined}
+use Rattle.pie_value.specs.BuiltinTexts.{with_between}
 use Rattle.pie_builtins.specs.Gathered.{text_in, items_in, all_texts, all_lists, each_after, texts_between, items_among}
 
 texts_some : (ts : List Tree) → all_texts ts ≡ true → all_as as_text (items_of ts) ≡ Some (map text_in ts)

@@ -6,8 +6,8 @@ use Rattle.pie_base.specs.declared.fault.FaultKind.TheVariants.{Big}
 use Rattle.pie_value.specs.Tree.{Tree, Trees, TList, TText, Nil, Cons, items_of}
 use Rattle.pie_value.specs.Size.{size_of, sizes_of, capped_64}
 use Rattle.pie_value.specs.Limits.{is_small}
-use Rattle.pie_value.specs.inner.BuiltinItems.{joined}
-use Rattle.pie_value.specs.inner.BuiltinForms.{made}
+use Rattle.pie_value.specs.BuiltinItems.{joined}
+use Rattle.pie_value.specs.BuiltinForms.{made}
 
 not_both : (a b : Bool) → a ≡ false → (a && b) ≡ false
 not_both false b h = refl

@@ -5,10 +5,10 @@ use Rattle.std.proofs.lemmas.List.{length-drop, append-nil}
 use Rattle.std.specs.Str.Pattern.{FindsText, SplitsAroundMatch}
 use Rattle.pie_base.specs.declared.fault.FaultKind.TheVariants.{Range as RangeFault}
 use Rattle.pie_value.specs.Tree.{Tree, TText}
-use Rattle.pie_value.specs.inner.BuiltinForms.{made}
-use Rattle.pie_value.specs.inner.BuiltinItems.{text_list}
-use Rattle.pie_value.specs.inner.BuiltinTexts.{first_place, pieces, pieces_from, pieces_within, replaced, with_between, without_last_empty}
-use Rattle.pie_value.specs.inner.Builtins.{split_answer}
+use Rattle.pie_value.specs.BuiltinForms.{made}
+use Rattle.pie_value.specs.BuiltinItems.{text_list}
+use Rattle.pie_value.specs.BuiltinTexts.{first_place, pieces, pieces_from, pieces_within, replaced, with_between, without_last_empty}
+use Rattle.pie_value.specs.Builtins.{split_answer}
 use Rattle.pie_builtins.proofs.Places.{nowhere, at_first}
 
 from_fuel : (n m : ℕ) (b : ℕ) (p : List ℕ)

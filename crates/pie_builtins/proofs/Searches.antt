@@ -8,7 +8,7 @@ use Rattle.std.proofs.lemmas.Str.{IsCharBoundary-from_take}
 use Rattle.std.proofs.iter.Find.{text_at}
 use Rattle.memchr.specs.Find.{FindsNeedle, OccursAt}
 use Rattle.memchr.proofs.lemmas.MatchLemmas.{OccursAt-from_part, OccursAt-part, OccursAt-split}
-use Rattle.pie_value.specs.inner.BuiltinTexts.{first_place}
+use Rattle.pie_value.specs.BuiltinTexts.{first_place}
 use Rattle.pie_builtins.proofs.Places.{at_first, nowhere, take_front}
 
 -- where a text doesn't occur, it isn't what stands there

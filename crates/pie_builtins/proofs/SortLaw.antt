@@ -11,10 +11,10 @@ use Rattle.std.proofs.lemmas.List.Sorted.{IsPermutation-map}
 use Rattle.pie_value.specs.declared.value.Value.{Value}
 use Rattle.pie_value.specs.Tree.{Tree, Trees, TInt, TList, TNull, TPath, TText, Nil, Cons, items_of, list_of}
 use Rattle.pie_value.specs.Values.{tree_of}
-use Rattle.pie_value.specs.inner.BuiltinForms.{made}
-use Rattle.pie_value.specs.inner.BuiltinItems.{all_as, as_int, as_path, as_text, sorted_by}
-use Rattle.pie_value.specs.inner.BuiltinTexts.{and_then}
-use Rattle.pie_value.specs.inner.Builtins.{sort_answer}
+use Rattle.pie_value.specs.BuiltinForms.{made}
+use Rattle.pie_value.specs.BuiltinItems.{all_as, as_int, as_path, as_text, sorted_by}
+use Rattle.pie_value.specs.BuiltinTexts.{and_then}
+use Rattle.pie_value.specs.Builtins.{sort_answer}
 use Rattle.pie_builtins.specs.declared.fault.BuiltinFault.{BuiltinFault}
 use Rattle.pie_builtins.specs.Agreement.{AnswerAgrees}
 use Rattle.pie_builtins.specs.Laws.{IsAtMost, IsSortedList}

@@ -10,7 +10,7 @@ use Rattle.std.proofs.lemmas.Bool.{cases_Bool}
 use Rattle.std.specs.List.Sorted.{IsPermutation}
 use Rattle.std.proofs.lemmas.List.Sorted.{sorted_far, ranks_by, IsPermutation-refl, IsPermutation-sym, IsPermutation-trans, IsPermutation-cons}
 use Rattle.std.proofs.lemmas.List.Sorted.{IsPermutation-middle}
-use Rattle.pie_value.specs.inner.BuiltinItems.{put_in, sorted_by}
+use Rattle.pie_value.specs.BuiltinItems.{put_in, sorted_by}
 
 reversed_is : (r : Ordering) → is_lt (ordering_reverse r) ≡ is_gt r
 reversed_is Less = refl

@@ -4,7 +4,7 @@ use Rattle.std.specs.Prelude.{slice_get, Some, None}
 use Rattle.std.specs.Str.{IsUtf8, IsCharBoundary}
 use Rattle.std.proofs.lemmas.List.{reverse-append, reverse-reverse}
 use Rattle.std.proofs.lemmas.Str.{IsCharBoundary-before_ascii, IsCharBoundary-after_ascii}
-use Rattle.pie_value.specs.inner.BuiltinTexts.{is_space, after_spaces}
+use Rattle.pie_value.specs.BuiltinTexts.{is_space, after_spaces}
 
 space_ascii : (b : ℕ) → is_space b ≡ true → b < 128
 space_ascii b h = grind arith

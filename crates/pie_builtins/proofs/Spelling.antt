@@ -10,7 +10,7 @@ use Rattle.std.specs.Str.Parse.{AllDigits, digits_value, digits_value_after, Par
 use Rattle.std.proofs.lemmas.Bool.{cases_Bool, cases_lt, cases_eq}
 use Rattle.std.proofs.lemmas.Str.{digit_value_digit}
 use Rattle.std.proofs.lemmas.Str.Parse.{tells_digits, numerals_by_value, parse_signed_minus, parse_signed_plain}
-use Rattle.pie_value.specs.inner.BuiltinTexts.{is_digit, digits_after, number_spelt, as_positive, as_negative, and_then, int_spelt}
+use Rattle.pie_value.specs.BuiltinTexts.{is_digit, digits_after, number_spelt, as_positive, as_negative, and_then, int_spelt}
 
 both_true : (a b : Bool) → (a && b) ≡ true → (a ≡ true) × (b ≡ true)
 both_true true true e = (refl, refl)

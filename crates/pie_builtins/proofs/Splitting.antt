@@ -12,9 +12,9 @@ use Rattle.pie_value.specs.declared.value.Value.{Value}
 use Rattle.pie_value.specs.Tree.{Tree, TText}
 use Rattle.pie_value.specs.Values.{tree_of}
 use Rattle.pie_value.specs.Limits.{is_small}
-use Rattle.pie_value.specs.inner.BuiltinForms.{made}
-use Rattle.pie_value.specs.inner.BuiltinItems.{text_list}
-use Rattle.pie_value.specs.inner.BuiltinTexts.{starts_with, first_place, pieces, pieces_from, pieces_within, with_between, without_last_empty}
+use Rattle.pie_value.specs.BuiltinForms.{made}
+use Rattle.pie_value.specs.BuiltinItems.{text_list}
+use Rattle.pie_value.specs.BuiltinTexts.{starts_with, first_place, pieces, pieces_from, pieces_within, with_between, without_last_empty}
 use Rattle.pie_builtins.specs.declared.fault.BuiltinFault.{BuiltinFault}
 use Rattle.pie_builtins.specs.Agreement.{AnswerAgrees}
 use Rattle.pie_builtins.specs.Laws.{Holds, NoneHolds, AreSplit, AreLines, IsReplaced, IsTexts}

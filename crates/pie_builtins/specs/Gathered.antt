@@ -1,7 +1,7 @@
 -- Texts and lists among values, read one by one.
 use Rattle.std.specs.Prelude.{ℕ, Bool, ◌&&◌, true, List, [], ◌∷◌, ◌++◌, is_some}
 use Rattle.pie_value.specs.Tree.{Tree, TText, TList, list_of}
-use Rattle.pie_value.specs.inner.BuiltinItems.{as_text, as_list}
+use Rattle.pie_value.specs.BuiltinItems.{as_text, as_list}
 
 -- the bytes of a text, none of another value
 abbrev pub text_in : Tree → List ℕ

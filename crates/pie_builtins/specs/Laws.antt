@@ -7,8 +7,8 @@ use Rattle.std.specs.Cmp.Lexicographic.{slice_cmp}
 use Rattle.pie_value.specs.declared.builtin.Builtin.{Builtin}
 use Rattle.pie_value.specs.declared.builtin.Builtin.TheVariants.{Lines, Replace, Sort, Split}
 use Rattle.pie_value.specs.Tree.{Tree, Trees, TInt, TList, TNull, TPath, TText, items_of, list_of}
-use Rattle.pie_value.specs.inner.BuiltinItems.{text_list}
-use Rattle.pie_value.specs.inner.BuiltinTexts.{with_between}
+use Rattle.pie_value.specs.BuiltinItems.{text_list}
+use Rattle.pie_value.specs.BuiltinTexts.{with_between}
 
 -- a text has another somewhere in it
 abbrev pub Holds : List ℕ → List ℕ → Type 0

@@ -1,7 +1,7 @@
 //! The built-in functions by their names.
 ghost use Rattle.std.specs.Prelude.{IfOk};
 ghost use Rattle.pie_value.specs.Values.{tree_of, trees_of};
-ghost use Rattle.pie_value.specs.inner.Builtins.{answer_of};
+ghost use Rattle.pie_value.specs.Builtins.{answer_of};
 ghost use Rattle.pie_builtins.specs.Agreement.{AnswerAgrees};
 ghost use Rattle.pie_builtins.specs.Laws.{LawOf};
 

@@ -4,8 +4,8 @@ ghost use Rattle.std.specs.Str.{is_utf8};
 ghost use Rattle.pie_value.specs.Tree.{TBytes, TNull, TText};
 ghost use Rattle.pie_value.specs.declared.builtin.Builtin.TheVariants.{FromBytes, SliceBytes, ToBytes};
 ghost use Rattle.pie_value.specs.Values.{trees_of};
-ghost use Rattle.pie_value.specs.inner.BuiltinForms.{made as spec_made, cut_out};
-ghost use Rattle.pie_value.specs.inner.Builtins.{answer_of};
+ghost use Rattle.pie_value.specs.BuiltinForms.{made as spec_made, cut_out};
+ghost use Rattle.pie_value.specs.Builtins.{answer_of};
 ghost use Rattle.pie_builtins.specs.Agreement.{AnswerAgrees};
 
 use crate::BuiltinFault;

@@ -2,7 +2,7 @@
 ghost use Rattle.std.specs.Prelude.{◌≡◌, Err};
 ghost use Rattle.pie_value.specs.Tree.{TText};
 ghost use Rattle.pie_value.specs.Values.{tree_of};
-ghost use Rattle.pie_value.specs.inner.BuiltinForms.{made as spec_made, made_number};
+ghost use Rattle.pie_value.specs.BuiltinForms.{made as spec_made, made_number};
 ghost use Rattle.pie_builtins.specs.Agreement.{AnswerAgrees};
 
 use pie_base::{FaultKind, OutOfMemory, Text};

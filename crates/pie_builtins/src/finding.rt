@@ -2,8 +2,8 @@
 ghost use Rattle.std.specs.Prelude.{◌≡◌};
 ghost use Rattle.pie_value.specs.declared.builtin.Builtin.TheVariants.{Contains, Ends, Find, Starts};
 ghost use Rattle.pie_value.specs.Values.{trees_of};
-ghost use Rattle.pie_value.specs.inner.BuiltinTexts.{first_place};
-ghost use Rattle.pie_value.specs.inner.Builtins.{answer_of};
+ghost use Rattle.pie_value.specs.BuiltinTexts.{first_place};
+ghost use Rattle.pie_value.specs.Builtins.{answer_of};
 ghost use Rattle.pie_builtins.specs.Agreement.{AnswerAgrees};
 
 use crate::BuiltinFault;

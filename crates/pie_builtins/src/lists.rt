@@ -3,8 +3,8 @@ ghost use Rattle.std.specs.Prelude.{◌≡◌, IfOk, reverse as reversed, slice_
 ghost use Rattle.pie_value.specs.declared.builtin.Builtin.TheVariants.{At, Reverse};
 ghost use Rattle.pie_value.specs.Tree.{TList, items_of, list_of};
 ghost use Rattle.pie_value.specs.Values.{tree_of, trees_of};
-ghost use Rattle.pie_value.specs.inner.BuiltinForms.{at_place, made as spec_made};
-ghost use Rattle.pie_value.specs.inner.Builtins.{answer_of, item_or_fault};
+ghost use Rattle.pie_value.specs.BuiltinForms.{at_place, made as spec_made};
+ghost use Rattle.pie_value.specs.Builtins.{answer_of, item_or_fault};
 ghost use Rattle.pie_builtins.specs.Agreement.{AnswerAgrees};
 
 use crate::BuiltinFault;

@@ -1,7 +1,7 @@
 //! The built-in functions on values that may be null.
 ghost use Rattle.pie_value.specs.declared.builtin.Builtin.TheVariants.{Get, IsNull, Some as SomeOf};
 ghost use Rattle.pie_value.specs.Values.{trees_of};
-ghost use Rattle.pie_value.specs.inner.Builtins.{answer_of};
+ghost use Rattle.pie_value.specs.Builtins.{answer_of};
 ghost use Rattle.pie_builtins.specs.Agreement.{AnswerAgrees};
 
 use crate::BuiltinFault;

@@ -3,9 +3,9 @@ ghost use Rattle.std.specs.Prelude.{◌≡◌};
 ghost use Rattle.pie_value.specs.declared.builtin.Builtin.TheVariants.{Len, ParseInt, ToText};
 ghost use Rattle.pie_value.specs.Tree.{items_of, count_of};
 ghost use Rattle.pie_value.specs.Values.{trees_of};
-ghost use Rattle.pie_value.specs.inner.BuiltinForms.{made_number};
-ghost use Rattle.pie_value.specs.inner.BuiltinTexts.{int_spelt as spec_int_spelt};
-ghost use Rattle.pie_value.specs.inner.Builtins.{answer_of};
+ghost use Rattle.pie_value.specs.BuiltinForms.{made_number};
+ghost use Rattle.pie_value.specs.BuiltinTexts.{int_spelt as spec_int_spelt};
+ghost use Rattle.pie_value.specs.Builtins.{answer_of};
 ghost use Rattle.pie_builtins.specs.Agreement.{AnswerAgrees};
 
 use crate::BuiltinFault;

@@ -5,8 +5,8 @@ ghost use Rattle.pie_base.specs.Path.{is_slash};
 ghost use Rattle.pie_value.specs.Tree.{TText};
 ghost use Rattle.pie_value.specs.declared.builtin.Builtin.TheVariants.{Join, Name, Parent, Path as PathOf};
 ghost use Rattle.pie_value.specs.Values.{trees_of};
-ghost use Rattle.pie_value.specs.inner.BuiltinForms.{made as spec_made};
-ghost use Rattle.pie_value.specs.inner.Builtins.{answer_of, path_or_fault};
+ghost use Rattle.pie_value.specs.BuiltinForms.{made as spec_made};
+ghost use Rattle.pie_value.specs.Builtins.{answer_of, path_or_fault};
 ghost use Rattle.pie_builtins.specs.Agreement.{AnswerAgrees};
 
 use crate::BuiltinFault;

@@ -6,10 +6,10 @@ ghost use Rattle.std.specs.Str.Pattern.{FindsText, SplitsAroundMatch};
 ghost use Rattle.pie_value.specs.Tree.{TText};
 ghost use Rattle.pie_value.specs.declared.builtin.Builtin.TheVariants.{Lines, Replace, Split};
 ghost use Rattle.pie_value.specs.Values.{tree_of, trees_of};
-ghost use Rattle.pie_value.specs.inner.BuiltinItems.{text_list};
-ghost use Rattle.pie_value.specs.inner.BuiltinTexts.{lines_of, pieces, without_last_empty, replaced as spec_replaced, with_between};
-ghost use Rattle.pie_value.specs.inner.BuiltinForms.{made as spec_made};
-ghost use Rattle.pie_value.specs.inner.Builtins.{answer_of, split_answer};
+ghost use Rattle.pie_value.specs.BuiltinItems.{text_list};
+ghost use Rattle.pie_value.specs.BuiltinTexts.{lines_of, pieces, without_last_empty, replaced as spec_replaced, with_between};
+ghost use Rattle.pie_value.specs.BuiltinForms.{made as spec_made};
+ghost use Rattle.pie_value.specs.Builtins.{answer_of, split_answer};
 ghost use Rattle.pie_builtins.specs.Agreement.{AnswerAgrees};
 ghost use Rattle.pie_builtins.specs.Laws.{AreLines, AreSplit, IsReplaced, IsTexts, LawOf};
 

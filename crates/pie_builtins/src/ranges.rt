@@ -4,9 +4,9 @@ ghost use Rattle.std.specs.Int.{int_gap, w64};
 ghost use Rattle.pie_value.specs.Tree.{TInt, TList};
 ghost use Rattle.pie_value.specs.declared.builtin.Builtin.TheVariants.{Range as RangeOf};
 ghost use Rattle.pie_value.specs.Values.{trees_of};
-ghost use Rattle.pie_value.specs.inner.BuiltinItems.{ints_from};
-ghost use Rattle.pie_value.specs.inner.BuiltinForms.{made as spec_made};
-ghost use Rattle.pie_value.specs.inner.Builtins.{answer_of};
+ghost use Rattle.pie_value.specs.BuiltinItems.{ints_from};
+ghost use Rattle.pie_value.specs.BuiltinForms.{made as spec_made};
+ghost use Rattle.pie_value.specs.Builtins.{answer_of};
 ghost use Rattle.pie_builtins.specs.Agreement.{AnswerAgrees};
 
 use crate::BuiltinFault;

@@ -4,7 +4,7 @@ ghost use Rattle.std.specs.List.{after_last};
 ghost use Rattle.pie_base.specs.Path.{is_slash};
 ghost use Rattle.pie_value.specs.declared.builtin.Builtin.TheVariants.{Name};
 ghost use Rattle.pie_value.specs.Values.{trees_of};
-ghost use Rattle.pie_value.specs.inner.Builtins.{answer_of};
+ghost use Rattle.pie_value.specs.Builtins.{answer_of};
 ghost use Rattle.pie_builtins.specs.Agreement.{AnswerAgrees};
 
 use crate::BuiltinFault;

@@ -5,9 +5,9 @@ ghost use Rattle.std.specs.Cmp.Lexicographic.{slice_cmp};
 ghost use Rattle.pie_value.specs.Tree.{TInt, TList, TPath, TText, items_of};
 ghost use Rattle.pie_value.specs.declared.builtin.Builtin.TheVariants.{Sort};
 ghost use Rattle.pie_value.specs.Values.{tree_of, trees_of};
-ghost use Rattle.pie_value.specs.inner.BuiltinItems.{all_as, as_int, as_path, as_text, sorted_by};
-ghost use Rattle.pie_value.specs.inner.BuiltinForms.{made as spec_made};
-ghost use Rattle.pie_value.specs.inner.Builtins.{answer_of, sort_answer};
+ghost use Rattle.pie_value.specs.BuiltinItems.{all_as, as_int, as_path, as_text, sorted_by};
+ghost use Rattle.pie_value.specs.BuiltinForms.{made as spec_made};
+ghost use Rattle.pie_value.specs.Builtins.{answer_of, sort_answer};
 ghost use Rattle.pie_builtins.specs.Agreement.{AnswerAgrees};
 ghost use Rattle.pie_builtins.specs.Laws.{IsSortedList, LawOf};
 

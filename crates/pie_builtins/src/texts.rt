@@ -4,9 +4,9 @@ ghost use Rattle.std.specs.Str.{IsCharBoundary};
 ghost use Rattle.pie_value.specs.Tree.{TText};
 ghost use Rattle.pie_value.specs.declared.builtin.Builtin.TheVariants.{Sha256 as HashOf, Slice};
 ghost use Rattle.pie_value.specs.Values.{trees_of};
-ghost use Rattle.pie_value.specs.inner.BuiltinTexts.{is_between_characters};
-ghost use Rattle.pie_value.specs.inner.BuiltinForms.{cut_out};
-ghost use Rattle.pie_value.specs.inner.Builtins.{answer_of};
+ghost use Rattle.pie_value.specs.BuiltinTexts.{is_between_characters};
+ghost use Rattle.pie_value.specs.BuiltinForms.{cut_out};
+ghost use Rattle.pie_value.specs.Builtins.{answer_of};
 ghost use Rattle.pie_builtins.specs.Agreement.{AnswerAgrees};
 
 use crate::BuiltinFault;

@@ -2,8 +2,8 @@
 ghost use Rattle.std.specs.Prelude.{◌≡◌, reverse};
 ghost use Rattle.pie_value.specs.declared.builtin.Builtin.TheVariants.{Trim};
 ghost use Rattle.pie_value.specs.Values.{trees_of};
-ghost use Rattle.pie_value.specs.inner.BuiltinTexts.{is_space as spec_is_space, after_spaces as spec_after_spaces};
-ghost use Rattle.pie_value.specs.inner.Builtins.{answer_of};
+ghost use Rattle.pie_value.specs.BuiltinTexts.{is_space as spec_is_space, after_spaces as spec_after_spaces};
+ghost use Rattle.pie_value.specs.Builtins.{answer_of};
 ghost use Rattle.pie_builtins.specs.Agreement.{AnswerAgrees};
 
 use crate::BuiltinFault;

@@ -11,7 +11,7 @@ use Rattle.pie_files.specs.declared.files.FilesError.TheVariants.{Failed, OutOfM
 use Rattle.pie_files.specs.Directory.{Directory, with_file, without_file}
 use Rattle.pie_files.specs.Images.{Stays, MayWrite, MayRemove, MayLeave, Elapses}
 use Rattle.pie_files.specs.Reading.{Leaves, LeavesAsBefore}
-use Rattle.pie_files.specs.inner.Calls.{MayHaveWritten, MayHaveRemoved}
+use Rattle.pie_files.specs.Calls.{MayHaveWritten, MayHaveRemoved}
 use Rattle.pie_files.proofs.HeldLemmas.{antisymmetric}
 use Rattle.pie_files.proofs.Reading.{starts, one_call, in_turn, weaker, if_always, if_each}
 use Rattle.pie_cache.specs.inner.Places.{is_in_cache}

@@ -8,7 +8,7 @@ use Rattle.pie_commit.specs.inner.Steps.{Step, Writes, Removes, Syncs, IsCallOf,
 use Rattle.pie_files.specs.declared.files.Call.{Call}
 use Rattle.pie_files.specs.declared.files.Call.TheVariants as calls
 use Rattle.pie_files.specs.declared.files.FilesError.{FilesError}
-use Rattle.pie_files.specs.inner.Calls.{Called, Notes}
+use Rattle.pie_files.specs.Calls.{Called, Notes}
 use Rattle.pie_files.specs.Directory.{Directory, file_at, files_under}
 use Rattle.pie_store.specs.declared.offers.Offer.{Offer}
 use Rattle.pie_commit.specs.inner.Plans.{written}

@@ -5,12 +5,12 @@ use Rattle.std.specs.Str.{bytes_eq}
 use Rattle.std.proofs.lemmas.Slice.Eq.{bytes_eq-Decides}
 use Rattle.sha2.specs.Sha256.{sha256}
 use Rattle.pie_value.specs.Canonical.{counted}
-use Rattle.pie_value.specs.inner.Reading.{counted_of}
+use Rattle.pie_value.specs.Reading.{counted_of}
 use Rattle.pie_value.proofs.Taking.{IsBytes, Takes, Takes-then, counted_takes, counted_again}
 use Rattle.pie_record.specs.declared.record_fault.RecordFault.TheVariants.{BadValue}
 use Rattle.pie_record.specs.declared.task_record.TaskRecord.{TaskRecord}
 use Rattle.pie_record.specs.Canonical.{enc_record}
-use Rattle.pie_record.specs.inner.Reading.{Parsed, then_on, counted_at, record_at}
+use Rattle.pie_record.specs.Reading.{Parsed, then_on, counted_at, record_at}
 use Rattle.pie_record.proofs.RecordCodec.{record_codec}
 use Rattle.pie_record.proofs.Steps.{pair, then_ok, same_value, same_rest, told_ok, told_on, guard_ok, guard_on, Codec, step}
 use Rattle.pie_store.specs.inner.Offers.{Offered}

@@ -5,7 +5,7 @@ use Rattle.std.specs.Global.{Global}
 use Rattle.std.proofs.lemmas.List.{drop_more, drop_all}
 use mathlib.Core.List.{map-append}
 use Rattle.pie_record.specs.declared.record_fault.RecordFault.{RecordFault}
-use Rattle.pie_record.specs.inner.Reading.{Parsed as Part, then_on as then_part}
+use Rattle.pie_record.specs.Reading.{Parsed as Part, then_on as then_part}
 use Rattle.pie_store.specs.declared.offers.Offer.{Offer}
 use Rattle.pie_store.specs.inner.Offers.{Offered, offered}
 use Rattle.pie_cache.specs.declared.cache_fault.CacheFault.{CacheFault}

@@ -4,7 +4,7 @@ use Rattle.std.specs.Option.{option_map}
 use Rattle.std.specs.Prelude.{IfSome}
 use Rattle.pie_build.specs.inner.Rebuilt.{IsRefusal}
 use Rattle.pie_files.specs.Directory.{Directory}
-use Rattle.pie_incremental.specs.Refused.{RefusesRight}
+use Rattle.pie_incremental.specs.inner.Refused.{RefusesRight}
 use Rattle.pie_parser.specs.FunctionTrees.{FunctionTree}
 use Rattle.pie_project.specs.declared.fault.BuildError.{BuildError}
 use Rattle.pie_project.specs.declared.fault.BuildError.TheVariants as errors

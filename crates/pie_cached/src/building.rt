@@ -4,11 +4,11 @@ ghost use Rattle.pie_build.specs.inner.Rebuilt.{IsRefusal, Tells};
 ghost use Rattle.pie_cache.specs.inner.Contents.{IsNews};
 ghost use Rattle.pie_cache.specs.inner.Texts.{IsKept};
 ghost use Rattle.pie_files.specs.Streams.{Counted};
-ghost use Rattle.pie_incremental.specs.Refused.{RefusesRight};
+ghost use Rattle.pie_incremental.specs.inner.Refused.{RefusesRight};
 ghost use Rattle.pie_store.specs.inner.Offers.{offered as offer_of};
 ghost use Rattle.pie_value.specs.Canonical.{IsEncodableTask};
 ghost use Rattle.pie_cached.specs.Cached.{KeepsAllButCache, KeepsOthers, StaysIfRefused};
-ghost use Rattle.pie_topdown_build.specs.Offered.{IsNew};
+ghost use Rattle.pie_topdown_build.specs.inner.Offered.{IsNew};
 
 use pie_base::{OutOfMemory, Path};
 use pie_cache::{Cache, cache_path};

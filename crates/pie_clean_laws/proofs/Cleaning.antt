@@ -16,7 +16,7 @@ use Rattle.pie_model.specs.Built.{built_directory, provided_at, store_rows}
 use Rattle.pie_model.specs.Forest.{live_evaluations}
 use Rattle.pie_model.specs.Paths.{Path, kind_of}
 use Rattle.pie_model.specs.declared.words.Kind.TheVariants.{Out, Kept, Source}
-use Rattle.pie_model.specs.inner.Changes.{NamesAllChanges}
+use Rattle.pie_model.specs.Changes.{NamesAllChanges}
 use Rattle.pie_model.specs.Verdict.{verdict}
 use Rattle.pie_model.proofs.Basics.{same_bytes, bytes_same, clash}
 use Rattle.pie_model_pipeline.specs.Clean.{AreProvided}

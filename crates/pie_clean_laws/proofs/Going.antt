@@ -2,10 +2,10 @@
 use Rattle.std.proofs.Common.{ℕ, ◌≡◌, ◌⊎◌, inl, inr, true, List, ◌++◌, refl, sym, ◌∙◌}
 use Rattle.pie_files.specs.Directory.{Directory}
 use Rattle.pie_model.specs.Paths.{Path, among}
-use Rattle.pie_model.specs.inner.Changes.{NamesAllChanges}
+use Rattle.pie_model.specs.Changes.{NamesAllChanges}
 use Rattle.pie_model.proofs.Basics.{among_left, among_right, among_either}
 use Rattle.pie_earlier_laws.proofs.Leaving.{names_join, more_names}
-use Rattle.pie_store.specs.inner.Pending.{in_order}
+use Rattle.pie_store.specs.Pending.{in_order}
 use Rattle.pie_incremental.specs.declared.base.Base.{Base}
 use Rattle.pie_incremental.specs.Earlier.{Earlier, GoesOnFrom}
 use Rattle.pie_incremental.specs.Kept.{is_builders}

@@ -5,7 +5,7 @@ use Rattle.std.proofs.lemmas.List.Elements.{All-contains}
 use Rattle.pie_check_laws.proofs.Members.{none_in, here_or_there, here, there}
 use Rattle.pie_model.specs.Paths.{among}
 use Rattle.pie_model.proofs.Basics.{among_here, among_there, among_split}
-use Rattle.pie_store.specs.inner.Pending.{in_order}
+use Rattle.pie_store.specs.Pending.{in_order}
 use Rattle.pie_store.proofs.InOrder.{in_path_order}
 
 pub among_in : (p : List ℕ) (xs : List (List ℕ)) → Contains xs p → among p xs ≡ true

@@ -8,8 +8,8 @@ use Rattle.pie_files.specs.Directory.{Directory}
 use Rattle.pie_earlier_laws.proofs.Leaving.{names_join, more_names, agreeing}
 use Rattle.pie_left_laws.proofs.Going.{own_files_kept}
 use Rattle.pie_model.specs.Paths.{Path, among}
-use Rattle.pie_model.specs.inner.Changes.{NamesAllChanges}
-use Rattle.pie_store.specs.inner.Pending.{in_order, lines, IsName, IsPending}
+use Rattle.pie_model.specs.Changes.{NamesAllChanges}
+use Rattle.pie_store.specs.Pending.{in_order, lines, IsName, IsPending}
 use Rattle.pie_store.proofs.InOrder.{in_path_order, pending_is}
 use Rattle.pie_store.proofs.PendingLemmas.{no_names, same_names}
 use Rattle.pie_incremental.specs.declared.base.Base.{Base}

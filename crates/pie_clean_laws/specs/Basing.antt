@@ -3,11 +3,11 @@ use Rattle.std.specs.Prelude.{◌≡◌, ℕ, true, List, ◌++◌, All, Some, O
 use Rattle.pie_base.specs.Path.{is_out}
 use Rattle.pie_files.specs.Directory.{Directory}
 use Rattle.pie_model.specs.Paths.{among}
-use Rattle.pie_model.specs.inner.Changes.{NamesAllChanges}
+use Rattle.pie_model.specs.Changes.{NamesAllChanges}
 use Rattle.pie_parser.specs.FunctionTrees.{FunctionTree}
 use Rattle.pie_project.specs.Fronts.{ProjectSays}
 use Rattle.pie_report.specs.declared.report.Report.{Report}
-use Rattle.pie_store.specs.inner.Pending.{in_order, IsName}
+use Rattle.pie_store.specs.Pending.{in_order, IsName}
 use Rattle.pie_value.specs.declared.task.Task.{Task}
 use Rattle.pie_value.specs.declared.verdict.Verdict.TheVariants.{Accepted}
 use Rattle.pie_incremental.specs.declared.base.Base.{Base}

@@ -7,7 +7,7 @@ use Rattle.pie_files.specs.Directory.{Directory}
 use Rattle.pie_files.specs.Faults.{Rose}
 use Rattle.std.specs.Prelude.{IfSome}
 use Rattle.pie_build.specs.inner.Rebuilt.{IsRefusal}
-use Rattle.pie_incremental.specs.Refused.{RefusesRight}
+use Rattle.pie_incremental.specs.inner.Refused.{RefusesRight}
 use Rattle.pie_project.specs.Fronts.{ProjectSays}
 use Rattle.pie_project.specs.Refusals.{OfPipeline, OfRoots, plain}
 use Rattle.pie_project.specs.declared.fault.BuildError.{BuildError}

@@ -5,12 +5,12 @@ use Rattle.std.proofs.lemmas.Bool.{ltb-true}
 use borrow.Author.Tests.{leb-true}
 use Rattle.pie_base.specs.declared.fault.FaultKind.TheVariants.{Budget}
 use Rattle.pie_value.specs.Tree.{Tree, TBool, TList, TInt, list_of}
-use Rattle.pie_value.specs.inner.Builtins.{answer_of}
+use Rattle.pie_value.specs.Builtins.{answer_of}
 use Rattle.pie_signature.specs.Signatures.{arity_of}
 use Rattle.pie_operators.specs.Operators.{unary_answer, binary_answer, list_with, tuple_with, item_at}
 use Rattle.pie_operators.specs.Domain.{Outcome, done, fails, wants, State, Act, by_answer}
 use Rattle.pie_operators.specs.Effects.{observe, write, require, fail}
-use Rattle.pie_value.specs.inner.BuiltinForms.{made}
+use Rattle.pie_value.specs.BuiltinForms.{made}
 use Rattle.pie_value.specs.Tree.{TText}
 use Rattle.pie_code.specs.declared.instr.Each.{Each as EachLoop}
 use Rattle.pie_code.specs.declared.instr.Required.{Required}

@@ -7,7 +7,7 @@ use Rattle.pie_value.specs.declared.event.Answer.{Answer}
 use Rattle.pie_value.specs.declared.event.Event.{Event}
 use Rattle.pie_value.specs.declared.event.How.{How}
 use Rattle.pie_value.specs.Tree.{Tree, TPath, TText, TBytes}
-use Rattle.pie_value.specs.inner.BuiltinForms.{Answered}
+use Rattle.pie_value.specs.BuiltinForms.{Answered}
 use Rattle.pie_value.specs.Limits.{is_small_task}
 use Rattle.pie_operators.specs.declared.asking.Observation.{Observation}
 use Rattle.pie_operators.specs.declared.asking.Observation.TheVariants.{Exists, Read, Digest, List as Listing}

@@ -1,8 +1,8 @@
 -- What an instruction does with its operands: its meaning without the cases in which an operand is missing.
 use Rattle.std.specs.Prelude.{◌≡◌, ℕ, ◌<◌, ◌≤◌, List, [], ◌∷◌, length, take, drop, reverse, Some, slice_get, slice_set}
 use Rattle.pie_value.specs.Tree.{Tree, TText}
-use Rattle.pie_value.specs.inner.BuiltinForms.{made}
-use Rattle.pie_value.specs.inner.Builtins.{answer_of}
+use Rattle.pie_value.specs.BuiltinForms.{made}
+use Rattle.pie_value.specs.Builtins.{answer_of}
 use Rattle.pie_value.specs.declared.builtin.Builtin.{Builtin}
 use Rattle.pie_signature.specs.Signatures.{arity_of}
 use Rattle.pie_operators.specs.Operators.{unary_answer, binary_answer, list_with, tuple_with, item_at}

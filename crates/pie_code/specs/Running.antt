@@ -5,8 +5,8 @@ use Rattle.std.specs.Prelude.{Option, Some, None, pos}
 use Rattle.pie_base.specs.declared.fault.FaultKind.TheVariants.{Budget, Unknown}
 use Rattle.pie_value.specs.declared.event.Answer.{Answer}
 use Rattle.pie_value.specs.Tree.{Tree, TUnit, TBool, TInt, TText, TList, TTuple, TNull, Nil, list_of}
-use Rattle.pie_value.specs.inner.BuiltinForms.{made}
-use Rattle.pie_value.specs.inner.Builtins.{answer_of}
+use Rattle.pie_value.specs.BuiltinForms.{made}
+use Rattle.pie_value.specs.Builtins.{answer_of}
 use Rattle.pie_signature.specs.Signatures.{arity_of}
 use Rattle.pie_operators.specs.Operators.{unary_answer, binary_answer, list_with, tuple_with, item_at}
 use Rattle.pie_operators.specs.Domain.{Outcome, done, fails, wants, State, at_start, Act, by_answer}

@@ -5,7 +5,7 @@ use lib.Pointwise.{pointwise}
 use Rattle.pie_base.specs.declared.fault.FaultKind.TheVariants.{Unknown, Budget}
 use Rattle.pie_value.specs.Tree.{TBool}
 use Rattle.pie_value.specs.Tree.{Tree as Val}
-use Rattle.pie_value.specs.inner.BuiltinForms.{Answered}
+use Rattle.pie_value.specs.BuiltinForms.{Answered}
 use Rattle.pie_operators.specs.Domain.{Outcome, done, fails, wants, State, Act, give, fault, pass, then_do, ticked, by_answer}
 use Rattle.pie_code.specs.declared.instr.Instr.{Instr}
 use Rattle.pie_code.specs.declared.instr.Instr.TheVariants.{Tick, Load}

@@ -9,8 +9,8 @@ use Rattle.pie_value.specs.declared.event.By.TheVariants.{Hash, Mark, Raw}
 use Rattle.pie_value.specs.declared.event.How.TheVariants.{Whole, Hashed, Ran}
 use Rattle.pie_value.specs.Tree.{TUnit, TBool, TInt, TText, TPath, TList, TTuple, TNull, TBytes, list_of, Trees as Vals, Nil as NoVal, Cons as ConsVal}
 use Rattle.pie_value.specs.Tree.{Tree as Val}
-use Rattle.pie_value.specs.inner.BuiltinForms.{Answered, made}
-use Rattle.pie_value.specs.inner.Builtins.{answer_of}
+use Rattle.pie_value.specs.BuiltinForms.{Answered, made}
+use Rattle.pie_value.specs.Builtins.{answer_of}
 use Rattle.pie_signature.specs.Signatures.{arity_of}
 use Rattle.pie_operators.specs.declared.asking.Observation.TheVariants as observations
 use Rattle.pie_operators.specs.Operators.{binary_answer, item_at, list_with}

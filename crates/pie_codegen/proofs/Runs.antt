@@ -4,7 +4,7 @@ use Rattle.std.proofs.Common.{Some, None, Ok, Err, refl, sym, subst, ap, ◌∙�
 use Rattle.std.proofs.lemmas.List.{length-append}
 use Rattle.pie_value.specs.Tree.{TUnit, TBool, TInt, TList, TTuple, TNull, Nil as NoVal, Cons as ConsVal}
 use Rattle.pie_value.specs.Tree.{Tree as Val}
-use Rattle.pie_value.specs.inner.BuiltinForms.{Answered}
+use Rattle.pie_value.specs.BuiltinForms.{Answered}
 use Rattle.pie_operators.specs.declared.operator.Unary.TheVariants.{Not}
 use Rattle.pie_operators.specs.Operators.{unary_answer, binary_answer, list_with, tuple_with}
 use Rattle.pie_operators.specs.Domain.{Outcome, done, fails, wants, State, Act, give, fault, pass, then_do, ticked, by_answer}

@@ -11,7 +11,7 @@ use Rattle.pie_base.specs.Path.{same_text}
 use Rattle.pie_files.specs.declared.files.FilesError.{FilesError}
 use Rattle.pie_files.specs.declared.files.FilesError.TheVariants.{Failed, OutOfMemory}
 use Rattle.pie_files.specs.Directory.{Directory, file_at, with_file, without_file}
-use Rattle.pie_files.specs.inner.Calls.{MayHaveWritten, MayHaveRemoved}
+use Rattle.pie_files.specs.Calls.{MayHaveWritten, MayHaveRemoved}
 use Rattle.pie_files.proofs.HeldLemmas.{antisymmetric}
 use Rattle.pie_commit.specs.declared.plan.Plan.{Plan}
 use Rattle.pie_commit.specs.inner.Plans.{is_own, is_inner}

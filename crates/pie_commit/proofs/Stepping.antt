@@ -6,7 +6,7 @@ use Rattle.pie_files.specs.declared.files.Call.{Call}
 use Rattle.pie_files.specs.declared.files.Call.TheVariants as calls
 use Rattle.pie_files.specs.declared.files.FilesError.{FilesError}
 use Rattle.pie_files.specs.declared.files.FilesError.TheVariants.{Failed, OutOfMemory}
-use Rattle.pie_files.specs.inner.Calls.{Called, IsWrite, Notes, NotesUnlessMemory}
+use Rattle.pie_files.specs.Calls.{Called, IsWrite, Notes, NotesUnlessMemory}
 use Rattle.pie_commit.specs.inner.Steps.{Step, Writes, Removes, Syncs, IsCallOf, AreCallsOf, MadeUntil, MadeSome, MadeBy, Makes}
 
 -- calls of steps, and of more steps behind them

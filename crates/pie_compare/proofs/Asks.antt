@@ -9,8 +9,8 @@ use Rattle.pie_record.specs.declared.dep.DepOn.TheVariants.{File}
 use Rattle.pie_record.specs.declared.task_record.TaskRecord.{TaskRecord}
 use Rattle.pie_named.specs.declared.named.Named.{Named}
 use Rattle.pie_named.specs.declared.stamps.FileStamp.{FileStamp}
-use Rattle.pie_named.specs.Names.{SameNames, is_named, is_above}
-use Rattle.pie_named.specs.inner.Asking.{IsNamedOrAbove, LooksAt, AsksFor, AsksOnce, call_for}
+use Rattle.pie_named.specs.inner.Names.{SameNames, is_named, is_above}
+use Rattle.pie_named.specs.Asking.{IsNamedOrAbove, LooksAt, AsksFor, AsksOnce, call_for}
 use Rattle.pie_named.proofs.Calls.{no_calls, made_once, calls_then, asks_as}
 use Rattle.pie_compare.specs.inner.Touching.{SomeOf, is_asked}
 use Rattle.pie_compare.specs.inner.Asked.{IsObservedIn, IsWrittenIn, IsOfRecord, MayAskOf}

@@ -12,7 +12,7 @@ use Rattle.pie_record.specs.declared.dep.DepOn.TheVariants.{File, Called}
 use Rattle.pie_record.specs.declared.task_record.TaskRecord.{TaskRecord}
 use Rattle.pie_named.specs.declared.named.Named.{Named}
 use Rattle.pie_named.specs.declared.stamps.FileStamp.{FileStamp}
-use Rattle.pie_named.specs.Names.{SameNames}
+use Rattle.pie_named.specs.inner.Names.{SameNames}
 use Rattle.pie_named.specs.inner.Known.{StaysKnown, known_stamp, known_differs}
 use Rattle.pie_compare.specs.inner.Touching.{SomeOf, on_known, IsTouched, SomeSightKnown, SomeWriteKnown, IsKnownTouched, Shows}
 use Rattle.pie_compare.proofs.Touches.{dep_same, write_same}

@@ -15,8 +15,8 @@ use Rattle.pie_record.specs.declared.dep.DepOn.{DepOn}
 use Rattle.pie_record.specs.declared.dep.DepOn.TheVariants.{File, Called}
 use Rattle.pie_record.specs.declared.task_record.TaskRecord.{TaskRecord}
 use Rattle.pie_named.specs.declared.named.Named.{Named}
-use Rattle.pie_named.specs.Names.{SameNames}
-use Rattle.pie_named.specs.Stamped.{stamp_in, differs_from}
+use Rattle.pie_named.specs.inner.Names.{SameNames}
+use Rattle.pie_named.specs.inner.Stamped.{stamp_in, differs_from}
 use Rattle.pie_named.specs.inner.Known.{IsTrueOf}
 use Rattle.pie_compare.specs.inner.Touching.{may_differ, on_differs, dep_differs, write_differs, Answers, AnswersBy}
 use Rattle.pie_compare.specs.inner.Touching.{SomeOf, SomeSightDiffers, SomeWriteDiffers, IsTouched, FindsBy, Passes}

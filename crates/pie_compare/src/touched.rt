@@ -6,8 +6,8 @@ ghost use Rattle.pie_compare.specs.inner.Touching.{sight_differs, dep_differs, w
 ghost use Rattle.pie_compare.specs.inner.Touching.{SomeSightDiffers, SomeWriteDiffers, IsTouched, FindsBy};
 ghost use Rattle.pie_compare.specs.inner.Touching.{sight_known, dep_known, write_known, SomeSightKnown, SomeWriteKnown, IsKnownTouched, Shows};
 ghost use Rattle.pie_compare.specs.inner.Asked.{IsObservedIn, IsOfRecord, IsWrittenIn, MayAskOf};
-ghost use Rattle.pie_named.specs.Names.{SameNames};
-ghost use Rattle.pie_named.specs.inner.Asking.{AsksFor};
+ghost use Rattle.pie_named.specs.inner.Names.{SameNames};
+ghost use Rattle.pie_named.specs.Asking.{AsksFor};
 ghost use Rattle.pie_record.specs.declared.dep.DepOn.TheVariants.{File};
 
 use pie_base::Path;

@@ -36,8 +36,8 @@ use Rattle.pie_model.specs.Paths.{Path, among, kind_of}
 use Rattle.pie_model.specs.Seen.{first_write, seen_file}
 use Rattle.pie_model.specs.Evaluation.{Project}
 use Rattle.pie_model.specs.Records.{Absent as ModelAbsent, Record, look_stamp}
-use Rattle.pie_model.specs.inner.StampNow.{Told, by_records, hash_stamp, told_stamp, own_told, look_now, recorded_outcome}
-use Rattle.pie_model.specs.inner.StampNow.{outcome_now, stamp_now, asked_before, StampsAgree, RecordAgrees}
+use Rattle.pie_model.specs.StampNow.{Told, by_records, hash_stamp, told_stamp, own_told, look_now, recorded_outcome}
+use Rattle.pie_model.specs.StampNow.{outcome_now, stamp_now, asked_before, StampsAgree, RecordAgrees}
 use Rattle.pie_model.specs.inner.Present.{WroteByRecords}
 use Rattle.pie_model.specs.inner.Consistent.{IsRecorded}
 use Rattle.pie_model.specs.inner.Still.{SourceStampStill, SourcesStill}

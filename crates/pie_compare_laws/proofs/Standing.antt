@@ -32,7 +32,7 @@ use Rattle.pie_tables.specs.declared.tables.Tables.{Tables}
 use Rattle.pie_named.specs.declared.named.Named.{Named}
 use Rattle.pie_named.specs.declared.stamps.FileStamp.{FileStamp}
 use Rattle.pie_named.specs.declared.stamps.FileStamp.TheVariants as files
-use Rattle.pie_named.specs.Stamped.{is_stamp, presence_of, hash_of, mark_of, listing_of, paths_list, stamp_in, differs_from}
+use Rattle.pie_named.specs.inner.Stamped.{is_stamp, presence_of, hash_of, mark_of, listing_of, paths_list, stamp_in, differs_from}
 use Rattle.pie_named.specs.inner.Known.{IsTrueOf, known_stamp, known_differs}
 use Rattle.pie_view.specs.declared.seen.Seen.{Seen as RowsSeen}
 use Rattle.pie_view.specs.declared.seen.Seen.TheVariants.{Absent, By, Clash}
@@ -48,13 +48,13 @@ use Rattle.pie_model.specs.Seen.{first_write, seen_file}
 use Rattle.pie_model.specs.Evaluation.{listing}
 use Rattle.pie_model.specs.Records as records
 use Rattle.pie_model.specs.Records.{look_stamp, mark_stamp}
-use Rattle.pie_model.specs.inner.StampNow.{Told, Untold, ToldHash, ToldClash, by_records, hash_stamp, told_stamp, own_told, look_now, listing_now}
-use Rattle.pie_model.specs.inner.StampNow.{recorded_outcome, outcome_now, stamp_now, asked_before, StampsAgree, RecordAgrees}
+use Rattle.pie_model.specs.StampNow.{Told, Untold, ToldHash, ToldClash, by_records, hash_stamp, told_stamp, own_told, look_now, listing_now}
+use Rattle.pie_model.specs.StampNow.{recorded_outcome, outcome_now, stamp_now, asked_before, StampsAgree, RecordAgrees}
 use Rattle.pie_model.specs.inner.Present.{WroteByRecords, IsTold}
 use Rattle.pie_model.proofs.Basics.{bytes_same, clash}
 use Rattle.pie_check_laws.proofs.Members.{none_in, here, there, here_or_there}
 use Rattle.pie_model_pipeline.specs.Rows.{stamp_of, asked_of, how_by, query_of, observation_of, record_of, outcome_of}
-use Rattle.pie_model_pipeline.specs.inner.Answers.{value_with}
+use Rattle.pie_model_pipeline.specs.Answers.{value_with}
 use Rattle.pie_model_pipeline.specs.World.{world, project}
 use Rattle.pie_model_pipeline.proofs.Joining.{values_told, tasks_told}
 use Rattle.pie_builder_laws.specs.Names.{called_on, called_in}

@@ -18,7 +18,7 @@ use Rattle.pie_compare.specs.inner.Standing.{write_at, hash_in}
 use Rattle.pie_model.specs.Paths.{Path, among}
 use Rattle.pie_model.specs.Seen.{first_write}
 use Rattle.pie_model.specs.Records.{Record, needs_of}
-use Rattle.pie_model.specs.inner.StampNow.{Told, Untold, ToldHash, ToldClash}
+use Rattle.pie_model.specs.StampNow.{Told, Untold, ToldHash, ToldClash}
 use Rattle.pie_model.specs.inner.Present.{Reaches, WroteByRecords, IsTold}
 use Rattle.pie_model.specs.inner.Present.Way.{here as arrived, along}
 use Rattle.pie_model.specs.inner.Consistent.{IsRecorded}

@@ -21,7 +21,7 @@ use Rattle.pie_parser.specs.FunctionTrees.{FunctionTree}
 use Rattle.pie_files.specs.Directory.{Directory}
 use Rattle.pie_named.specs.inner.Known.{IsTrueOf}
 use Rattle.pie_model.specs.Paths.{Path}
-use Rattle.pie_model.specs.inner.StampNow.{Told, by_records, RecordAgrees}
+use Rattle.pie_model.specs.StampNow.{Told, by_records, RecordAgrees}
 use Rattle.pie_model.specs.inner.Still.{SourcesStill}
 use Rattle.pie_model_pipeline.specs.Rows.{observation_of, record_of}
 use Rattle.pie_model_pipeline.specs.World.{world, project}

@@ -18,7 +18,7 @@ use Rattle.pie_compare.specs.inner.Standing.{Around, OnStands, DepStands, DepsSt
 use Rattle.pie_compare.specs.inner.Touching.{dep_differs, write_differs, IsTouched}
 use Rattle.pie_model.specs.Paths.{Path}
 use Rattle.pie_model.specs.Records.{Record}
-use Rattle.pie_model.specs.inner.StampNow.{Told}
+use Rattle.pie_model.specs.StampNow.{Told}
 use Rattle.pie_model.specs.inner.Consistent.{Stands}
 use Rattle.pie_model.specs.inner.Still.{SourcesStill}
 use Rattle.pie_model.proofs.Basics.{clash}

@@ -18,7 +18,7 @@ use Rattle.pie_walk.specs.States.{WalkState}
 use Rattle.pie_walk.specs.Standing.{Stands}
 use Rattle.pie_model.specs.Paths.{Path, among}
 use Rattle.pie_model.specs.Records.{Record, needs_of}
-use Rattle.pie_model.specs.inner.StampNow.{Told}
+use Rattle.pie_model.specs.StampNow.{Told}
 use Rattle.pie_model.specs.inner.Present.{Reaches}
 use Rattle.pie_model.specs.inner.Present.Way.{here as arrived, along}
 use Rattle.pie_model.specs.inner.Consistent.{IsSettled as IsSettledTask}

@@ -16,7 +16,7 @@ use Rattle.pie_files.specs.Directory.{Directory, file_at}
 use Rattle.pie_tables.specs.declared.tables.Tables.{Tables}
 use Rattle.pie_named.specs.declared.named.Named.{Named}
 use Rattle.pie_named.specs.declared.stamps.FileStamp.{FileStamp}
-use Rattle.pie_named.specs.Stamped.{hash_of, differs_from}
+use Rattle.pie_named.specs.inner.Stamped.{hash_of, differs_from}
 use Rattle.pie_named.specs.inner.Known.{IsTrueOf, known_stamp, known_differs}
 use Rattle.pie_compare.specs.inner.Standing.{output_of, WriteStands, RecordStands}
 use Rattle.pie_walk.specs.Marks.{mark_of, IsSettled}
@@ -26,9 +26,9 @@ use Rattle.pie_model.specs.declared.words.Kind.TheVariants.{Source}
 use Rattle.pie_model.specs.Paths.{Path, kind_of}
 use Rattle.pie_model.specs.Evaluation.{World, Project}
 use Rattle.pie_model.specs.Records.{Stamp, Absent, Present, Hash, Mark, WholeValue, Success, Observation}
-use Rattle.pie_model.specs.inner.StampNow.{Teller, by_records, stamp_now, asked_before, StampsAgree}
-use Rattle.pie_model.specs.inner.Reasons.{Differs, WriteIsMissing, RunReason}
-use Rattle.pie_model.specs.inner.Reasons.RunReason.{provided}
+use Rattle.pie_model.specs.StampNow.{Teller, by_records, stamp_now, asked_before, StampsAgree}
+use Rattle.pie_model.specs.Reasons.{Differs, WriteIsMissing, RunReason}
+use Rattle.pie_model.specs.Reasons.RunReason.{provided}
 use Rattle.pie_model.proofs.Basics.{same_bytes, bytes_same, clash}
 use Rattle.pie_check_laws.proofs.Members.{none_in, here_or_there}
 use Rattle.pie_model_pipeline.specs.Rows.{query_of, observation_of, record_of}

@@ -25,8 +25,8 @@ use Rattle.pie_model.specs.Paths.{Path, among}
 use Rattle.pie_model.specs.Trees.{outcome_of, is_done}
 use Rattle.pie_model.specs.Evaluation.{World, Project, evaluation}
 use Rattle.pie_model.specs.Records.{Record, Stamp, Query, Looked, Listed, Required, Observation, needs_of, task_asked, record_of as model_record}
-use Rattle.pie_model.specs.inner.StampNow.{Told, by_evaluation, by_records, recorded_outcome, outcome_now, stamp_now, asked_before, StampsAgree}
-use Rattle.pie_model.specs.inner.StampNow.{RecordAgrees}
+use Rattle.pie_model.specs.StampNow.{Told, by_evaluation, by_records, recorded_outcome, outcome_now, stamp_now, asked_before, StampsAgree}
+use Rattle.pie_model.specs.StampNow.{RecordAgrees}
 use Rattle.pie_model.specs.inner.Present.{Reaches}
 use Rattle.pie_model.specs.inner.Present.Way.{here as arrived, along}
 use Rattle.pie_model.specs.inner.Consistent.{IsRecorded, IsUpToDate, IsConsistent, IsSettled as IsSettledTask}

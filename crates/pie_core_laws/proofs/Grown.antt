@@ -18,7 +18,7 @@ use Rattle.pie_walk.specs.States.{WalkState, with_one_more}
 use Rattle.pie_walk.specs.Standing.{Stands}
 use Rattle.pie_model.specs.Paths.{Path, among}
 use Rattle.pie_model.specs.Records.{Record}
-use Rattle.pie_model.specs.inner.StampNow.{Told}
+use Rattle.pie_model.specs.StampNow.{Told}
 use Rattle.pie_model.specs.inner.Consistent.{IsConsistent, IsSettled as IsSettledTask}
 use Rattle.pie_model.specs.inner.CoreLaws.{TellsRight}
 use Rattle.pie_model.specs.inner.RecordLaws.{Passes}

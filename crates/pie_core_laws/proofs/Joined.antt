@@ -25,14 +25,14 @@ use Rattle.pie_store.specs.Canonical.{tasks_in, required_on}
 use Rattle.pie_tables.specs.declared.tables.Tables.{Tables}
 use Rattle.pie_tables.specs.Tabled.{IsRecordAt}
 use Rattle.pie_named.specs.declared.named.Named.{Named}
-use Rattle.pie_named.specs.Names.{is_named, is_above}
+use Rattle.pie_named.specs.inner.Names.{is_named, is_above}
 use Rattle.pie_walk.specs.States.{WalkState}
 use Rattle.pie_old.specs.inner.Code.{kept as first_of, digest_in, same_digest, is_same_code}
 use Rattle.pie_old.specs.inner.Looking.{asks_at_out, looks_at_out, looks_out}
 use Rattle.pie_old.specs.inner.Rows.{IsRowOf}
 use Rattle.pie_model.specs.Paths.{Path, among}
 use Rattle.pie_model.specs.Records.{Stamp}
-use Rattle.pie_model.specs.inner.Reasons.{SameCode}
+use Rattle.pie_model.specs.Reasons.{SameCode}
 use Rattle.pie_model.specs.inner.Steps.{Each, LooksElsewhere, SameShape}
 use Rattle.pie_model.proofs.Basics.{same_bytes, bytes_same, clash}
 use Rattle.pie_model_pipeline.specs.Rows.{stamp_of, query_of, observation_of, record_of}

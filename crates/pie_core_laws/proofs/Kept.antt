@@ -18,7 +18,7 @@ use Rattle.pie_walk.specs.Marks.{mark_of, IsSettled}
 use Rattle.pie_walk.specs.States.{WalkState, settled}
 use Rattle.pie_walk.specs.Standing.{Stands}
 use Rattle.pie_model.specs.Paths.{Path}
-use Rattle.pie_model.specs.inner.StampNow.{Told}
+use Rattle.pie_model.specs.StampNow.{Told}
 use Rattle.pie_model.specs.inner.Consistent.{Stands as StandsInModel, IsUpToDate, IsConsistent}
 use Rattle.pie_model.specs.inner.CoreLaws.{TellsRight}
 use Rattle.pie_model.specs.inner.RecordLaws.{Passes}

@@ -24,7 +24,7 @@ use Rattle.pie_walk.proofs.EntrySteps.{marked_in}
 use Rattle.pie_model.specs.Paths.{Path}
 use Rattle.pie_model.specs.Evaluation.{World, Project}
 use Rattle.pie_model.specs.Records.{Record}
-use Rattle.pie_model.specs.inner.StampNow.{Told}
+use Rattle.pie_model.specs.StampNow.{Told}
 use Rattle.pie_model.specs.inner.Consistent.{IsConsistent, IsSettled as IsSettledTask}
 use Rattle.pie_model.specs.inner.RecordLaws.{Passes}
 use Rattle.pie_model.proofs.Basics.{clash}

@@ -21,7 +21,7 @@ use Rattle.pie_model.specs.declared.words.Outcome.TheVariants.{Ended, Failed as 
 use Rattle.pie_model.specs.Trees.{outcome_of, trace_of, is_done as ends_well, is_plain}
 use Rattle.pie_model.specs.Evaluation.{evaluation}
 use Rattle.pie_model.specs.Records.{Record, Absent, Required, Observation, observed, record_of as model_record}
-use Rattle.pie_model.specs.inner.Separate.{AllMet}
+use Rattle.pie_model.specs.Separate.{AllMet}
 use Rattle.pie_model.specs.inner.RecordLaws.{Passes}
 use Rattle.pie_model.specs.inner.Stack.{Frame, tasks_of}
 use Rattle.pie_step_laws.specs.Frames.{begun, was_answered, set_aside}

@@ -18,8 +18,8 @@ use Rattle.pie_model.specs.Seen.{first_write, provided, seen_file}
 use Rattle.pie_model.specs.Evaluation.{evaluation}
 use Rattle.pie_model.specs.Records.{Record, record_of as model_record}
 use Rattle.pie_model.specs.Built.{bytes_at}
-use Rattle.pie_model.specs.inner.Changes.IsMet.{named}
-use Rattle.pie_model.specs.inner.Separate.{AllMet}
+use Rattle.pie_model.specs.Changes.IsMet.{named}
+use Rattle.pie_model.specs.Separate.{AllMet}
 use Rattle.pie_model.specs.inner.Present.{Way, Reaches, WroteByRecords}
 use Rattle.pie_model.specs.inner.RecordLaws.{HasItsRecord}
 use Rattle.pie_model.proofs.Basics.{same_bytes}

@@ -22,8 +22,8 @@ use Rattle.pie_files.specs.Directory.{Directory, file_at, entries_of}
 use Rattle.pie_named.specs.declared.named.Named.{Named}
 use Rattle.pie_named.specs.declared.stamps.FileStamp.{FileStamp}
 use Rattle.pie_named.specs.declared.stamps.FileStamp.TheVariants.{Absent, Present, Hash, Mark}
-use Rattle.pie_named.specs.Names.{is_named, is_above}
-use Rattle.pie_named.specs.Stamped.{is_stamp, presence_of, hash_of, mark_of, listing_of, paths_list, stamp_in, differs_from}
+use Rattle.pie_named.specs.inner.Names.{is_named, is_above}
+use Rattle.pie_named.specs.inner.Stamped.{is_stamp, presence_of, hash_of, mark_of, listing_of, paths_list, stamp_in, differs_from}
 use Rattle.pie_compare.specs.inner.Touching.{on_differs, dep_differs, write_differs}
 use Rattle.pie_model.specs.declared.words.Kind.TheVariants.{Source}
 use Rattle.pie_model.specs.declared.words.Look.TheVariants as looks
@@ -31,7 +31,7 @@ use Rattle.pie_model.specs.Paths.{Path, among, kind_of}
 use Rattle.pie_model.specs.Seen.{seen_file}
 use Rattle.pie_model.specs.Evaluation.{listing}
 use Rattle.pie_model.specs.Records.{Listed, look_stamp, mark_stamp}
-use Rattle.pie_model.specs.inner.StampNow.{listing_now}
+use Rattle.pie_model.specs.StampNow.{listing_now}
 use Rattle.pie_model.proofs.Basics.{same_bytes}
 use Rattle.pie_check_laws.proofs.Members.{here, there}
 use Rattle.pie_model_pipeline.specs.Rows.{stamp_of, query_of, observation_of}

@@ -19,7 +19,7 @@ use Rattle.pie_named.specs.inner.Known.{known_stamp, known_differs}
 use Rattle.pie_compare.specs.inner.Standing.{RecordStands}
 use Rattle.pie_compare.specs.inner.Touching.{SomeOf, IsTouched}
 use Rattle.pie_model.specs.Paths.{Path}
-use Rattle.pie_model.specs.inner.StampNow.{Told}
+use Rattle.pie_model.specs.StampNow.{Told}
 use Rattle.pie_model.specs.inner.Consistent.{Stands}
 use Rattle.pie_model_pipeline.specs.Rows.{record_of}
 use Rattle.pie_model_pipeline.specs.World.{world, next}

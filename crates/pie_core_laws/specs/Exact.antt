@@ -11,7 +11,7 @@ use Rattle.pie_walk.specs.declared.marks.Mark.TheVariants.{New, Visited, Runs, S
 use Rattle.pie_walk.specs.Marks.{mark_of, IsSettled}
 use Rattle.pie_walk.specs.States.{WalkState}
 use Rattle.pie_model.specs.Paths.{Path}
-use Rattle.pie_model.specs.inner.StampNow.{Told}
+use Rattle.pie_model.specs.StampNow.{Told}
 use Rattle.pie_model.specs.inner.Steps.{Each, LooksElsewhere}
 use Rattle.pie_model.specs.inner.Consistent.{IsConsistent}
 use Rattle.pie_model.specs.inner.CoreLaws.{TellsRight}

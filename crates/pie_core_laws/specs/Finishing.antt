@@ -14,7 +14,7 @@ use Rattle.pie_walk.specs.Standing.{Stands}
 use Rattle.pie_model.specs.Trees.{trace_of, is_plain}
 use Rattle.pie_model.specs.Evaluation.{evaluation}
 use Rattle.pie_model.specs.Records.{record_of as model_record}
-use Rattle.pie_model.specs.inner.Separate.{AllMet}
+use Rattle.pie_model.specs.Separate.{AllMet}
 use Rattle.pie_model.specs.inner.Consistent.{IsSettled as IsSettledTask}
 use Rattle.pie_model.specs.inner.Steps.{SameShape}
 use Rattle.pie_model.specs.inner.RecordLaws.{Passes}

@@ -10,7 +10,7 @@ use Rattle.pie_record.specs.Canonical.{IsStorable}
 use Rattle.pie_store.specs.Canonical.{tasks_in}
 use Rattle.pie_tables.specs.declared.tables.Tables.{Tables}
 use Rattle.pie_named.specs.declared.named.Named.{Named}
-use Rattle.pie_named.specs.Names.{is_named, is_above}
+use Rattle.pie_named.specs.inner.Names.{is_named, is_above}
 use Rattle.pie_walk.specs.declared.marks.Mark.TheVariants.{New}
 use Rattle.pie_walk.specs.Marks.{mark_of}
 use Rattle.pie_walk.specs.States.{WalkState}
@@ -20,7 +20,7 @@ use Rattle.pie_old.specs.inner.Looking.{looks_out}
 use Rattle.pie_old.specs.inner.Rows.{AreRowsOf}
 use Rattle.pie_model.specs.Paths.{Path, among}
 use Rattle.pie_model.specs.Built.{store_rows}
-use Rattle.pie_model.specs.inner.Reasons.{SameCode}
+use Rattle.pie_model.specs.Reasons.{SameCode}
 use Rattle.pie_model.specs.inner.Steps.{SameShape}
 use Rattle.pie_model_pipeline.specs.Rows.{record_of}
 use Rattle.pie_model_pipeline.specs.World.{world}

@@ -10,7 +10,7 @@ use Rattle.pie_compare.specs.inner.Standing.{RecordStands}
 use Rattle.pie_walk.specs.Marks.{mark_of, IsSettled}
 use Rattle.pie_walk.specs.States.{WalkState, settled}
 use Rattle.pie_walk.specs.Standing.{Stands}
-use Rattle.pie_model.specs.inner.Changes.{BuildsSeparate}
+use Rattle.pie_model.specs.Changes.{BuildsSeparate}
 use Rattle.pie_model.specs.inner.Consistent.{IsSettled as IsSettledTask}
 use Rattle.pie_model.specs.inner.RecordLaws.{Passes}
 use Rattle.pie_settle_laws.specs.Known.{IsKnown}

@@ -8,7 +8,7 @@ use Rattle.pie_compare.specs.inner.Standing.{RecordStands}
 use Rattle.pie_walk.specs.Marks.{mark_of}
 use Rattle.pie_walk.specs.States.{WalkState}
 use Rattle.pie_walk.specs.Standing.{Stands}
-use Rattle.pie_model.specs.inner.Reasons.{RunReason}
+use Rattle.pie_model.specs.Reasons.{RunReason}
 use Rattle.pie_model_pipeline.specs.Rows.{record_of}
 use Rattle.pie_model_pipeline.specs.World.{world}
 use Rattle.pie_compare_laws.specs.Settled.{RestsOn}

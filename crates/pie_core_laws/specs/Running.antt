@@ -18,7 +18,7 @@ use Rattle.pie_model.specs.declared.words.Outcome.{Outcome}
 use Rattle.pie_model.specs.declared.words.Outcome.TheVariants.{Ended}
 use Rattle.pie_model.specs.Trees.{is_done as ends_well, is_plain}
 use Rattle.pie_model.specs.Records.{Record, Absent, Required, Observation, observed, hashed}
-use Rattle.pie_model.specs.inner.Changes.{IsBase}
+use Rattle.pie_model.specs.Changes.{IsBase}
 use Rattle.pie_model.specs.inner.RecordLaws.{Passes}
 use Rattle.pie_model.specs.inner.Stack.{Frame, tasks_of}
 use Rattle.pie_step_laws.specs.Frames.{begun, was_answered, set_aside}

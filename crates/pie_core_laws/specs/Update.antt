@@ -5,13 +5,13 @@ use Rattle.pie_base.specs.Path.{is_below}
 use Rattle.pie_parser.specs.FunctionTrees.{FunctionTree}
 use Rattle.pie_files.specs.Directory.{Directory}
 use Rattle.pie_named.specs.declared.named.Named.{Named}
-use Rattle.pie_named.specs.Names.{is_named, is_above}
+use Rattle.pie_named.specs.inner.Names.{is_named, is_above}
 use Rattle.pie_named.specs.inner.Known.{IsTrueOf}
 use Rattle.pie_model.specs.Paths.{Path, among}
 use Rattle.pie_model.specs.Evaluation.{Project}
 use Rattle.pie_model.specs.Records.{Record}
 use Rattle.pie_model.specs.Built.{store_rows}
-use Rattle.pie_model.specs.inner.Changes.{NamesAllChanges, IsMet}
+use Rattle.pie_model.specs.Changes.{NamesAllChanges, IsMet}
 use Rattle.pie_model_pipeline.specs.World.{world, project}
 use Rattle.pie_earlier_laws.specs.Rows.{record_among}
 use Rattle.pie_earlier_laws.specs.Left.{IsEarlierBuild}

@@ -6,7 +6,7 @@ use Rattle.pie_build.specs.Left.{KeepsRest, Leaves}
 use Rattle.pie_build.specs.inner.Rebuilt.{IsRefusal, RebuildSays, RebuildsOnly}
 use Rattle.pie_files.specs.Directory.{Directory}
 use Rattle.pie_incremental.specs.Clean.{BuildsClean}
-use Rattle.pie_incremental.specs.Refused.{RefusesRight}
+use Rattle.pie_incremental.specs.inner.Refused.{RefusesRight}
 use Rattle.pie_parser.specs.FunctionTrees.{FunctionTree}
 use Rattle.pie_project.specs.declared.fault.BuildError.{BuildError}
 use Rattle.pie_project.specs.declared.fault.BuildError.TheVariants as errors

@@ -4,8 +4,8 @@ use Rattle.std.specs.Prelude.{Contains, Result}
 use Rattle.pie_files.specs.declared.files.Call.{Call}
 use Rattle.pie_files.specs.declared.files.Call.TheVariants.{Read}
 use Rattle.pie_files.specs.declared.files.FilesError.{FilesError}
-use Rattle.pie_files.specs.inner.Calls.{Called}
-use Rattle.pie_named.specs.inner.Asking.{AsksFor, LooksAt}
+use Rattle.pie_files.specs.Calls.{Called}
+use Rattle.pie_named.specs.Asking.{AsksFor, LooksAt}
 use Rattle.pie_named.proofs.Calls.{no_calls, made_once, asks_now, calls_then, asks_as}
 
 pub looks_not : (P : List ℕ → Type 0) (before after : Option (List Call)) → after ≡ before → AsksFor P before after

@@ -2,7 +2,7 @@
 ghost use Rattle.std.specs.Prelude.{◌≡◌, [], Some, None, IfOk, IfSome, OnOk, IsTrue, is_some};
 ghost use Rattle.pie_base.specs.Path.{is_out};
 ghost use Rattle.pie_files.specs.Reading.{ReadsOnly};
-ghost use Rattle.pie_named.specs.inner.Asking.{AsksFor};
+ghost use Rattle.pie_named.specs.Asking.{AsksFor};
 ghost use Rattle.pie_diff.specs.Hashes.{held_at, hash_in, is_hash};
 ghost use Rattle.pie_diff.specs.inner.Held.{first, paths_in, AreOut, Sets, SetsOut};
 

@@ -1,7 +1,7 @@
 //! What is held by the records of the build before and by the named paths.
 ghost use Rattle.std.specs.Prelude.{◌≡◌, ℕ, List, Contains, IfOk, IfSome, OnOk};
 ghost use Rattle.pie_files.specs.Reading.{ReadsOnly};
-ghost use Rattle.pie_named.specs.inner.Asking.{AsksFor};
+ghost use Rattle.pie_named.specs.Asking.{AsksFor};
 ghost use Rattle.pie_diff.specs.Hashes.{held_at};
 ghost use Rattle.pie_diff.specs.Known.{known_at, writes_of};
 ghost use Rattle.pie_diff.specs.inner.Held.{Adds, Looks};

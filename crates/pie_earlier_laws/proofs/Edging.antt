@@ -15,8 +15,8 @@ use Rattle.pie_model.specs.Records.{Record, Query, Looked, Listed, Required, Obs
 use Rattle.pie_model.specs.Running.{rest_of_run}
 use Rattle.pie_model.specs.inner.RecordLaws.{HasItsRecord}
 use Rattle.pie_model.specs.inner.Stack.{Frame}
-use Rattle.pie_model.specs.inner.Changes.{IsUnionEdge}
-use Rattle.pie_model.specs.inner.Reasons.{observed_paths}
+use Rattle.pie_model.specs.Changes.{IsUnionEdge}
+use Rattle.pie_model.specs.Reasons.{observed_paths}
 use Rattle.pie_model.proofs.Basics.{among_here, among_left, among_right}
 use Rattle.pie_model.proofs.Rooms.{evaluation_room}
 use Rattle.pie_model.proofs.Ways.{needs_of-observations, needs_right}

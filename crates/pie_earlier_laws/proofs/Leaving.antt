@@ -13,8 +13,8 @@ use Rattle.pie_model.specs.Forest.{entered_tasks, live_evaluations}
 use Rattle.pie_model.specs.Verdict.{verdict}
 use Rattle.pie_model.specs.declared.words.Verdict.TheVariants.{Accepted}
 use Rattle.pie_model.specs.Built.{Directory, store_rows, built_by, IsBuilt}
-use Rattle.pie_model.specs.inner.Changes.{NamesAllChanges}
-use Rattle.pie_model.specs.inner.Reasons.{WriteIsMissing}
+use Rattle.pie_model.specs.Changes.{NamesAllChanges}
+use Rattle.pie_model.specs.Reasons.{WriteIsMissing}
 use Rattle.pie_model.proofs.Basics.{clash, among_left, among_right}
 use Rattle.pie_model.proofs.LooksLemmas.{first_write-hashed, some_same}
 use Rattle.pie_step_laws.proofs.Tables.{none_some}

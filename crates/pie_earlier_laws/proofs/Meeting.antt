@@ -13,9 +13,9 @@ use Rattle.pie_model.specs.Trees.{Node, node, Trace, ends, looks, lists, writes,
 use Rattle.pie_model.specs.Trees.{outcome_of, trace_of, StandsIn, StandsBelow}
 use Rattle.pie_model.specs.Evaluation.{World, Project, evaluation}
 use Rattle.pie_model.specs.Forest.{forest}
-use Rattle.pie_model.specs.inner.Separate.{MetContents, MetSeen, MetListing, MetOutcome, AllMet}
-use Rattle.pie_model.specs.inner.Changes.{contents_strings, seen_strings, listing_strings, outcome_strings, strings_in, strings_below, IsBase, IsMet}
-use Rattle.pie_model.specs.inner.Changes.IsMet.{met_now, met_then}
+use Rattle.pie_model.specs.Separate.{MetContents, MetSeen, MetListing, MetOutcome, AllMet}
+use Rattle.pie_model.specs.Changes.{contents_strings, seen_strings, listing_strings, outcome_strings, strings_in, strings_below, IsBase, IsMet}
+use Rattle.pie_model.specs.Changes.IsMet.{met_now, met_then}
 use Rattle.pie_model.proofs.Basics.{among_here, among_there, among_left, among_right}
 use Rattle.pie_earlier_laws.specs.Met.{StandsAmong}
 

@@ -11,7 +11,7 @@ use Rattle.pie_value.specs.declared.event.Event.TheVariants as events
 use Rattle.pie_value.specs.Tree.{Tree}
 use Rattle.pie_value.specs.Limits.{is_small, is_small_task}
 use Rattle.pie_value.specs.Canonical.{enc, enc_task}
-use Rattle.pie_value.specs.inner.Reading.{Parsed, task_prefix}
+use Rattle.pie_value.specs.Reading.{Parsed, task_prefix}
 use Rattle.pie_operators.specs.Domain.{Outcome, done, fails, wants}
 use Rattle.pie_parser.specs.FunctionTrees.{FunctionTree}
 use Rattle.pie_files.specs.Directory.{Directory, file_at}
@@ -25,10 +25,10 @@ use Rattle.pie_model.specs.Forest.{live_evaluations}
 use Rattle.pie_model.specs.Verdict.{verdict}
 use Rattle.pie_model.specs.declared.words.Verdict.TheVariants.{Accepted}
 use Rattle.pie_model.specs.Built.{bytes_at, provided_at}
-use Rattle.pie_model.specs.inner.Changes.{NamesAllChanges}
+use Rattle.pie_model.specs.Changes.{NamesAllChanges}
 use Rattle.pie_model.proofs.Basics.{clash, among_split}
 use Rattle.pie_model_pipeline.specs.Words.{how_of, event_of, effect_of}
-use Rattle.pie_model_pipeline.specs.inner.Answers.{answer_of}
+use Rattle.pie_model_pipeline.specs.Answers.{answer_of}
 use Rattle.pie_model_pipeline.specs.World.{world, next, next_if_read, task_evaluates_to, project}
 use Rattle.pie_model_pipeline.specs.Clean.{AreProvided}
 use Rattle.pie_builder_laws.proofs.KindLemmas.{kinds_same}

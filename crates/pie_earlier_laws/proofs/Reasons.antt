@@ -6,11 +6,11 @@ use Rattle.pie_model.specs.Trees.{outcome_of, is_done}
 use Rattle.pie_model.specs.Evaluation.{World, Project, evaluation}
 use Rattle.pie_model.specs.Records.{Record, Query, Observation, record_of, needs_of, task_asked}
 use Rattle.pie_model.specs.Built.{Directory}
-use Rattle.pie_model.specs.inner.StampNow.{Told, Teller, by_evaluation, by_records, stamp_now, asked_before, StampsAgree}
-use Rattle.pie_model.specs.inner.Separate.{NeverWritesWhatItSaw}
+use Rattle.pie_model.specs.StampNow.{Told, Teller, by_evaluation, by_records, stamp_now, asked_before, StampsAgree}
+use Rattle.pie_model.specs.Separate.{NeverWritesWhatItSaw}
 use Rattle.pie_model.specs.inner.CoreLaws.{TellsRight}
-use Rattle.pie_model.specs.inner.Reasons.{Differs, SameCode, RunReason}
-use Rattle.pie_model.specs.inner.Reasons.RunReason.{is_new, code, stamp, provided}
+use Rattle.pie_model.specs.Reasons.{Differs, SameCode, RunReason}
+use Rattle.pie_model.specs.Reasons.RunReason.{is_new, code, stamp, provided}
 use Rattle.pie_model.proofs.Basics.{clash, among_left, among_right}
 use Rattle.pie_model.proofs.LooksLemmas.{some_same}
 use Rattle.pie_model.proofs.ItselfLemmas.{agrees_itself}

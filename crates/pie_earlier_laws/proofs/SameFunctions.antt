@@ -35,13 +35,13 @@ use Rattle.pie_digest_laws.specs.Digests.{digest_in}
 use Rattle.pie_digest_laws.proofs.Stretch.{each_has_its_digest}
 use Rattle.pie_store.specs.Canonical.{name_before, AreFuncs}
 use Rattle.pie_model.specs.Evaluation.{Project}
-use Rattle.pie_model.specs.inner.Changes.{BuildsSeparate}
-use Rattle.pie_model.specs.inner.Changes.IsMet.{named}
-use Rattle.pie_model.specs.inner.Reasons.{SameCode}
+use Rattle.pie_model.specs.Changes.{BuildsSeparate}
+use Rattle.pie_model.specs.Changes.IsMet.{named}
+use Rattle.pie_model.specs.Reasons.{SameCode}
 use Rattle.pie_model.proofs.Basics.{same_bytes, bytes_same, clash}
 use Rattle.pie_model.proofs.LooksLemmas.{some_same}
 use Rattle.pie_model_pipeline.specs.Words.{event_of}
-use Rattle.pie_model_pipeline.specs.inner.Answers.{answer_of}
+use Rattle.pie_model_pipeline.specs.Answers.{answer_of}
 use Rattle.pie_model_pipeline.specs.World.{world, function_at, outcome_by, task_evaluates_to, next}
 use Rattle.pie_model_pipeline.proofs.Joining.{means_itself}
 use Rattle.pie_earlier_laws.specs.Functions.{digest_under, IsPipelineOf, AreItsDigests, SpellingsSeparate, SpellingsAmong}

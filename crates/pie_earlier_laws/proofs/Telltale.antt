@@ -8,7 +8,7 @@ use Rattle.pie_value.specs.declared.value.Value.{Value}
 use Rattle.pie_value.specs.declared.value.Value.TheVariants.{Unit as UnitValue}
 use Rattle.pie_value.specs.Values.{tree_of}
 use Rattle.pie_value.specs.Canonical.{enc, enc_task, IsEncodable, IsEncodableTask, HasTrueLeaves}
-use Rattle.pie_value.specs.inner.Reading.{Parsed, task_prefix}
+use Rattle.pie_value.specs.Reading.{Parsed, task_prefix}
 use Rattle.pie_value.proofs.Decoded.{task_whole_again}
 use Rattle.pie_record.specs.declared.dep.Dep.{Dep}
 use Rattle.pie_record.specs.declared.dep.DepKind.{DepKind}
@@ -28,7 +28,7 @@ use Rattle.pie_model.specs.declared.words.Outcome.{Outcome as ModelOutcome}
 use Rattle.pie_model.specs.declared.words.Outcome.TheVariants as ends
 use Rattle.pie_model.specs.Records as records
 use Rattle.pie_model_pipeline.specs.Rows.{stamp_of, query_of, observation_of, outcome_of, record_of}
-use Rattle.pie_model_pipeline.specs.inner.Answers.{value_with}
+use Rattle.pie_model_pipeline.specs.Answers.{value_with}
 use Rattle.pie_model_pipeline.proofs.Joining.{values_told}
 use Rattle.pie_earlier_laws.specs.Told.{IsRow}
 

@@ -12,8 +12,8 @@ use Rattle.pie_model.specs.Trees.{Trace, ends, looks, lists, writes, needs, outc
 use Rattle.pie_model.specs.Seen.{seen_file}
 use Rattle.pie_model.specs.Evaluation.{World, Project, listing, within_limit, evaluation}
 use Rattle.pie_model.specs.Records.{Stamp, Query, Looked, Listed, Required, Observation, look_stamp, observations_of, record_of}
-use Rattle.pie_model.specs.inner.StampNow.{Teller, by_evaluation, look_now, listing_now, stamp_now, asked_before, StampsAgree}
-use Rattle.pie_model.specs.inner.Separate.{NeverWritesWhatItSaw}
+use Rattle.pie_model.specs.StampNow.{Teller, by_evaluation, look_now, listing_now, stamp_now, asked_before, StampsAgree}
+use Rattle.pie_model.specs.Separate.{NeverWritesWhatItSaw}
 use Rattle.pie_model.specs.inner.Still.{SourceStampStill, SourcesStill}
 use Rattle.pie_model.proofs.LooksLemmas.{some_same}
 use Rattle.pie_model.proofs.ItselfLemmas.{agrees_itself}

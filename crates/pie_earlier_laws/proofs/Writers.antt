@@ -6,7 +6,7 @@ use Rattle.pie_model.specs.Paths.{Path, among}
 use Rattle.pie_model.specs.Tasks.{Task}
 use Rattle.pie_model.specs.Seen.{first_write, writer, all_by}
 use Rattle.pie_model.specs.Records.{Record, needs_of}
-use Rattle.pie_model.specs.inner.StampNow.{ToldHash, ToldClash}
+use Rattle.pie_model.specs.StampNow.{ToldHash, ToldClash}
 use Rattle.pie_model.specs.inner.Present.{Reaches, WroteByRecords, IsTold}
 use Rattle.pie_model.specs.inner.Present.Way.{here, along}
 use Rattle.pie_model.specs.inner.Ranks.{required_in, above_all}

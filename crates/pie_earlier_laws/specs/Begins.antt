@@ -7,9 +7,9 @@ use Rattle.pie_model.specs.Records.{Record}
 use Rattle.pie_model.specs.Verdict.{verdict}
 use Rattle.pie_model.specs.declared.words.Verdict.TheVariants.{Accepted}
 use Rattle.pie_model.specs.Built.{store_rows}
-use Rattle.pie_model.specs.inner.StampNow.{Told}
-use Rattle.pie_model.specs.inner.Separate.{NeverWritesWhatItSaw}
-use Rattle.pie_model.specs.inner.Changes.{IsMet}
+use Rattle.pie_model.specs.StampNow.{Told}
+use Rattle.pie_model.specs.Separate.{NeverWritesWhatItSaw}
+use Rattle.pie_model.specs.Changes.{IsMet}
 use Rattle.pie_model.specs.inner.Consistent.{IsConsistent}
 use Rattle.pie_model.specs.inner.CoreLaws.{TellsRight}
 use Rattle.pie_model.specs.inner.RecordLaws.{Passes}

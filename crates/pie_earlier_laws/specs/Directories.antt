@@ -9,8 +9,8 @@ use Rattle.pie_model.specs.Records.{Record}
 use Rattle.pie_model.specs.Verdict.{verdict}
 use Rattle.pie_model.specs.declared.words.Verdict.TheVariants.{Accepted}
 use Rattle.pie_model.specs.Built.{bytes_at, store_rows}
-use Rattle.pie_model.specs.inner.StampNow.{Told}
-use Rattle.pie_model.specs.inner.Changes.{NamesAllChanges, IsMet}
+use Rattle.pie_model.specs.StampNow.{Told}
+use Rattle.pie_model.specs.Changes.{NamesAllChanges, IsMet}
 use Rattle.pie_model.specs.inner.Consistent.{IsConsistent}
 use Rattle.pie_model.specs.inner.CoreLaws.{TellsRight}
 use Rattle.pie_model.specs.inner.RecordLaws.{Passes}

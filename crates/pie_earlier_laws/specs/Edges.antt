@@ -10,8 +10,8 @@ use Rattle.pie_model.specs.Evaluation.{World, Project, evaluation}
 use Rattle.pie_model.specs.Records.{Record, needs_of}
 use Rattle.pie_model.specs.inner.RecordLaws.{Passes, HasItsRecord}
 use Rattle.pie_model.specs.inner.Stack.{Frame}
-use Rattle.pie_model.specs.inner.Changes.{IsUnionEdge}
-use Rattle.pie_model.specs.inner.Reasons.{observed_paths}
+use Rattle.pie_model.specs.Changes.{IsUnionEdge}
+use Rattle.pie_model.specs.Reasons.{observed_paths}
 use Rattle.pie_settle_laws.specs.Going.{IsGoing}
 
 -- what a record requires that is the old one or that of the evaluation now is a union edge

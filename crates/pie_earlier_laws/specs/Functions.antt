@@ -12,8 +12,8 @@ use Rattle.pie_digest_laws.specs.Digests.{AreSeparate}
 use Rattle.pie_store.specs.Canonical.{AreFuncs}
 use Rattle.pie_model.specs.Paths.{among}
 use Rattle.pie_model.specs.Evaluation.{Project}
-use Rattle.pie_model.specs.inner.Changes.{BuildsSeparate}
-use Rattle.pie_model.specs.inner.Reasons.{SameCode}
+use Rattle.pie_model.specs.Changes.{BuildsSeparate}
+use Rattle.pie_model.specs.Reasons.{SameCode}
 use Rattle.pie_model_pipeline.specs.World.{world, next}
 
 -- what rows of names and digests have for a name, the first if there are more

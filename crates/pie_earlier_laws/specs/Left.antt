@@ -13,8 +13,8 @@ use Rattle.pie_model.specs.Forest.{live_evaluations}
 use Rattle.pie_model.specs.Verdict.{verdict}
 use Rattle.pie_model.specs.declared.words.Verdict.TheVariants.{Accepted}
 use Rattle.pie_model.specs.Built.{Directory, bytes_at, provided_at, store_rows, IsBuilt}
-use Rattle.pie_model.specs.inner.Changes.{NamesAllChanges}
-use Rattle.pie_model.specs.inner.Reasons.{WriteIsMissing}
+use Rattle.pie_model.specs.Changes.{NamesAllChanges}
+use Rattle.pie_model.specs.Reasons.{WriteIsMissing}
 use Rattle.pie_manner_laws.specs.Writes.{NeverWritesTwice}
 use Rattle.pie_earlier_laws.specs.Rows.{record_among}
 

@@ -4,8 +4,8 @@ use Rattle.pie_model.specs.Tasks.{Task}
 use Rattle.pie_model.specs.Trees.{Node, trace_of, StandsIn}
 use Rattle.pie_model.specs.Evaluation.{World, Project, evaluation}
 use Rattle.pie_model.specs.Forest.{forest}
-use Rattle.pie_model.specs.inner.Separate.{AllMet}
-use Rattle.pie_model.specs.inner.Changes.{IsBase, IsMet}
+use Rattle.pie_model.specs.Separate.{AllMet}
+use Rattle.pie_model.specs.Changes.{IsBase, IsMet}
 
 -- what an evaluation observes and writes is met, if it stands in the evaluation now of an old live task or of a present root
 abbrev pub TriedEvaluationsAreMet : Type 0

@@ -12,8 +12,8 @@ use Rattle.pie_model.specs.Trees.{outcome_of, is_done}
 use Rattle.pie_model.specs.Seen.{seen_file}
 use Rattle.pie_model.specs.Evaluation.{World, Project, listing, evaluation}
 use Rattle.pie_model.specs.Records.{Stamp, Query, Looked, Listed, Required, Observation, look_stamp, record_of}
-use Rattle.pie_model.specs.inner.StampNow.{listing_now}
-use Rattle.pie_model.specs.inner.Separate.{NeverWritesWhatItSaw}
+use Rattle.pie_model.specs.StampNow.{listing_now}
+use Rattle.pie_model.specs.Separate.{NeverWritesWhatItSaw}
 use Rattle.pie_model.specs.inner.Still.{SourcesStill}
 
 -- outside the named paths the sources of two projects are the same: the files, and the entries of directories above none of these paths

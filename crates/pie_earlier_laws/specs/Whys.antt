@@ -6,13 +6,13 @@ use Rattle.pie_model.specs.Trees.{outcome_of, is_done}
 use Rattle.pie_model.specs.Evaluation.{World, Project, evaluation}
 use Rattle.pie_model.specs.Records.{Record, record_of, needs_of}
 use Rattle.pie_model.specs.Built.{Directory}
-use Rattle.pie_model.specs.inner.StampNow.{Told, by_records}
-use Rattle.pie_model.specs.inner.Separate.{NeverWritesWhatItSaw}
+use Rattle.pie_model.specs.StampNow.{Told, by_records}
+use Rattle.pie_model.specs.Separate.{NeverWritesWhatItSaw}
 use Rattle.pie_model.specs.inner.Present.{Reaches}
 use Rattle.pie_model.specs.inner.Consistent.{IsRecorded}
 use Rattle.pie_model.specs.inner.CoreLaws.{TellsRight}
 use Rattle.pie_model.specs.inner.RecordLaws.{HasItsRecord}
-use Rattle.pie_model.specs.inner.Reasons.{Differs, SameCode, RunReason}
+use Rattle.pie_model.specs.Reasons.{Differs, SameCode, RunReason}
 use Rattle.pie_earlier_laws.specs.Left.{AreThere}
 
 -- all that a record requires, and all that these reach, have the records of their evaluations

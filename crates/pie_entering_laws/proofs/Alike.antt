@@ -6,7 +6,7 @@ use Rattle.pie_value.specs.Tree.{Tree, Trees, TUnit, TBool, TInt, TText, TPath, 
 use Rattle.pie_value.specs.Types.{TyTree, TyTrees, UnitTy, BoolTy, IntTy, TextTy, PathTy, ListTy, TupleTy, NullableTy, BytesTy, NoTy, MoreTy}
 use Rattle.pie_value.specs.HasType.{all_items, has_type, have_types}
 use Rattle.pie_value.specs.Canonical.{be32, counted, enc, encs, enc_items, enc_task, HasShortParts, HaveShortParts, IsEncodableTask}
-use Rattle.pie_value.specs.inner.Reading.{number_of, counted_of}
+use Rattle.pie_value.specs.Reading.{number_of, counted_of}
 use Rattle.pie_value.proofs.Elements.{count_of_items}
 use Rattle.pie_value.proofs.Taking.{same_value, same_rest, number_again, counted_again}
 

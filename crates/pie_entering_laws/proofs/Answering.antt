@@ -13,7 +13,7 @@ use Rattle.pie_semantics.specs.Meaning.{next_of}
 use Rattle.pie_type_laws.specs.Fitting.{AnswerFits}
 use Rattle.pie_type_laws.specs.NeverStuck.{AnswersFit}
 use Rattle.pie_model.specs.declared.words.Answer.{Answer as ModelAnswer}
-use Rattle.pie_model_pipeline.specs.inner.Answers.{answer_of}
+use Rattle.pie_model_pipeline.specs.Answers.{answer_of}
 
 -- where a list with one more element is parted: at that element, or before it
 parted : {A : Type 0} (xs : List A) (x y : A) (front back : List A) → xs ++ x ∷ [] ≡ front ++ y ∷ back

@@ -42,7 +42,7 @@ use Rattle.pie_model.specs.Evaluation.{Project, Progress, start, answered, wrote
 use Rattle.pie_model.specs.Evaluation.{on_seen, on_listing, on_outcome, on_event, follow, round, evaluation_with}
 use Rattle.pie_model.proofs.Ways.{stands_itself}
 use Rattle.pie_model_pipeline.specs.Words.{fault_of, how_of, event_of, effect_of}
-use Rattle.pie_model_pipeline.specs.inner.Answers.{value_with, answer_of}
+use Rattle.pie_model_pipeline.specs.Answers.{value_with, answer_of}
 use Rattle.pie_model_pipeline.specs.World.{world, function_at, outcome_by, next, project}
 use Rattle.pie_model_pipeline.proofs.Joining.{means_itself, values_told}
 use Rattle.pie_entering_laws.proofs.Alike.{kind_stays, kinds_stay, values_alike, tasks_alike}

@@ -38,7 +38,7 @@ use Rattle.pie_model.specs.Evaluation.{on_seen, on_listing, on_outcome, on_event
 use Rattle.pie_model.proofs.Basics.{among_here, among_there}
 use Rattle.pie_model.proofs.Rooms.{alone, evaluation_room}
 use Rattle.pie_model_pipeline.specs.Words.{fault_of, how_of, event_of, effect_of}
-use Rattle.pie_model_pipeline.specs.inner.Answers.{answer_of}
+use Rattle.pie_model_pipeline.specs.Answers.{answer_of}
 use Rattle.pie_model_pipeline.specs.World.{world, next, project}
 use Rattle.pie_entering_laws.proofs.Alike.{kinds_stay, tasks_alike}
 use Rattle.pie_entering_laws.proofs.Answering.{none_fit, paths_fit}

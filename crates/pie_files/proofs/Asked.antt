@@ -6,7 +6,7 @@ use Rattle.pie_files.specs.declared.files.Call.TheVariants.{Write, Remove, Sync}
 use Rattle.pie_files.specs.declared.sure_files.Logged.{Logged}
 use Rattle.pie_files.specs.declared.sure_files.Logged.TheVariants.{Put, Asked, Wrote, Removed, Synced}
 use Rattle.pie_files.specs.declared.sure_files.SureFiles.{SureFiles}
-use Rattle.pie_files.specs.inner.Calls.{Called}
+use Rattle.pie_files.specs.Calls.{Called}
 use Rattle.pie_files.specs.inner.Memory.{asked_of}
 use Rattle.pie_files.specs.inner.SureFiles.{asked_by}
 

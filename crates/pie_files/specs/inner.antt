@@ -1,5 +1,4 @@
 -- Definitions that no clause of `pie_cli::run` rests on: invariants, and what crates say to each other.
-pub mod Calls
 pub mod Failures
 pub mod Held
 pub mod MemFiles

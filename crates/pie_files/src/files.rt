@@ -5,7 +5,7 @@ ghost use Rattle.sha2.specs.Sha256.{sha256};
 ghost use Rattle.pie_files.specs.declared.files.Call.{Call};
 ghost use Rattle.pie_files.specs.Directory.{Directory, file_at, with_file, without_file, files_under, entries_of};
 ghost use Rattle.pie_files.specs.inner.Within.{IsWithin};
-ghost use Rattle.pie_files.specs.inner.Calls.{Called, IsWrite, Wrote, MayHaveWritten, MayHaveRemoved};
+ghost use Rattle.pie_files.specs.Calls.{Called, IsWrite, Wrote, MayHaveWritten, MayHaveRemoved};
 ghost use Rattle.pie_files.specs.Images.{MayLeave, Stays, MayWrite, MayRemove, Only};
 
 use pie_base::{OutOfMemory, Path};

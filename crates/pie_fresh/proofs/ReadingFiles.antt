@@ -19,7 +19,7 @@ use Rattle.pie_step_laws.specs.UnderWay.{UnderWay, HasEnded}
 use Rattle.pie_step_laws.proofs.StepLemmas.{map_end, present_look}
 use Rattle.pie_step_laws.proofs.EndLemmas.{failed, ran_out}
 use Rattle.pie_model_pipeline.specs.Words.{fault_of, look_by}
-use Rattle.pie_model_pipeline.specs.inner.Answers.{answer_of}
+use Rattle.pie_model_pipeline.specs.Answers.{answer_of}
 use Rattle.pie_model_pipeline.specs.World.{world, next}
 use Rattle.pie_builder_laws.proofs.Naming.{canonical_at}
 use Rattle.pie_builder_laws.proofs.Coded.{event_is}

@@ -31,7 +31,7 @@ use Rattle.pie_step_laws.specs.UnderWay.{UnderWay, HasEnded}
 use Rattle.pie_step_laws.proofs.StepLemmas.{map_end, absent_look, present_look, listing_made}
 use Rattle.pie_step_laws.proofs.EndLemmas.{failed, clashes, lists_too_much}
 use Rattle.pie_model_pipeline.specs.Words.{fault_of, look_by}
-use Rattle.pie_model_pipeline.specs.inner.Answers.{answer_of}
+use Rattle.pie_model_pipeline.specs.Answers.{answer_of}
 use Rattle.pie_model_pipeline.specs.Rows.{observation_of}
 use Rattle.pie_model_pipeline.specs.World.{world}
 use Rattle.pie_type_laws.specs.Fitting.{AnswerFits}

@@ -14,7 +14,7 @@ use Rattle.pie_model.specs.declared.words.Outcome.TheVariants.{Failed}
 use Rattle.pie_step_laws.specs.UnderWay.{HasEnded}
 use Rattle.pie_step_laws.proofs.EndLemmas.{failed, ran_out}
 use Rattle.pie_model_pipeline.specs.Words.{event_of, fault_of}
-use Rattle.pie_model_pipeline.specs.inner.Answers.{answer_of}
+use Rattle.pie_model_pipeline.specs.Answers.{answer_of}
 use Rattle.pie_model_pipeline.specs.World.{world}
 use Rattle.pie_builder_laws.proofs.Naming.{canonical_at}
 use Rattle.pie_running.specs.declared.frame.RunningTask.{RunningTask}

@@ -20,7 +20,7 @@ use Rattle.pie_model.specs.inner.Stack.{tasks_of}
 use Rattle.pie_model.proofs.Basics.{clash}
 use Rattle.pie_step_laws.specs.Frames.{has_written}
 use Rattle.pie_step_laws.proofs.StepLemmas.{write_made}
-use Rattle.pie_model_pipeline.specs.inner.Answers.{answer_of}
+use Rattle.pie_model_pipeline.specs.Answers.{answer_of}
 use Rattle.pie_model_pipeline.specs.World.{world}
 use Rattle.pie_running.specs.declared.frame.RunningTask.{RunningTask}
 use Rattle.pie_running.specs.declared.frame.Waiting.{Waiting}

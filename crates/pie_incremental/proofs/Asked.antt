@@ -10,7 +10,7 @@ use Rattle.pie_files.specs.Directory.{Directory}
 use Rattle.pie_files.specs.declared.files.Call.{Call}
 use Rattle.pie_files.specs.declared.files.FilesError.{FilesError}
 use Rattle.pie_files.proofs.Reading.{if_always}
-use Rattle.pie_named.specs.inner.Asking.{AsksFor, MakesOnly}
+use Rattle.pie_named.specs.Asking.{AsksFor, MakesOnly}
 use Rattle.pie_project.specs.Digested.{HasDigests}
 use Rattle.pie_project.specs.Fronts.{ProjectSays}
 use Rattle.pie_project.specs.declared.fault.BuildError.{BuildError}
@@ -22,7 +22,7 @@ use Rattle.pie_store.specs.declared.cause.Cause.{Cause}
 use Rattle.pie_store.specs.declared.image.StoreImage.{StoreImage}
 use Rattle.pie_value.specs.Limits.{is_small_task}
 use Rattle.pie_value.specs.declared.task.Task.{Task}
-use Rattle.pie_model.specs.inner.Reasons.MayAsk.{project_file}
+use Rattle.pie_model.specs.Reasons.MayAsk.{project_file}
 use Rattle.pie_incremental.specs.declared.base.Base.{Base}
 use Rattle.pie_incremental.specs.declared.base.Start.{Start}
 use Rattle.pie_incremental.specs.declared.base.Start.TheVariants.{From}

@@ -31,17 +31,17 @@ use Rattle.pie_files.specs.declared.files.Call.{Call}
 use Rattle.pie_files.specs.declared.files.Call.TheVariants.{Read, Names, AllUnder, Write, Remove, Sync}
 use Rattle.pie_files.specs.declared.files.FilesError.{FilesError}
 use Rattle.pie_files.specs.declared.files.FilesError.TheVariants.{Failed, OutOfMemory}
-use Rattle.pie_files.specs.inner.Calls.{Called}
+use Rattle.pie_files.specs.Calls.{Called}
 use Rattle.pie_model.specs.Paths.{among, after_prefix}
-use Rattle.pie_model.specs.inner.Reasons.{project_files}
-use Rattle.pie_model.specs.inner.Reasons.MayAsk.{project_file, changed, above, by_run}
+use Rattle.pie_model.specs.Reasons.{project_files}
+use Rattle.pie_model.specs.Reasons.MayAsk.{project_file, changed, above, by_run}
 use Rattle.pie_model.proofs.Basics.{among_here, among_there, among_left}
-use Rattle.pie_named.specs.inner.Asking.{AsksFor, LooksAt, MakesOnly}
+use Rattle.pie_named.specs.Asking.{AsksFor, LooksAt, MakesOnly}
 use Rattle.pie_named.proofs.Calls.{no_calls, made_once, asks_now, calls_then, calls_as, asks_as}
 use Rattle.pie_parser.specs.FunctionTrees.{FunctionTree}
 use Rattle.pie_project.specs.Looking.{Asks, pipeline_path, prefix_calls, roots_path}
 use Rattle.pie_store.specs.declared.image.StoreImage.{StoreImage}
-use Rattle.pie_store.specs.inner.Pending.{in_order}
+use Rattle.pie_store.specs.Pending.{in_order}
 use Rattle.pie_value.specs.Canonical.{enc_task}
 use Rattle.pie_value.specs.declared.task.Task.{Task}
 use Rattle.pie_incremental.specs.Asked.{LooksOnlyAt}

@@ -23,7 +23,7 @@ use Rattle.pie_left_laws.specs.Reported.{IsOther as IsOtherOf, IsStray as IsStra
 use Rattle.pie_model.specs.Built.{store_rows}
 use Rattle.pie_model.specs.Paths.{among}
 use Rattle.pie_model.specs.Records.{Record}
-use Rattle.pie_model.specs.inner.Reasons.{RunReason}
+use Rattle.pie_model.specs.Reasons.{RunReason}
 use Rattle.pie_model_pipeline.specs.Clean.{output_bytes}
 use Rattle.pie_model_pipeline.specs.World.{world, project}
 use Rattle.pie_project.specs.Digested.{HasDigests}
@@ -36,7 +36,7 @@ use Rattle.pie_report.specs.declared.report.Report.{Report}
 use Rattle.pie_store.specs.Canonical.{AreFuncs}
 use Rattle.pie_store.specs.declared.cause.Cause.{Cause}
 use Rattle.pie_store.specs.declared.cause.Cause.TheVariants as causes
-use Rattle.pie_store.specs.inner.Pending.{in_order}
+use Rattle.pie_store.specs.Pending.{in_order}
 use Rattle.pie_types.specs.Whole.{number_from}
 use Rattle.pie_value.specs.Canonical.{enc_task}
 use Rattle.pie_value.specs.declared.task.Task.{Task}

@@ -14,8 +14,8 @@ use Rattle.pie_files.specs.Directory.{Directory, file_at}
 use Rattle.pie_lexer.specs.Tokens.{Lexes}
 use Rattle.pie_lexer.specs.declared.token.Token.{Token}
 use Rattle.pie_model.specs.Paths.{among}
-use Rattle.pie_model.specs.inner.Changes.IsMet.{named}
-use Rattle.pie_model.specs.inner.Reasons.{SameCode}
+use Rattle.pie_model.specs.Changes.IsMet.{named}
+use Rattle.pie_model.specs.Reasons.{SameCode}
 use Rattle.pie_model_pipeline.specs.World.{world, next, project}
 use Rattle.pie_parser.specs.FunctionGrammar.{IsPipeline}
 use Rattle.pie_parser.specs.FunctionTrees.{FunctionTree}

@@ -10,7 +10,7 @@ use Rattle.pie_project.specs.Fronts.{Front, ProjectSays}
 use Rattle.pie_project.specs.inner.Projects.{front_of}
 use Rattle.pie_project.specs.Refusals.{OfPipeline, OfRoots, plain, Only, Says}
 use Rattle.pie_report.specs.declared.report.Report.{Report}
-use Rattle.pie_incremental.specs.Refused.{RefusesRight}
+use Rattle.pie_incremental.specs.inner.Refused.{RefusesRight}
 
 -- by a clean build
 pub rebuilt : (o : Option Directory) (result : Result Report BuildError) → IfSome o (λ d. Says (λ (r : Report). r) (RebuildSays d) result)

@@ -13,7 +13,7 @@ use Rattle.pie_files.specs.Directory.{Directory}
 use Rattle.pie_files.specs.declared.files.FilesError.{FilesError}
 use Rattle.pie_fresh.specs.Cleans.{IsRootOf}
 use Rattle.pie_model.specs.Built.{store_rows}
-use Rattle.pie_model.specs.inner.Reasons.{SameCode}
+use Rattle.pie_model.specs.Reasons.{SameCode}
 use Rattle.pie_model_pipeline.specs.Rows.{record_of, verdict_of}
 use Rattle.pie_model_pipeline.specs.World.{world, next}
 use Rattle.pie_project.specs.declared.fault.BuildError.{BuildError}

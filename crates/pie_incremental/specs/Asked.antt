@@ -4,11 +4,11 @@ use Rattle.pie_build.specs.Left.{IsProjectOf}
 use Rattle.pie_files.specs.Directory.{Directory}
 use Rattle.pie_files.specs.declared.files.Call.{Call}
 use Rattle.pie_files.specs.declared.files.Call.TheVariants.{Read, Names, AllUnder, Write, Remove, Sync}
-use Rattle.pie_model.specs.inner.Reasons.{MayAsk}
+use Rattle.pie_model.specs.Reasons.{MayAsk}
 use Rattle.pie_model_pipeline.specs.World.{world, project}
-use Rattle.pie_named.specs.inner.Asking.{MakesOnly}
+use Rattle.pie_named.specs.Asking.{MakesOnly}
 use Rattle.pie_report.specs.declared.report.Report.{Report}
-use Rattle.pie_store.specs.inner.Pending.{in_order}
+use Rattle.pie_store.specs.Pending.{in_order}
 use Rattle.pie_value.specs.Canonical.{enc_task}
 use Rattle.pie_value.specs.declared.task.Task.{Task}
 use Rattle.pie_incremental.specs.declared.base.Base.{Base}

@@ -4,7 +4,7 @@ use Rattle.std.specs.List.{AllPairs}
 use Rattle.pie_build.specs.Left.{IsProjectOf}
 use Rattle.pie_files.specs.Directory.{Directory}
 use Rattle.pie_model.specs.Paths.{among}
-use Rattle.pie_model.specs.inner.Changes.{IsTried as StandsInTried}
+use Rattle.pie_model.specs.Changes.{IsTried as StandsInTried}
 use Rattle.pie_model_pipeline.specs.World.{world, project}
 use Rattle.pie_parser.specs.FunctionTrees.{FunctionTree}
 use Rattle.pie_store.specs.declared.cause.Cause.{Cause}

@@ -13,14 +13,14 @@ use Rattle.pie_model.specs.Forest.{live_evaluations}
 use Rattle.pie_model.specs.Paths.{among, kind_of}
 use Rattle.pie_model.specs.Trees.{Node}
 use Rattle.pie_model.specs.declared.words.Kind.TheVariants as kinds
-use Rattle.pie_model.specs.inner.Changes.{BuildsSeparate, NamesAllChanges}
+use Rattle.pie_model.specs.Changes.{BuildsSeparate, NamesAllChanges}
 use Rattle.pie_model_pipeline.specs.Rows.{record_of}
 use Rattle.pie_model_pipeline.specs.World.{world, project}
 use Rattle.pie_parser.specs.FunctionTrees.{FunctionTree}
 use Rattle.pie_project.specs.Fronts.{ProjectSays}
 use Rattle.pie_project.specs.Looking.{file_bytes, pipeline_path}
 use Rattle.pie_store.specs.declared.image.StoreImage.{StoreImage}
-use Rattle.pie_store.specs.inner.Pending.{in_order}
+use Rattle.pie_store.specs.Pending.{in_order}
 use Rattle.pie_value.specs.Canonical.{enc_task}
 use Rattle.pie_value.specs.declared.task.Task.{Task}
 use Rattle.pie_incremental.specs.declared.base.Base.{Base}

@@ -12,5 +12,4 @@ pub mod Reached
 pub mod Causes
 pub mod Before
 pub mod Clean
-pub mod Refused
 pub mod inner

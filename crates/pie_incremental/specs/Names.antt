@@ -1,6 +1,6 @@
 -- The names that a refused build keeps for the next one.
 use Rattle.std.specs.Prelude.{ℕ, cond, nat_lt, List, [], ◌∷◌, length, Option, Some, None}
-use Rattle.pie_store.specs.inner.Pending.{in_order, lines}
+use Rattle.pie_store.specs.Pending.{in_order, lines}
 
 -- their text, or nothing where that is too long for the next build to read
 abbrev pub kept_text : List ℕ → List ℕ

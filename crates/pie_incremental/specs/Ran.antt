@@ -7,7 +7,7 @@ use Rattle.pie_build.specs.Left.{IsProjectOf}
 use Rattle.pie_files.specs.Directory.{Directory}
 use Rattle.pie_model.specs.Built.{store_rows}
 use Rattle.pie_model.specs.Records.{Record}
-use Rattle.pie_model.specs.inner.Reasons.{RunReason}
+use Rattle.pie_model.specs.Reasons.{RunReason}
 use Rattle.pie_model_pipeline.specs.World.{world, project}
 use Rattle.pie_parser.specs.FunctionTrees.{FunctionTree}
 use Rattle.pie_project.specs.Looking.{file_bytes, pipeline_path}

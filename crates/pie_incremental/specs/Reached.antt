@@ -4,7 +4,7 @@ use Rattle.pie_build.specs.Left.{IsProjectOf}
 use Rattle.pie_entering_laws.specs.Entering.{IsTaskOf, Enters}
 use Rattle.pie_files.specs.Directory.{Directory}
 use Rattle.pie_model.specs.Paths.{among}
-use Rattle.pie_model.specs.inner.Changes.{IsUnionEdge}
+use Rattle.pie_model.specs.Changes.{IsUnionEdge}
 use Rattle.pie_model_pipeline.specs.World.{world, project}
 use Rattle.pie_parser.specs.FunctionTrees.{FunctionTree}
 use Rattle.pie_value.specs.Canonical.{enc_task}

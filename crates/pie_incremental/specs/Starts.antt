@@ -8,8 +8,8 @@ use Rattle.pie_store.specs.declared.image.StoreImage.{StoreImage}
 use Rattle.pie_record.specs.Canonical.{IsStorable}
 use Rattle.pie_store.specs.Canonical.{AreInOrder, IsStorableStore}
 use Rattle.pie_store.specs.Texts.{IsStoreText}
-use Rattle.pie_store.specs.inner.Faults.{HasFault}
-use Rattle.pie_store.specs.inner.Pending.{IsPending}
+use Rattle.pie_store.specs.Faults.{HasFault}
+use Rattle.pie_store.specs.Pending.{IsPending}
 use Rattle.pie_incremental.specs.declared.base.Base.{Base}
 use Rattle.pie_incremental.specs.declared.base.Start.{Start}
 use Rattle.pie_incremental.specs.declared.base.Start.TheVariants.{Afresh, From}

@@ -14,3 +14,4 @@ pub mod Marked
 pub mod Plans
 pub mod Ran
 pub mod Updated
+pub mod Refused

@@ -10,7 +10,7 @@ ghost use Rattle.pie_build.specs.Stored.{MayStand};
 ghost use Rattle.pie_results.specs.inner.Files.{InPathOrder};
 ghost use Rattle.pie_store.specs.Texts.{IsStoreText};
 ghost use Rattle.pie_value.specs.declared.verdict.Verdict.TheVariants as verdicts;
-ghost use Rattle.pie_named.specs.inner.Asking.{MakesOnly};
+ghost use Rattle.pie_named.specs.Asking.{MakesOnly};
 ghost use Rattle.pie_incremental.specs.inner.Asked.{IsChange};
 ghost use Rattle.pie_incremental.specs.Crashes.{EndsMarked};
 ghost use Rattle.pie_incremental.specs.Own.{IsClosed};

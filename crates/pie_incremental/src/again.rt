@@ -11,7 +11,7 @@ ghost use Rattle.pie_value.specs.declared.verdict.Verdict.TheVariants as verdict
 ghost use Rattle.pie_build.specs.inner.Rebuilt.{IsRefusal, Tells};
 ghost use Rattle.pie_value.specs.Canonical.{IsEncodableTask};
 ghost use Rattle.pie_value.specs.declared.task.Task.{Task as TaskOf};
-ghost use Rattle.pie_incremental.specs.Refused.{RefusesRight};
+ghost use Rattle.pie_incremental.specs.inner.Refused.{RefusesRight};
 ghost use Rattle.pie_incremental.specs.inner.Joined.{IsRetold, KeepsAfter, Treats};
 ghost use Rattle.pie_incremental.specs.inner.Marked.{EndsNames, EndsRestart};
 ghost use Rattle.pie_incremental.specs.inner.Updated.{IsAfreshAfter};

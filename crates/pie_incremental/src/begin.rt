@@ -3,7 +3,7 @@ ghost use Rattle.std.specs.Prelude.{IfSome, IfOk};
 ghost use Rattle.pie_files.specs.Reading.{ReadsOnly};
 ghost use Rattle.pie_store.specs.Texts.{IsStoreText};
 ghost use Rattle.pie_incremental.specs.Starts.{HasStore, IsReadable, IsWhole, StartsFrom};
-ghost use Rattle.pie_named.specs.inner.Asking.{AsksFor};
+ghost use Rattle.pie_named.specs.Asking.{AsksFor};
 ghost use Rattle.pie_incremental.specs.inner.Asked.{IsProjectFile};
 ghost use Rattle.pie_incremental.specs.inner.Bases.{IsAfterPending, IsFrom};
 

@@ -1,7 +1,7 @@
 //! What a build by what changed begins with.
 ghost use Rattle.std.specs.Prelude.{◌≡◌, IfOk, IfSome};
 ghost use Rattle.pie_files.specs.Reading.{ReadsOnly};
-ghost use Rattle.pie_named.specs.inner.Asking.{AsksFor};
+ghost use Rattle.pie_named.specs.Asking.{AsksFor};
 ghost use Rattle.pie_incremental.specs.inner.Asked.{IsAtFirst};
 ghost use Rattle.pie_incremental.specs.inner.Cleaned.{KnowsWhere};
 ghost use Rattle.pie_incremental.specs.inner.Digested.{digested};

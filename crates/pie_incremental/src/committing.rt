@@ -4,7 +4,7 @@ ghost use Rattle.pie_files.specs.Images.{Only};
 ghost use Rattle.pie_files.specs.Streams.{Counted};
 ghost use Rattle.pie_commit.specs.Outcomes.{IsAtRest, IsOfThree, KeepsOthers, LeavesFromRest, LeavesMarked};
 ghost use Rattle.pie_commit.specs.inner.Plans.{is_sound};
-ghost use Rattle.pie_named.specs.inner.Asking.{MakesOnly};
+ghost use Rattle.pie_named.specs.Asking.{MakesOnly};
 ghost use Rattle.pie_incremental.specs.inner.Asked.{IsChange};
 ghost use Rattle.pie_incremental.specs.Own.{IsClosed};
 ghost use Rattle.pie_incremental.specs.inner.Plans.{HasChanged, Marks, MayPlace, MayPut, Places, Puts};

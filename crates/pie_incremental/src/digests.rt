@@ -2,7 +2,7 @@
 ghost use Rattle.std.specs.Prelude.{◌≡◌, codes, IfSome, IfOk, OnOk};
 ghost use Rattle.pie_files.specs.Reading.{ReadsOnly};
 ghost use Rattle.pie_diff.specs.Hashes.{hash_in, is_hash};
-ghost use Rattle.pie_named.specs.inner.Asking.{AsksFor};
+ghost use Rattle.pie_named.specs.Asking.{AsksFor};
 ghost use Rattle.pie_incremental.specs.inner.Asked.{IsProjectFile};
 ghost use Rattle.pie_incremental.specs.inner.Digested.{digested};
 

@@ -6,7 +6,7 @@ ghost use Rattle.pie_build.specs.Crashes.{StaysAtRest};
 ghost use Rattle.pie_build.specs.Left.{KeepsRest};
 ghost use Rattle.pie_commit.specs.Outcomes.{LeavesFromRest};
 ghost use Rattle.pie_value.specs.declared.verdict.Verdict.TheVariants as verdicts;
-ghost use Rattle.pie_named.specs.inner.Asking.{MakesOnly};
+ghost use Rattle.pie_named.specs.Asking.{MakesOnly};
 ghost use Rattle.pie_incremental.specs.inner.Asked.{IsChange};
 ghost use Rattle.pie_incremental.specs.Crashes.{EndsMarked};
 ghost use Rattle.pie_incremental.specs.Kept.{IsOfNames, KeepsNames};

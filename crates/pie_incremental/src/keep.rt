@@ -5,7 +5,7 @@ ghost use Rattle.pie_files.specs.Images.{Only};
 ghost use Rattle.pie_files.specs.Streams.{Counted};
 ghost use Rattle.pie_commit.specs.Outcomes.{IsAtRest, LeavesFromRest};
 ghost use Rattle.pie_commit.specs.inner.Plans.{is_sound};
-ghost use Rattle.pie_named.specs.inner.Asking.{MakesOnly};
+ghost use Rattle.pie_named.specs.Asking.{MakesOnly};
 ghost use Rattle.pie_incremental.specs.inner.Asked.{IsChange};
 ghost use Rattle.pie_incremental.specs.Crashes.{EndsMarked};
 ghost use Rattle.pie_incremental.specs.Kept.{IsOfNames, KeepsAllFiles, KeepsNames};

@@ -2,7 +2,7 @@
 ghost use Rattle.std.specs.Prelude.{◌≡◌, ◌++◌, IfOk, OnOk};
 ghost use Rattle.std.specs.List.{fold};
 ghost use Rattle.std.specs.BTreeSet.{insert_key};
-ghost use Rattle.pie_store.specs.inner.Pending.{in_order, path_cmp, AreInPathOrder};
+ghost use Rattle.pie_store.specs.Pending.{in_order, path_cmp, AreInPathOrder};
 
 use pie_base::{OutOfMemory, Path};
 use std::alloc::Global;

@@ -6,7 +6,7 @@ ghost use Rattle.pie_build.specs.Crashes.{StaysAtRest};
 ghost use Rattle.pie_build.specs.Left.{KeepsRest};
 ghost use Rattle.pie_store.specs.Canonical.{AreFuncs};
 ghost use Rattle.pie_value.specs.Canonical.{IsEncodableTask};
-ghost use Rattle.pie_store.specs.inner.Pending.{in_order};
+ghost use Rattle.pie_store.specs.Pending.{in_order};
 ghost use Rattle.pie_commit.specs.Outcomes.{LeavesFromRest};
 ghost use Rattle.pie_incremental.specs.inner.Asked.{GoesAsking, RunsAsking};
 ghost use Rattle.pie_incremental.specs.Crashes.{EndsMarked};

@@ -20,7 +20,7 @@ use Rattle.pie_model.specs.Forest.{entered_tasks, live_evaluations}
 use Rattle.pie_model.specs.Verdict.{verdict}
 use Rattle.pie_model.specs.declared.words.Verdict.TheVariants.{Accepted}
 use Rattle.pie_model.specs.Built.{store_rows, provided_at}
-use Rattle.pie_model.specs.inner.Separate.{AllMet}
+use Rattle.pie_model.specs.Separate.{AllMet}
 use Rattle.pie_model.proofs.Basics.{clash, same_bytes, bytes_same, among_here, among_there}
 use Rattle.pie_model.proofs.LooksLemmas.{first_write-hashed}
 use Rattle.pie_step_laws.specs.Files.{KeptAt}

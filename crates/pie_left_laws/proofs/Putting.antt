@@ -13,7 +13,7 @@ use Rattle.pie_model.specs.declared.words.Kind.TheVariants.{Out, Kept, Source}
 use Rattle.pie_model.specs.Trees.{trace_of}
 use Rattle.pie_model.specs.Evaluation.{evaluation}
 use Rattle.pie_model.specs.Built.{bytes_at, provided_at, store_path, open_path, pending_path, built_by, IsBuilt}
-use Rattle.pie_model.specs.inner.Changes.IsMet.{named}
+use Rattle.pie_model.specs.Changes.IsMet.{named}
 use Rattle.pie_model.proofs.Basics.{clash, same_bytes, bytes_same, among_split}
 use Rattle.pie_check_laws.proofs.Members.{none_in, here_or_there, here, there}
 use Rattle.pie_model_pipeline.specs.World.{world}

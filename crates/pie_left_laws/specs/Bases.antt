@@ -6,7 +6,7 @@ use Rattle.pie_files.specs.Directory.{Directory, file_at}
 use Rattle.pie_record.specs.declared.task_record.TaskRecord.{TaskRecord}
 use Rattle.pie_model.specs.Paths.{Path, among}
 use Rattle.pie_model.specs.Built.{open_path, pending_path}
-use Rattle.pie_model.specs.inner.Changes.{NamesAllChanges}
+use Rattle.pie_model.specs.Changes.{NamesAllChanges}
 use Rattle.pie_earlier_laws.specs.Left.{AgreeButKept}
 use Rattle.pie_core_laws.specs.Update.{Update, IsUpdate}
 use Rattle.pie_core_laws.specs.Keeping.{Separates}

@@ -11,7 +11,7 @@ use Rattle.pie_scan.specs.Changes.{AreChanged}
 use Rattle.pie_scan.specs.Entries.{path_cmp, alike}
 use Rattle.pie_scan.specs.Scanned.{is_scanned, entry_in, AreScanned}
 use Rattle.pie_scan.specs.Texts.{IsManifestText}
-use Rattle.pie_scan.specs.inner.Reading.{manifest_says}
+use Rattle.pie_scan.specs.Reading.{manifest_says}
 use Rattle.pie_listing.specs.declared.listing.Listing.{Listing}
 use Rattle.pie_listing.specs.declared.listing.Listing.TheVariants.{Listed, Unlisted}
 use Rattle.pie_listing.specs.declared.listing.Reason.TheVariants.{NoManifest, BadManifest, OtherStore, OtherTops}

@@ -11,8 +11,8 @@ use Rattle.pie_value.specs.declared.event.How.{How}
 use Rattle.pie_value.specs.declared.task.Task.{Task}
 use Rattle.pie_value.specs.Tree.{Tree as Val, TUnit, TBool, TInt, TText, TPath, TList, TTuple, TNull, TBytes}
 use Rattle.pie_value.specs.Limits.{is_small_task}
-use Rattle.pie_value.specs.inner.BuiltinForms.{Answered}
-use Rattle.pie_value.specs.inner.BuiltinTexts.{same_bytes}
+use Rattle.pie_value.specs.BuiltinForms.{Answered}
+use Rattle.pie_value.specs.BuiltinTexts.{same_bytes}
 use Rattle.pie_operators.specs.declared.asking.Observation.{Observation}
 use Rattle.pie_operators.specs.declared.asking.Observation.TheVariants.{Exists, Read, Digest, List as Listing}
 use Rattle.pie_operators.specs.declared.asking.Question.{Question}

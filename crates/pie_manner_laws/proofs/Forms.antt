@@ -7,7 +7,7 @@ use Rattle.pie_value.specs.declared.event.Event.{Event}
 use Rattle.pie_value.specs.declared.event.Event.TheVariants as events
 use Rattle.pie_value.specs.declared.event.Answer.{Answer}
 use Rattle.pie_value.specs.Tree.{Tree}
-use Rattle.pie_value.specs.inner.BuiltinForms.{Answered}
+use Rattle.pie_value.specs.BuiltinForms.{Answered}
 use Rattle.pie_operators.specs.Domain.{Outcome, done, fails, wants, State, Act, give, fault, pass, then_do, ticked, by_answer, holds}
 
 -- a state with more answers behind those that are left

@@ -4,7 +4,7 @@ use Rattle.std.proofs.lemmas.Bool.{leb-true}
 use Rattle.pie_value.specs.Tree.{Trees, TPath, TList, items_of, count_of}
 use Rattle.pie_value.specs.Size.{size_of}
 use Rattle.pie_value.specs.Canonical.{be32, counted, enc, encs, HaveShortParts}
-use Rattle.pie_value.specs.inner.Reading.{Parsed, number_of, counted_of}
+use Rattle.pie_value.specs.Reading.{Parsed, number_of, counted_of}
 use Rattle.pie_value.proofs.Lengths.{length_enc, short_by_size}
 use Rattle.pie_value.proofs.Taking.{number_again, counted_again}
 use Rattle.pie_model_pipeline.specs.World.{world}

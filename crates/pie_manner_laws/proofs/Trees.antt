@@ -6,8 +6,8 @@ use Rattle.pie_value.specs.declared.builtin.Builtin.TheVariants.{Path as PathOf}
 use Rattle.pie_value.specs.declared.event.By.TheVariants.{Hash, Mark, Raw}
 use Rattle.pie_value.specs.declared.event.How.TheVariants.{Whole, Hashed, Ran}
 use Rattle.pie_value.specs.Tree.{Tree as Val, Trees as Vals, TUnit, TBool, TList, TTuple, TNull, Nil as NoVal, Cons as ConsVal}
-use Rattle.pie_value.specs.inner.BuiltinForms.{Answered}
-use Rattle.pie_value.specs.inner.Builtins.{answer_of}
+use Rattle.pie_value.specs.BuiltinForms.{Answered}
+use Rattle.pie_value.specs.Builtins.{answer_of}
 use Rattle.pie_operators.specs.declared.asking.Observation.TheVariants as observations
 use Rattle.pie_operators.specs.Operators.{unary_answer, binary_answer, list_with, tuple_with}
 use Rattle.pie_operators.specs.Domain.{Act, give, fault, then_do, by_answer}

@@ -11,7 +11,7 @@ use Rattle.pie_value.specs.declared.task.Task.{Task}
 use Rattle.pie_value.specs.Tree.{Tree as Val}
 use Rattle.pie_value.specs.Limits.{is_small, is_small_task}
 use Rattle.pie_value.specs.Canonical.{enc, enc_task}
-use Rattle.pie_value.specs.inner.Reading.{Parsed, task_prefix}
+use Rattle.pie_value.specs.Reading.{Parsed, task_prefix}
 use Rattle.pie_operators.specs.Domain.{Outcome, done, fails, wants, State, at_start, Act, holds}
 use Rattle.pie_parser.specs.FunctionTrees.{FunctionTree}
 use Rattle.pie_types.specs.Whole.{number_from}
@@ -22,10 +22,10 @@ use Rattle.pie_model.specs.declared.words.Event.{Event as ModelEvent}
 use Rattle.pie_model.specs.declared.words.Event.TheVariants as model
 use Rattle.pie_model.specs.declared.words.FaultKind.TheVariants as faults
 use Rattle.pie_model.specs.declared.words.Look.TheVariants as looks
-use Rattle.pie_model.specs.inner.Separate.{path_looked, looked_paths, NeverWritesWhatItSaw}
+use Rattle.pie_model.specs.Separate.{path_looked, looked_paths, NeverWritesWhatItSaw}
 use Rattle.pie_model.proofs.Basics.{among_split, among_either, among_left, among_right, clash}
 use Rattle.pie_model_pipeline.specs.Words.{fault_of, look_by, how_of, event_of, effect_of}
-use Rattle.pie_model_pipeline.specs.inner.Answers.{answer_of}
+use Rattle.pie_model_pipeline.specs.Answers.{answer_of}
 use Rattle.pie_model_pipeline.specs.World.{function_at, outcome_by, next_if_read, next}
 use Rattle.pie_manner_laws.specs.Writes.{path_written, written_paths, NeverWritesTwice}
 use Rattle.pie_manner_laws.proofs.Forms.{with_more, Touches, touched, Untouched, Did, Stays, Polite}

@@ -1,7 +1,7 @@
 -- What tasks of a pipeline never do.
 use Rattle.std.specs.Prelude.{ℕ, List}
 use Rattle.pie_parser.specs.FunctionTrees.{FunctionTree}
-use Rattle.pie_model.specs.inner.Separate.{NeverWritesWhatItSaw}
+use Rattle.pie_model.specs.Separate.{NeverWritesWhatItSaw}
 use Rattle.pie_model_pipeline.specs.World.{next}
 
 -- no task of any pipeline writes a path that it has looked at

@@ -1,5 +1,5 @@
 //! The manners of tasks, and listings that tell directories apart.
-ghost use Rattle.pie_model.specs.inner.Separate.{ListingsDiffer};
+ghost use Rattle.pie_model.specs.Separate.{ListingsDiffer};
 ghost use Rattle.pie_model_pipeline.specs.World.{world};
 ghost use Rattle.pie_manner_laws.specs.Manners.{TasksHaveManners};
 ghost use Rattle.pie_manner_laws.specs.Writes.{TasksWriteOnce};

@@ -5,8 +5,8 @@ use Rattle.pie_model.specs.Tasks.{Task, Look}
 use Rattle.pie_model.specs.Seen.{first_write}
 use Rattle.pie_model.specs.Evaluation.{World, Project}
 use Rattle.pie_model.specs.Records.{Record, Observation, Query, Looked, Listed, Required, task_asked, needs_of}
-use Rattle.pie_model.specs.inner.StampNow.{Told, Teller, by_evaluation, by_records, recorded_outcome, told_stamp, own_told, look_now, outcome_now, stamp_now, StampsAgree}
-use Rattle.pie_model.specs.inner.StampNow.{asked_before}
+use Rattle.pie_model.specs.StampNow.{Told, Teller, by_evaluation, by_records, recorded_outcome, told_stamp, own_told, look_now, outcome_now, stamp_now, StampsAgree}
+use Rattle.pie_model.specs.StampNow.{asked_before}
 use Rattle.pie_model.specs.inner.Present.{Reaches, WroteByRecords, IsTold}
 use Rattle.pie_model.specs.inner.Consistent.{IsRecorded}
 use Rattle.pie_model.proofs.Basics.{among_here, among_either, among_left, among_right}

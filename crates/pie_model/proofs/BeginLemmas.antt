@@ -5,8 +5,8 @@ use Rattle.pie_model.specs.Tasks.{Task, Look}
 use Rattle.pie_model.specs.Trees.{Node, node, Trace, ends, looks, lists, writes, needs, outcome_of, is_plain, trace_of, levels, levels_below, required_by}
 use Rattle.pie_model.specs.Evaluation.{World, Project, evaluation}
 use Rattle.pie_model.specs.Records.{Record, Observation, Query, Looked, Listed, Required, needs_of, look_stamp}
-use Rattle.pie_model.specs.inner.StampNow.{Told, Teller, by_evaluation, look_now, stamp_now, StampsAgree, RecordAgrees, asked_before}
-use Rattle.pie_model.specs.inner.Separate.{NeverWritesWhatItSaw}
+use Rattle.pie_model.specs.StampNow.{Told, Teller, by_evaluation, look_now, stamp_now, StampsAgree, RecordAgrees, asked_before}
+use Rattle.pie_model.specs.Separate.{NeverWritesWhatItSaw}
 use Rattle.pie_model.specs.inner.Present.{Reaches, WroteByRecords, IsTold}
 use Rattle.pie_model.specs.inner.Present.Way.{here, along}
 use Rattle.pie_model.specs.inner.Consistent.{IsRecorded, IsConsistent}

@@ -7,12 +7,12 @@ use Rattle.pie_model.specs.Tasks.{Succeeded, Event, Done, Fail, LookAt, ListOf, 
 use Rattle.pie_model.specs.Trees.{Ended, Failed, outcome_of}
 use Rattle.pie_model.specs.Evaluation.{World, Project, evaluation}
 use Rattle.pie_model.specs.Records.{record_of, Present, Hash, Mark, WholeValue, Looked, Required, observed}
-use Rattle.pie_model.specs.inner.StampNow.{by_evaluation, stamp_now}
+use Rattle.pie_model.specs.StampNow.{by_evaluation, stamp_now}
 use Rattle.pie_model.specs.Seen.{provided}
 use Rattle.pie_model.specs.Forest.{entered_tasks, live_evaluations}
 use Rattle.pie_model.specs.Verdict.{Accepted, Many, Fault, Cycle, Overlap, Nested, Hidden, verdict}
 use Rattle.pie_model.specs.Built.{provided_at, store_rows}
-use Rattle.pie_model.specs.inner.Changes.{strings_in}
+use Rattle.pie_model.specs.Changes.{strings_in}
 
 -- ---- a world whose hash is one to one, with the true limits, and one with room for two tasks
 

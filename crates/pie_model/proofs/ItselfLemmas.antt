@@ -9,8 +9,8 @@ use Rattle.pie_model.specs.Seen.{first_write, provided, visible_at}
 use Rattle.pie_model.specs.Evaluation.{World, Project, Progress, start, answered, wrote, required, absent_answer, present_answer, output_answer, listing}
 use Rattle.pie_model.specs.Evaluation.{on_seen, on_listing, on_outcome, on_event, follow, evaluation_with, evaluation}
 use Rattle.pie_model.specs.Records.{observations_of, outcome_stamp, hashed, record_of}
-use Rattle.pie_model.specs.inner.StampNow.{by_evaluation, told_of, look_now, listing_now, outcome_now, StampsAgree, RecordAgrees}
-use Rattle.pie_model.specs.inner.Separate.{NeverWritesWhatItSaw, looked_paths}
+use Rattle.pie_model.specs.StampNow.{by_evaluation, told_of, look_now, listing_now, outcome_now, StampsAgree, RecordAgrees}
+use Rattle.pie_model.specs.Separate.{NeverWritesWhatItSaw, looked_paths}
 use Rattle.pie_model.proofs.Basics.{clash}
 use Rattle.pie_model.proofs.LooksLemmas.{first_write_prefix, first_write-hashed, hashed-append, looked_now, unwritten_later, seen_stamp, look_now_is}
 use Rattle.pie_model.proofs.SecondLemmas.{map-end}

@@ -9,8 +9,8 @@ use Rattle.pie_model.specs.Seen.{first_write, provided, seen_file, own_first, vi
 use Rattle.pie_model.specs.Evaluation.{World, Project, Progress, wrote, absent_answer, present_answer, output_answer, within_limit, listing, on_seen}
 use Rattle.pie_model.specs.Evaluation.{on_listing, on_outcome, on_event, follow}
 use Rattle.pie_model.specs.Records.{Stamp, Absent, Hash, Mark, WholeValue, mark_stamp, contents_stamp, look_stamp, value_stamp, hashed}
-use Rattle.pie_model.specs.inner.StampNow.{told_of, Teller, hash_stamp, told_stamp, own_told, look_now}
-use Rattle.pie_model.specs.inner.Separate.{StampsSeparate, ListingsDiffer, MetSeen, looked_paths, path_looked, NeverWritesWhatItSaw}
+use Rattle.pie_model.specs.StampNow.{told_of, Teller, hash_stamp, told_stamp, own_told, look_now}
+use Rattle.pie_model.specs.Separate.{StampsSeparate, ListingsDiffer, MetSeen, looked_paths, path_looked, NeverWritesWhatItSaw}
 use Rattle.pie_model.proofs.Basics.{among_left, among_right, among_here, same_bytes}
 
 -- ---- first writes

@@ -6,8 +6,8 @@ use Rattle.pie_model.specs.Trees.{node, Trace, Outcome, Ended, Failed, Cycled, M
 use Rattle.pie_model.specs.Trees.{HasTask}
 use Rattle.pie_model.specs.Evaluation.{World, Project, Progress, start, on_outcome, follow, evaluation_with, evaluation}
 use Rattle.pie_model.specs.Records.{record_of, needs_of, observations_of, hashed}
-use Rattle.pie_model.specs.inner.StampNow.{by_evaluation, RecordAgrees}
-use Rattle.pie_model.specs.inner.Separate.{StampsSeparate, ListingsDiffer, AllMet, NeverWritesWhatItSaw}
+use Rattle.pie_model.specs.StampNow.{by_evaluation, RecordAgrees}
+use Rattle.pie_model.specs.Separate.{StampsSeparate, ListingsDiffer, AllMet, NeverWritesWhatItSaw}
 use Rattle.pie_model.proofs.Basics.{clash, among_split}
 use Rattle.pie_model.proofs.MovedLemmas.{opened_apart, plain_apart, MovedNode, same_node, no_room_node, through_node, moved_with}
 use Rattle.pie_model.proofs.Rooms.{evaluation_room, Standing, standing, all_plain, node_alone}

@@ -9,8 +9,8 @@ use Rattle.pie_model.specs.Seen.{first_write, provided, seen_file, visible_by, v
 use Rattle.pie_model.specs.Evaluation.{World, Project, Progress, answered, wrote, required, output_answer, listing, on_seen, on_listing, on_outcome, on_event}
 use Rattle.pie_model.specs.Evaluation.{follow, evaluation}
 use Rattle.pie_model.specs.Records.{Stamp, Looked, Listed, Required, observed, observations_of, look_stamp, value_stamp, outcome_stamp, hashed, needs_of}
-use Rattle.pie_model.specs.inner.StampNow.{by_evaluation, told_of, look_now, listing_now, outcome_now, StampsAgree}
-use Rattle.pie_model.specs.inner.Separate.{StampsSeparate, ListingsDiffer, AllMet, MetOutcome, NeverWritesWhatItSaw, looked_paths}
+use Rattle.pie_model.specs.StampNow.{by_evaluation, told_of, look_now, listing_now, outcome_now, StampsAgree}
+use Rattle.pie_model.specs.Separate.{StampsSeparate, ListingsDiffer, AllMet, MetOutcome, NeverWritesWhatItSaw, looked_paths}
 use Rattle.pie_model.proofs.Basics.{clash, among_here, among_there}
 use Rattle.pie_model.proofs.LooksLemmas.{first_write_prefix, first_write-hashed, hashed-append, looked_now, unwritten_later, seen_stamp, look_now_is, some_same}
 use Rattle.pie_model.proofs.LooksLemmas.{seen_answer, looks_alike, listings_alike, outputs_alike}

@@ -5,8 +5,8 @@ use Rattle.pie_model.specs.Tasks.{Task}
 use Rattle.pie_model.specs.Trees.{is_plain, levels, HasTask}
 use Rattle.pie_model.specs.Evaluation.{World, Project, evaluation}
 use Rattle.pie_model.specs.Records.{Record, record_of, needs_of}
-use Rattle.pie_model.specs.inner.StampNow.{Told, by_evaluation, RecordAgrees}
-use Rattle.pie_model.specs.inner.Separate.{StampsSeparate, ListingsDiffer, NeverWritesWhatItSaw}
+use Rattle.pie_model.specs.StampNow.{Told, by_evaluation, RecordAgrees}
+use Rattle.pie_model.specs.Separate.{StampsSeparate, ListingsDiffer, NeverWritesWhatItSaw}
 use Rattle.pie_model.specs.inner.Present.{Reaches}
 use Rattle.pie_model.specs.inner.Present.Way.{here, along}
 use Rattle.pie_model.specs.inner.Consistent.{IsRecorded, IsUpToDate, IsConsistent, IsSettled}

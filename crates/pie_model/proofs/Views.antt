@@ -8,7 +8,7 @@ use Rattle.pie_model.specs.Trees.{StandsIn, StandsBelow}
 use Rattle.pie_model.specs.Seen.{first_write, writer, writers, writers_below, writers_in, all_by, by_writers, provided}
 use Rattle.pie_model.specs.Evaluation.{World, Project, evaluation}
 use Rattle.pie_model.specs.Records.{Record, record_of, hashed}
-use Rattle.pie_model.specs.inner.StampNow.{Told, Untold, ToldHash, ToldClash, told_of}
+use Rattle.pie_model.specs.StampNow.{Told, Untold, ToldHash, ToldClash, told_of}
 use Rattle.pie_model.specs.inner.Present.{Way, Reaches, WroteByRecords, WroteInTrees, IsTold}
 use Rattle.pie_model.proofs.Basics.{clash, among_here, among_there, among_split, same_bytes, bytes_same}
 use Rattle.pie_model.proofs.Rooms.{node_alone, all_plain}

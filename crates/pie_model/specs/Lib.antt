@@ -8,4 +8,8 @@ pub mod Running
 pub mod Forest
 pub mod Built
 pub mod Verdict
+pub mod Changes
+pub mod Reasons
+pub mod Separate
+pub mod StampNow
 pub mod inner

@@ -1,7 +1,5 @@
 -- Definitions that no clause of `pie_cli::run` rests on: invariants, and what crates say to each other.
-pub mod StampNow
 pub mod Moved
-pub mod Separate
 pub mod Present
 pub mod Consistent
 pub mod Still
@@ -12,6 +10,4 @@ pub mod RecordLaws
 pub mod CoreLaws
 pub mod RunLaws
 pub mod EndLaws
-pub mod Changes
-pub mod Reasons
 pub mod Ranks

@@ -19,7 +19,7 @@ use Rattle.pie_model.specs.declared.words.Look.TheVariants as looks
 use Rattle.pie_model.specs.declared.words.Event.TheVariants as model
 use Rattle.pie_model.specs.declared.words.FaultKind.TheVariants as faults
 use Rattle.pie_model_pipeline.specs.Words.{event_of}
-use Rattle.pie_model_pipeline.specs.inner.Answers.{answer_of}
+use Rattle.pie_model_pipeline.specs.Answers.{answer_of}
 use Rattle.pie_model_pipeline.specs.World.{task_evaluates_to}
 
 abbrev named : List ℕ → Name

@@ -8,12 +8,12 @@ use Rattle.pie_value.specs.declared.value.Value.TheVariants as values
 use Rattle.pie_value.specs.Tree.{Tree, items_of, list_of}
 use Rattle.pie_value.specs.Values.{tree_of}
 use Rattle.pie_value.specs.Canonical.{enc, enc_task, IsCanonical, IsCanonicalTask}
-use Rattle.pie_value.specs.inner.Reading.{Parsed, task_prefix}
+use Rattle.pie_value.specs.Reading.{Parsed, task_prefix}
 use Rattle.pie_value.proofs.Decoded.{whole_again, task_whole_again}
 use Rattle.pie_parser.specs.FunctionTrees.{FunctionTree}
 use Rattle.pie_model.specs.declared.words.Answer.{Answer as ModelAnswer}
 use Rattle.pie_model_pipeline.specs.Words.{event_of}
-use Rattle.pie_model_pipeline.specs.inner.Answers.{value_from, value_or_unit, value_with, answer_of}
+use Rattle.pie_model_pipeline.specs.Answers.{value_from, value_or_unit, value_with, answer_of}
 use Rattle.pie_model_pipeline.specs.World.{task_evaluates_to, next_if_read, next}
 use Rattle.pie_model_pipeline.specs.inner.Laws.{told_of, IsGiven}
 

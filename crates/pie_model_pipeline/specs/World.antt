@@ -6,7 +6,7 @@ use Rattle.pie_value.specs.declared.event.Answer.{Answer}
 use Rattle.pie_value.specs.declared.task.Task.{Task}
 use Rattle.pie_value.specs.Tree.{Tree, TPath, TList, items_of}
 use Rattle.pie_value.specs.Canonical.{enc}
-use Rattle.pie_value.specs.inner.Reading.{Parsed, task_prefix}
+use Rattle.pie_value.specs.Reading.{Parsed, task_prefix}
 use Rattle.pie_operators.specs.Domain.{Outcome, fails}
 use Rattle.pie_parser.specs.FunctionTrees.{FunctionTree}
 use Rattle.pie_types.specs.Whole.{number_from}
@@ -18,7 +18,7 @@ use Rattle.pie_model.specs.declared.words.Event.TheVariants as model
 use Rattle.pie_model.specs.declared.words.FaultKind.TheVariants as model_faults
 use Rattle.pie_model.specs.Evaluation.{World, Project}
 use Rattle.pie_model_pipeline.specs.Words.{event_of}
-use Rattle.pie_model_pipeline.specs.inner.Answers.{answer_of}
+use Rattle.pie_model_pipeline.specs.Answers.{answer_of}
 
 -- the canonical bytes of a listing: those of the list of its paths
 abbrev pub listing_bytes : List (List ℕ) → List ℕ

@@ -1,3 +1,2 @@
 -- Definitions that no clause of `pie_cli::run` rests on: invariants, and what crates say to each other.
-pub mod Answers
 pub mod Laws

@@ -8,7 +8,7 @@ use Rattle.std.proofs.lemmas.Cmp.{nat_list_cmp_total, eq_by_cmp_equiv}
 use Rattle.pie_base.specs.Path.{is_below, is_slash, parent_of, rest_below, same_text}
 use Rattle.pie_graph.proofs.EdgeOrder.{text_tie}
 use Rattle.pie_named.specs.declared.paths.Paths.{Paths}
-use Rattle.pie_named.specs.Names.{has}
+use Rattle.pie_named.specs.inner.Names.{has}
 use Rattle.pie_named.specs.inner.Above.{Adds, at_or_above, Rises}
 
 -- a directory is above a path where it is the parent, or above that

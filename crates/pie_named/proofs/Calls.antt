@@ -7,9 +7,9 @@ use Rattle.pie_files.specs.declared.files.Call.{Call}
 use Rattle.pie_files.specs.declared.files.Call.TheVariants.{Read, Names, AllUnder, Write, Remove, Sync}
 use Rattle.pie_files.specs.declared.files.FilesError.{FilesError}
 use Rattle.pie_files.specs.declared.files.FilesError.TheVariants.{Failed, OutOfMemory}
-use Rattle.pie_files.specs.inner.Calls.{Called, Notes, NotesUnlessMemory}
+use Rattle.pie_files.specs.Calls.{Called, Notes, NotesUnlessMemory}
 use Rattle.pie_named.specs.declared.stamps.FileStamp.{FileStamp}
-use Rattle.pie_named.specs.inner.Asking.{LooksAt, AreFollowed, MakesOnly, AsksOnce}
+use Rattle.pie_named.specs.Asking.{LooksAt, AreFollowed, MakesOnly, AsksOnce}
 
 -- ---- one question
 

@@ -10,7 +10,7 @@ use Rattle.pie_record.specs.declared.dep.DepKind.TheVariants as kinds
 use Rattle.pie_named.specs.declared.stamps.FileStamp.{FileStamp}
 use Rattle.pie_named.specs.declared.stamps.Stamps.{Stamps}
 use Rattle.pie_named.specs.declared.named.Named.{Named}
-use Rattle.pie_named.specs.Stamped.{stamp_in}
+use Rattle.pie_named.specs.inner.Stamped.{stamp_in}
 use Rattle.pie_named.specs.inner.Stamps.{stamp_at, Puts}
 use Rattle.pie_named.specs.inner.Known.{AreOf, IsTrueOf, Learned}
 

@@ -1,3 +1,2 @@
-pub mod Names
-pub mod Stamped
+pub mod Asking
 pub mod inner

@@ -1,5 +1,6 @@
 -- Definitions that no clause of `pie_cli::run` rests on: invariants, and what crates say to each other.
 pub mod Above
-pub mod Asking
 pub mod Known
 pub mod Stamps
+pub mod Names
+pub mod Stamped

@@ -1,10 +1,10 @@
 //! What is asked of the files, each question once.
 ghost use Rattle.std.specs.Prelude.{IfOk};
 ghost use Rattle.pie_files.specs.Reading.{ReadsOnly};
-ghost use Rattle.pie_named.specs.Names.{SameNames};
+ghost use Rattle.pie_named.specs.inner.Names.{SameNames};
 ghost use Rattle.pie_record.specs.declared.dep.DepKind.TheVariants as kinds;
 ghost use Rattle.pie_files.specs.declared.files.Call.TheVariants as calls;
-ghost use Rattle.pie_named.specs.inner.Asking.{AsksOnce};
+ghost use Rattle.pie_named.specs.Asking.{AsksOnce};
 ghost use Rattle.pie_named.specs.inner.Known.{Asked, Learns, known_stamp};
 
 use crate::named::Named;

@@ -1,11 +1,11 @@
 //! Whether what is recorded is what is there now.
 ghost use Rattle.std.specs.Prelude.{◌≡◌, IfOk};
 ghost use Rattle.pie_files.specs.Reading.{ReadsOnly};
-ghost use Rattle.pie_named.specs.Names.{SameNames};
+ghost use Rattle.pie_named.specs.inner.Names.{SameNames};
 ghost use Rattle.pie_record.specs.declared.dep.DepKind.TheVariants as kinds;
 ghost use Rattle.pie_value.specs.declared.stamp.Stamp.TheVariants as stamps;
-ghost use Rattle.pie_named.specs.Stamped.{differs_from};
-ghost use Rattle.pie_named.specs.inner.Asking.{AsksOnce, call_for};
+ghost use Rattle.pie_named.specs.inner.Stamped.{differs_from};
+ghost use Rattle.pie_named.specs.Asking.{AsksOnce, call_for};
 ghost use Rattle.pie_named.specs.inner.Known.{Asked, Compares, Learns, Tells, known_differs, known_stamp};
 
 use crate::named::Named;

@@ -4,7 +4,7 @@ ghost use Rattle.std.specs.Ordering.{nat_cmp, is_eq};
 ghost use Rattle.std.specs.Cmp.Lexicographic.{slice_cmp};
 ghost use Rattle.pie_base.specs.Path.{is_below};
 ghost use Rattle.pie_files.specs.Directory.{Directory};
-ghost use Rattle.pie_named.specs.Names.{is_named, is_above};
+ghost use Rattle.pie_named.specs.inner.Names.{is_named, is_above};
 ghost use Rattle.pie_named.specs.inner.Known.{IsTrueOf};
 
 use crate::paths::Paths;

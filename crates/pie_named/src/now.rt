@@ -4,8 +4,8 @@ ghost use Rattle.pie_value.specs.Tree.{TPath};
 ghost use Rattle.pie_files.specs.Reading.{ReadsOnly};
 ghost use Rattle.pie_record.specs.declared.dep.DepKind.TheVariants as kinds;
 ghost use Rattle.pie_files.specs.declared.files.Call.TheVariants as calls;
-ghost use Rattle.pie_named.specs.Stamped.{listing_of};
-ghost use Rattle.pie_named.specs.inner.Asking.{AsksOnce};
+ghost use Rattle.pie_named.specs.inner.Stamped.{listing_of};
+ghost use Rattle.pie_named.specs.Asking.{AsksOnce};
 ghost use Rattle.pie_named.specs.inner.Known.{IsNow};
 
 use crate::stamps::FileStamp;

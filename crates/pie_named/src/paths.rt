@@ -1,7 +1,7 @@
 //! A set of paths.
 ghost use Rattle.std.specs.Prelude.{◌≡◌, ℕ, List, false, ◌||◌, OnOk};
 ghost use Rattle.pie_base.specs.Path.{is_below};
-ghost use Rattle.pie_named.specs.Names.{has};
+ghost use Rattle.pie_named.specs.inner.Names.{has};
 ghost use Rattle.pie_named.specs.inner.Above.{Adds};
 
 use pie_base::{OutOfMemory, Path};

@@ -1,7 +1,7 @@
 //! Stamps of files and listings, by their paths.
 ghost use Rattle.std.specs.Prelude.{◌≡◌, ℕ, List, None, OnOk};
 ghost use Rattle.pie_named.specs.inner.Stamps.{stamp_at, Puts};
-ghost use Rattle.pie_named.specs.Stamped.{is_stamp};
+ghost use Rattle.pie_named.specs.inner.Stamped.{is_stamp};
 
 use pie_base::{OutOfMemory, Path};
 use pie_value::Stamp;

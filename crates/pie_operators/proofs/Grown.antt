@@ -1,7 +1,7 @@
 -- Lists that grow, as items.
 use Rattle.std.proofs.Common.{◌≡◌, List, [], ◌∷◌, ◌++◌, refl, ap}
 use Rattle.pie_value.specs.Tree.{Tree, Nil, Cons, items_of}
-use Rattle.pie_value.specs.inner.BuiltinItems.{joined}
+use Rattle.pie_value.specs.BuiltinItems.{joined}
 
 -- items and others
 pub joined_items : (ts us : List Tree) → items_of (ts ++ us) ≡ joined (items_of ts) (items_of us)

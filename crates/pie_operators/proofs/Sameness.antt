@@ -6,7 +6,7 @@ use Rattle.pie_value.specs.declared.value.Value.TheVariants.{Unit as VUnit, Bool
 use Rattle.pie_value.specs.declared.value.Value.TheVariants.{List as VList, Tuple as VTuple, Null as VNull, Bytes as VBytes}
 use Rattle.pie_value.specs.Values.{tree_of}
 use Rattle.pie_value.specs.Tree.{Tree, Trees, TUnit, TBool, TInt, TText, TPath, TList, TTuple, TNull, TBytes, Nil, Cons, list_of}
-use Rattle.pie_value.specs.inner.BuiltinTexts.{same_bytes}
+use Rattle.pie_value.specs.BuiltinTexts.{same_bytes}
 use Rattle.pie_value.proofs.Elements.{list_of_items}
 use Rattle.pie_operators.specs.Operators.{same_tree, same_trees}
 

@@ -6,8 +6,8 @@ use Rattle.pie_base.specs.declared.fault.FaultKind.TheVariants.{Budget}
 use Rattle.pie_value.specs.declared.event.Event.{Event}
 use Rattle.pie_value.specs.declared.event.Answer.{Answer}
 use Rattle.pie_value.specs.Tree.{Tree}
-use Rattle.pie_value.specs.inner.BuiltinForms.{Answered}
-use Rattle.pie_value.specs.inner.BuiltinTexts.{same_bytes}
+use Rattle.pie_value.specs.BuiltinForms.{Answered}
+use Rattle.pie_value.specs.BuiltinTexts.{same_bytes}
 
 -- what running gave: a value, a fault, or the first effect that no answer is left for
 pub data Outcome (A : Type 0) : Type 0 where

@@ -15,7 +15,7 @@ use Rattle.pie_value.specs.declared.event.How.TheVariants.{Whole, Hashed, Ran}
 use Rattle.pie_value.specs.Tree.{Tree, TUnit, TBool, TText, TPath, TList, TNull, TBytes, items_of}
 use Rattle.pie_value.specs.Values.{tree_of}
 use Rattle.pie_value.specs.Limits.{is_small_task}
-use Rattle.pie_value.specs.inner.BuiltinForms.{Answered, made}
+use Rattle.pie_value.specs.BuiltinForms.{Answered, made}
 use Rattle.pie_operators.specs.declared.asking.Observation.{Observation}
 use Rattle.pie_operators.specs.declared.asking.Observation.TheVariants.{Exists, Read, Digest, List as Listing}
 use Rattle.pie_operators.specs.declared.asking.Question.{Question}

@@ -1,4 +1,4 @@
 pub mod Operators
-pub mod Agreement
 pub mod Domain
 pub mod Effects
+pub mod inner

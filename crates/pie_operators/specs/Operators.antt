@@ -6,9 +6,9 @@ use Rattle.std.specs.declared.cmp.Ordering.{Ordering}
 use Rattle.std.specs.Cmp.Lexicographic.{slice_cmp}
 use Rattle.pie_base.specs.declared.fault.FaultKind.TheVariants.{Overflow, Zero, Unknown}
 use Rattle.pie_value.specs.Tree.{Tree, Trees, TUnit, TBool, TInt, TText, TPath, TList, TTuple, TNull, TBytes, Nil, Cons, list_of}
-use Rattle.pie_value.specs.inner.BuiltinForms.{Answered, made}
-use Rattle.pie_value.specs.inner.BuiltinTexts.{same_bytes}
-use Rattle.pie_value.specs.inner.BuiltinItems.{joined}
+use Rattle.pie_value.specs.BuiltinForms.{Answered, made}
+use Rattle.pie_value.specs.BuiltinTexts.{same_bytes}
+use Rattle.pie_value.specs.BuiltinItems.{joined}
 use Rattle.pie_operators.specs.declared.operator.Unary.{Unary}
 use Rattle.pie_operators.specs.declared.operator.Unary.TheVariants.{Neg, Not}
 use Rattle.pie_operators.specs.declared.operator.Binary.{Binary}

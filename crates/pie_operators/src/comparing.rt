@@ -3,7 +3,7 @@ ghost use Rattle.std.specs.Prelude.{◌≡◌};
 ghost use Rattle.std.specs.Ordering.{is_ge, is_gt, is_le, is_lt};
 ghost use Rattle.pie_value.specs.Values.{tree_of};
 ghost use Rattle.pie_operators.specs.Operators.{compared, order_of};
-ghost use Rattle.pie_operators.specs.Agreement.{ResultAgrees};
+ghost use Rattle.pie_operators.specs.inner.Agreement.{ResultAgrees};
 
 use crate::OperatorFault;
 use crate::fault::refused;

@@ -1,8 +1,8 @@
 //! Why an operator gives no value.
 ghost use Rattle.std.specs.Prelude.{◌≡◌, Err};
 ghost use Rattle.pie_value.specs.Values.{tree_of};
-ghost use Rattle.pie_value.specs.inner.BuiltinForms.{made as spec_made};
-ghost use Rattle.pie_operators.specs.Agreement.{ResultAgrees};
+ghost use Rattle.pie_value.specs.BuiltinForms.{made as spec_made};
+ghost use Rattle.pie_operators.specs.inner.Agreement.{ResultAgrees};
 
 use pie_base::{FaultKind, OutOfMemory};
 use pie_value::Value;

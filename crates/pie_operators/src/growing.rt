@@ -2,9 +2,9 @@
 ghost use Rattle.std.specs.Prelude.{◌≡◌, slice_get, IfOk};
 ghost use Rattle.pie_value.specs.Tree.{TList, TTuple, Nil, Cons, items_of, list_of};
 ghost use Rattle.pie_value.specs.Values.{tree_of, trees_of};
-ghost use Rattle.pie_value.specs.inner.BuiltinItems.{joined};
+ghost use Rattle.pie_value.specs.BuiltinItems.{joined};
 ghost use Rattle.pie_operators.specs.Operators.{item_at, item_or_unknown, list_with, tuple_with};
-ghost use Rattle.pie_operators.specs.Agreement.{ResultAgrees};
+ghost use Rattle.pie_operators.specs.inner.Agreement.{ResultAgrees};
 
 use crate::OperatorFault;
 use crate::fault::{made, refused};

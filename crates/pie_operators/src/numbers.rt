@@ -1,7 +1,7 @@
 //! The operators on integers.
 ghost use Rattle.std.specs.Prelude.{◌+ℤ◌, ◌-ℤ◌, ◌*ℤ◌, neg_ℤ, int_div};
 ghost use Rattle.pie_operators.specs.Operators.{checked, divided, remainder as spec_remainder};
-ghost use Rattle.pie_operators.specs.Agreement.{ResultAgrees};
+ghost use Rattle.pie_operators.specs.inner.Agreement.{ResultAgrees};
 
 use crate::OperatorFault;
 use crate::fault::refused;

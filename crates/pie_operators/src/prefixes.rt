@@ -1,7 +1,7 @@
 //! The operators before one operand.
 ghost use Rattle.pie_value.specs.Values.{tree_of};
 ghost use Rattle.pie_operators.specs.Operators.{unary_answer};
-ghost use Rattle.pie_operators.specs.Agreement.{ResultAgrees};
+ghost use Rattle.pie_operators.specs.inner.Agreement.{ResultAgrees};
 
 use crate::fault::refused;
 use crate::{OperatorFault, Unary, numbers};

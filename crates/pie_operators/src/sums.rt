@@ -2,10 +2,10 @@
 ghost use Rattle.std.specs.Prelude.{◌≡◌, ◌++◌, OnOk};
 ghost use Rattle.pie_value.specs.Tree.{TInt, TText, TBytes, TList, items_of};
 ghost use Rattle.pie_value.specs.Values.{tree_of, trees_of};
-ghost use Rattle.pie_value.specs.inner.BuiltinForms.{made as spec_made};
-ghost use Rattle.pie_value.specs.inner.BuiltinItems.{joined};
+ghost use Rattle.pie_value.specs.BuiltinForms.{made as spec_made};
+ghost use Rattle.pie_value.specs.BuiltinItems.{joined};
 ghost use Rattle.pie_operators.specs.Operators.{sum_of};
-ghost use Rattle.pie_operators.specs.Agreement.{ResultAgrees};
+ghost use Rattle.pie_operators.specs.inner.Agreement.{ResultAgrees};
 
 use crate::fault::{made, refused};
 use crate::{OperatorFault, numbers};

@@ -1,7 +1,7 @@
 //! What the answers of the outside give.
 ghost use Rattle.pie_operators.specs.Effects.{content, content_or_null, digits_or_null, is_content as spec_is_content, may_observe as spec_may_observe};
 ghost use Rattle.pie_operators.specs.Effects.{observed as spec_observed, required as spec_required, taken as spec_taken, text_read, written as spec_written};
-ghost use Rattle.pie_operators.specs.Agreement.{ResultAgrees};
+ghost use Rattle.pie_operators.specs.inner.Agreement.{ResultAgrees};
 ghost use Rattle.std.specs.Prelude.{◌≡◌, cond, Ok, Err};
 ghost use Rattle.std.specs.Str.{is_utf8};
 ghost use Rattle.pie_base.specs.declared.fault.FaultKind.TheVariants.{NotText};

@@ -6,7 +6,7 @@ use Rattle.std.proofs.lemmas.List.{append-nil}
 use Rattle.pie_files.specs.declared.files.Call.{Call}
 use Rattle.pie_files.specs.declared.files.FilesError.{FilesError}
 use Rattle.pie_files.specs.declared.files.FilesError.TheVariants as files
-use Rattle.pie_files.specs.inner.Calls.{Called, Notes, NotesUnlessMemory}
+use Rattle.pie_files.specs.Calls.{Called, Notes, NotesUnlessMemory}
 use Rattle.pie_files.specs.Directory.{Directory}
 use Rattle.pie_files.specs.Faults.{Rose}
 use Rattle.pie_project.specs.declared.fault.BuildError.{BuildError}

@@ -3,7 +3,7 @@ ghost use Rattle.std.specs.Prelude.{◌≡◌, true, IfSome, IfOk};
 ghost use Rattle.pie_base.specs.Path.{is_path};
 ghost use Rattle.pie_files.specs.Reading.{LeavesAsBefore};
 ghost use Rattle.pie_files.specs.declared.files.Call.TheVariants as calls;
-ghost use Rattle.pie_files.specs.inner.Calls.{Called};
+ghost use Rattle.pie_files.specs.Calls.{Called};
 ghost use Rattle.pie_files.specs.Directory.{file_at};
 ghost use Rattle.pie_files.specs.inner.Within.{IsWithin};
 ghost use Rattle.pie_project.specs.inner.Errors.{files_error as spec_files_error};

@@ -14,7 +14,7 @@ use Rattle.pie_value.specs.declared.value.Value.{Value}
 use Rattle.pie_value.specs.Tree.{Tree}
 use Rattle.pie_value.specs.Values.{tree_of}
 use Rattle.pie_value.specs.Canonical.{be32, counted, enc, enc_task, IsEncodable, IsEncodableTask, HasTrueLeaves}
-use Rattle.pie_value.specs.inner.Reading.{byte_of, bytes_of, number_of, counted_of, is_path_text, value_within, value_prefix, task_prefix}
+use Rattle.pie_value.specs.Reading.{byte_of, bytes_of, number_of, counted_of, is_path_text, value_within, value_prefix, task_prefix}
 use Rattle.pie_value.proofs.Taking.{IsBytes, Takes, byte_takes, bytes_takes, bytes_again, number_takes, number_again, counted_takes, counted_again}
 use Rattle.pie_value.proofs.ReadBack.{value_read}
 use Rattle.pie_value.proofs.WriteBack.{value_again}
@@ -22,7 +22,7 @@ use Rattle.pie_value.proofs.Decoded.{task_counted, task_again, task_is_canonical
 use Rattle.pie_record.specs.declared.record_fault.RecordFault.TheVariants.{BadPath, BadValue}
 use Rattle.pie_record.specs.inner.Parts.{value_of}
 use Rattle.pie_record.specs.Canonical.{be64, IsTruePath, IsTrueTask}
-use Rattle.pie_record.specs.inner.Reading.{Parsed, then_on, told, byte_at, bytes_at, number_at, mark_at, counted_at, text_at, path_at, out_path_at, task_at, value_at}
+use Rattle.pie_record.specs.Reading.{Parsed, then_on, told, byte_at, bytes_at, number_at, mark_at, counted_at, text_at, path_at, out_path_at, task_at, value_at}
 use Rattle.pie_record.proofs.Values.{value_back, tree_back}
 use Rattle.pie_record.proofs.Steps.{pair, same_value, same_rest, then_ok, told_ok, told_on, guard_ok, guard_on, both_true, both_on, Codec, last_ok}
 

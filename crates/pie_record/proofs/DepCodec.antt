@@ -18,8 +18,8 @@ use Rattle.pie_record.specs.declared.record_fault.RecordFault.TheVariants.{BadTa
 use Rattle.pie_record.specs.Kinds.{kind_byte, kind_of_byte, tag_byte, tag_of_byte, tag_of, calls, allows}
 use Rattle.pie_record.specs.Canonical.{enc_on, contents, enc_stamp, enc_dep, enc_write, IsStorableOn, IsStorableStamp, IsStorableDep, IsStorableWrite}
 use Rattle.pie_record.specs.Canonical.{IsTrueOn, IsTrueStamp, IsTrueDep, IsTrueWrite}
-use Rattle.pie_record.specs.inner.Reading.{Parsed, then_on, byte_at, bytes_at, out_path_at, known, kind_at, on_at}
-use Rattle.pie_record.specs.inner.Reading.{any_tag_at, tag_at, stamped, dep_at, write_at}
+use Rattle.pie_record.specs.Reading.{Parsed, then_on, byte_at, bytes_at, out_path_at, known, kind_at, on_at}
+use Rattle.pie_record.specs.Reading.{any_tag_at, tag_at, stamped, dep_at, write_at}
 use Rattle.pie_record.proofs.Steps.{pair, same_value, same_rest, then_ok, guard_ok, guard_on, known_ok, choice, Codec, step, last, last_ok}
 use Rattle.pie_record.proofs.Codecs.{byte_codec, bytes_codec, mark_codec, path_codec, out_path_codec, task_codec, value_codec}
 

@@ -9,7 +9,7 @@ use Rattle.pie_record.specs.declared.tag.Tag.TheVariants.{Absent as TagAbsent, H
 use Rattle.pie_record.specs.declared.record_fault.RecordFault.TheVariants.{BadTag}
 use Rattle.pie_record.specs.Kinds.{allows}
 use Rattle.pie_record.specs.Canonical.{enc_dep}
-use Rattle.pie_record.specs.inner.Reading.{dep_at}
+use Rattle.pie_record.specs.Reading.{dep_at}
 
 a_source_is_read_by_its_mark : allows ReadMark (File (codes "src/a")) TagMark ≡ true
 a_source_is_read_by_its_mark = refl

@@ -13,7 +13,7 @@ use Rattle.std.proofs.lemmas.List.Elements.{All-push}
 use Rattle.std.proofs.lemmas.Option.{slice_get-get_or}
 use Rattle.pie_value.specs.declared.task.Task.{Task}
 use Rattle.pie_value.specs.Canonical.{enc_task, IsCanonicalTask}
-use Rattle.pie_value.specs.inner.Reading.{task_prefix}
+use Rattle.pie_value.specs.Reading.{task_prefix}
 use Rattle.pie_value.proofs.Taking.{same_value}
 use Rattle.pie_value.proofs.Decoded.{task_again}
 use Rattle.pie_record.specs.inner.Names.{AreNamed, IsFree, IsPlace}

@@ -17,7 +17,7 @@ use Rattle.pie_record.specs.declared.record_fault.RecordFault.{RecordFault}
 use Rattle.pie_record.specs.declared.record_fault.RecordFault.TheVariants.{Short, BadTag, BadPath, BadValue, OutOfMemory}
 use Rattle.pie_record.specs.Canonical.{enc_dep, enc_write, listed, enc_record, IsStorableDep, IsStorableWrite, IsStorableOutcome, IsStorable}
 use Rattle.pie_record.specs.Canonical.{IsTrueDep, IsTrueWrite, IsTrueRecord, IsCanonicalRecord}
-use Rattle.pie_record.specs.inner.Reading.{Parsed, then_on, number_at, task_at, value_at, dep_at, write_at, many_at, list_at, record_at}
+use Rattle.pie_record.specs.Reading.{Parsed, then_on, number_at, task_at, value_at, dep_at, write_at, many_at, list_at, record_at}
 use Rattle.pie_record.specs.inner.Agreement.{RowAgreesOnPrefix, Refuses}
 use Rattle.pie_record.proofs.Steps.{pair, same_value, same_rest, then_ok, Codec, step, last, last_ok}
 use Rattle.pie_record.proofs.Codecs.{number_codec, task_codec, value_codec, value_bytes}

@@ -2,10 +2,10 @@
 use Rattle.std.proofs.Common.{◌≡◌, ℕ, Bool, true, false, ◌&&◌, cond, List, ◌++◌, Ok, Err, refl, ap, subst, ◌∙◌, append_assoc}
 use Rattle.std.specs.Prelude.{Option, Some, None, ◌⊎◌}
 use Rattle.std.proofs.Common.{inl, inr}
-use Rattle.pie_value.specs.inner.Reading.{Parsed as Decoded}
+use Rattle.pie_value.specs.Reading.{Parsed as Decoded}
 use Rattle.pie_value.proofs.Taking.{IsBytes, Takes}
 use Rattle.pie_record.specs.declared.record_fault.RecordFault.{RecordFault}
-use Rattle.pie_record.specs.inner.Reading.{Parsed, then_on, told, known}
+use Rattle.pie_record.specs.Reading.{Parsed, then_on, told, known}
 
 abbrev pub pair : {A : Type 0} → A → List ℕ → Parsed A
 pair a rest = Ok (a, rest)

@@ -3,7 +3,7 @@ use Rattle.std.proofs.Common.{◌≡◌, ℕ, suc, ◌+◌, ◌-◌, ◌<◌, Li
 use Rattle.pie_record.specs.declared.record_fault.RecordFault.{RecordFault}
 use Rattle.pie_record.specs.declared.record_fault.RecordFault.TheVariants.{Short, BadTag, BadPath, BadValue, OutOfMemory}
 use Rattle.pie_record.specs.inner.Agreement.{RowAgrees}
-use Rattle.pie_record.specs.inner.Reading.{Parsed, then_on, number_at, many_at, list_at}
+use Rattle.pie_record.specs.Reading.{Parsed, then_on, number_at, many_at, list_at}
 
 left_is : (n i : ℕ) → i < n → n - i ≡ suc (n - (i + 1))
 left_is n i h = omega arith

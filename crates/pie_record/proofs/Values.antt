@@ -6,10 +6,10 @@ use Rattle.pie_value.specs.declared.value.Value.TheVariants.{Unit as VUnit, Bool
 use Rattle.pie_value.specs.declared.value.Value.TheVariants.{List as VList, Tuple as VTuple, Null as VNull, Bytes as VBytes}
 use Rattle.pie_value.specs.Tree.{Tree, Trees, TUnit, TBool, TInt, TText, TPath, TList, TTuple, TNull, TBytes, Nil, Cons, items_of, list_of}
 use Rattle.pie_value.specs.Values.{tree_of}
-use Rattle.pie_value.specs.inner.Reading.{Parsed as Decoded, value_prefix}
+use Rattle.pie_value.specs.Reading.{Parsed as Decoded, value_prefix}
 use Rattle.pie_value.proofs.Elements.{list_of_items}
 use Rattle.pie_record.specs.inner.Parts.{value_of}
-use Rattle.pie_record.specs.inner.Reading.{Parsed, then_on, told, value_at}
+use Rattle.pie_record.specs.Reading.{Parsed, then_on, told, value_at}
 
 pub value_back : (v : Value) → value_of (tree_of v) ≡ v
 value_back VUnit = refl

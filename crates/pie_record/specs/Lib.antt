@@ -1,3 +1,4 @@
 pub mod Kinds
 pub mod Canonical
+pub mod Reading
 pub mod inner

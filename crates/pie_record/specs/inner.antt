@@ -2,7 +2,6 @@
 pub mod Codes
 pub mod RecordCodes
 pub mod Parts
-pub mod Reading
 pub mod Agreement
 pub mod Names
 pub mod Records

@@ -4,7 +4,7 @@ ghost use Rattle.std.specs.Prelude.{ℕ, take, IfOk};
 ghost use Rattle.pie_record.specs.declared.task_record.TaskRecord.{TaskRecord};
 ghost use Rattle.pie_record.specs.Canonical.{IsCanonicalRecord};
 ghost use Rattle.pie_record.specs.inner.Agreement.{RowAgreesOnPrefix, Refuses};
-ghost use Rattle.pie_record.specs.inner.Reading.{record_at};
+ghost use Rattle.pie_record.specs.Reading.{record_at};
 
 use crate::reader::Reader;
 use crate::{RecordFault, TaskRecord};

@@ -1,11 +1,11 @@
 //! A reader of canonical parts, which goes once from the left.
 ghost use Rattle.std.specs.Prelude.{◌≡◌, ◌-◌, ◌<◌, ◌^◌, List, length, IfOk, MatchOption, true, false};
 ghost use Rattle.std.specs.Str.{is_utf8};
-ghost use Rattle.pie_value.specs.inner.Reading.{is_path_text};
+ghost use Rattle.pie_value.specs.Reading.{is_path_text};
 ghost use Rattle.pie_value.specs.Canonical.{enc_task, IsCanonicalTask};
 ghost use Rattle.pie_record.specs.Canonical.{enc_record, IsCanonicalRecord};
 ghost use Rattle.pie_record.specs.inner.Agreement.{RowAgrees};
-ghost use Rattle.pie_record.specs.inner.Reading.{told_fault, byte_at, bytes_at, number_at, mark_at, counted_at, path_at, text_at, task_at, value_at, record_at};
+ghost use Rattle.pie_record.specs.Reading.{told_fault, byte_at, bytes_at, number_at, mark_at, counted_at, path_at, text_at, task_at, value_at, record_at};
 
 use crate::{RecordFault, TaskRecord, decode_record};
 use pie_base::{Path, PathError, Text};
@@ -76,7 +76,7 @@ impl<'a> Reader<'a> {
     }
 
     /// A number in four bytes.
-    #[tactic(auto, unfolding(pie_value::specs::inner::Reading::number_of))]
+    #[tactic(auto, unfolding(pie_value::specs::Reading::number_of))]
     pub fn number(&mut self) -> Result<usize, RecordFault>
         ensures read { RowAgrees (λ n. n) result self.new (number_at self.old) }
         ensures small { IfOk result (λ n. n < 2 ^ 32) }
@@ -89,7 +89,7 @@ impl<'a> Reader<'a> {
     }
 
     /// A number in eight bytes.
-    #[tactic(auto, unfolding(crate::specs::inner::Reading::mark_at))]
+    #[tactic(auto, unfolding(crate::specs::Reading::mark_at))]
     pub fn mark(&mut self) -> Result<u64, RecordFault>
         ensures { RowAgrees (λ n. n) result self.new (mark_at self.old) }
     {

@@ -2,7 +2,7 @@
 ghost use Rattle.std.specs.Prelude.{◌≡◌};
 ghost use Rattle.pie_record.specs.Kinds.{calls as specs_calls};
 ghost use Rattle.pie_record.specs.inner.Agreement.{RowAgrees};
-ghost use Rattle.pie_record.specs.inner.Reading.{kind_at, on_at, any_tag_at, tag_at, stamped, dep_at, out_path_at, write_at, list_at, record_at};
+ghost use Rattle.pie_record.specs.Reading.{kind_at, on_at, any_tag_at, tag_at, stamped, dep_at, out_path_at, write_at, list_at, record_at};
 
 use crate::reader::Reader;
 use crate::tag::{Tag, allows, calls, known_kind, known_tag};
@@ -72,7 +72,7 @@ impl<'a> Reader<'a> {
         }
     }
 
-    #[tactic(auto, unfolding(crate::specs::inner::Reading::dep_at))]
+    #[tactic(auto, unfolding(crate::specs::Reading::dep_at))]
     fn dep(&mut self, alloc: Global) -> Result<Dep, RecordFault>
         ensures { RowAgrees (λ d. d) result self.new (dep_at self.old) }
     {
@@ -108,7 +108,7 @@ impl<'a> Reader<'a> {
         Ok(path)
     }
 
-    #[tactic(auto, unfolding(crate::specs::inner::Reading::write_at))]
+    #[tactic(auto, unfolding(crate::specs::Reading::write_at))]
     fn write(&mut self, alloc: Global) -> Result<(Path, [u8; 32]), RecordFault>
         ensures { RowAgrees (λ w. w) result self.new (write_at self.old) }
     {

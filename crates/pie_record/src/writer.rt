@@ -6,7 +6,7 @@ ghost use Rattle.pie_record.specs.Canonical.{be64, enc_on, contents, enc_stamp, 
 ghost use Rattle.pie_record.specs.Canonical.{IsStorableOn, IsStorableStamp, IsStorableDep, IsStorableWrite, IsStorableOutcome, IsStorable};
 ghost use Rattle.pie_record.specs.Canonical.{IsTrueTask, IsTrueOn, IsTrueStamp, IsTrueDep, IsTrueWrite, IsTrueOutcome, IsTrueRecord, IsCanonicalRecord};
 ghost use Rattle.pie_record.specs.Kinds.{kind_byte, tag_byte, tag_of};
-ghost use Rattle.pie_record.specs.inner.Reading.{record_at};
+ghost use Rattle.pie_record.specs.Reading.{record_at};
 ghost use Rattle.std.specs.List.{flat_map};
 
 use crate::tag::{byte_of_kind, byte_of_stamp};

@@ -7,12 +7,12 @@ use Rattle.pie_files.specs.Directory.{Directory}
 use Rattle.pie_files.specs.declared.files.Call.{Call}
 use Rattle.pie_files.specs.declared.files.Call.TheVariants.{Sync}
 use Rattle.pie_files.specs.Faults.{Rose}
-use Rattle.pie_files.specs.inner.Calls.{Notes}
+use Rattle.pie_files.specs.Calls.{Notes}
 use Rattle.pie_files.proofs.Reading.{if_each}
 use Rattle.pie_incremental.specs.Clean.{BuildsClean}
 use Rattle.pie_incremental.specs.Treated.{TreatsNames}
 use Rattle.pie_incremental.specs.Asked.{AsksRight}
-use Rattle.pie_named.specs.inner.Asking.{MakesOnly}
+use Rattle.pie_named.specs.Asking.{MakesOnly}
 use Rattle.pie_named.proofs.Calls.{calls_then, one_call}
 use Rattle.pie_project.specs.declared.fault.BuildError.{BuildError}
 use Rattle.pie_report.specs.declared.report.Report.{Report}

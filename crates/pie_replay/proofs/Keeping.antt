@@ -8,7 +8,7 @@ use Rattle.pie_build.proofs.OwnPaths.{or_left, or_right}
 use Rattle.pie_commit.proofs.Bringing.{get_with, get_without}
 use Rattle.pie_files.specs.Directory.{Directory, file_at, with_file, without_file}
 use Rattle.pie_files.specs.declared.files.Call.{Call}
-use Rattle.pie_files.specs.inner.Calls.{MayHaveWritten, MayHaveRemoved}
+use Rattle.pie_files.specs.Calls.{MayHaveWritten, MayHaveRemoved}
 use Rattle.pie_project.specs.declared.fault.BuildError.{BuildError}
 use Rattle.pie_report.specs.declared.report.Report.{Report}
 use Rattle.pie_script.specs.Steps.{Plain, PutFile, DelFile, Name, BuildNow}

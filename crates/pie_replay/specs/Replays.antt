@@ -4,7 +4,7 @@ use Rattle.std.specs.List.{list_any}
 use Rattle.pie_base.specs.Path.{same_text}
 use Rattle.pie_build.specs.Left.{KeepsRest, may_change}
 use Rattle.pie_files.specs.Directory.{Directory, file_at}
-use Rattle.pie_files.specs.inner.Calls.{MayHaveWritten, MayHaveRemoved}
+use Rattle.pie_files.specs.Calls.{MayHaveWritten, MayHaveRemoved}
 use Rattle.pie_files.specs.declared.files.Call.{Call}
 use Rattle.pie_files.specs.Reading.{Leaves}
 use Rattle.pie_project.specs.declared.fault.BuildError.{BuildError}

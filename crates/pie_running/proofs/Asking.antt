@@ -4,7 +4,7 @@ use Rattle.std.specs.Prelude.{Result, Ok, Err}
 use Rattle.pie_files.specs.declared.files.Call.{Call}
 use Rattle.pie_files.specs.declared.files.FilesError.{FilesError}
 use Rattle.pie_files.specs.declared.files.FilesError.TheVariants.{Failed, OutOfMemory}
-use Rattle.pie_files.specs.inner.Calls.{Called, Notes, NotesUnlessMemory}
+use Rattle.pie_files.specs.Calls.{Called, Notes, NotesUnlessMemory}
 use Rattle.pie_running.specs.inner.Asking.{AsksOnly, AsksTwice, IsNotedTwice}
 
 module _ {S : Type 0} (asked : S → Option (List Call)) (may : Bool) (call : Call) (old new : S) where

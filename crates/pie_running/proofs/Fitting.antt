@@ -15,7 +15,7 @@ use Rattle.pie_types.specs.Headings.{function_in}
 use Rattle.pie_types.specs.Whole.{number_from}
 use Rattle.pie_type_laws.specs.Fitting.{AnswerFits, OutputFits}
 use Rattle.pie_model.specs.inner.Stack.{Frame as ModelFrame}
-use Rattle.pie_model_pipeline.specs.inner.Answers.{answer_of}
+use Rattle.pie_model_pipeline.specs.Answers.{answer_of}
 use Rattle.pie_builder_laws.specs.Fits.{Fit, EvaluatesTo}
 use Rattle.pie_builder_laws.specs.Requiring.{requiring_answer}
 use Rattle.pie_builder_laws.proofs.Fitted.{more_answers, required_known, output_fits, builders_fit}

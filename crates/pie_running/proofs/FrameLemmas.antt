@@ -31,7 +31,7 @@ use Rattle.pie_model.specs.inner.Stack.{Frame as ModelFrame}
 use Rattle.pie_step_laws.specs.Frames.{begun as model_begun, gone_on, has_written, set_aside}
 use Rattle.pie_step_laws.proofs.StepLemmas.{map_end}
 use Rattle.pie_model_pipeline.specs.Words.{event_of, how_of}
-use Rattle.pie_model_pipeline.specs.inner.Answers.{answer_of}
+use Rattle.pie_model_pipeline.specs.Answers.{answer_of}
 use Rattle.pie_model_pipeline.specs.Rows.{observation_of}
 use Rattle.pie_model_pipeline.specs.World.{world, next}
 use Rattle.pie_builder_laws.specs.Names.{called_on, called_in}

@@ -8,12 +8,12 @@ use Rattle.std.proofs.lemmas.List.Elements.{All-push}
 use Rattle.pie_value.proofs.Taking.{IsBytes}
 use Rattle.pie_record.specs.declared.record_fault.RecordFault.{RecordFault}
 use Rattle.pie_record.specs.declared.record_fault.RecordFault.TheVariants.{Short as NoMore, BadTag, BadPath, BadValue, OutOfMemory as NoMemory}
-use Rattle.pie_record.specs.inner.Reading.{Parsed as Part}
+use Rattle.pie_record.specs.Reading.{Parsed as Part}
 use Rattle.pie_record.proofs.Steps.{Codec}
 use Rattle.pie_scan.specs.declared.manifest_fault.ManifestFault.{ManifestFault}
 use Rattle.pie_scan.specs.declared.manifest_fault.ManifestFault.TheVariants.{Entry as BadEntry, Order, OutOfMemory}
 use Rattle.pie_scan.specs.inner.Faults.{Begins, NoneInFront, Unreadable, Misplaced}
-use Rattle.pie_scan.specs.inner.Reading.{Parsed, then_on, part_fault, placed, part_at, is_last, ordered, next_at, some_at, list_at}
+use Rattle.pie_scan.specs.Reading.{Parsed, then_on, part_fault, placed, part_at, is_last, ordered, next_at, some_at, list_at}
 use Rattle.pie_scan.proofs.Turns.{same_value, same_rest}
 use Rattle.pie_scan.proofs.Lists.{then_ok, part_again, some_again}
 use Rattle.pie_scan.proofs.Pairs.{Rising, rising_push}

@@ -11,11 +11,11 @@ use Rattle.std.proofs.lemmas.List.{length-append}
 use Rattle.sha2.specs.Sha256.{sha256}
 use Rattle.sha2.proofs.Facts256.{length-sha256}
 use Rattle.pie_value.specs.Canonical.{be32, counted}
-use Rattle.pie_value.specs.inner.Reading.{number_of}
+use Rattle.pie_value.specs.Reading.{number_of}
 use Rattle.pie_value.proofs.Taking.{IsBytes}
 use Rattle.pie_record.specs.declared.record_fault.RecordFault.{RecordFault}
 use Rattle.pie_record.specs.Canonical.{be64, IsTruePath}
-use Rattle.pie_record.specs.inner.Reading.{bytes_at, path_at, number_at, mark_at}
+use Rattle.pie_record.specs.Reading.{bytes_at, path_at, number_at, mark_at}
 use Rattle.pie_record.proofs.Codecs.{number_codec, mark_codec, bytes_codec, path_codec}
 use Rattle.pie_scan.specs.declared.entry.Entry.{Entry}
 use Rattle.pie_scan.specs.declared.manifest.Manifest.{Manifest}
@@ -27,9 +27,9 @@ use Rattle.pie_scan.specs.inner.Agreement.{AgreesWhole}
 use Rattle.pie_scan.specs.inner.Faults.{FitsEntry, AreTops, AreEntries, Store, Tops, entries_at, FaultInside, HasFault, TellsFault, RefusesWith}
 use Rattle.pie_scan.specs.inner.Faults.{top_unread, top_misplaced, entry_unread, entry_misplaced, left_over}
 use Rattle.pie_scan.specs.inner.Faults.{too_short, other_magic, other_version, other_digest, fault_inside}
-use Rattle.pie_scan.specs.inner.Frame.{framed, sealed}
-use Rattle.pie_scan.specs.inner.Reading.{Parsed, part_at, list_at, path_key, entry_key, entry_part, closed, then_manifest, after_tops, after_store, contents}
-use Rattle.pie_scan.specs.inner.Reading.{body_says, on_body, manifest_says}
+use Rattle.pie_scan.specs.Frame.{framed, sealed}
+use Rattle.pie_scan.specs.Reading.{Parsed, part_at, list_at, path_key, entry_key, entry_part, closed, then_manifest, after_tops, after_store, contents}
+use Rattle.pie_scan.specs.Reading.{body_says, on_body, manifest_says}
 use Rattle.pie_scan.proofs.Coming.{Comes, comes_by, comes_at, list_unread, list_misplaced, back_bytes}
 use Rattle.pie_scan.proofs.Lists.{placed_ok, part_again, list_taken, list_again}
 use Rattle.pie_scan.proofs.Pairs.{Rising, rising_sorted, sorted_rising}

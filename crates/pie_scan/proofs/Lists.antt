@@ -7,9 +7,9 @@ use Rattle.std.proofs.lemmas.List.{length-append}
 use Rattle.std.proofs.Math.Seq.{take-append_seam, get_or-append_seam}
 use Rattle.std.proofs.lemmas.List.Elements.{All-nil, All-cons}
 use Rattle.pie_value.proofs.Taking.{IsBytes, Takes, Takes-then}
-use Rattle.pie_record.specs.inner.Reading.{Parsed as Part}
+use Rattle.pie_record.specs.Reading.{Parsed as Part}
 use Rattle.pie_record.proofs.Steps.{Codec}
-use Rattle.pie_scan.specs.inner.Reading.{Parsed, then_on, placed, part_at, is_last, ordered, next_at, some_at, list_at}
+use Rattle.pie_scan.specs.Reading.{Parsed, then_on, placed, part_at, is_last, ordered, next_at, some_at, list_at}
 use Rattle.pie_scan.proofs.Turns.{pair, same_value, same_rest}
 use Rattle.pie_scan.proofs.Pairs.{Rising, rising_push, rising_at}
 

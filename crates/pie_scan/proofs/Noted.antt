@@ -10,7 +10,7 @@ use Rattle.std.proofs.lemmas.List.Quantifiers.{all_pairs_push}
 use Rattle.pie_scan.specs.declared.entry.Entry.{Entry}
 use Rattle.pie_scan.specs.Entries.{path_cmp, AreInOrder}
 use Rattle.pie_scan.specs.Texts.{HasMark}
-use Rattle.pie_scan.specs.inner.Reading.{path_key, entry_key}
+use Rattle.pie_scan.specs.Reading.{path_key, entry_key}
 use Rattle.pie_scan.specs.inner.Noting.{NotesAt}
 use Rattle.pie_scan.proofs.Pairs.{Before, Rising, rising_sorted, sorted_rising}
 use Rattle.pie_scan.proofs.Wholes.{map_path}

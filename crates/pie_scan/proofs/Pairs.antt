@@ -10,7 +10,7 @@ use Rattle.std.proofs.lemmas.List.{get_or-take, length-take, get_or_append_left,
 use Rattle.std.proofs.lemmas.List.Quantifiers.{all_pairs_push}
 use Rattle.std.proofs.lemmas.Option.{slice_get-get_or}
 use Rattle.pie_scan.specs.Entries.{path_cmp}
-use Rattle.pie_scan.specs.inner.Reading.{follows, is_last}
+use Rattle.pie_scan.specs.Reading.{follows, is_last}
 use Rattle.pie_scan.proofs.Naming.{is_less, before_trans}
 use Rattle.pie_scan.proofs.Merging.{AllAbove}
 

@@ -6,13 +6,13 @@ use Rattle.pie_base.specs.Path.{is_out}
 use Rattle.pie_value.specs.Canonical.{counted}
 use Rattle.pie_value.proofs.Taking.{IsBytes, Takes, Takes-then}
 use Rattle.pie_record.specs.Canonical.{be64}
-use Rattle.pie_record.specs.inner.Reading.{Parsed as Part, then_on as then_part, bytes_at, path_at, mark_at}
+use Rattle.pie_record.specs.Reading.{Parsed as Part, then_on as then_part, bytes_at, path_at, mark_at}
 use Rattle.pie_record.proofs.Steps.{Codec, step, then_ok as part_then, same_value as same_part, same_rest as same_left}
 use Rattle.pie_record.proofs.Codecs.{bytes_codec, path_codec, mark_codec}
 use Rattle.pie_scan.specs.declared.entry.Entry.{Entry}
 use Rattle.pie_scan.specs.Texts.{enc_entry}
 use Rattle.pie_scan.specs.inner.Faults.{FitsEntry}
-use Rattle.pie_scan.specs.inner.Reading.{marked, entry_part}
+use Rattle.pie_scan.specs.Reading.{marked, entry_part}
 
 marked_ok : (bad : Bool) (e : Entry) (rest : List ℕ) (c : Entry) (after : List ℕ) → marked bad e rest ≡ Ok (c, after)
     → (bad ≡ false) × (e ≡ c) × (rest ≡ after)

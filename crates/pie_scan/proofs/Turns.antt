@@ -1,10 +1,10 @@
 -- Reading things one after another.
 use Rattle.std.proofs.Common.{◌≡◌, ℕ, suc, ◌+◌, ◌-◌, ◌<◌, List, [], ◌∷◌, ◌++◌, Ok, Err, sym, ap, ◌∙◌, arith}
-use Rattle.pie_record.specs.inner.Reading.{Parsed as Part}
+use Rattle.pie_record.specs.Reading.{Parsed as Part}
 use Rattle.pie_scan.specs.declared.manifest_fault.ManifestFault.{ManifestFault}
 use Rattle.pie_scan.specs.declared.manifest_fault.ManifestFault.TheVariants.{Short, Magic, Version, Digest, Entry, Order, Rest, OutOfMemory}
 use Rattle.pie_scan.specs.inner.Agreement.{ManifestAgrees}
-use Rattle.pie_scan.specs.inner.Reading.{Parsed, then_on, part_at, next_at, some_at, list_at}
+use Rattle.pie_scan.specs.Reading.{Parsed, then_on, part_at, next_at, some_at, list_at}
 
 abbrev pub pair : {A : Type 0} → A → List ℕ → Parsed A
 pair a rest = Ok (a, rest)

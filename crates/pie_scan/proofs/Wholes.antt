@@ -13,7 +13,7 @@ use Rattle.sha2.proofs.Facts256.{length-sha256}
 use Rattle.pie_value.specs.Canonical.{be32, counted}
 use Rattle.pie_value.proofs.Taking.{IsBytes}
 use Rattle.pie_record.specs.Canonical.{be64, listed, IsTruePath}
-use Rattle.pie_record.specs.inner.Reading.{bytes_at, path_at, number_at, mark_at}
+use Rattle.pie_record.specs.Reading.{bytes_at, path_at, number_at, mark_at}
 use Rattle.pie_record.proofs.Codecs.{number_codec, mark_codec, bytes_codec, path_codec}
 use Rattle.pie_scan.specs.declared.entry.Entry.{Entry}
 use Rattle.pie_scan.specs.declared.manifest.Manifest.{Manifest}
@@ -22,9 +22,9 @@ use Rattle.pie_scan.specs.declared.manifest_fault.ManifestFault.TheVariants.{Sho
 use Rattle.pie_scan.specs.Entries.{path_cmp}
 use Rattle.pie_scan.specs.Texts.{magic, enc_entry, enc_entries, enc_body, IsWritable, IsTrueEntry, IsManifest, IsManifestText}
 use Rattle.pie_scan.specs.inner.Agreement.{AgreesWhole, Refuses}
-use Rattle.pie_scan.specs.inner.Frame.{framed, sealed}
-use Rattle.pie_scan.specs.inner.Reading.{Parsed, part_at, list_at, path_key, entry_key, entry_part, closed, then_manifest, after_tops, after_store, contents}
-use Rattle.pie_scan.specs.inner.Reading.{body_says, on_body, manifest_says}
+use Rattle.pie_scan.specs.Frame.{framed, sealed}
+use Rattle.pie_scan.specs.Reading.{Parsed, part_at, list_at, path_key, entry_key, entry_part, closed, then_manifest, after_tops, after_store, contents}
+use Rattle.pie_scan.specs.Reading.{body_says, on_body, manifest_says}
 use Rattle.pie_scan.proofs.Lists.{placed_ok, part_again, list_taken, list_again}
 use Rattle.pie_scan.proofs.Pairs.{rising_sorted, sorted_rising}
 use Rattle.pie_scan.proofs.Parts.{entry_codec}

@@ -5,7 +5,7 @@ ghost use Rattle.pie_scan.specs.declared.manifest_fault.ManifestFault.{ManifestF
 ghost use Rattle.pie_scan.specs.Texts.{IsManifestText};
 ghost use Rattle.pie_scan.specs.inner.Agreement.{AgreesWhole, Refuses};
 ghost use Rattle.pie_scan.specs.inner.Faults.{HasFault, RefusesWith, TellsFault};
-ghost use Rattle.pie_scan.specs.inner.Reading.{manifest_says, body_says, contents as specs_contents, after_store as specs_after_store, after_tops as specs_after_tops};
+ghost use Rattle.pie_scan.specs.Reading.{manifest_says, body_says, contents as specs_contents, after_store as specs_after_store, after_tops as specs_after_tops};
 
 use crate::frame::body_of;
 use crate::reading::{entries, hash, tops};

@@ -1,6 +1,6 @@
 //! What stands around the contents of a manifest: four fixed bytes, the version, and the SHA-256 of all before it.
 ghost use Rattle.std.specs.Prelude.{◌≡◌, ◌+◌, ◌≤◌, length, IfOk};
-ghost use Rattle.pie_scan.specs.inner.Frame.{FrameAgrees, framed, sealed};
+ghost use Rattle.pie_scan.specs.Frame.{FrameAgrees, framed, sealed};
 
 use crate::ManifestFault;
 use pie_stamp::hash_of;

@@ -2,9 +2,9 @@
 //! the offset.
 ghost use Rattle.std.specs.Prelude.{◌≡◌, ◌-◌, length};
 ghost use Rattle.pie_record.specs.inner.Agreement.{RowAgrees as PartAgrees};
-ghost use Rattle.pie_record.specs.inner.Reading.{path_at, bytes_at, number_at, mark_at};
+ghost use Rattle.pie_record.specs.Reading.{path_at, bytes_at, number_at, mark_at};
 ghost use Rattle.pie_scan.specs.inner.Agreement.{ManifestAgrees};
-ghost use Rattle.pie_scan.specs.inner.Reading.{part_fault, part_at, entry_part, is_last, path_key, entry_key, next_at, list_at};
+ghost use Rattle.pie_scan.specs.Reading.{part_fault, part_at, entry_part, is_last, path_key, entry_key, next_at, list_at};
 
 use crate::{Entry, ManifestFault};
 use pie_base::Path;
@@ -81,7 +81,7 @@ fn entry_is_last(entries: &[Entry], entry: &Entry) -> bool
 }
 
 // A top that comes after those before it.
-#[tactic(auto, unfolding(crate::specs::inner::Reading::next_at))]
+#[tactic(auto, unfolding(crate::specs::Reading::next_at))]
 fn one_top(
     end: usize,
     reader: &mut Reader<'_>,
@@ -123,7 +123,7 @@ pub(crate) fn tops(
 }
 
 // An entry, whose mark is 0 under `out/`.
-#[tactic(auto, unfolding(crate::specs::inner::Reading::entry_part))]
+#[tactic(auto, unfolding(crate::specs::Reading::entry_part))]
 fn entry(reader: &mut Reader<'_>, alloc: Global) -> Result<Entry, RecordFault>
     ensures { PartAgrees (λ e. e) result reader.new (entry_part reader.old) }
 {
@@ -137,7 +137,7 @@ fn entry(reader: &mut Reader<'_>, alloc: Global) -> Result<Entry, RecordFault>
 }
 
 // An entry that comes after those before it.
-#[tactic(auto, unfolding(crate::specs::inner::Reading::next_at))]
+#[tactic(auto, unfolding(crate::specs::Reading::next_at))]
 fn one_entry(
     end: usize,
     reader: &mut Reader<'_>,

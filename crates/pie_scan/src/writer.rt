@@ -4,7 +4,7 @@ ghost use Rattle.std.specs.List.{flat_map};
 ghost use Rattle.pie_value.specs.Canonical.{be32, counted};
 ghost use Rattle.pie_record.specs.Canonical.{be64, listed, IsTruePath};
 ghost use Rattle.pie_scan.specs.Texts.{enc_entry, enc_entries, enc_body, IsWritable, IsTrueEntry, IsManifest, IsManifestText};
-ghost use Rattle.pie_scan.specs.inner.Reading.{manifest_says};
+ghost use Rattle.pie_scan.specs.Reading.{manifest_says};
 
 use crate::frame::MAGIC;
 use crate::{Entry, Manifest};

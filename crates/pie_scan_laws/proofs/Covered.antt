@@ -9,7 +9,7 @@ use Rattle.pie_base.specs.Path.{same_text}
 use Rattle.pie_files.specs.Directory.{Directory, file_at}
 use Rattle.pie_model.specs.Built.{bytes_at}
 use Rattle.pie_model.specs.Paths.{among}
-use Rattle.pie_model.specs.inner.Changes.{NamesAllChanges}
+use Rattle.pie_model.specs.Changes.{NamesAllChanges}
 use Rattle.pie_scan.proofs.Naming.{same_is, same_on}
 use Rattle.pie_scan.proofs.Separating.{changed_covers}
 use Rattle.pie_scan.specs.Covering.{Covers}

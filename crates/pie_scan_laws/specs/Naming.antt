@@ -1,7 +1,7 @@
 -- What two scans tell apart, in the words of the model of building.
 use Rattle.std.specs.Prelude.{ℕ, List}
 use Rattle.pie_files.specs.Directory.{Directory}
-use Rattle.pie_model.specs.inner.Changes.{NamesAllChanges}
+use Rattle.pie_model.specs.Changes.{NamesAllChanges}
 use Rattle.pie_scan.specs.declared.entry.Entry.{Entry}
 use Rattle.pie_scan.specs.Changes.{AreChanged}
 use Rattle.pie_scan.specs.Covering.{IsSeparate, DiffersBelow, Covers}

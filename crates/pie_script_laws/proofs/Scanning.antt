@@ -20,7 +20,7 @@ use Rattle.pie_left_laws.proofs.Putting.{is_false, kept_open}
 use Rattle.pie_model.proofs.Basics.{same_bytes}
 use Rattle.pie_model.specs.Paths.{Path, kind_of}
 use Rattle.pie_model.specs.declared.words.Kind.TheVariants.{Kept, Out, Source}
-use Rattle.pie_model.specs.inner.Changes.{NamesAllChanges}
+use Rattle.pie_model.specs.Changes.{NamesAllChanges}
 use Rattle.pie_report.specs.declared.report.Report.{Report}
 use Rattle.pie_scan_laws.proofs.Covered.{covering}
 use Rattle.pie_value.specs.declared.verdict.Verdict.TheVariants.{Accepted}

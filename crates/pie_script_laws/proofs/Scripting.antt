@@ -6,8 +6,8 @@ use Rattle.pie_files.specs.Directory.{Directory}
 use Rattle.pie_store.specs.declared.cause.Cause.{Cause}
 use Rattle.pie_store.specs.declared.cause.Cause.TheVariants as causes
 use Rattle.pie_store.specs.declared.store_fault.StoreFault.{StoreFault}
-use Rattle.pie_store.specs.inner.Faults.{HasFault}
-use Rattle.pie_store.specs.inner.Pending.{in_order, IsName}
+use Rattle.pie_store.specs.Faults.{HasFault}
+use Rattle.pie_store.specs.Pending.{in_order, IsName}
 use Rattle.pie_store.specs.Texts.{IsStoreText}
 use Rattle.pie_store.proofs.FaultWhole.{refuses_with}
 use Rattle.pie_store.proofs.WholeAgain.{read_again}

@@ -2,7 +2,7 @@
 use Rattle.std.specs.Prelude.{◌≡◌, ℕ, List, [], ◌∷◌, All, Some, None, IsSome}
 use Rattle.pie_files.specs.Directory.{Directory}
 use Rattle.pie_report.specs.declared.report.Report.{Report}
-use Rattle.pie_store.specs.inner.Pending.{IsName}
+use Rattle.pie_store.specs.Pending.{IsName}
 use Rattle.pie_value.proofs.Taking.{IsBytes}
 use Rattle.pie_value.specs.declared.verdict.Verdict.{Verdict}
 use Rattle.pie_value.specs.declared.verdict.Verdict.TheVariants.{Accepted, Refused}

@@ -3,7 +3,7 @@ use Rattle.std.specs.Prelude.{ℕ, Bool, true, false, List, [], ◌∷◌, rever
 use Rattle.pie_value.specs.declared.event.Answer.{Answer}
 use Rattle.pie_value.specs.Tree.{TUnit, TBool, TList, TTuple, TNull, Nil as NoVal, Cons as ConsVal, Trees as Vals}
 use Rattle.pie_value.specs.Tree.{Tree as Val}
-use Rattle.pie_value.specs.inner.BuiltinForms.{Answered}
+use Rattle.pie_value.specs.BuiltinForms.{Answered}
 use Rattle.pie_operators.specs.Operators.{unary_answer, binary_answer, list_with, tuple_with}
 use Rattle.pie_operators.specs.Domain.{Outcome, State, at_start, Act, give, then_do, ticked, by_answer}
 use Rattle.pie_operators.specs.Effects.{write, fail}

@@ -2,10 +2,10 @@
 use Rattle.std.proofs.Common.{◌≡◌, Result, Ok, Err, ap}
 use Rattle.pie_value.specs.declared.value.Value.{Value}
 use Rattle.pie_value.specs.Values.{tree_of}
-use Rattle.pie_value.specs.inner.BuiltinForms.{Answered}
+use Rattle.pie_value.specs.BuiltinForms.{Answered}
 use Rattle.pie_operators.specs.declared.fault.OperatorFault.{OperatorFault}
 use Rattle.pie_operators.specs.declared.fault.OperatorFault.TheVariants.{Fault, OutOfMemory}
-use Rattle.pie_operators.specs.Agreement.{ResultAgrees}
+use Rattle.pie_operators.specs.inner.Agreement.{ResultAgrees}
 use Rattle.pie_value.specs.Tree.{Tree}
 use Rattle.pie_operators.specs.Domain.{Outcome, State, by_answer}
 use Rattle.pie_semantics_program.specs.declared.stop.Stop.{Stop}

@@ -1,7 +1,7 @@
 -- Lists and tuples that grow.
 use Rattle.std.specs.Prelude.{ℕ, List, ◌∷◌}
 use Rattle.pie_value.specs.Tree.{Tree, TList, TTuple, Nil, Trees as Vals}
-use Rattle.pie_value.specs.inner.BuiltinForms.{Answered}
+use Rattle.pie_value.specs.BuiltinForms.{Answered}
 use Rattle.pie_operators.specs.Operators.{list_with, tuple_with}
 use Rattle.pie_operators.specs.Domain.{Act}
 use Rattle.pie_parser.specs.Plain.{Tree as Expr}

@@ -1,5 +1,5 @@
 //! The value of an expression.
-ghost use Rattle.pie_value.specs.inner.BuiltinForms.{made};
+ghost use Rattle.pie_value.specs.BuiltinForms.{made};
 ghost use Rattle.pie_value.specs.Tree.{TText};
 ghost use Rattle.pie_value.specs.Values.{tree_of};
 ghost use Rattle.pie_operators.specs.Domain.{by_answer, give, ticked};

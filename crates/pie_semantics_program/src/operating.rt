@@ -1,8 +1,8 @@
 //! Operators and built-in functions, as parts of an evaluation.
 ghost use Rattle.std.specs.Prelude.{◌≡◌, pos, negsuc};
-ghost use Rattle.pie_value.specs.inner.Builtins.{answer_of};
+ghost use Rattle.pie_value.specs.Builtins.{answer_of};
 ghost use Rattle.pie_value.specs.Values.{tree_of};
-ghost use Rattle.pie_operators.specs.Agreement.{ResultAgrees};
+ghost use Rattle.pie_operators.specs.inner.Agreement.{ResultAgrees};
 ghost use Rattle.pie_operators.specs.Domain.{by_answer};
 ghost use Rattle.pie_operators.specs.Operators.{binary_answer, unary_answer};
 ghost use Rattle.pie_semantics.specs.Words.{item_numbered};

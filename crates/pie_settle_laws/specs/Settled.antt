@@ -4,8 +4,8 @@ use Rattle.pie_model.specs.Paths.{Path, among}
 use Rattle.pie_model.specs.Tasks.{Task}
 use Rattle.pie_model.specs.Evaluation.{World, Project}
 use Rattle.pie_model.specs.Records.{Record, needs_of}
-use Rattle.pie_model.specs.inner.StampNow.{Told}
-use Rattle.pie_model.specs.inner.Separate.{StampsSeparate, ListingsDiffer, NeverWritesWhatItSaw}
+use Rattle.pie_model.specs.StampNow.{Told}
+use Rattle.pie_model.specs.Separate.{StampsSeparate, ListingsDiffer, NeverWritesWhatItSaw}
 use Rattle.pie_model.specs.inner.RecordLaws.{Passes}
 use Rattle.pie_model.specs.inner.Present.{Reaches}
 use Rattle.pie_model.specs.inner.Consistent.{IsRecorded, IsConsistent, IsSettled}

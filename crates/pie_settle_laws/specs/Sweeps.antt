@@ -4,7 +4,7 @@ use Rattle.pie_model.specs.Paths.{Path, among}
 use Rattle.pie_model.specs.Tasks.{Task}
 use Rattle.pie_model.specs.Evaluation.{World, Project}
 use Rattle.pie_model.specs.Records.{Record, needs_of}
-use Rattle.pie_model.specs.inner.StampNow.{Told, by_records, recorded_outcome, RecordAgrees}
+use Rattle.pie_model.specs.StampNow.{Told, by_records, recorded_outcome, RecordAgrees}
 use Rattle.pie_model.specs.inner.RecordLaws.{Passes}
 use Rattle.pie_model.specs.inner.Present.{Reaches}
 use Rattle.pie_model.specs.inner.Consistent.{IsRecorded, IsSettled}

@@ -1,6 +1,6 @@
 //! The types of what built-in functions answer.
 ghost use Rattle.std.specs.Prelude.{◌≡◌, IfOk};
-ghost use Rattle.pie_value.specs.inner.TypeTrees.{ty_tree};
+ghost use Rattle.pie_value.specs.TypeTrees.{ty_tree};
 ghost use Rattle.pie_signature.specs.Answered.{answer_of, answered};
 ghost use Rattle.pie_signature.specs.Signatures.{answer_type_of};
 

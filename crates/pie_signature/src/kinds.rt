@@ -1,6 +1,6 @@
 //! Kinds of types that arguments may have.
 ghost use Rattle.std.specs.Prelude.{◌≡◌};
-ghost use Rattle.pie_value.specs.inner.TypeTrees.{ty_tree};
+ghost use Rattle.pie_value.specs.TypeTrees.{ty_tree};
 ghost use Rattle.pie_signature.specs.Wanted.{has_order, is_bytes, is_int, is_list, is_measurable, is_nullable, is_path, is_printable};
 ghost use Rattle.pie_signature.specs.Wanted.{is_text, list_where};
 

@@ -1,7 +1,7 @@
 //! Types that are made from others, and what their parts are.
 ghost use Rattle.std.specs.Prelude.{◌≡◌, IfOk};
 ghost use Rattle.pie_value.specs.Types.{ListTy, NullableTy};
-ghost use Rattle.pie_value.specs.inner.TypeTrees.{ty_tree};
+ghost use Rattle.pie_value.specs.TypeTrees.{ty_tree};
 ghost use Rattle.pie_signature.specs.Wanted.{present_of};
 ghost use Rattle.pie_signature.specs.Answered.{item_of};
 

@@ -1,6 +1,6 @@
 //! The signatures of the built-in functions. Rule: docs/LANGUAGE.md, "Built-in functions".
 ghost use Rattle.std.specs.Prelude.{◌≡◌, IfOk, Some, option_map, slice_get};
-ghost use Rattle.pie_value.specs.inner.TypeTrees.{ty_tree};
+ghost use Rattle.pie_value.specs.TypeTrees.{ty_tree};
 ghost use Rattle.pie_signature.specs.Signatures.{arity_of, misfit_at, misfit_of, wanted_of};
 
 use crate::Wanted;

@@ -1,6 +1,6 @@
 //! What an argument of a built-in function has to be.
 ghost use Rattle.std.specs.Prelude.{◌≡◌, IfOk};
-ghost use Rattle.pie_value.specs.inner.TypeTrees.{ty_tree};
+ghost use Rattle.pie_value.specs.TypeTrees.{ty_tree};
 ghost use Rattle.pie_signature.specs.Wanted.{fits, named};
 
 use crate::kinds::{

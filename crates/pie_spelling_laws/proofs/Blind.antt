@@ -3,7 +3,7 @@ use Rattle.std.proofs.Common.{◌≡◌, true, false, List, [], ◌∷◌, rever
 use Rattle.pie_value.specs.declared.event.Answer.{Answer}
 use Rattle.pie_value.specs.Tree.{TBool, TList, TTuple, Nil as NoVal}
 use Rattle.pie_value.specs.Tree.{Tree as Val}
-use Rattle.pie_value.specs.inner.BuiltinForms.{Answered}
+use Rattle.pie_value.specs.BuiltinForms.{Answered}
 use Rattle.pie_operators.specs.Operators.{unary_answer, binary_answer, list_with, tuple_with}
 use Rattle.pie_operators.specs.Domain.{at_start, Act, give, then_do, ticked, by_answer}
 use Rattle.pie_operators.specs.Effects.{write, fail}

@@ -12,7 +12,7 @@ use Rattle.pie_model.specs.Seen.{own_first, seen_file, visible_by, visible_at, f
 use Rattle.pie_model.specs.Seen.{provided}
 use Rattle.pie_model.specs.Evaluation.{World, Project, evaluation}
 use Rattle.pie_model.specs.Records.{Record, hashed, needs_of}
-use Rattle.pie_model.specs.inner.StampNow.{Untold, ToldHash, ToldClash, told_of}
+use Rattle.pie_model.specs.StampNow.{Untold, ToldHash, ToldClash, told_of}
 use Rattle.pie_model.specs.inner.RecordLaws.{HasItsRecord}
 use Rattle.pie_model.specs.inner.Present.{Reaches, WroteByRecords, OneWriter, IsTold}
 use Rattle.pie_model.specs.inner.Consistent.{IsRecorded}

@@ -2,7 +2,7 @@
 use Rattle.std.proofs.Common.{◌≡◌, ℕ, ◌-◌, ◌<◌, Bool, List, [], ◌∷◌, length, Ok, Err, refl, sym, ap, subst, ◌∙◌, arith}
 use Rattle.std.specs.Prelude.{Option, Some, None, Result}
 use Rattle.pie_value.specs.declared.task.Task.{Task}
-use Rattle.pie_record.specs.inner.Reading.{Parsed as Part, bytes_at}
+use Rattle.pie_record.specs.Reading.{Parsed as Part, bytes_at}
 use Rattle.pie_record.specs.declared.task_record.TaskRecord.{TaskRecord}
 use Rattle.pie_store.specs.declared.decoding.Head.{Head}
 use Rattle.pie_store.specs.declared.image.StoreImage.{StoreImage}

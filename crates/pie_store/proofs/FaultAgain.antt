@@ -10,7 +10,7 @@ use Rattle.pie_value.specs.Canonical.{enc_task}
 use Rattle.pie_value.proofs.Taking.{IsBytes, Takes}
 use Rattle.pie_record.specs.declared.task_record.TaskRecord.{TaskRecord}
 use Rattle.pie_record.specs.Canonical.{enc_record}
-use Rattle.pie_record.specs.inner.Reading.{task_at, record_at}
+use Rattle.pie_record.specs.Reading.{task_at, record_at}
 use Rattle.pie_record.proofs.Codecs.{task_codec}
 use Rattle.pie_record.proofs.RecordCodec.{record_codec}
 use Rattle.pie_store.specs.declared.store_fault.StoreFault.TheVariants.{Row, Order}
@@ -19,8 +19,8 @@ use Rattle.pie_store.specs.Ranks.{height_after, IsStored}
 use Rattle.pie_store.specs.Texts.{IsRow}
 use Rattle.pie_store.specs.inner.Reading.{Parsed, then_on, part_at, some_at, list_at, next_root, ranked_as, next_row}
 use Rattle.pie_store.specs.inner.Reading.{rows_of}
-use Rattle.pie_store.specs.inner.ListFaults.{Unreadable, Misplaced}
-use Rattle.pie_store.specs.inner.Faults.{AreRows}
+use Rattle.pie_store.specs.ListFaults.{Unreadable, Misplaced}
+use Rattle.pie_store.specs.Faults.{AreRows}
 use Rattle.pie_store.proofs.Turns.{pair}
 use Rattle.pie_store.proofs.Admitted.{AreKept, kept_push}
 use Rattle.pie_store.proofs.StoreParts.{row_bytes, IsRankedRow}

@@ -9,19 +9,19 @@ use Rattle.std.proofs.lemmas.List.{get_or-append-add}
 use Rattle.std.proofs.lemmas.List.Elements.{All-push}
 use Rattle.pie_value.specs.declared.value_fault.ValueFault.TheVariants.{Short as TooShort}
 use Rattle.pie_value.specs.Canonical.{be32}
-use Rattle.pie_value.specs.inner.Reading.{then_on as then_value, number_of}
+use Rattle.pie_value.specs.Reading.{then_on as then_value, number_of}
 use Rattle.pie_value.proofs.Taking.{IsBytes, Takes}
 use Rattle.pie_record.specs.declared.record_fault.RecordFault.{RecordFault}
 use Rattle.pie_record.specs.declared.record_fault.RecordFault.TheVariants.{Short as NoMore, BadTag, BadPath, BadValue, OutOfMemory as NoMemory}
-use Rattle.pie_record.specs.inner.Reading.{Parsed as Part, told, number_at}
+use Rattle.pie_record.specs.Reading.{Parsed as Part, told, number_at}
 use Rattle.pie_record.proofs.Codecs.{number_codec}
 use Rattle.pie_store.specs.declared.store_fault.StoreFault.{StoreFault}
 use Rattle.pie_store.specs.declared.store_fault.StoreFault.TheVariants.{Row, Order, OutOfMemory}
 use Rattle.pie_store.specs.Canonical.{enc_func, AreFuncs}
 use Rattle.pie_store.specs.Texts.{IsFunc}
 use Rattle.pie_store.specs.inner.Reading.{Parsed, then_on, row_fault, placed, part_at, ordered, some_at, list_at, func_at, name_follows, name_last, next_func}
-use Rattle.pie_store.specs.inner.ListFaults.{Begins, NoneInFront, Unreadable, Misplaced}
-use Rattle.pie_store.specs.inner.Faults.{AreTable}
+use Rattle.pie_store.specs.ListFaults.{Begins, NoneInFront, Unreadable, Misplaced}
+use Rattle.pie_store.specs.Faults.{AreTable}
 use Rattle.pie_store.proofs.Turns.{same_value, same_rest}
 use Rattle.pie_store.proofs.Pairs.{pairs_push, last_is, ahead_is, ahead_on, ahead_trans}
 use Rattle.pie_store.proofs.StoreParts.{then_ok, func_taken, FuncBefore}

@@ -17,8 +17,8 @@ use Rattle.pie_store.specs.Canonical.{tasks_in}
 use Rattle.pie_store.specs.Ranks.{Ranked, rank_in, IsStored}
 use Rattle.pie_store.specs.Texts.{IsRow}
 use Rattle.pie_store.specs.inner.Reading.{Parsed, list_at, next_root, next_row, first_missing, closed, tasks_of, then_image, image_of, tail_of}
-use Rattle.pie_store.specs.inner.ListFaults.{Unreadable, Misplaced}
-use Rattle.pie_store.specs.inner.Faults.{AreRows, Head, Roots, Rows, roots_at, rows_at}
+use Rattle.pie_store.specs.ListFaults.{Unreadable, Misplaced}
+use Rattle.pie_store.specs.Faults.{AreRows, Head, Roots, Rows, roots_at, rows_at}
 use Rattle.pie_store.proofs.Closing.{left_over as left_after}
 use Rattle.pie_store.proofs.StoreParts.{row_bytes, rows_stored}
 use Rattle.pie_store.proofs.StoreTexts.{firsts_listed}

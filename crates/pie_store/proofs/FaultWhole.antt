@@ -10,7 +10,7 @@ use Rattle.sha2.specs.Sha256.{sha256}
 use Rattle.sha2.proofs.Facts256.{length-sha256}
 use Rattle.pie_value.proofs.Taking.{IsBytes}
 use Rattle.pie_record.specs.Canonical.{listed}
-use Rattle.pie_record.specs.inner.Reading.{bytes_at}
+use Rattle.pie_record.specs.Reading.{bytes_at}
 use Rattle.pie_record.proofs.Codecs.{bytes_codec}
 use Rattle.pie_store.specs.declared.image.StoreImage.{StoreImage}
 use Rattle.pie_store.specs.declared.store_fault.StoreFault.{StoreFault}
@@ -22,9 +22,9 @@ use Rattle.pie_store.specs.Texts.{IsFormat}
 use Rattle.pie_store.specs.inner.Agreement.{AgreesWhole}
 use Rattle.pie_store.specs.inner.Reading.{Parsed, part_at, list_at, next_func, then_image, tail_of}
 use Rattle.pie_store.specs.inner.Reading.{contents_1, contents_2, body_says, on_body, store_says}
-use Rattle.pie_store.specs.inner.Faults.{Head, FaultInside, HasFault, RefusesWith}
-use Rattle.pie_store.specs.inner.Faults.{func_unread, func_misplaced, root_unread, row_unread, row_misplaced, root_missing, left_over}
-use Rattle.pie_store.specs.inner.Faults.{too_short, other_magic, other_version, too_short_for_1, other_digest, fault_inside}
+use Rattle.pie_store.specs.Faults.{Head, FaultInside, HasFault, RefusesWith}
+use Rattle.pie_store.specs.Faults.{func_unread, func_misplaced, root_unread, row_unread, row_misplaced, root_missing, left_over}
+use Rattle.pie_store.specs.Faults.{too_short, other_magic, other_version, too_short_for_1, other_digest, fault_inside}
 use Rattle.pie_store.proofs.StoreTexts.{front_bytes}
 use Rattle.pie_store.proofs.ReadAgain.{part_again, list_again, funcs_read}
 use Rattle.pie_store.proofs.WholeAgain.{frame_again}

@@ -11,10 +11,10 @@ use Rattle.std.proofs.lemmas.List.Elements.{All-nil}
 use Rattle.sha2.specs.Sha256.{sha256}
 use Rattle.sha2.proofs.Facts256.{length-sha256}
 use Rattle.pie_value.specs.declared.value_fault.ValueFault.{ValueFault}
-use Rattle.pie_value.specs.inner.Reading.{bytes_of}
+use Rattle.pie_value.specs.Reading.{bytes_of}
 use Rattle.pie_value.proofs.Taking.{IsBytes}
 use Rattle.pie_record.specs.Canonical.{listed}
-use Rattle.pie_record.specs.inner.Reading.{bytes_at}
+use Rattle.pie_record.specs.Reading.{bytes_at}
 use Rattle.pie_record.proofs.Codecs.{bytes_codec}
 use Rattle.pie_store.specs.declared.image.StoreImage.{StoreImage}
 use Rattle.pie_store.specs.declared.store_fault.StoreFault.{StoreFault}
@@ -26,9 +26,9 @@ use Rattle.pie_store.specs.Texts.{IsFunc}
 use Rattle.pie_store.specs.inner.Agreement.{AgreesWhole}
 use Rattle.pie_store.specs.inner.Reading.{part_at, list_at, next_func, tail_of}
 use Rattle.pie_store.specs.inner.Reading.{contents_1, contents_2, body_says, on_body, store_says}
-use Rattle.pie_store.specs.inner.Faults.{Head, FaultInside, HasFault, TellsFault}
-use Rattle.pie_store.specs.inner.Faults.{func_unread, func_misplaced}
-use Rattle.pie_store.specs.inner.Faults.{too_short, other_magic, other_version, too_short_for_1, other_digest, fault_inside}
+use Rattle.pie_store.specs.Faults.{Head, FaultInside, HasFault, TellsFault}
+use Rattle.pie_store.specs.Faults.{func_unread, func_misplaced}
+use Rattle.pie_store.specs.Faults.{too_short, other_magic, other_version, too_short_for_1, other_digest, fault_inside}
 use Rattle.pie_store.proofs.StoreParts.{placed_ok, list_taken, list_kept, funcs_taker, funcs_push, FuncBefore}
 use Rattle.pie_store.proofs.StoreParts.{table_of}
 use Rattle.pie_store.proofs.StoreTexts.{frame_ok, front_bytes, known_in_table}

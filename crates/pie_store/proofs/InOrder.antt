@@ -18,7 +18,7 @@ use Rattle.std.specs.Str.{IsUtf8, is_utf8}
 use Rattle.pie_base.specs.Path.{is_slash, is_control, is_segment, is_path, segments, same_text}
 use Rattle.std.specs.Prelude.{nat_lt, codes}
 use Rattle.pie_record.proofs.Steps.{both_true, both_on}
-use Rattle.pie_store.specs.inner.Pending.{path_cmp, in_order, line, lines, AreAscending, AreInPathOrder, IsName, IsPending}
+use Rattle.pie_store.specs.Pending.{path_cmp, in_order, line, lines, AreAscending, AreInPathOrder, IsName, IsPending}
 use Rattle.pie_store.proofs.PendingLemmas.{NoNewline}
 
 -- ---- a path holds no newline

@@ -10,8 +10,8 @@ use Rattle.std.proofs.lemmas.List.{get_or_default}
 use Rattle.std.proofs.lemmas.List.Quantifiers.{position-Some}
 use Rattle.std.proofs.lemmas.List.Elements.{All-nil, All-push, All-head, All-tail}
 use Rattle.std.proofs.lemmas.Option.{slice_get-get_or}
-use Rattle.pie_value.specs.inner.Reading.{is_path_text}
-use Rattle.pie_store.specs.inner.Pending.{is_newline, line, lines, path_before, path_follows, path_last, AreAscending, IsName, IsPending}
+use Rattle.pie_value.specs.Reading.{is_path_text}
+use Rattle.pie_store.specs.Pending.{is_newline, line, lines, path_before, path_follows, path_last, AreAscending, IsName, IsPending}
 use Rattle.pie_record.proofs.Steps.{both_true, both_on}
 
 abbrev pub NoNewline : List ℕ → Type 0

@@ -13,7 +13,7 @@ use Rattle.pie_record.specs.declared.dep.DepOn.{DepOn}
 use Rattle.pie_record.specs.declared.dep.DepOn.TheVariants.{File, Called}
 use Rattle.pie_record.specs.declared.task_record.TaskRecord.{TaskRecord}
 use Rattle.pie_record.specs.Canonical.{listed}
-use Rattle.pie_record.specs.inner.Reading.{Parsed as Part, then_on as then_part, bytes_at, number_at, task_at}
+use Rattle.pie_record.specs.Reading.{Parsed as Part, then_on as then_part, bytes_at, number_at, task_at}
 use Rattle.pie_record.proofs.Steps.{Codec, step, last}
 use Rattle.pie_record.proofs.Codecs.{number_codec, bytes_codec, text_codec, task_codec}
 use Rattle.pie_store.specs.Canonical.{enc_func, name_before, tasks_in, required_on, over, AreFuncs}

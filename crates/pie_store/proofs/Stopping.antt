@@ -8,19 +8,19 @@ use Rattle.std.proofs.lemmas.List.{length-append, get_or_append_left, get_or_pus
 use Rattle.std.proofs.lemmas.List.Elements.{All-nil, All-push}
 use Rattle.pie_value.specs.declared.value_fault.ValueFault.{ValueFault}
 use Rattle.pie_value.specs.Canonical.{be32}
-use Rattle.pie_value.specs.inner.Reading.{Parsed as Decoded, number_of}
+use Rattle.pie_value.specs.Reading.{Parsed as Decoded, number_of}
 use Rattle.pie_value.proofs.Taking.{IsBytes}
 use Rattle.pie_record.specs.declared.record_fault.RecordFault.{RecordFault}
 use Rattle.pie_record.specs.declared.record_fault.RecordFault.TheVariants.{Short as NoMore, BadTag, BadPath, BadValue, OutOfMemory as NoMemory}
-use Rattle.pie_record.specs.inner.Reading.{Parsed as Part, told, number_at}
+use Rattle.pie_record.specs.Reading.{Parsed as Part, told, number_at}
 use Rattle.pie_record.proofs.Codecs.{number_codec}
 use Rattle.pie_store.specs.declared.store_fault.StoreFault.{StoreFault}
 use Rattle.pie_store.specs.declared.store_fault.StoreFault.TheVariants.{Row, Order, OutOfMemory}
 use Rattle.pie_store.specs.Canonical.{enc_func, name_before}
 use Rattle.pie_store.specs.Texts.{IsFunc}
 use Rattle.pie_store.specs.inner.Reading.{Parsed, then_on, placed, part_at, ordered, some_at, list_at, func_at, name_follows, name_last, next_func}
-use Rattle.pie_store.specs.inner.ListFaults.{NoneInFront, Unreadable, Misplaced}
-use Rattle.pie_store.specs.inner.Faults.{AreTable}
+use Rattle.pie_store.specs.ListFaults.{NoneInFront, Unreadable, Misplaced}
+use Rattle.pie_store.specs.Faults.{AreTable}
 use Rattle.pie_store.proofs.Pairs.{last_is, ahead_on}
 use Rattle.pie_store.proofs.StoreParts.{placed_ok, Taker, func_taken, funcs_taker}
 use Rattle.pie_store.proofs.StoreParts.{FuncBefore, funcs_push}

@@ -11,7 +11,7 @@ use Rattle.pie_value.specs.Canonical.{be32, enc_task}
 use Rattle.pie_value.proofs.Taking.{IsBytes}
 use Rattle.pie_record.specs.declared.task_record.TaskRecord.{TaskRecord}
 use Rattle.pie_record.specs.Canonical.{enc_record}
-use Rattle.pie_record.specs.inner.Reading.{task_at, record_at}
+use Rattle.pie_record.specs.Reading.{task_at, record_at}
 use Rattle.pie_record.proofs.Codecs.{task_codec}
 use Rattle.pie_record.proofs.RecordCodec.{record_codec}
 use Rattle.pie_store.specs.declared.store_fault.StoreFault.{StoreFault}
@@ -19,8 +19,8 @@ use Rattle.pie_store.specs.declared.store_fault.StoreFault.TheVariants.{Row, Ord
 use Rattle.pie_store.specs.Ranks.{Ranked, height_after, IsStored}
 use Rattle.pie_store.specs.Texts.{IsRow, AreKnown}
 use Rattle.pie_store.specs.inner.Reading.{rows_of, tasks_of, part_at, list_at, next_root, ranked_as, next_row}
-use Rattle.pie_store.specs.inner.ListFaults.{NoneInFront, Unreadable}
-use Rattle.pie_store.specs.inner.Faults.{AreRows}
+use Rattle.pie_store.specs.ListFaults.{NoneInFront, Unreadable}
+use Rattle.pie_store.specs.Faults.{AreRows}
 use Rattle.pie_store.proofs.Admitted.{Admits, admits_on, AreAdmitted, AreKept, kept_none, kept_in_order}
 use Rattle.pie_store.proofs.StoreParts.{placed_ok, roots_taker, rows_taker, root_bytes, IsRoot, row_bytes, IsRankedRow}
 use Rattle.pie_store.proofs.StoreParts.{rows_push, rows_stored, deps_stored}

@@ -14,7 +14,7 @@ use Rattle.pie_record.specs.declared.dep.Dep.{Dep}
 use Rattle.pie_record.specs.declared.dep.DepOn.{DepOn}
 use Rattle.pie_record.specs.declared.dep.DepOn.TheVariants.{File, Called}
 use Rattle.pie_record.specs.Canonical.{listed, enc_record, IsStorableOn, IsTrueOn}
-use Rattle.pie_record.specs.inner.Reading.{Parsed as Part, then_on as then_part, text_at, bytes_at, number_at, task_at, record_at}
+use Rattle.pie_record.specs.Reading.{Parsed as Part, then_on as then_part, text_at, bytes_at, number_at, task_at, record_at}
 use Rattle.pie_record.proofs.Steps.{then_ok as part_then, last_ok}
 use Rattle.pie_record.proofs.Codecs.{number_codec, bytes_codec, text_codec, task_codec}
 use Rattle.pie_record.proofs.RecordCodec.{record_codec}

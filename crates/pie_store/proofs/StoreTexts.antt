@@ -14,7 +14,7 @@ use Rattle.pie_value.specs.Canonical.{be32, enc_task}
 use Rattle.pie_value.proofs.Taking.{IsBytes}
 use Rattle.pie_record.specs.declared.task_record.TaskRecord.{TaskRecord}
 use Rattle.pie_record.specs.Canonical.{listed, enc_record}
-use Rattle.pie_record.specs.inner.Reading.{bytes_at}
+use Rattle.pie_record.specs.Reading.{bytes_at}
 use Rattle.pie_record.proofs.Codecs.{bytes_codec}
 use Rattle.pie_store.specs.declared.image.StoreImage.{StoreImage}
 use Rattle.pie_store.specs.declared.store_fault.StoreFault.{StoreFault}

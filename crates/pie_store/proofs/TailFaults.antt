@@ -16,8 +16,8 @@ use Rattle.pie_store.specs.declared.store_fault.StoreFault.TheVariants.{Row, Ord
 use Rattle.pie_store.specs.Canonical.{tasks_in}
 use Rattle.pie_store.specs.Ranks.{Ranked, same_task, rank_in, IsStored}
 use Rattle.pie_store.specs.inner.Reading.{Parsed, list_at, next_root, next_row, first_missing, closed, tasks_of, rows_of, then_image, image_of, tail_of}
-use Rattle.pie_store.specs.inner.Faults.{Head, Roots, Rows, roots_at, rows_at, FaultInside}
-use Rattle.pie_store.specs.inner.Faults.{root_unread, row_unread, row_misplaced, root_missing, left_over}
+use Rattle.pie_store.specs.Faults.{Head, Roots, Rows, roots_at, rows_at, FaultInside}
+use Rattle.pie_store.specs.Faults.{root_unread, row_unread, row_misplaced, root_missing, left_over}
 use Rattle.pie_store.proofs.Turns.{same_value}
 use Rattle.pie_store.proofs.Ranking.{same_refl}
 use Rattle.pie_store.proofs.Admitted.{AreKept, kept_none}

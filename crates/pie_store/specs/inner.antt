@@ -3,7 +3,4 @@ pub mod Reading
 pub mod Agreement
 pub mod RankCodes
 pub mod Known
-pub mod Pending
 pub mod Offers
-pub mod ListFaults
-pub mod Faults

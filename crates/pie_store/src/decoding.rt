@@ -4,7 +4,7 @@ ghost use Rattle.pie_store.specs.declared.image.StoreImage.{StoreImage};
 ghost use Rattle.pie_store.specs.Canonical.{IsStorableStore};
 ghost use Rattle.pie_store.specs.Texts.{IsStoreText};
 ghost use Rattle.pie_store.specs.declared.store_fault.StoreFault.{StoreFault};
-ghost use Rattle.pie_store.specs.inner.Faults.{HasFault, RefusesWith, TellsFault};
+ghost use Rattle.pie_store.specs.Faults.{HasFault, RefusesWith, TellsFault};
 ghost use Rattle.pie_store.specs.inner.Agreement.{StoreAgrees, AgreesWhole, Refuses};
 ghost use Rattle.pie_store.specs.inner.Reading.{store_says, body_says, contents_1, contents_2, tail_of, closed, first_missing};
 ghost use Rattle.pie_store.specs.inner.Reading.{tasks_of as specs_tasks_of};

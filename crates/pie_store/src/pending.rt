@@ -3,8 +3,8 @@ ghost use Rattle.std.specs.Prelude.{◌≡◌, ◌++◌, ◌&&◌, ◌+◌, ◌<
 ghost use Rattle.std.specs.Prelude.{MatchOption, true, false};
 ghost use Rattle.std.specs.List.{position};
 ghost use Rattle.std.specs.Str.{is_utf8};
-ghost use Rattle.pie_value.specs.inner.Reading.{is_path_text};
-ghost use Rattle.pie_store.specs.inner.Pending.{is_newline, in_order, line, lines, path_last as specs_path_last, AreInPathOrder, IsName, IsPending};
+ghost use Rattle.pie_value.specs.Reading.{is_path_text};
+ghost use Rattle.pie_store.specs.Pending.{is_newline, in_order, line, lines, path_last as specs_path_last, AreInPathOrder, IsName, IsPending};
 
 use pie_base::{MAX_PENDING_BYTES, OutOfMemory, Path, PathError};
 use std::alloc::Global;
@@ -45,7 +45,7 @@ fn put_lines(out: &mut Vec<u8>, paths: &BTreeSet<Path>) -> Result<(), OutOfMemor
     Ok(())
 }
 
-#[tactic(auto, unfolding(crate::specs::inner::Pending::line))]
+#[tactic(auto, unfolding(crate::specs::Pending::line))]
 fn put_line(out: &mut Vec<u8>, path: &Path) -> Result<(), OutOfMemory>
     ensures written { OnOk result (out.new.items ≡ out.old.items ++ line path.now) }
     ensures name { OnOk result (IsName path.now) }

@@ -2,7 +2,7 @@
 //! the offset.
 ghost use Rattle.std.specs.Prelude.{◌≡◌, ◌-◌, ◌≤◌, ◌<◌, ◌^◌, length, List, ℕ, All, IfOk, None};
 ghost use Rattle.pie_record.specs.inner.Agreement.{RowAgrees as PartAgrees};
-ghost use Rattle.pie_record.specs.inner.Reading.{number_at};
+ghost use Rattle.pie_record.specs.Reading.{number_at};
 ghost use Rattle.pie_store.specs.inner.Agreement.{StoreAgrees};
 ghost use Rattle.pie_store.specs.Ranks.{rank_in, IsStored};
 ghost use Rattle.pie_store.specs.inner.Known.{known_in};

@@ -22,7 +22,7 @@ use Rattle.pie_settle_laws.specs.Going.{Ends, HasLeft}
 use Rattle.pie_settle_laws.specs.Going.Ends.{failing}
 use Rattle.pie_settle_laws.proofs.Leaving.{going_ends}
 use Rattle.pie_model_pipeline.specs.Words.{fault_of, event_of}
-use Rattle.pie_model_pipeline.specs.inner.Answers.{answer_of}
+use Rattle.pie_model_pipeline.specs.Answers.{answer_of}
 use Rattle.pie_model_pipeline.specs.Rows.{observation_of, outcome_of, record_of}
 use Rattle.pie_model_pipeline.specs.World.{world, next}
 use Rattle.pie_builder_laws.specs.Tables.{recorded}

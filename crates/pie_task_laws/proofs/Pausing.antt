@@ -16,7 +16,7 @@ use Rattle.pie_model.specs.declared.words.Event.TheVariants.{Done, Fail}
 use Rattle.pie_model.specs.declared.words.FaultKind.TheVariants as model_faults
 use Rattle.pie_model.specs.declared.words.Outcome.TheVariants.{Ended}
 use Rattle.pie_settle_laws.specs.Going.Ends.{with_value, without_events}
-use Rattle.pie_model_pipeline.specs.inner.Answers.{answer_of}
+use Rattle.pie_model_pipeline.specs.Answers.{answer_of}
 use Rattle.pie_model_pipeline.specs.World.{next}
 use Rattle.pie_running.specs.declared.frame.RunningTask.{RunningTask}
 use Rattle.pie_running.specs.declared.frame.Waiting.{Waiting}

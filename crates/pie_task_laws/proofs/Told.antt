@@ -30,7 +30,7 @@ use Rattle.pie_step_laws.specs.Frames.{gone_on}
 use Rattle.pie_settle_laws.specs.Going.Ends.{clashing, listing_too_much}
 use Rattle.pie_settle_laws.proofs.Goings.{absent_look, present_look, listing_made}
 use Rattle.pie_model_pipeline.specs.Words.{look_by}
-use Rattle.pie_model_pipeline.specs.inner.Answers.{answer_of}
+use Rattle.pie_model_pipeline.specs.Answers.{answer_of}
 use Rattle.pie_model_pipeline.specs.Rows.{observation_of}
 use Rattle.pie_model_pipeline.specs.World.{world, next}
 use Rattle.pie_builder_laws.specs.Names.{called_on}

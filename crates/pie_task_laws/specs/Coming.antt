@@ -14,7 +14,7 @@ use Rattle.pie_record.specs.declared.task_record.Outcome.{Outcome}
 use Rattle.pie_record.specs.declared.task_record.Outcome.TheVariants.{Done, Failed}
 use Rattle.pie_record.specs.declared.task_record.TaskRecord.{TaskRecord}
 use Rattle.pie_model_pipeline.specs.Words.{effect_of}
-use Rattle.pie_model_pipeline.specs.inner.Answers.{answer_of}
+use Rattle.pie_model_pipeline.specs.Answers.{answer_of}
 use Rattle.pie_running.specs.declared.frame.RunningTask.{RunningTask}
 use Rattle.pie_running.specs.declared.frame.Waiting.{Waiting}
 use Rattle.pie_running.specs.declared.frame.Caller.{Caller}

@@ -10,7 +10,7 @@ use Rattle.pie_model.specs.Seen.{first_write}
 use Rattle.pie_model.specs.Records.{hashed}
 use Rattle.pie_model.specs.inner.Stack.{Frame}
 use Rattle.pie_model_pipeline.specs.Words.{how_of}
-use Rattle.pie_model_pipeline.specs.inner.Answers.{answer_of}
+use Rattle.pie_model_pipeline.specs.Answers.{answer_of}
 use Rattle.pie_model_pipeline.specs.Rows.{observation_of}
 use Rattle.pie_model_pipeline.specs.World.{world, next}
 use Rattle.pie_builder_laws.specs.Names.{called_in}

@@ -22,7 +22,7 @@ use Rattle.pie_model.specs.Trees.{trace_of}
 use Rattle.pie_model.specs.Evaluation.{evaluation}
 use Rattle.pie_model.specs.declared.words.How.{How}
 use Rattle.pie_model.specs.declared.words.Event.TheVariants.{Require}
-use Rattle.pie_model.specs.inner.Separate.{AllMet}
+use Rattle.pie_model.specs.Separate.{AllMet}
 use Rattle.pie_model.specs.inner.RecordLaws.{Passes}
 use Rattle.pie_model.specs.inner.Consistent.{IsSettled}
 use Rattle.pie_model.specs.inner.Stack.{Frame as ModelFrame, tasks_of, IsWaiting}

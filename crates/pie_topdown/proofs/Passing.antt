@@ -23,7 +23,7 @@ use Rattle.pie_record.specs.declared.task_record.TaskRecord.{TaskRecord}
 use Rattle.pie_record.specs.inner.Records.{record_of}
 use Rattle.pie_results.specs.inner.Failures.{is_done}
 use Rattle.pie_named.specs.declared.named.Named.{Named}
-use Rattle.pie_named.specs.Stamped.{stamp_in, differs_from}
+use Rattle.pie_named.specs.inner.Stamped.{stamp_in, differs_from}
 use Rattle.pie_named.specs.inner.Known.{known_stamp, known_differs, Compares, Tells as TellsKnown}
 use Rattle.pie_compare.specs.inner.Standing.{Around, called_stamp, output_in, output_of, OnStands, DepStands, Tells}
 use Rattle.pie_store.specs.Canonical.{needs, required_on}

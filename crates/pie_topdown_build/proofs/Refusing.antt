@@ -3,7 +3,7 @@ use Rattle.std.proofs.Common.{◌≡◌, Option, None, Some, Result, Ok, Err, su
 use Rattle.std.specs.Prelude.{IfSome}
 use Rattle.pie_build.specs.inner.Rebuilt.{IsRefusal, RebuildSays}
 use Rattle.pie_files.specs.Directory.{Directory}
-use Rattle.pie_incremental.specs.Refused.{RefusesRight}
+use Rattle.pie_incremental.specs.inner.Refused.{RefusesRight}
 use Rattle.pie_project.specs.declared.fault.BuildError.{BuildError}
 use Rattle.pie_project.specs.declared.fault.BuildError.TheVariants as errors
 use Rattle.pie_project.specs.Fronts.{ProjectSays}

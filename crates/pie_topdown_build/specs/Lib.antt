@@ -1,3 +1,2 @@
-pub mod Offered
 pub mod Refusals
 pub mod inner

@@ -1,3 +1,4 @@
 -- Definitions that no clause of `pie_cli::run` rests on: what functions say to each other.
 pub mod Bases
 pub mod Cleaned
+pub mod Offered

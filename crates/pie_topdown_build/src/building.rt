@@ -2,10 +2,10 @@
 ghost use Rattle.std.specs.Prelude.{◌≡◌, ◌≤◌, ◌+◌, ◌++◌, Some, length, All, IfOk, IfSome};
 ghost use Rattle.pie_build.specs.Left.{KeepsRest};
 ghost use Rattle.pie_build.specs.inner.Rebuilt.{IsRefusal, Tells};
-ghost use Rattle.pie_incremental.specs.Refused.{RefusesRight};
+ghost use Rattle.pie_incremental.specs.inner.Refused.{RefusesRight};
 ghost use Rattle.pie_incremental.specs.inner.Joined.{IsImage};
 ghost use Rattle.pie_value.specs.Canonical.{IsEncodableTask};
-ghost use Rattle.pie_topdown_build.specs.Offered.{IsNew};
+ghost use Rattle.pie_topdown_build.specs.inner.Offered.{IsNew};
 ghost use Rattle.pie_topdown_build.specs.Refusals.{KeepsRefused};
 
 use crate::base::{Base, Start, find_base, no_base};

@@ -4,12 +4,12 @@ ghost use Rattle.pie_build.specs.Left.{KeepsRest};
 ghost use Rattle.pie_build.specs.inner.Rebuilt.{IsRefusal, Tells};
 ghost use Rattle.pie_digest.specs.Digests.{HasNames};
 ghost use Rattle.pie_files.specs.Streams.{Counted};
-ghost use Rattle.pie_incremental.specs.Refused.{RefusesRight};
+ghost use Rattle.pie_incremental.specs.inner.Refused.{RefusesRight};
 ghost use Rattle.pie_incremental.specs.inner.Joined.{IsImage};
 ghost use Rattle.pie_record.specs.Canonical.{IsStorable};
 ghost use Rattle.pie_store.specs.Canonical.{AreFuncs};
 ghost use Rattle.pie_value.specs.Canonical.{IsEncodableTask};
-ghost use Rattle.pie_topdown_build.specs.Offered.{IsNew};
+ghost use Rattle.pie_topdown_build.specs.inner.Offered.{IsNew};
 ghost use Rattle.pie_topdown_build.specs.Refusals.{KeepsRefused};
 ghost use Rattle.pie_topdown_build.specs.inner.Bases.{Quiet};
 

@@ -56,7 +56,7 @@ use Rattle.pie_settle_laws.specs.Going.Ends.{with_value, failing, clashing, list
 use Rattle.pie_settle_laws.proofs.Goings.{absent_look, present_look, listing_made, write_made, is_told}
 use Rattle.pie_settle_laws.proofs.Leaving.{going_ends}
 use Rattle.pie_model_pipeline.specs.Words.{event_of, fault_of, how_of, look_by}
-use Rattle.pie_model_pipeline.specs.inner.Answers.{answer_of}
+use Rattle.pie_model_pipeline.specs.Answers.{answer_of}
 use Rattle.pie_model_pipeline.specs.Rows.{observation_of, record_of}
 use Rattle.pie_model_pipeline.specs.World.{world, next}
 use Rattle.pie_builder_laws.specs.Names.{AreTasks, called_on, called_in}

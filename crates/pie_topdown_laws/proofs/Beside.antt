@@ -18,7 +18,7 @@ use Rattle.pie_model.specs.Evaluation.{evaluation_with, evaluation}
 use Rattle.pie_model.specs.Records.{Stamp, Observation, observations_of}
 use Rattle.pie_model.specs.Records.{hashed, Record, record_of}
 use Rattle.pie_model.specs.Running.{rest_of_run, IsRunning}
-use Rattle.pie_model.specs.inner.Separate.{AllMet}
+use Rattle.pie_model.specs.Separate.{AllMet}
 use Rattle.pie_model.specs.inner.Stack.{Frame}
 use Rattle.pie_model.proofs.Basics.{clash}
 use Rattle.pie_model.proofs.Rooms.{room_of_none}

@@ -9,9 +9,9 @@ use Rattle.pie_model.specs.Trees.{outcome_of, trace_of}
 use Rattle.pie_model.specs.Evaluation.{World, Project, start, evaluation_with, evaluation_under, evaluation, round}
 use Rattle.pie_model.specs.Records.{Query, Looked, Listed, Required, Observation, observed, Record, Stamp, record_of, hashed, needs_of, task_asked}
 use Rattle.pie_model.specs.Running.{rest_of_run}
-use Rattle.pie_model.specs.inner.StampNow.{Told, Teller, by_evaluation, by_records, stamp_now, asked_before}
-use Rattle.pie_model.specs.inner.Separate.{AllMet, NeverWritesWhatItSaw}
-use Rattle.pie_model.specs.inner.Reasons.{Differs}
+use Rattle.pie_model.specs.StampNow.{Told, Teller, by_evaluation, by_records, stamp_now, asked_before}
+use Rattle.pie_model.specs.Separate.{AllMet, NeverWritesWhatItSaw}
+use Rattle.pie_model.specs.Reasons.{Differs}
 use Rattle.pie_model.specs.inner.RecordLaws.{Passes}
 use Rattle.pie_model.specs.inner.Consistent.{IsSettled}
 use Rattle.pie_model.specs.inner.CoreLaws.{TellsRight}

@@ -8,8 +8,8 @@ use Rattle.pie_model.specs.Trees.{outcome_of, trace_of, is_done}
 use Rattle.pie_model.specs.Evaluation.{World, Project, start, evaluation_with, evaluation}
 use Rattle.pie_model.specs.Records.{Query, Looked, Listed, Required, Observation, observations_of, Record, needs_of, task_asked}
 use Rattle.pie_model.specs.Running.{rest_of_run, IsRunning}
-use Rattle.pie_model.specs.inner.StampNow.{by_evaluation, asked_before, StampsAgree, stamp_now}
-use Rattle.pie_model.specs.inner.Separate.{AllMet, NeverWritesWhatItSaw}
+use Rattle.pie_model.specs.StampNow.{by_evaluation, asked_before, StampsAgree, stamp_now}
+use Rattle.pie_model.specs.Separate.{AllMet, NeverWritesWhatItSaw}
 use Rattle.pie_model.specs.inner.Stack.{Frame}
 use Rattle.pie_model.proofs.Basics.{clash, among_here, among_left, among_right}
 use Rattle.pie_model.proofs.MovedLemmas.{opened_apart}

@@ -22,7 +22,7 @@ use Rattle.pie_walk.specs.States.{WalkState}
 use Rattle.pie_model.specs.Paths.{Path, among}
 use Rattle.pie_model.specs.Evaluation.{Project, evaluation}
 use Rattle.pie_model.specs.Records.{Observation, Record, needs_of, task_asked}
-use Rattle.pie_model.specs.inner.StampNow.{by_records, stamp_now}
+use Rattle.pie_model.specs.StampNow.{by_records, stamp_now}
 use Rattle.pie_model.specs.inner.Steps.{ChangesAt}
 use Rattle.pie_model.specs.inner.Consistent.{IsRecorded}
 use Rattle.pie_model.specs.inner.CoreLaws.{TellsRight}

@@ -15,7 +15,7 @@ use Rattle.pie_walk.specs.States.{WalkState, no_of}
 use Rattle.pie_walk.specs.Standing.{Stands}
 use Rattle.pie_model.specs.Paths.{Path, among}
 use Rattle.pie_model.specs.Records.{Record, needs_of}
-use Rattle.pie_model.specs.inner.StampNow.{Told}
+use Rattle.pie_model.specs.StampNow.{Told}
 use Rattle.pie_model.specs.inner.RecordLaws.{Passes}
 use Rattle.pie_model.specs.inner.Consistent.{IsConsistent}
 use Rattle.pie_model.specs.inner.CoreLaws.{TellsRight}

@@ -19,8 +19,8 @@ use Rattle.pie_model.specs.Evaluation.{evaluation_with, evaluation}
 use Rattle.pie_model.specs.Records.{Stamp, Hash, Query, Looked, Listed, Required, Observation, observed, observations_of, look_stamp, value_stamp, outcome_stamp}
 use Rattle.pie_model.specs.Records.{hashed, needs_of, Record}
 use Rattle.pie_model.specs.Running.{rest_of_run, IsRunning}
-use Rattle.pie_model.specs.inner.StampNow.{by_evaluation, told_of, look_now, listing_now, outcome_now, stamp_now}
-use Rattle.pie_model.specs.inner.Separate.{StampsSeparate, ListingsDiffer, AllMet, MetSeen, MetOutcome, NeverWritesWhatItSaw}
+use Rattle.pie_model.specs.StampNow.{by_evaluation, told_of, look_now, listing_now, outcome_now, stamp_now}
+use Rattle.pie_model.specs.Separate.{StampsSeparate, ListingsDiffer, AllMet, MetSeen, MetOutcome, NeverWritesWhatItSaw}
 use Rattle.pie_model.specs.inner.Stack.{Frame}
 use Rattle.pie_model.proofs.LooksLemmas.{first_write_prefix, first_write-hashed, hashed-append, looked_now, unwritten_later, seen_stamp, look_now_is, some_same}
 use Rattle.pie_model.proofs.LooksLemmas.{seen_answer, looks_alike, listings_alike, outputs_alike}

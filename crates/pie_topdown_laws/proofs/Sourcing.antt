@@ -14,14 +14,14 @@ use Rattle.pie_record.specs.Kinds.{tag_of, allows}
 use Rattle.pie_files.specs.Directory.{file_at, entries_of}
 use Rattle.pie_named.specs.declared.stamps.FileStamp.{FileStamp}
 use Rattle.pie_named.specs.declared.stamps.FileStamp.TheVariants.{Absent, Present, Hash, Mark}
-use Rattle.pie_named.specs.Stamped.{is_stamp, presence_of, hash_of, mark_of, listing_of, paths_list, stamp_in, differs_from}
+use Rattle.pie_named.specs.inner.Stamped.{is_stamp, presence_of, hash_of, mark_of, listing_of, paths_list, stamp_in, differs_from}
 use Rattle.pie_model.specs.declared.words.Kind.TheVariants.{Source}
 use Rattle.pie_model.specs.declared.words.Look.TheVariants as looks
 use Rattle.pie_model.specs.Paths.{Path, kind_of}
 use Rattle.pie_model.specs.Seen.{seen_file}
 use Rattle.pie_model.specs.Evaluation.{listing}
 use Rattle.pie_model.specs.Records.{look_stamp, mark_stamp}
-use Rattle.pie_model.specs.inner.StampNow.{listing_now}
+use Rattle.pie_model.specs.StampNow.{listing_now}
 use Rattle.pie_model.specs.inner.Still.{SourceStampStill}
 use Rattle.pie_model.proofs.Basics.{same_bytes}
 use Rattle.pie_model_pipeline.specs.Rows.{stamp_of, query_of}

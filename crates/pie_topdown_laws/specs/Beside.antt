@@ -14,7 +14,7 @@ use Rattle.pie_model.specs.Seen.{visible_at}
 use Rattle.pie_model.specs.Evaluation.{World, Project, Progress, listing, evaluation}
 use Rattle.pie_model.specs.Records.{Query, Looked, Listed, Required, Observation, Record, record_of, observations_of}
 use Rattle.pie_model.specs.Running.{rest_of_run, IsRunning}
-use Rattle.pie_model.specs.inner.Separate.{AllMet}
+use Rattle.pie_model.specs.Separate.{AllMet}
 use Rattle.pie_model.specs.inner.Stack.{Frame}
 use Rattle.pie_step_laws.specs.Frames.{saw_nothing, saw_contents, has_listed, has_written, was_answered}
 

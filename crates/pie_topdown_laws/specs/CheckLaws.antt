@@ -7,9 +7,9 @@ use Rattle.pie_model.specs.declared.words.Outcome.TheVariants.{Cycled}
 use Rattle.pie_model.specs.Trees.{outcome_of, trace_of, StandsIn}
 use Rattle.pie_model.specs.Evaluation.{Project, evaluation_with, evaluation, round}
 use Rattle.pie_model.specs.Records.{Required, Observation, observed, Record, Stamp, record_of, needs_of, task_asked}
-use Rattle.pie_model.specs.inner.StampNow.{Told, Teller, by_evaluation, by_records, stamp_now, StampsAgree}
-use Rattle.pie_model.specs.inner.Separate.{StampsSeparate, ListingsDiffer, AllMet}
-use Rattle.pie_model.specs.inner.Reasons.{Differs}
+use Rattle.pie_model.specs.StampNow.{Told, Teller, by_evaluation, by_records, stamp_now, StampsAgree}
+use Rattle.pie_model.specs.Separate.{StampsSeparate, ListingsDiffer, AllMet}
+use Rattle.pie_model.specs.Reasons.{Differs}
 use Rattle.pie_model.specs.inner.Consistent.{IsRecorded}
 use Rattle.pie_model.specs.inner.CoreLaws.{TellsRight}
 use Rattle.pie_model.specs.inner.Steps.{ChangesAt}

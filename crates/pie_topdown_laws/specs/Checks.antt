@@ -4,8 +4,8 @@ use Rattle.pie_model.specs.Tasks.{Task}
 use Rattle.pie_model.specs.Trees.{trace_of, is_done}
 use Rattle.pie_model.specs.Evaluation.{World, Project, evaluation}
 use Rattle.pie_model.specs.Records.{Observation, Record, record_of}
-use Rattle.pie_model.specs.inner.Changes.{IsMet}
-use Rattle.pie_model.specs.inner.Separate.{AllMet, NeverWritesWhatItSaw}
+use Rattle.pie_model.specs.Changes.{IsMet}
+use Rattle.pie_model.specs.Separate.{AllMet, NeverWritesWhatItSaw}
 use Rattle.pie_model.specs.inner.RecordLaws.{Passes}
 use Rattle.pie_model.specs.inner.Stack.{Frame, tasks_of}
 use Rattle.pie_step_laws.specs.Frames.{set_aside}

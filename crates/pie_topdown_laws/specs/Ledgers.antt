@@ -14,7 +14,7 @@ use Rattle.pie_walk.specs.Standing.{Stands}
 use Rattle.pie_model.specs.Paths.{among}
 use Rattle.pie_model.specs.Trees.{trace_of}
 use Rattle.pie_model.specs.Evaluation.{evaluation}
-use Rattle.pie_model.specs.inner.Separate.{AllMet}
+use Rattle.pie_model.specs.Separate.{AllMet}
 use Rattle.pie_model.specs.inner.Consistent.{IsRecorded}
 use Rattle.pie_step_laws.specs.Table.{IsTable}
 use Rattle.pie_model_pipeline.specs.Rows.{record_of}

@@ -14,7 +14,7 @@ use Rattle.pie_record.specs.declared.records.Records.{Records}
 use Rattle.pie_record.specs.declared.task_record.TaskRecord.{TaskRecord}
 use Rattle.pie_tables.specs.declared.tables.Tables.{Tables}
 use Rattle.pie_named.specs.declared.named.Named.{Named}
-use Rattle.pie_named.specs.Stamped.{stamp_in, differs_from}
+use Rattle.pie_named.specs.inner.Stamped.{stamp_in, differs_from}
 use Rattle.pie_compare.specs.inner.Standing.{DepStands}
 use Rattle.pie_model.specs.declared.words.How.{How}
 use Rattle.pie_model.specs.declared.words.Event.TheVariants.{Require}

@@ -30,7 +30,7 @@ use Rattle.pie_step_laws.specs.Table.{IsTable}
 use Rattle.pie_step_laws.specs.Frames.{begun, set_aside}
 use Rattle.pie_settle_laws.specs.Going.{Ends, before_wait}
 use Rattle.pie_model_pipeline.specs.Words.{effect_of, fault_of, how_of}
-use Rattle.pie_model_pipeline.specs.inner.Answers.{answer_of}
+use Rattle.pie_model_pipeline.specs.Answers.{answer_of}
 use Rattle.pie_model_pipeline.specs.Rows.{record_of}
 use Rattle.pie_model_pipeline.specs.World.{world}
 use Rattle.pie_builder_laws.specs.Names.{AreTasks}

@@ -21,7 +21,7 @@ use Rattle.pie_model.specs.Trees.{outcome_of, trace_of, is_done as ends_well, is
 use Rattle.pie_model.specs.Evaluation.{World, Project, evaluation}
 use Rattle.pie_model.specs.Records.{Record}
 use Rattle.pie_model.specs.inner.Consistent.{IsRecorded}
-use Rattle.pie_model.specs.inner.Separate.{AllMet}
+use Rattle.pie_model.specs.Separate.{AllMet}
 use Rattle.pie_model.proofs.Basics.{clash}
 use Rattle.pie_model.proofs.Rooms.{Standing, standing, all_plain, node_alone}
 use Rattle.pie_model.proofs.SecondLaw.{done_plain}

@@ -11,8 +11,8 @@ use Rattle.pie_model.specs.Trees.{outcome_of, trace_of, writes_of, is_done}
 use Rattle.pie_model.specs.Evaluation.{Project, evaluation}
 use Rattle.pie_model.specs.Records.{record_of as model_record}
 use Rattle.pie_model.specs.Built.{store_rows}
-use Rattle.pie_model.specs.inner.Reasons.{SameCode}
-use Rattle.pie_model.specs.inner.Separate.{AllMet, NeverWritesWhatItSaw, StampsSeparate}
+use Rattle.pie_model.specs.Reasons.{SameCode}
+use Rattle.pie_model.specs.Separate.{AllMet, NeverWritesWhatItSaw, StampsSeparate}
 use Rattle.pie_model_pipeline.specs.Rows.{record_of}
 use Rattle.pie_model_pipeline.specs.World.{world, next}
 use Rattle.pie_earlier_laws.specs.Functions.{digest_under}

@@ -6,7 +6,7 @@ use Rattle.pie_base.specs.declared.fault.FaultKind.TheVariants.{Budget}
 use Rattle.pie_value.specs.declared.event.Event.{Event}
 use Rattle.pie_value.specs.declared.event.Answer.{Answer}
 use Rattle.pie_value.specs.Types.{TyTree}
-use Rattle.pie_value.specs.inner.BuiltinForms.{Answered}
+use Rattle.pie_value.specs.BuiltinForms.{Answered}
 use Rattle.pie_operators.specs.Domain.{Outcome, done, fails, wants, State, Act, give, fault, pass, then_do, ticked, by_answer}
 use Rattle.pie_types.specs.Headings.{Heading}
 use Rattle.pie_type_laws.specs.Fitting.{IsOf}

@@ -15,7 +15,7 @@ use Rattle.pie_value.specs.Tree.{Tree as Val, TText, TPath, TList, TBytes, items
 use Rattle.pie_value.specs.Values.{tree_of}
 use Rattle.pie_value.specs.Types.{TyTree, UnitTy, BoolTy, TextTy, PathTy, ListTy, NullableTy, BytesTy}
 use Rattle.pie_value.specs.Limits.{is_small_task}
-use Rattle.pie_value.specs.inner.BuiltinForms.{Answered}
+use Rattle.pie_value.specs.BuiltinForms.{Answered}
 use Rattle.pie_operators.specs.declared.asking.Observation.{Observation}
 use Rattle.pie_operators.specs.declared.asking.Observation.TheVariants.{Exists, Read, Digest, List as Listing}
 use Rattle.pie_operators.specs.declared.asking.Question.{Question}

@@ -12,11 +12,11 @@ use Rattle.pie_value.specs.declared.builtin.Builtin.TheVariants as builtins
 use Rattle.pie_value.specs.Tree.{Tree as Val, Trees as Vals, TBool, TInt, TText, TPath, TList, TNull, TBytes, Nil, Cons, items_of, list_of}
 use Rattle.pie_value.specs.Types.{TyTree, BoolTy, IntTy, TextTy, PathTy, ListTy, NullableTy, BytesTy, parts_of}
 use Rattle.pie_value.specs.HasType.{has_type, all_items}
-use Rattle.pie_value.specs.inner.BuiltinForms.{Answered, made, given, at_place, cut_out}
-use Rattle.pie_value.specs.inner.BuiltinTexts.{starts_with, ends_with, first_place, with_between, replaced, lines_of, trimmed, is_between_characters, int_spelt}
-use Rattle.pie_value.specs.inner.BuiltinItems.{all_as, as_int, as_text, as_path, as_bytes, as_list, sorted_by, ints_from, all_joined}
-use Rattle.pie_value.specs.inner.Builtins.{path_or_fault, text_answer, length_answer, split_answer, item_or_fault, sort_answer, some_answer}
-use Rattle.pie_value.specs.inner.Builtins.{get_answer, is_null, answer_of}
+use Rattle.pie_value.specs.BuiltinForms.{Answered, made, given, at_place, cut_out}
+use Rattle.pie_value.specs.BuiltinTexts.{starts_with, ends_with, first_place, with_between, replaced, lines_of, trimmed, is_between_characters, int_spelt}
+use Rattle.pie_value.specs.BuiltinItems.{all_as, as_int, as_text, as_path, as_bytes, as_list, sorted_by, ints_from, all_joined}
+use Rattle.pie_value.specs.Builtins.{path_or_fault, text_answer, length_answer, split_answer, item_or_fault, sort_answer, some_answer}
+use Rattle.pie_value.specs.Builtins.{get_answer, is_null, answer_of}
 use Rattle.pie_signature.specs.declared.wanted.Wanted.TheVariants as wants
 use Rattle.pie_signature.specs.Wanted.{fits}
 use Rattle.pie_signature.specs.Signatures.{wanted_of, answer_type_of}

@@ -7,10 +7,10 @@ use Rattle.pie_base.specs.Path.{is_path}
 use Rattle.pie_value.specs.declared.builtin.Builtin.TheVariants as builtins
 use Rattle.pie_value.specs.Tree.{Tree as Val, TUnit, TBool, TInt, TText, TPath, TList, TTuple, TNull, TBytes, count_of}
 use Rattle.pie_value.specs.Types.{TyTree, BoolTy, IntTy, TextTy, PathTy, ListTy, NullableTy, BytesTy}
-use Rattle.pie_value.specs.inner.BuiltinForms.{Answered, made, made_or_null, given, at_place, cut_out}
-use Rattle.pie_value.specs.inner.BuiltinTexts.{pieces}
-use Rattle.pie_value.specs.inner.BuiltinItems.{as_int, as_text, as_path, text_list}
-use Rattle.pie_value.specs.inner.Builtins.{path_or_fault, text_answer, length_answer, split_answer, some_answer, get_answer}
+use Rattle.pie_value.specs.BuiltinForms.{Answered, made, made_or_null, given, at_place, cut_out}
+use Rattle.pie_value.specs.BuiltinTexts.{pieces}
+use Rattle.pie_value.specs.BuiltinItems.{as_int, as_text, as_path, text_list}
+use Rattle.pie_value.specs.Builtins.{path_or_fault, text_answer, length_answer, split_answer, some_answer, get_answer}
 use Rattle.pie_signature.specs.declared.wanted.Wanted.TheVariants as wants
 use Rattle.pie_signature.specs.Wanted.{fits}
 use Rattle.pie_signature.specs.Signatures.{answer_type_of}

@@ -9,7 +9,7 @@ use Rattle.pie_value.specs.declared.event.How.TheVariants.{Whole, Hashed, Ran}
 use Rattle.pie_value.specs.Tree.{Tree as Val, items_of}
 use Rattle.pie_value.specs.Types.{TyTree, TextTy, PathTy, NullableTy, BytesTy, parts_of}
 use Rattle.pie_value.specs.HasType.{has_type, have_types}
-use Rattle.pie_value.specs.inner.Builtins.{answer_of}
+use Rattle.pie_value.specs.Builtins.{answer_of}
 use Rattle.pie_signature.specs.Names.{builtin_of}
 use Rattle.pie_signature.specs.Signatures.{arity_of}
 use Rattle.pie_operators.specs.declared.asking.Observation.TheVariants as observations

@@ -6,9 +6,9 @@ use Rattle.pie_base.specs.declared.fault.FaultKind.TheVariants.{Range as RangeFa
 use Rattle.pie_value.specs.Tree.{Tree as Val, Trees as Vals, Nil, Cons, items_of, list_of}
 use Rattle.pie_value.specs.Types.{TyTree, IntTy}
 use Rattle.pie_value.specs.HasType.{has_type, all_items}
-use Rattle.pie_value.specs.inner.BuiltinTexts.{and_then}
-use Rattle.pie_value.specs.inner.BuiltinItems.{all_as, ints_from, all_joined}
-use Rattle.pie_value.specs.inner.Builtins.{item_or_fault}
+use Rattle.pie_value.specs.BuiltinTexts.{and_then}
+use Rattle.pie_value.specs.BuiltinItems.{all_as, ints_from, all_joined}
+use Rattle.pie_value.specs.Builtins.{item_or_fault}
 use Rattle.pie_type_laws.specs.Fitting.{IsOf}
 use Rattle.pie_type_laws.proofs.Safe.{IsKnown}
 use Rattle.pie_type_laws.proofs.Acts.{Good}

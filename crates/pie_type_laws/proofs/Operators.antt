@@ -8,8 +8,8 @@ use Rattle.pie_value.specs.Tree.{Tree as Val, Trees as Vals, TInt, TText, TPath,
 use Rattle.pie_value.specs.Types.{TyTree, TyTrees, UnitTy, BoolTy, IntTy, TextTy, PathTy, ListTy, TupleTy, NullableTy, BytesTy, NoTy, MoreTy, parts_of}
 use Rattle.pie_value.specs.HasType.{has_type, have_types, all_items}
 use Rattle.pie_value.specs.Limits.{is_small}
-use Rattle.pie_value.specs.inner.BuiltinForms.{Answered, made}
-use Rattle.pie_value.specs.inner.BuiltinItems.{joined}
+use Rattle.pie_value.specs.BuiltinForms.{Answered, made}
+use Rattle.pie_value.specs.BuiltinItems.{joined}
 use Rattle.pie_operators.specs.Operators.{fits, checked, unary_answer, sum_of, of_ints, divided, remainder, compared, binary_answer}
 use Rattle.pie_operators.specs.Operators.{list_with, tuple_with, item_or_unknown}
 use Rattle.pie_parser.specs.declared.tree.Operator.{Operator}

@@ -5,7 +5,7 @@ use Rattle.pie_value.specs.declared.builtin.Builtin.{Builtin}
 use Rattle.pie_value.specs.Tree.{Tree as Val, Trees as Vals, TInt, TText, TPath, TList, TBytes, items_of}
 use Rattle.pie_value.specs.Types.{TyTree, IntTy, TextTy, PathTy, ListTy, NullableTy, BytesTy, parts_of}
 use Rattle.pie_value.specs.HasType.{has_type}
-use Rattle.pie_value.specs.inner.BuiltinForms.{Answered, of_one, of_two, of_three}
+use Rattle.pie_value.specs.BuiltinForms.{Answered, of_one, of_two, of_three}
 use Rattle.pie_signature.specs.declared.wanted.Wanted.{Wanted}
 use Rattle.pie_signature.specs.declared.wanted.Wanted.TheVariants as wants
 use Rattle.pie_signature.specs.Wanted.{fits, named, is_nullable}

@@ -6,7 +6,7 @@ use Rattle.std.specs.BTreeMap.{BTreeMap, get_by_text}
 use Rattle.std.proofs.lemmas.List.{length-map, map-append}
 use Rattle.std.proofs.lemmas.Slice.Eq.{bytes_eq-Decides}
 use Rattle.pie_value.specs.Types.{parts_of}
-use Rattle.pie_value.specs.inner.TypeTrees.{ty_tree, ty_trees}
+use Rattle.pie_value.specs.TypeTrees.{ty_tree, ty_trees}
 use Rattle.pie_value.specs.declared.ty.Ty.{Ty}
 use Rattle.pie_types.specs.declared.headings.Heading.{Heading as DHeading}
 use Rattle.pie_types.specs.Headings.{Heading, place_from, function_in}

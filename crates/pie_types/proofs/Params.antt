@@ -4,7 +4,7 @@ use Rattle.pie_value.specs.Tree.{Tree, items_of}
 use Rattle.pie_value.specs.declared.value.Value.{Value}
 use Rattle.pie_value.specs.Values.{tree_of, trees_of}
 use Rattle.pie_value.specs.Types.{MoreTy, parts_of}
-use Rattle.pie_value.specs.inner.TypeTrees.{ty_tree}
+use Rattle.pie_value.specs.TypeTrees.{ty_tree}
 use Rattle.pie_value.specs.HasType.{has_type, have_types}
 use Rattle.pie_value.proofs.Elements.{trees_left}
 use Rattle.pie_types.specs.declared.scope.Bound.{Bound}

@@ -3,7 +3,7 @@ use Rattle.std.proofs.Common.{◌≡◌, Bool, true, false, ◌&&◌, refl, ap, 
 use Rattle.std.specs.Prelude.{IsTrue, ◌↔◌}
 use Rattle.pie_value.specs.declared.ty.Ty.{Ty}
 use Rattle.pie_value.specs.Types.{TyTree, TyTrees, UnitTy, BoolTy, IntTy, TextTy, PathTy, ListTy, TupleTy, NullableTy, BytesTy, NoTy, MoreTy}
-use Rattle.pie_value.specs.inner.TypeTrees.{ty_tree}
+use Rattle.pie_value.specs.TypeTrees.{ty_tree}
 use Rattle.pie_value.proofs.TypeElements.{ty_tree_inj}
 use Rattle.pie_types.specs.Operators.{same_type, same_types}
 

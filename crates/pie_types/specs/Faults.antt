@@ -1,7 +1,7 @@
 -- Refusals, and answers that may be one.
 use Rattle.std.specs.Prelude.{◌≡◌, ℕ, Result, Ok, Err}
 use Rattle.pie_value.specs.Types.{TyTree}
-use Rattle.pie_value.specs.inner.TypeTrees.{ty_tree}
+use Rattle.pie_value.specs.TypeTrees.{ty_tree}
 use Rattle.pie_types.specs.declared.error.TypeError.{TypeError}
 use Rattle.pie_types.specs.declared.error.TypeError.TheVariants as errors
 use Rattle.pie_types.specs.declared.error.TypeFault.{TypeFault}

@@ -1,6 +1,6 @@
 //! Blocks, and the choice between them.
 ghost use Rattle.std.specs.Prelude.{◌≡◌, OnOk};
-ghost use Rattle.pie_value.specs.inner.TypeTrees.{ty_tree};
+ghost use Rattle.pie_value.specs.TypeTrees.{ty_tree};
 ghost use Rattle.pie_parser.specs.Plain.{AnElse, NoElse};
 ghost use Rattle.pie_parser.specs.TreeView.{block_of, last_of, lines_of};
 ghost use Rattle.pie_types.specs.Faults.{TypingAgrees};

@@ -1,6 +1,6 @@
 //! Calls by name.
 ghost use Rattle.std.specs.Prelude.{◌≡◌, OnOk};
-ghost use Rattle.pie_value.specs.inner.TypeTrees.{ty_tree, ty_trees};
+ghost use Rattle.pie_value.specs.TypeTrees.{ty_tree, ty_trees};
 ghost use Rattle.pie_parser.specs.TreeView.{trees_of};
 ghost use Rattle.pie_types.specs.Faults.{TypingAgrees};
 ghost use Rattle.pie_types.specs.Spans.{at_of, end_of};

@@ -1,6 +1,6 @@
 //! What a call by name calls.
 ghost use Rattle.std.specs.Prelude.{◌≡◌, IfOk, option_map, slice_get};
-ghost use Rattle.pie_value.specs.inner.TypeTrees.{ty_tree, ty_trees};
+ghost use Rattle.pie_value.specs.TypeTrees.{ty_tree, ty_trees};
 ghost use Rattle.pie_types.specs.Faults.{TypingAgrees};
 ghost use Rattle.pie_signature.specs.Signatures.{answer_type_of};
 ghost use Rattle.pie_types.specs.Headings.{function_in};

@@ -1,6 +1,6 @@
 //! The one call: from a syntax tree to its types.
 ghost use Rattle.std.specs.Prelude.{◌≡◌, IfOk};
-ghost use Rattle.pie_value.specs.inner.TypeTrees.{ty_tree};
+ghost use Rattle.pie_value.specs.TypeTrees.{ty_tree};
 ghost use Rattle.pie_types.specs.Faults.{TypingAgrees};
 ghost use Rattle.pie_types.specs.Whole as spec;
 ghost use Rattle.pie_types.specs.inner.WholeRules.{IsTyped};

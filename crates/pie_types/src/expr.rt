@@ -1,7 +1,7 @@
 //! The type of an expression.
 ghost use Rattle.std.specs.Prelude.{◌≡◌, OnOk, ◌∷◌};
 ghost use Rattle.pie_value.specs.Types.{ListTy, TupleTy, parts_of};
-ghost use Rattle.pie_value.specs.inner.TypeTrees.{ty_tree, ty_trees};
+ghost use Rattle.pie_value.specs.TypeTrees.{ty_tree, ty_trees};
 ghost use Rattle.pie_parser.specs.TreeView.{trees_of};
 ghost use Rattle.pie_types.specs.Faults.{TypingAgrees};
 ghost use Rattle.pie_types.specs.Checking as spec;

@@ -1,6 +1,6 @@
 //! What operators ask of their operands, and what forms answer.
 ghost use Rattle.std.specs.Prelude.{◌≡◌, IfOk};
-ghost use Rattle.pie_value.specs.inner.TypeTrees.{ty_tree};
+ghost use Rattle.pie_value.specs.TypeTrees.{ty_tree};
 ghost use Rattle.pie_types.specs.Operators as spec;
 
 use pie_base::OutOfMemory;

@@ -1,6 +1,6 @@
 //! Types that are expected, and refusals.
 ghost use Rattle.std.specs.Prelude.{◌≡◌};
-ghost use Rattle.pie_value.specs.inner.TypeTrees.{ty_tree};
+ghost use Rattle.pie_value.specs.TypeTrees.{ty_tree};
 ghost use Rattle.pie_parser.specs.TreeView.{block_of};
 ghost use Rattle.pie_types.specs.Faults.{TypingAgrees};
 ghost use Rattle.pie_types.specs.Spans.{answer_at, answer_end, at_of, end_of};

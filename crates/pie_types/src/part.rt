@@ -1,7 +1,7 @@
 //! Parts of types: items of tuples and of lists.
 ghost use Rattle.std.specs.Prelude.{◌≡◌};
 ghost use Rattle.pie_value.specs.Types.{ListTy, parts_of};
-ghost use Rattle.pie_value.specs.inner.TypeTrees.{ty_tree, ty_trees};
+ghost use Rattle.pie_value.specs.TypeTrees.{ty_tree, ty_trees};
 ghost use Rattle.pie_types.specs.Faults.{TypingAgrees};
 ghost use Rattle.pie_types.specs.Operators as spec;
 

@@ -1,6 +1,6 @@
 //! The names in scope, each with its type.
 ghost use Rattle.std.specs.Prelude.{◌≡◌, [], OnOk, length, take, option_map};
-ghost use Rattle.pie_value.specs.inner.TypeTrees.{ty_tree};
+ghost use Rattle.pie_value.specs.TypeTrees.{ty_tree};
 ghost use Rattle.pie_types.specs.Faults.{TypingAgrees};
 ghost use Rattle.pie_types.specs.Scope.{entered, may_enter, type_in, with_name};
 ghost use Rattle.pie_types.specs.inner.Shown.{entries_of};

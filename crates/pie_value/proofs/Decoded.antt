@@ -12,7 +12,7 @@ use Rattle.pie_value.specs.declared.value_fault.ValueFault.TheVariants.{Short, B
 use Rattle.pie_value.specs.Tree.{Tree, items_of, count_of}
 use Rattle.pie_value.specs.Values.{tree_of}
 use Rattle.pie_value.specs.Canonical.{counted, enc, enc_items, enc_task, IsCanonical, IsCanonicalTask}
-use Rattle.pie_value.specs.inner.Reading.{Parsed, then_on, tested_of, items_prefix, value_within, value_prefix, alone, value_whole, task_prefix}
+use Rattle.pie_value.specs.Reading.{Parsed, then_on, tested_of, items_prefix, value_within, value_prefix, alone, value_whole, task_prefix}
 use Rattle.pie_value.specs.inner.Agreement.{ValueAgrees, ValueAgreesOnPrefix, Refuses}
 use Rattle.pie_value.proofs.Taking.{IsBytes, then_ok, same_value, same_rest, Takes, Takes-then, tested_takes, tested_again}
 use Rattle.pie_value.proofs.ReadBack.{value_read, front_read}

@@ -7,9 +7,9 @@ use Rattle.pie_value.specs.declared.builtin.Builtin.TheVariants.{Lines, Slice, A
 use Rattle.pie_value.specs.Tree.{Tree, TBool, TInt, TText, TPath, TList, TTuple, TNull, Nil, Cons}
 use Rattle.pie_value.specs.Canonical.{be32, enc}
 use Rattle.pie_value.specs.Shown.{shown}
-use Rattle.pie_value.specs.inner.BuiltinItems.{text_list}
-use Rattle.pie_value.specs.inner.BuiltinForms.{Answered}
-use Rattle.pie_value.specs.inner.Builtins.{answer_of}
+use Rattle.pie_value.specs.BuiltinItems.{text_list}
+use Rattle.pie_value.specs.BuiltinForms.{Answered}
+use Rattle.pie_value.specs.Builtins.{answer_of}
 
 abbrev answers : Tree → Answered
 answers t = Ok t

@@ -12,8 +12,8 @@ use Rattle.pie_value.specs.declared.reader.Tag.TheVariants.{Bytes as TagBytes}
 use Rattle.pie_value.specs.Tree.{Tree, Trees, TUnit, TBool, TInt, TText, TPath, TList, TTuple, TNull, TBytes, items_of, count_of}
 use Rattle.pie_value.specs.Size.{depth_of, deepest_of}
 use Rattle.pie_value.specs.Canonical.{be32, enc, encs, enc_items, HasShortParts, HaveShortParts, HasTrueLeaves, HaveTrueLeaves}
-use Rattle.pie_value.specs.inner.Reading.{Parsed, tag_of, flag_of, int_of, number_of, counted_of, tested_of, is_path_text, values_of}
-use Rattle.pie_value.specs.inner.Reading.{items_prefix, tagged, value_within}
+use Rattle.pie_value.specs.Reading.{Parsed, tag_of, flag_of, int_of, number_of, counted_of, tested_of, is_path_text, values_of}
+use Rattle.pie_value.specs.Reading.{items_prefix, tagged, value_within}
 use Rattle.pie_value.proofs.Elements.{count_of_items}
 use Rattle.pie_value.proofs.Taking.{IsBytes, then_ok, same_value, same_rest, Takes, Takes-then, tag_byte, tag_takes, flag_takes}
 use Rattle.pie_value.proofs.Taking.{number_takes, int_takes, counted_takes, tested_takes}

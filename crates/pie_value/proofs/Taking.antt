@@ -17,8 +17,8 @@ use Rattle.pie_value.specs.declared.reader.Tag.TheVariants.{Unit as TagUnit, Boo
 use Rattle.pie_value.specs.declared.reader.Tag.TheVariants.{Path as TagPath, List as TagList, Tuple as TagTuple, Null as TagNull}
 use Rattle.pie_value.specs.declared.reader.Tag.TheVariants.{Bytes as TagBytes}
 use Rattle.pie_value.specs.Canonical.{be32, counted}
-use Rattle.pie_value.specs.inner.Reading.{Parsed, then_on, byte_of, bytes_of, number_of, int_of, counted_of, tested_of, known, tag_at}
-use Rattle.pie_value.specs.inner.Reading.{flag_at, tag_of, flag_of}
+use Rattle.pie_value.specs.Reading.{Parsed, then_on, byte_of, bytes_of, number_of, int_of, counted_of, tested_of, known, tag_at}
+use Rattle.pie_value.specs.Reading.{flag_at, tag_of, flag_of}
 
 abbrev pub IsBytes : List ℕ → Type 0
 IsBytes bytes = (i : ℕ) → get_or bytes i 0 < 256

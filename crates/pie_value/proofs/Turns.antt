@@ -3,7 +3,7 @@ use Rattle.std.proofs.Common.{◌≡◌, ℕ, zero, suc, ◌+◌, ◌-◌, ◌<�
 use Rattle.pie_value.specs.declared.value_fault.ValueFault.{ValueFault}
 use Rattle.pie_value.specs.declared.reader.Tag.{Tag}
 use Rattle.pie_value.specs.Tree.{Tree}
-use Rattle.pie_value.specs.inner.Reading.{Parsed, then_on, tag_of, tagged, values_of, value_within}
+use Rattle.pie_value.specs.Reading.{Parsed, then_on, tag_of, tagged, values_of, value_within}
 
 left_is : (n i : ℕ) → i < n → n - i ≡ suc (n - (i + 1))
 left_is n i h = omega arith

@@ -9,7 +9,7 @@ use Rattle.pie_value.specs.declared.value.Value.{Value}
 use Rattle.pie_value.specs.Tree.{Tree, items_of}
 use Rattle.pie_value.specs.Values.{tree_of, trees_of}
 use Rattle.pie_value.specs.Types.{TyTree, TyTrees, NoTy, MoreTy, parts_of, ty_mass, parts_weight}
-use Rattle.pie_value.specs.inner.TypeTrees.{ty_tree, ty_trees}
+use Rattle.pie_value.specs.TypeTrees.{ty_tree, ty_trees}
 use Rattle.pie_value.specs.HasType.{has_type, have_types}
 use Rattle.pie_value.proofs.Elements.{trees_left}
 

@@ -12,7 +12,7 @@ use Rattle.pie_value.specs.Tree.{Tree, Trees, TUnit, TBool, TInt, TText, TPath, 
 use Rattle.pie_value.specs.Tree.{list_of, count_of}
 use Rattle.pie_value.specs.Size.{depth_of, deepest_of}
 use Rattle.pie_value.specs.Canonical.{be32, counted, enc, encs, enc_items, HasShortParts, HaveShortParts, HasTrueLeaves, HaveTrueLeaves}
-use Rattle.pie_value.specs.inner.Reading.{Parsed, then_on, flag_of, is_path_text, values_of, items_prefix, value_within}
+use Rattle.pie_value.specs.Reading.{Parsed, then_on, flag_of, is_path_text, values_of, items_prefix, value_within}
 use Rattle.pie_value.proofs.Taking.{number_again, int_bytes, int_again, counted_again, tested_again}
 use Rattle.pie_value.proofs.Turns.{value_goes}
 

@@ -7,4 +7,10 @@ pub mod Limits
 pub mod Values
 pub mod Types
 pub mod HasType
+pub mod BuiltinForms
+pub mod BuiltinItems
+pub mod BuiltinTexts
+pub mod Builtins
+pub mod Reading
+pub mod TypeTrees
 pub mod inner

@@ -5,7 +5,7 @@ ghost use Rattle.pie_value.specs.Tree.{Tree};
 ghost use Rattle.pie_value.specs.Values.{tree_of};
 ghost use Rattle.pie_value.specs.Canonical.{IsCanonical, IsCanonicalTask};
 ghost use Rattle.pie_value.specs.inner.Agreement.{ValueAgrees, ValueAgreesOnPrefix, Refuses};
-ghost use Rattle.pie_value.specs.inner.Reading.{value_prefix, value_whole, task_prefix};
+ghost use Rattle.pie_value.specs.Reading.{value_prefix, value_whole, task_prefix};
 
 use crate::reader::Reader;
 use crate::{Task, Value, ValueFault};

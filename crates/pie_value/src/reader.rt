@@ -3,8 +3,8 @@ ghost use Rattle.std.specs.Prelude.{◌≡◌, ◌-◌, ◌==◌, [], length, Ma
 ghost use Rattle.std.specs.Str.{is_utf8};
 ghost use Rattle.pie_value.specs.Values.{tree_of};
 ghost use Rattle.pie_value.specs.inner.Agreement.{ValueAgrees, ValueAgreesOnPrefix};
-ghost use Rattle.pie_value.specs.inner.Reading.{byte_of, bytes_of, number_of, int_of, counted_of, tested_of, is_path_text, tag_at, tag_of};
-ghost use Rattle.pie_value.specs.inner.Reading.{flag_of, tagged, items_prefix, value_within, value_prefix, value_whole, task_prefix};
+ghost use Rattle.pie_value.specs.Reading.{byte_of, bytes_of, number_of, int_of, counted_of, tested_of, is_path_text, tag_at, tag_of};
+ghost use Rattle.pie_value.specs.Reading.{flag_of, tagged, items_prefix, value_within, value_prefix, value_whole, task_prefix};
 
 use crate::{Blob, Items, Task, Value, ValueFault};
 use pie_base::{MAX_DEPTH, Path, PathError, Text};
@@ -95,7 +95,7 @@ impl<'a> Reader<'a> {
         Ok(front)
     }
 
-    #[tactic(auto, unfolding(crate::specs::inner::Reading::number_of))]
+    #[tactic(auto, unfolding(crate::specs::Reading::number_of))]
     fn number(&mut self) -> Result<usize, ValueFault>
         ensures { ValueAgrees (λ n. n) result self.new (number_of self.old) }
     {
@@ -106,7 +106,7 @@ impl<'a> Reader<'a> {
         Ok(u32::from_be_bytes(*digits) as usize)
     }
 
-    #[tactic(auto, unfolding(crate::specs::inner::Reading::int_of))]
+    #[tactic(auto, unfolding(crate::specs::Reading::int_of))]
     fn int(&mut self) -> Result<i64, ValueFault>
         ensures { ValueAgrees (λ n. n) result self.new (int_of self.old) }
     {
@@ -235,7 +235,7 @@ impl<'a> Reader<'a> {
         Ok(items)
     }
 
-    #[tactic(auto, unfolding(crate::specs::inner::Reading::value_prefix))]
+    #[tactic(auto, unfolding(crate::specs::Reading::value_prefix))]
     fn front(&mut self, alloc: Global) -> Result<Value, ValueFault>
         ensures { ValueAgrees tree_of result self.new (value_prefix self.old) }
     {
@@ -243,7 +243,7 @@ impl<'a> Reader<'a> {
         Ok(value)
     }
 
-    #[tactic(auto, unfolding(crate::specs::inner::Reading::value_prefix))]
+    #[tactic(auto, unfolding(crate::specs::Reading::value_prefix))]
     fn front_items(&mut self, alloc: Global) -> Result<Items, ValueFault>
         ensures { ValueAgrees (λ ts. ts) result self.new (items_prefix value_prefix self.old) }
     {

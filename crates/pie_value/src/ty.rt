@@ -1,6 +1,6 @@
 //! The types of the language.
 ghost use Rattle.std.specs.Prelude.{◌≡◌, IfOk};
-ghost use Rattle.pie_value.specs.inner.TypeTrees.{ty_tree, ty_trees};
+ghost use Rattle.pie_value.specs.TypeTrees.{ty_tree, ty_trees};
 
 use pie_base::OutOfMemory;
 use std::alloc::Global;
@@ -44,7 +44,7 @@ impl Model for Part {
 
     ghost coded = { coded_ty };
 
-    ghost use Rattle.pie_value.specs.inner.TypeTrees.{ty_tree};
+    ghost use Rattle.pie_value.specs.TypeTrees.{ty_tree};
 
     ghost view = { λ a. ty_tree a.ty.value };
 
@@ -64,7 +64,7 @@ impl Model for Parts {
 
     ghost coded = { coded_tys };
 
-    ghost use Rattle.pie_value.specs.inner.TypeTrees.{ty_trees};
+    ghost use Rattle.pie_value.specs.TypeTrees.{ty_trees};
 
     ghost view = { λ a. ty_trees a.types.value.items };
 

@@ -3,7 +3,7 @@ ghost use Rattle.std.specs.Prelude.{◌≡◌, ◌↔◌, IsTrue};
 ghost use Rattle.pie_value.specs.Tree.{items_of};
 ghost use Rattle.pie_value.specs.Values.{tree_of, trees_of};
 ghost use Rattle.pie_value.specs.Types.{parts_of};
-ghost use Rattle.pie_value.specs.inner.TypeTrees.{ty_tree, ty_trees};
+ghost use Rattle.pie_value.specs.TypeTrees.{ty_tree, ty_trees};
 ghost use Rattle.pie_value.specs.HasType.{all_items, has_type, have_types};
 
 use crate::{Part, Ty, Value};

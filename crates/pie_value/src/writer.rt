@@ -6,7 +6,7 @@ ghost use Rattle.pie_value.specs.Tree.{items_of};
 ghost use Rattle.pie_value.specs.Values.{tree_of, trees_of};
 ghost use Rattle.pie_value.specs.Canonical.{be32, counted, enc, encs, enc_items, enc_task, HasShortParts, HaveShortParts, HasTrueLeaves};
 ghost use Rattle.pie_value.specs.Canonical.{HaveTrueLeaves, IsEncodable, IsEncodableTask, IsCanonical, IsCanonicalTask};
-ghost use Rattle.pie_value.specs.inner.Reading.{value_whole, task_prefix};
+ghost use Rattle.pie_value.specs.Reading.{value_whole, task_prefix};
 
 use crate::{Items, Task, Value, size};
 use pie_base::OutOfMemory;

@@ -2,7 +2,7 @@
 use Rattle.std.proofs.Common.{◌≡◌, ℕ, Bool, true, false, cond, ◌||◌, List, [], ◌∷◌, ◌++◌, map, Vec, refl, sym, ap, ◌∙◌}
 use Rattle.std.specs.List.{list_any}
 use Rattle.std.proofs.lemmas.List.{map-append}
-use Rattle.pie_value.specs.inner.BuiltinTexts.{same_bytes}
+use Rattle.pie_value.specs.BuiltinTexts.{same_bytes}
 use Rattle.pie_operators.specs.Domain.{holds, with_path}
 use Rattle.pie_vm.specs.Stacks.{bytes_of}
 

@@ -4,10 +4,10 @@ use Rattle.pie_base.specs.declared.memory.OutOfMemory.{OutOfMemory}
 use Rattle.pie_value.specs.declared.value.Value.{Value}
 use Rattle.pie_value.specs.Tree.{Tree}
 use Rattle.pie_value.specs.Values.{tree_of}
-use Rattle.pie_value.specs.inner.BuiltinForms.{Answered}
+use Rattle.pie_value.specs.BuiltinForms.{Answered}
 use Rattle.pie_operators.specs.declared.fault.OperatorFault.{OperatorFault}
 use Rattle.pie_operators.specs.declared.fault.OperatorFault.TheVariants.{Fault, OutOfMemory as NoMemory}
-use Rattle.pie_operators.specs.Agreement.{ResultAgrees}
+use Rattle.pie_operators.specs.inner.Agreement.{ResultAgrees}
 use Rattle.pie_operators.specs.Domain.{by_answer}
 use Rattle.pie_code.specs.Running.{Config, Turn, act_on}
 use Rattle.pie_vm.specs.declared.ending.Ending.{Ending}

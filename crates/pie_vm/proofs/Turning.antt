@@ -10,7 +10,7 @@ use Rattle.pie_value.specs.declared.event.Event.TheVariants as events
 use Rattle.pie_value.specs.declared.event.By.TheVariants.{Hash, Mark, Raw}
 use Rattle.pie_value.specs.Tree.{Tree, TUnit}
 use Rattle.pie_value.specs.Values.{tree_of, trees_of}
-use Rattle.pie_value.specs.inner.BuiltinForms.{Answered}
+use Rattle.pie_value.specs.BuiltinForms.{Answered}
 use Rattle.pie_operators.specs.declared.asking.Observation.TheVariants.{Exists, Read, Digest, List as Listing}
 use Rattle.pie_operators.specs.declared.asking.Question.{Question}
 use Rattle.pie_operators.specs.declared.asking.Question.TheVariants.{Observe, Write, Require}

@@ -1,7 +1,7 @@
 //! The instructions that ask the outside.
 ghost use Rattle.std.specs.Prelude.{◌≡◌, Ok, Some, length, ◌≤◌, slice_get, OnOk};
 ghost use Rattle.pie_operators.specs.Domain.{by_answer};
-ghost use Rattle.pie_operators.specs.Agreement.{ResultAgrees};
+ghost use Rattle.pie_operators.specs.inner.Agreement.{ResultAgrees};
 ghost use Rattle.pie_operators.specs.Effects.{noted, observe, require, taken as spec_taken, write, write_bytes};
 ghost use Rattle.pie_code.specs.Running.{act_on, pop, pop_many, pop_two, require_named, settle};
 ghost use Rattle.pie_vm.specs.Steps.{Moved, Turned, ask, told as spec_told, took, without};

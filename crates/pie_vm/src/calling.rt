@@ -1,8 +1,8 @@
 //! The call of a built-in function.
 ghost use Rattle.std.specs.Prelude.{◌≡◌, List, length, ◌≤◌, take, drop, reverse};
-ghost use Rattle.pie_value.specs.inner.Builtins.{answer_of};
+ghost use Rattle.pie_value.specs.Builtins.{answer_of};
 ghost use Rattle.pie_signature.specs.Signatures.{arity_of};
-ghost use Rattle.pie_operators.specs.Agreement.{ResultAgrees};
+ghost use Rattle.pie_operators.specs.inner.Agreement.{ResultAgrees};
 ghost use Rattle.pie_operators.specs.Domain.{by_answer};
 ghost use Rattle.pie_code.specs.Running.{act_on, pop_many};
 ghost use Rattle.pie_vm.specs.Steps.{Moved};

@@ -2,8 +2,8 @@
 ghost use Rattle.std.specs.Prelude.{◌≡◌, slice_get};
 ghost use Rattle.pie_value.specs.Tree.{TText};
 ghost use Rattle.pie_value.specs.Values.{tree_of};
-ghost use Rattle.pie_value.specs.inner.BuiltinForms.{made};
-ghost use Rattle.pie_operators.specs.Agreement.{ResultAgrees};
+ghost use Rattle.pie_value.specs.BuiltinForms.{made};
+ghost use Rattle.pie_operators.specs.inner.Agreement.{ResultAgrees};
 ghost use Rattle.pie_operators.specs.Domain.{by_answer};
 ghost use Rattle.pie_operators.specs.Effects.{fail};
 ghost use Rattle.pie_code.specs.Running.{act_on, finish, pop, push_found, push_text, store, tick};

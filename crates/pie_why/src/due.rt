@@ -1,6 +1,6 @@
 //! Which old tasks a build takes up first.
 ghost use Rattle.std.specs.Prelude.{◌≡◌, IfOk};
-ghost use Rattle.pie_named.specs.Names.{SameNames};
+ghost use Rattle.pie_named.specs.inner.Names.{SameNames};
 ghost use Rattle.pie_why.specs.Due.{Learning, SaysDue};
 
 use crate::functions::flag_of;

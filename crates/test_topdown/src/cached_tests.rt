@@ -1,6 +1,6 @@
 //! Builds with the offers of former builds, each beside a clean build of the same sources.
 ghost use Rattle.std.specs.Prelude.{All};
-ghost use Rattle.pie_topdown_build.specs.Offered.{IsNew};
+ghost use Rattle.pie_topdown_build.specs.inner.Offered.{IsNew};
 
 use crate::cases::SITE_FILES;
 use crate::offer_tests::told;

@@ -1,6 +1,6 @@
 //! Builds with offers that are made by hand: which are kept, and which are passed over.
 ghost use Rattle.std.specs.Prelude.{All, IfOk};
-ghost use Rattle.pie_topdown_build.specs.Offered.{IsNew};
+ghost use Rattle.pie_topdown_build.specs.inner.Offered.{IsNew};
 
 use crate::cases::SITE_FILES;
 use crate::offers::{Counting, Swapped, Texts};

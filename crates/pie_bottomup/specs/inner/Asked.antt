@@ -8,11 +8,11 @@ use Rattle.pie_value.specs.declared.event.Event.TheVariants as events
 use Rattle.pie_value.specs.Canonical.{enc_task}
 use Rattle.pie_files.specs.declared.files.Call.{Call}
 use Rattle.pie_graph.specs.Numbers.{IsMarked}
-use Rattle.pie_named.specs.inner.Asking.{AsksFor, IsNamedOrAbove}
+use Rattle.pie_named.specs.Asking.{AsksFor, IsNamedOrAbove}
 use Rattle.pie_model.specs.Paths.{among}
 use Rattle.pie_model.specs.Trees.{trace_of}
 use Rattle.pie_model.specs.Evaluation.{evaluation}
-use Rattle.pie_model.specs.inner.Reasons.{observed_paths}
+use Rattle.pie_model.specs.Reasons.{observed_paths}
 use Rattle.pie_model_pipeline.specs.World.{world}
 use Rattle.pie_core_laws.specs.Update.{Update, present}
 use Rattle.pie_bottomup.specs.declared.state.Core.{Core}

@@ -11,7 +11,7 @@ use Rattle.pie_store.specs.declared.cause.Cause.{Cause}
 use Rattle.pie_store.specs.declared.cause.Cause.TheVariants as causes
 use Rattle.pie_model.specs.Paths.{among}
 use Rattle.pie_model.specs.Built.{store_rows}
-use Rattle.pie_model.specs.inner.Changes.{IsTried as IsTriedNow, IsUnionEdge}
+use Rattle.pie_model.specs.Changes.{IsTried as IsTriedNow, IsUnionEdge}
 use Rattle.pie_model_pipeline.specs.World.{world}
 use Rattle.pie_builder_laws.specs.Views.{AreNumbersOf}
 use Rattle.pie_entering_laws.specs.inner.Laws.{HasFunction, IsRoot}

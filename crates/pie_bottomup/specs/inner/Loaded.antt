@@ -13,7 +13,7 @@ use Rattle.pie_old.specs.inner.Rows.{AreRowsOf}
 use Rattle.pie_walk.specs.declared.marks.Mark.TheVariants.{New}
 use Rattle.pie_walk.specs.Marks.{mark_of}
 use Rattle.pie_model.specs.Built.{store_rows}
-use Rattle.pie_model.specs.inner.Reasons.{SameCode}
+use Rattle.pie_model.specs.Reasons.{SameCode}
 use Rattle.pie_model_pipeline.specs.Rows.{record_of}
 use Rattle.pie_model_pipeline.specs.World.{world, next}
 use Rattle.pie_builder_laws.specs.Names.{AreTasks}

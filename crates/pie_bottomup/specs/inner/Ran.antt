@@ -11,7 +11,7 @@ use Rattle.pie_old.specs.inner.Code.{is_same_code}
 use Rattle.pie_types.specs.Whole.{number_from}
 use Rattle.pie_model.specs.Forest.{entered_tasks}
 use Rattle.pie_model.specs.Paths.{among}
-use Rattle.pie_model.specs.inner.Reasons.{RunReason}
+use Rattle.pie_model.specs.Reasons.{RunReason}
 use Rattle.pie_model_pipeline.specs.World.{world}
 use Rattle.pie_earlier_laws.specs.Functions.{digest_under}
 use Rattle.pie_core_laws.specs.Update.{Update, present, old_record}

@@ -5,7 +5,7 @@ use Rattle.pie_graph.specs.Numbers.{IsMarked}
 use Rattle.pie_record.specs.declared.task_record.TaskRecord.{TaskRecord}
 use Rattle.pie_record.specs.inner.Records.{record_of}
 use Rattle.pie_named.specs.declared.named.Named.{Named}
-use Rattle.pie_named.specs.Names.{SameNames}
+use Rattle.pie_named.specs.inner.Names.{SameNames}
 use Rattle.pie_named.specs.inner.Known.{IsTrueOf, StaysKnown}
 use Rattle.pie_compare.specs.inner.Touching.{IsTouched, IsKnownTouched}
 use Rattle.pie_bottomup.specs.declared.state.Core.{Core}

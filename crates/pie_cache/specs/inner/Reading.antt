@@ -4,7 +4,7 @@ use Rattle.std.specs.Str.{bytes_eq}
 use Rattle.sha2.specs.Sha256.{sha256}
 use Rattle.pie_record.specs.declared.record_fault.RecordFault.{RecordFault}
 use Rattle.pie_record.specs.declared.record_fault.RecordFault.TheVariants.{Short as NoMore, BadTag, BadPath, BadValue, OutOfMemory as NoMemory}
-use Rattle.pie_record.specs.inner.Reading.{Parsed as Part, then_on as then_part, counted_at, record_at}
+use Rattle.pie_record.specs.Reading.{Parsed as Part, then_on as then_part, counted_at, record_at}
 use Rattle.pie_store.specs.inner.Offers.{Offered}
 use Rattle.pie_cache.specs.declared.cache_fault.CacheFault.{CacheFault}
 use Rattle.pie_cache.specs.declared.cache_fault.CacheFault.TheVariants.{Count, Entry, Rest, OutOfMemory}

@@ -4,7 +4,7 @@ use Rattle.pie_record.specs.declared.dep.Dep.{Dep}
 use Rattle.pie_record.specs.declared.dep.DepOn.TheVariants.{File}
 use Rattle.pie_record.specs.declared.task_record.TaskRecord.{TaskRecord}
 use Rattle.pie_named.specs.declared.named.Named.{Named}
-use Rattle.pie_named.specs.inner.Asking.{IsNamedOrAbove}
+use Rattle.pie_named.specs.Asking.{IsNamedOrAbove}
 use Rattle.pie_compare.specs.inner.Touching.{SomeOf}
 
 -- one of these observations is of a path

@@ -35,7 +35,7 @@ use Rattle.pie_step_laws.specs.Frames.{begun, was_answered}
 use Rattle.pie_step_laws.specs.UnderWay.{UnderWay, HasEnded}
 use Rattle.pie_step_laws.specs.EndLaws.{Requires}
 use Rattle.pie_model_pipeline.specs.Words.{fault_of, how_of, effect_of, output_or_big}
-use Rattle.pie_model_pipeline.specs.inner.Answers.{answer_of}
+use Rattle.pie_model_pipeline.specs.Answers.{answer_of}
 use Rattle.pie_model_pipeline.specs.Rows.{observation_of}
 use Rattle.pie_model_pipeline.specs.World.{world, project}
 use Rattle.pie_builder_laws.specs.Names.{AreTasks, called_in}

@@ -9,15 +9,15 @@ use Rattle.pie_files.specs.Directory.{Directory}
 use Rattle.pie_files.specs.declared.files.Call.{Call}
 use Rattle.pie_files.specs.declared.files.Call.TheVariants.{Read, Names, AllUnder, Write, Remove, Sync}
 use Rattle.pie_model.specs.Paths.{among}
-use Rattle.pie_model.specs.inner.Reasons.{MayAsk, project_files}
+use Rattle.pie_model.specs.Reasons.{MayAsk, project_files}
 use Rattle.pie_model_pipeline.specs.World.{world}
-use Rattle.pie_named.specs.inner.Asking.{AsksFor, MakesOnly}
+use Rattle.pie_named.specs.Asking.{AsksFor, MakesOnly}
 use Rattle.pie_parser.specs.FunctionTrees.{FunctionTree}
 use Rattle.pie_project.specs.declared.project.Project.{Project}
 use Rattle.pie_report.specs.declared.report.Report.{Report}
 use Rattle.pie_store.specs.declared.cause.Cause.{Cause}
 use Rattle.pie_store.specs.declared.image.StoreImage.{StoreImage}
-use Rattle.pie_store.specs.inner.Pending.{in_order}
+use Rattle.pie_store.specs.Pending.{in_order}
 use Rattle.pie_value.specs.Canonical.{enc_task}
 use Rattle.pie_value.specs.declared.task.Task.{Task}
 use Rattle.pie_incremental.specs.declared.base.Base.{Base}

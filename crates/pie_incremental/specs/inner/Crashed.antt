@@ -12,7 +12,7 @@ use Rattle.pie_model_pipeline.specs.World.{world}
 use Rattle.pie_project.specs.declared.project.Project.{Project}
 use Rattle.pie_record.specs.declared.task_record.TaskRecord.{TaskRecord}
 use Rattle.pie_store.specs.declared.image.StoreImage.{StoreImage}
-use Rattle.pie_store.specs.inner.Pending.{in_order}
+use Rattle.pie_store.specs.Pending.{in_order}
 use Rattle.pie_value.specs.declared.task.Task.{Task}
 use Rattle.pie_incremental.specs.declared.base.Base.{Base}
 use Rattle.pie_incremental.specs.declared.base.OwnFiles.{OwnFiles}

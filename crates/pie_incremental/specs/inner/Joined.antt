@@ -16,7 +16,7 @@ use Rattle.pie_report.specs.declared.report.Report.{Report}
 use Rattle.pie_store.specs.Canonical.{AreInOrder}
 use Rattle.pie_store.specs.declared.cause.Cause.{Cause}
 use Rattle.pie_store.specs.declared.image.StoreImage.{StoreImage}
-use Rattle.pie_store.specs.inner.Pending.{in_order}
+use Rattle.pie_store.specs.Pending.{in_order}
 use Rattle.pie_value.specs.Canonical.{IsEncodableTask}
 use Rattle.pie_value.specs.declared.task.Task.{Task}
 use Rattle.pie_value.specs.declared.verdict.Verdict.{Verdict}

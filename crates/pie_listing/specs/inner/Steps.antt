@@ -8,7 +8,7 @@ use Rattle.pie_scan.specs.Changes.{AreChanged}
 use Rattle.pie_scan.specs.Entries.{AreInOrder}
 use Rattle.pie_scan.specs.Scanned.{AreScanned}
 use Rattle.pie_scan.specs.Texts.{HasMark, IsManifest, IsManifestText}
-use Rattle.pie_scan.specs.inner.Reading.{manifest_says}
+use Rattle.pie_scan.specs.Reading.{manifest_says}
 use Rattle.pie_listing.specs.declared.kept.Kept.{Kept}
 use Rattle.pie_listing.specs.declared.kept.Kept.TheVariants.{Good, Bad}
 use Rattle.pie_listing.specs.declared.listing.Listing.{Listing}

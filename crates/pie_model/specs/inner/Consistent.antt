@@ -5,8 +5,8 @@ use Rattle.pie_model.specs.Tasks.{Task}
 use Rattle.pie_model.specs.Trees.{outcome_of, trace_of, is_done, is_plain}
 use Rattle.pie_model.specs.Evaluation.{World, Project, evaluation}
 use Rattle.pie_model.specs.Records.{Record, record_of, needs_of}
-use Rattle.pie_model.specs.inner.StampNow.{Told, by_records, RecordAgrees}
-use Rattle.pie_model.specs.inner.Separate.{AllMet}
+use Rattle.pie_model.specs.StampNow.{Told, by_records, RecordAgrees}
+use Rattle.pie_model.specs.Separate.{AllMet}
 use Rattle.pie_model.specs.inner.Present.{Reaches, WroteByRecords, IsTold}
 
 -- a task has a present record

@@ -5,8 +5,8 @@ use Rattle.pie_model.specs.Tasks.{Task}
 use Rattle.pie_model.specs.Trees.{trace_of, is_plain, levels}
 use Rattle.pie_model.specs.Evaluation.{World, Project, evaluation}
 use Rattle.pie_model.specs.Records.{Record, record_of, needs_of, Query, task_asked}
-use Rattle.pie_model.specs.inner.StampNow.{Told, by_evaluation, by_records, stamp_now}
-use Rattle.pie_model.specs.inner.Separate.{StampsSeparate, ListingsDiffer, AllMet, NeverWritesWhatItSaw}
+use Rattle.pie_model.specs.StampNow.{Told, by_evaluation, by_records, stamp_now}
+use Rattle.pie_model.specs.Separate.{StampsSeparate, ListingsDiffer, AllMet, NeverWritesWhatItSaw}
 use Rattle.pie_model.specs.inner.Present.{Reaches, WroteByRecords, IsTold}
 use Rattle.pie_model.specs.inner.Consistent.{IsRecorded, IsUpToDate, IsConsistent, IsSettled}
 use Rattle.pie_model.specs.inner.Still.{SourcesStill, WasDone}

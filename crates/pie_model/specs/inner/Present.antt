@@ -6,7 +6,7 @@ use Rattle.pie_model.specs.Trees.{Node, StandsIn, task_of, trace_of, writes_of}
 use Rattle.pie_model.specs.Seen.{first_write}
 use Rattle.pie_model.specs.Evaluation.{World, Project, evaluation}
 use Rattle.pie_model.specs.Records.{Record, hashed, needs_of}
-use Rattle.pie_model.specs.inner.StampNow.{Told, Untold, ToldHash, ToldClash}
+use Rattle.pie_model.specs.StampNow.{Told, Untold, ToldHash, ToldClash}
 
 -- a way by zero or more requires of the records, to a task
 pub data Way (R : Task → Option Record) (to : Task) : Task → Type 0 where

@@ -6,8 +6,8 @@ use Rattle.pie_model.specs.Trees.{Node, Many, outcome_of, trace_of, is_done, is_
 use Rattle.pie_model.specs.Seen.{provided}
 use Rattle.pie_model.specs.Evaluation.{World, Project, evaluation_under, evaluation}
 use Rattle.pie_model.specs.Records.{Record, record_of}
-use Rattle.pie_model.specs.inner.StampNow.{Told, told_of, by_evaluation, RecordAgrees}
-use Rattle.pie_model.specs.inner.Separate.{StampsSeparate, ListingsDiffer, AllMet, NeverWritesWhatItSaw}
+use Rattle.pie_model.specs.StampNow.{Told, told_of, by_evaluation, RecordAgrees}
+use Rattle.pie_model.specs.Separate.{StampsSeparate, ListingsDiffer, AllMet, NeverWritesWhatItSaw}
 use Rattle.pie_model.specs.inner.Present.{Reaches, WroteByRecords, IsTold}
 
 -- what passes a test

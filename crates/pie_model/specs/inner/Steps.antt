@@ -4,7 +4,7 @@ use Rattle.pie_model.specs.Paths.{Out, kind_of, among}
 use Rattle.pie_model.specs.Tasks.{Task}
 use Rattle.pie_model.specs.Evaluation.{World}
 use Rattle.pie_model.specs.Records.{Record, Stamp, Query, Looked, Listed, Required, Observation, needs_of}
-use Rattle.pie_model.specs.inner.StampNow.{recorded_outcome, outcome_now}
+use Rattle.pie_model.specs.StampNow.{recorded_outcome, outcome_now}
 use Rattle.pie_model.specs.inner.Present.{Reaches}
 
 -- every observation has this

@@ -6,8 +6,8 @@ use Rattle.pie_model.specs.Tasks.{Task}
 use Rattle.pie_model.specs.Trees.{outcome_of, trace_of, is_done}
 use Rattle.pie_model.specs.Evaluation.{World, Project, listing, evaluation}
 use Rattle.pie_model.specs.Records.{Stamp, Query, Looked, Listed, Required, Observation, look_stamp, Record, record_of}
-use Rattle.pie_model.specs.inner.StampNow.{listing_now}
-use Rattle.pie_model.specs.inner.Separate.{AllMet}
+use Rattle.pie_model.specs.StampNow.{listing_now}
+use Rattle.pie_model.specs.Separate.{AllMet}
 
 -- a look at a source path, or a listing, has the stamp that it would get now
 abbrev pub SourceStampStill : World → Project → Query → Stamp → Type 0

@@ -11,7 +11,7 @@ use Rattle.pie_parser.specs.FunctionTrees.{FunctionTree}
 use Rattle.pie_model.specs.declared.words.Answer.{Answer as ModelAnswer}
 use Rattle.pie_model.specs.declared.words.Answer.TheVariants as model
 use Rattle.pie_model_pipeline.specs.Words.{event_of}
-use Rattle.pie_model_pipeline.specs.inner.Answers.{value_with, answer_of}
+use Rattle.pie_model_pipeline.specs.Answers.{value_with, answer_of}
 use Rattle.pie_model_pipeline.specs.World.{task_evaluates_to, next}
 
 -- the canonical bytes of a task of the language mean in the model what the task means

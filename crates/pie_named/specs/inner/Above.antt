@@ -4,7 +4,7 @@ use Rattle.std.specs.Ordering.{nat_cmp, is_eq}
 use Rattle.std.specs.Cmp.Lexicographic.{slice_cmp}
 use Rattle.pie_base.specs.Path.{is_below, same_text}
 use Rattle.pie_named.specs.declared.paths.Paths.{Paths}
-use Rattle.pie_named.specs.Names.{has}
+use Rattle.pie_named.specs.inner.Names.{has}
 
 -- one path comes, and all others stay
 abbrev pub Adds : Paths → Paths → List ℕ → Type 0

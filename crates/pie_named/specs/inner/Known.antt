@@ -7,7 +7,7 @@ use Rattle.pie_record.specs.declared.dep.DepKind.TheVariants as kinds
 use Rattle.pie_named.specs.declared.stamps.FileStamp.{FileStamp}
 use Rattle.pie_named.specs.declared.stamps.Stamps.{Stamps}
 use Rattle.pie_named.specs.declared.named.Named.{Named}
-use Rattle.pie_named.specs.Stamped.{stamp_in, differs_from}
+use Rattle.pie_named.specs.inner.Stamped.{stamp_in, differs_from}
 use Rattle.pie_named.specs.inner.Stamps.{stamp_at}
 
 -- each stamp is that of an observation of this kind

@@ -2,7 +2,7 @@
 use Rattle.std.specs.Prelude.{◌≡◌, ℕ, ◌≤◌, List, length, drop, Result, Ok, Err}
 use Rattle.pie_record.specs.declared.record_fault.RecordFault.{RecordFault}
 use Rattle.pie_record.specs.declared.record_fault.RecordFault.TheVariants.{OutOfMemory}
-use Rattle.pie_record.specs.inner.Reading.{Parsed}
+use Rattle.pie_record.specs.Reading.{Parsed}
 
 -- an answer is what is read, being out of memory left free
 abbrev pub RowAgrees : {A B : Type 0} → (A → B) → Result A RecordFault → List ℕ → Parsed B → Type 0

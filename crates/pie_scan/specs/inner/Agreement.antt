@@ -3,7 +3,7 @@ use Rattle.std.specs.Prelude.{◌≡◌, ℕ, List, Result, Ok, Err}
 use Rattle.pie_scan.specs.declared.manifest.Manifest.{Manifest}
 use Rattle.pie_scan.specs.declared.manifest_fault.ManifestFault.{ManifestFault}
 use Rattle.pie_scan.specs.declared.manifest_fault.ManifestFault.TheVariants.{OutOfMemory}
-use Rattle.pie_scan.specs.inner.Reading.{Parsed}
+use Rattle.pie_scan.specs.Reading.{Parsed}
 
 -- an answer is what is read, being out of memory left free
 abbrev pub ManifestAgrees : {A B : Type 0} → (A → B) → Result A ManifestFault → List ℕ → Parsed B → Type 0

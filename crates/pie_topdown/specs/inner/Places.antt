@@ -10,7 +10,7 @@ use Rattle.pie_record.specs.declared.dep.Dep.{Dep}
 use Rattle.pie_record.specs.declared.dep.DepOn.{DepOn}
 use Rattle.pie_record.specs.declared.dep.DepOn.TheVariants.{File, Called}
 use Rattle.pie_named.specs.declared.named.Named.{Named}
-use Rattle.pie_named.specs.Stamped.{stamp_in, differs_from}
+use Rattle.pie_named.specs.inner.Stamped.{stamp_in, differs_from}
 use Rattle.pie_named.specs.inner.Known.{known_stamp, known_differs, IsTrueOf}
 use Rattle.pie_compare.specs.inner.Standing.{Around, DepStands}
 use Rattle.pie_topdown.specs.declared.ledger.Ledger.{Ledger}

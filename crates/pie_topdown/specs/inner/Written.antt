@@ -4,7 +4,7 @@ use Rattle.pie_value.specs.declared.stamp.Stamp.TheVariants.{Hash}
 use Rattle.pie_record.specs.declared.dep.DepKind.TheVariants.{ReadHash}
 use Rattle.pie_files.specs.Directory.{Directory}
 use Rattle.pie_named.specs.declared.named.Named.{Named}
-use Rattle.pie_named.specs.Stamped.{stamp_in, differs_from}
+use Rattle.pie_named.specs.inner.Stamped.{stamp_in, differs_from}
 use Rattle.pie_named.specs.inner.Known.{IsTrueOf}
 
 -- what was written is at its path in a directory

@@ -1,6 +1,6 @@
 use Rattle.std.proofs.Common.{◌≡◌, ◌++◌, ◌∷◌, [], Some, None, sym, ap, ◌∙◌, arith}
 use Rattle.std.proofs.lemmas.List.{map-append}
-use Rattle.pie_value.specs.inner.TypeTrees.{ty_tree, ty_trees}
+use Rattle.pie_value.specs.TypeTrees.{ty_tree, ty_trees}
 use Rattle.pie_parser.specs.declared.tree.Form.TheVariants as forms
 use Rattle.pie_types.specs.inner.Callees.{callee_tree}
 use Rattle.pie_types.proofs.Left.{line_mass_at, step_mass_at, tree_mass_at}

@@ -1,5 +1,5 @@
 use Rattle.std.proofs.Common.{◌≡◌, ◌+◌, ◌*◌, drop}
-use Rattle.pie_value.specs.inner.TypeTrees.{ty_tree, ty_trees}
+use Rattle.pie_value.specs.TypeTrees.{ty_tree, ty_trees}
 use Rattle.pie_parser.specs.TreeView.{trees_of, steps_of, lines_of, last_of, block_of, mass, trees_mass, steps_mass, block_mass, lines_mass, last_mass}
 use Rattle.pie_types.specs.Checking.{operands, types_of, more_items, arguments, after_lines}
 use Rattle.pie_types.specs.inner.Callees.{callee_tree}

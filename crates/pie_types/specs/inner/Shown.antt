@@ -1,6 +1,6 @@
 -- What the program's names, headings and callees mean.
 use Rattle.std.specs.Prelude.{List, map}
-use Rattle.pie_value.specs.inner.TypeTrees.{ty_tree}
+use Rattle.pie_value.specs.TypeTrees.{ty_tree}
 use Rattle.pie_types.specs.declared.scope.Bound.{Bound}
 use Rattle.pie_types.specs.declared.headings.Heading.{Heading as DHeading}
 use Rattle.pie_types.specs.Scope.{Entry}

@@ -1,7 +1,7 @@
 use Rattle.std.proofs.Common.{◌<◌, ap, arith}
 use Rattle.pie_value.specs.declared.ty.Ty.{Ty}
 use Rattle.pie_value.specs.Types.{ty_mass, parts_weight}
-use Rattle.pie_value.specs.inner.TypeTrees.{ty_tree, ty_trees}
+use Rattle.pie_value.specs.TypeTrees.{ty_tree, ty_trees}
 use Rattle.pie_value.proofs.TypeElements.{ty_mass_at, ty_decided, tys_decided}
 use Rattle.pie_value.proofs.+same_types.Goals as goal
 

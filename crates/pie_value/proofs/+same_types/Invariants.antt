@@ -1,6 +1,6 @@
 use Rattle.std.proofs.Common.{◌≡◌, take}
 use Rattle.pie_value.specs.Types.{ty_mass, parts_weight}
-use Rattle.pie_value.specs.inner.TypeTrees.{ty_tree, ty_trees}
+use Rattle.pie_value.specs.TypeTrees.{ty_tree, ty_trees}
 use Rattle.pie_value.proofs.+same_types.Given as goal
 
 abbrev pub invariant-typing::same_each-loop-i : goal.invariant-typing::same_each-loop-i

@@ -2,7 +2,7 @@ use Rattle.std.proofs.Common.{◌≡◌, drop}
 use Rattle.pie_value.specs.Tree.{items_of}
 use Rattle.pie_value.specs.Values.{trees_of}
 use Rattle.pie_value.specs.Types.{parts_of, ty_mass, part_weight, parts_weight}
-use Rattle.pie_value.specs.inner.TypeTrees.{ty_tree, ty_trees}
+use Rattle.pie_value.specs.TypeTrees.{ty_tree, ty_trees}
 use Rattle.pie_value.specs.HasType.{all_items, has_type, have_types}
 use Rattle.pie_value.proofs.TypeElements.{types_from}
 use Rattle.pie_value.proofs.+typing.Given as goal

@@ -2,7 +2,7 @@
 use Rattle.std.specs.Prelude.{◌≡◌, ℕ, ◌≤◌, List, length, drop, Result, Ok, Err}
 use Rattle.pie_value.specs.declared.value_fault.ValueFault.{ValueFault}
 use Rattle.pie_value.specs.declared.value_fault.ValueFault.TheVariants.{OutOfMemory}
-use Rattle.pie_value.specs.inner.Reading.{Parsed}
+use Rattle.pie_value.specs.Reading.{Parsed}
 
 -- an answer is what is read, being out of memory left free
 abbrev pub ValueAgrees : {A B : Type 0} → (A → B) → Result A ValueFault → List ℕ → Parsed B → Type 0

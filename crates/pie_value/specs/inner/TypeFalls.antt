@@ -8,7 +8,7 @@ use Rattle.pie_value.specs.declared.ty.Part.TheInside as part
 use Rattle.pie_value.specs.declared.ty.Parts.TheInside as parts
 use Rattle.pie_value.specs.declared.ty.Part.TheDeep.{deep-Ty, deep-Part, deep-Parts}
 use Rattle.pie_value.specs.Types.{ty_mass, part_weight, parts_weight}
-use Rattle.pie_value.specs.inner.TypeTrees.{ty_tree, ty_trees}
+use Rattle.pie_value.specs.TypeTrees.{ty_tree, ty_trees}
 
 deep_le_mass : (t : Ty) → deep-Ty t ≤ ty_mass (ty_tree t)
 deep_le_mass VUnit = omega arith

@@ -3,7 +3,7 @@ use Rattle.std.proofs.Common.{◌≡◌, ◌++◌, length, map}
 use denote.Text.{Utf8}
 use denote.Shadow.{shadow}
 use Rattle.pie_value.specs.Tree.{TText}
-use Rattle.pie_value.specs.inner.BuiltinTexts.{pieces, without_last_empty}
+use Rattle.pie_value.specs.BuiltinTexts.{pieces, without_last_empty}
 use Rattle.pie_builtins.proofs.pieces.all_lines.Given as goal
 
 abbrev pub decreases-loop-front : goal.decreases-loop-front

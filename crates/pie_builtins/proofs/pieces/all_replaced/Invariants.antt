@@ -3,7 +3,7 @@ use Rattle.std.proofs.Common.{◌≡◌, ◌++◌, length}
 use Rattle.std.specs.Prelude.{string_bytes}
 use denote.Text.{Utf8}
 use denote.Shadow.{shadow}
-use Rattle.pie_value.specs.inner.BuiltinTexts.{pieces, with_between}
+use Rattle.pie_value.specs.BuiltinTexts.{pieces, with_between}
 use Rattle.pie_builtins.proofs.pieces.all_replaced.Given as goal
 
 abbrev pub decreases-loop-front : goal.decreases-loop-front

@@ -2,7 +2,7 @@
 use Rattle.std.proofs.Common.{◌≡◌, ◌++◌, drop, option_map}
 use Rattle.pie_value.specs.Tree.{items_of}
 use Rattle.pie_value.specs.Values.{trees_of}
-use Rattle.pie_value.specs.inner.BuiltinItems.{all_as, as_int}
+use Rattle.pie_value.specs.BuiltinItems.{all_as, as_int}
 use Rattle.pie_builtins.proofs.sorts.all_ints.Given as goal
 
 abbrev pub invariant-loop-item : goal.invariant-loop-item

@@ -2,7 +2,7 @@
 use Rattle.std.proofs.Common.{◌≡◌, sym}
 use Rattle.std.specs.Ordering.{int_cmp}
 use Rattle.std.specs.Cmp.{int_cmp_total}
-use Rattle.pie_value.specs.inner.BuiltinItems.{sorted_by}
+use Rattle.pie_value.specs.BuiltinItems.{sorted_by}
 use Rattle.pie_builtins.proofs.Sorting.{sorted_is}
 use Rattle.pie_builtins.proofs.sorts.sorted_ints.Goals as goal
 

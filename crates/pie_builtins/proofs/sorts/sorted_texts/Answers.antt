@@ -3,7 +3,7 @@ use Rattle.std.proofs.Common.{◌≡◌, sym, ◌∙◌, ap, map, List, ℕ, Bor
 use Rattle.std.specs.Ordering.{nat_cmp}
 use Rattle.std.specs.Cmp.{on_total}
 use Rattle.std.specs.Cmp.Lexicographic.{slice_cmp, nat_list_cmp_total}
-use Rattle.pie_value.specs.inner.BuiltinItems.{sorted_by}
+use Rattle.pie_value.specs.BuiltinItems.{sorted_by}
 use Rattle.pie_builtins.proofs.Sorting.{sorted_is, map_sorted}
 use Rattle.pie_builtins.proofs.sorts.sorted_texts.Goals as goal
 

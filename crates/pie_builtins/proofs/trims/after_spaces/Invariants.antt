@@ -2,7 +2,7 @@
 use Rattle.std.proofs.Common.{◌≡◌, length}
 use denote.Text.{Utf8}
 use denote.Shadow.{shadow}
-use Rattle.pie_value.specs.inner.BuiltinTexts.{after_spaces as spec_after_spaces}
+use Rattle.pie_value.specs.BuiltinTexts.{after_spaces as spec_after_spaces}
 use Rattle.pie_builtins.proofs.trims.after_spaces.Given as goal
 
 abbrev pub decreases-loop-byte : goal.decreases-loop-byte

@@ -1,7 +1,7 @@
 use Rattle.std.proofs.Common.{◌≡◌, ◌∷◌, subst, rules}
 use Rattle.std.specs.Prelude.{All}
 use Rattle.std.proofs.lemmas.List.Elements.{All-tail}
-use Rattle.pie_topdown_build.specs.Offered.{IsNew}
+use Rattle.pie_topdown_build.specs.inner.Offered.{IsNew}
 use Rattle.pie_cached.proofs.building.with_paths.Goals as goal
 
 pub loop-digest-preserved : goal.loop-digest-preserved

@@ -1,6 +1,6 @@
 use Rattle.std.specs.Prelude.{All}
 use Rattle.pie_cache.specs.inner.Contents.{IsNews}
-use Rattle.pie_topdown_build.specs.Offered.{IsNew}
+use Rattle.pie_topdown_build.specs.inner.Offered.{IsNew}
 use Rattle.pie_cached.proofs.building.with_paths.Given as goal
 
 -- those that are left can be kept, and those so far have their paths

@@ -1,8 +1,8 @@
 use Rattle.std.proofs.Common.{◌≡◌, take}
 use Rattle.pie_files.specs.Reading.{LeavesAsBefore}
-use Rattle.pie_named.specs.Names.{SameNames}
+use Rattle.pie_named.specs.inner.Names.{SameNames}
 use Rattle.pie_named.specs.inner.Known.{StaysKnown}
-use Rattle.pie_named.specs.inner.Asking.{AsksFor}
+use Rattle.pie_named.specs.Asking.{AsksFor}
 use Rattle.pie_compare.specs.inner.Asked.{IsObservedIn, MayAskOf}
 use Rattle.pie_compare.specs.inner.Touching.{dep_differs, Passes}
 use Rattle.pie_compare.proofs.touched.is_any_sight_touched.Given as goal

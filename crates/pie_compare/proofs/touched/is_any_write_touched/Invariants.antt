@@ -1,8 +1,8 @@
 use Rattle.std.proofs.Common.{◌≡◌, ℕ, List, take}
 use Rattle.pie_files.specs.Reading.{LeavesAsBefore}
-use Rattle.pie_named.specs.Names.{SameNames}
+use Rattle.pie_named.specs.inner.Names.{SameNames}
 use Rattle.pie_named.specs.inner.Known.{StaysKnown}
-use Rattle.pie_named.specs.inner.Asking.{AsksFor}
+use Rattle.pie_named.specs.Asking.{AsksFor}
 use Rattle.pie_compare.specs.inner.Asked.{IsWrittenIn, MayAskOf}
 use Rattle.pie_compare.specs.inner.Touching.{write_differs, Passes}
 use Rattle.pie_compare.proofs.touched.is_any_write_touched.Given as goal

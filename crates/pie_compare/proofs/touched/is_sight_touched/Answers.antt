@@ -1,5 +1,5 @@
 use Rattle.std.proofs.Common.{sym, ◌∙◌}
-use Rattle.pie_named.specs.Stamped.{stamp_in, differs_from}
+use Rattle.pie_named.specs.inner.Stamped.{stamp_in, differs_from}
 use Rattle.pie_compare.specs.inner.Touching.{is_asked}
 use Rattle.pie_compare.proofs.Touches.{asked}
 use Rattle.pie_compare.proofs.Asks.{sight_asks}

@@ -1,8 +1,8 @@
 use Rattle.std.proofs.Common.{sym, ◌∙◌}
 use Rattle.pie_value.specs.declared.stamp.Stamp.TheVariants as stamps
 use Rattle.pie_record.specs.declared.dep.DepKind.TheVariants as kinds
-use Rattle.pie_named.specs.Names.{is_named}
-use Rattle.pie_named.specs.Stamped.{stamp_in, differs_from}
+use Rattle.pie_named.specs.inner.Names.{is_named}
+use Rattle.pie_named.specs.inner.Stamped.{stamp_in, differs_from}
 use Rattle.pie_compare.proofs.Touches.{asked}
 use Rattle.pie_compare.proofs.touched.is_write_touched.Goals as goal
 

@@ -1,7 +1,7 @@
 use Rattle.std.proofs.Common.{◌≡◌, drop}
 use Rattle.std.specs.Prelude.{Contains, IfSome}
 use Rattle.pie_files.specs.Reading.{LeavesAsBefore}
-use Rattle.pie_named.specs.inner.Asking.{AsksFor}
+use Rattle.pie_named.specs.Asking.{AsksFor}
 use Rattle.pie_diff.specs.inner.Held.{LooksAll}
 use Rattle.pie_diff.proofs.known.look_at.Given as goal
 

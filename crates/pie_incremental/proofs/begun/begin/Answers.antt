@@ -1,7 +1,7 @@
 use Rattle.std.proofs.Common.{rules, ◌≡◌, ◌++◌}
 use Rattle.pie_incremental.proofs.Leaving.{begun_knows}
 use Rattle.pie_incremental.proofs.Updating.{begun_digested}
-use Rattle.pie_store.specs.inner.Pending.{in_order}
+use Rattle.pie_store.specs.Pending.{in_order}
 use Rattle.pie_incremental.specs.inner.Asked.{IsAtFirst}
 use Rattle.pie_incremental.proofs.Asking.{first_files, first_names, looks_then}
 use Rattle.pie_incremental.proofs.begun.begin.Goals as goal

@@ -1,5 +1,5 @@
 use Rattle.pie_build.proofs.Cleaning.{is_ready}
-use Rattle.pie_store.specs.inner.Pending.{in_order}
+use Rattle.pie_store.specs.Pending.{in_order}
 use Rattle.std.specs.Prelude.{◌++◌}
 use Rattle.pie_incremental.proofs.Treating.{treats_result}
 use Rattle.pie_incremental.proofs.Cleanly.{from_project}

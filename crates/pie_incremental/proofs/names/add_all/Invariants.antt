@@ -1,7 +1,7 @@
 use Rattle.std.proofs.Common.{◌≡◌, drop}
 use Rattle.std.specs.List.{fold}
 use Rattle.std.specs.BTreeSet.{insert_key}
-use Rattle.pie_store.specs.inner.Pending.{path_cmp}
+use Rattle.pie_store.specs.Pending.{path_cmp}
 use Rattle.pie_incremental.proofs.names.add_all.Given as goal
 
 abbrev pub invariant-loop-path : goal.invariant-loop-path

@@ -1,5 +1,5 @@
 use Rattle.std.proofs.Common.{ℕ, List, ◌++◌, sym, subst, ◌∙◌}
-use Rattle.pie_store.specs.inner.Pending.{AreInPathOrder}
+use Rattle.pie_store.specs.Pending.{AreInPathOrder}
 use Rattle.pie_store.proofs.InOrder.{in_path_order}
 use Rattle.pie_incremental.proofs.names.joined_names.Goals as goal
 

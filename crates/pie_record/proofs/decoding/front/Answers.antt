@@ -1,5 +1,5 @@
 use Rattle.std.proofs.Common.{◌≡◌, Ok, arith}
-use Rattle.pie_record.specs.inner.Reading.{record_at}
+use Rattle.pie_record.specs.Reading.{record_at}
 use Rattle.pie_record.proofs.RecordCodec.{record_counted}
 use Rattle.pie_record.proofs.decoding.front.Goals as goal
 

@@ -1,7 +1,7 @@
 use Rattle.std.proofs.Common.{◌≡◌, List, Vec, Global, sym, ap, ◌∙◌}
-use Rattle.pie_record.specs.inner.Reading.{mark_at}
+use Rattle.pie_record.specs.Reading.{mark_at}
 use Rattle.pie_scan.specs.declared.entry.Entry.{Entry}
-use Rattle.pie_scan.specs.inner.Reading.{next_at, list_at, entry_key, entry_part}
+use Rattle.pie_scan.specs.Reading.{next_at, list_at, entry_key, entry_part}
 use Rattle.pie_scan.proofs.Turns.{list_fails, fault_goes}
 use Rattle.std.proofs.Common.{arith}
 use Rattle.pie_scan.proofs.Turns.{one_more}

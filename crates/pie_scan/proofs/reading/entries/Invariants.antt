@@ -1,5 +1,5 @@
 use Rattle.std.proofs.Common.{◌≡◌, ◌-◌, []}
-use Rattle.pie_scan.specs.inner.Reading.{some_at, next_at, entry_key, entry_part}
+use Rattle.pie_scan.specs.Reading.{some_at, next_at, entry_key, entry_part}
 use Rattle.pie_scan.proofs.reading.entries.Given as goal
 
 abbrev pub invariant-loop : goal.invariant-loop

@@ -1,6 +1,6 @@
 use Rattle.std.proofs.Common.{◌≡◌, ℕ, List, Vec, Global, sym, ap, ◌∙◌}
-use Rattle.pie_record.specs.inner.Reading.{path_at, number_at}
-use Rattle.pie_scan.specs.inner.Reading.{next_at, list_at, path_key}
+use Rattle.pie_record.specs.Reading.{path_at, number_at}
+use Rattle.pie_scan.specs.Reading.{next_at, list_at, path_key}
 use Rattle.pie_scan.proofs.Turns.{list_fails, fault_goes}
 use Rattle.std.proofs.Common.{arith}
 use Rattle.pie_scan.proofs.Turns.{one_more}

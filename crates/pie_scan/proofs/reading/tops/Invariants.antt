@@ -1,6 +1,6 @@
 use Rattle.std.proofs.Common.{◌≡◌, ◌-◌, []}
-use Rattle.pie_record.specs.inner.Reading.{path_at}
-use Rattle.pie_scan.specs.inner.Reading.{some_at, next_at, path_key}
+use Rattle.pie_record.specs.Reading.{path_at}
+use Rattle.pie_scan.specs.Reading.{some_at, next_at, path_key}
 use Rattle.pie_scan.proofs.reading.tops.Given as goal
 
 abbrev pub invariant-loop : goal.invariant-loop

@@ -5,7 +5,7 @@ use Rattle.pie_files.specs.declared.files.Call.TheVariants.{Read}
 use Rattle.pie_files.specs.Reading.{LeavesAsBefore}
 use Rattle.pie_scan.specs.Scanned.{entry_in}
 use Rattle.pie_scan.specs.Texts.{HasMark}
-use Rattle.pie_scan.specs.inner.Reading.{path_key}
+use Rattle.pie_scan.specs.Reading.{path_key}
 use Rattle.pie_scan.proofs.Pairs.{Rising}
 use Rattle.pie_scan.proofs.Noted.{Below}
 use Rattle.pie_scan.proofs.Growing.{AskedSo}

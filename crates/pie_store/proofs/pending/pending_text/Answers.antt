@@ -1,6 +1,6 @@
 use Rattle.std.proofs.Common.{rules, subst}
 use Rattle.std.specs.Prelude.{All}
-use Rattle.pie_store.specs.inner.Pending.{IsName}
+use Rattle.pie_store.specs.Pending.{IsName}
 use Rattle.pie_store.proofs.InOrder.{in_path_order, pending_is}
 use Rattle.pie_store.proofs.pending.pending_text.Goals as goal
 

@@ -1,6 +1,6 @@
 use Rattle.std.proofs.Common.{◌≡◌, ◌++◌}
 use Rattle.std.specs.Prelude.{All}
-use Rattle.pie_store.specs.inner.Pending.{lines, IsName}
+use Rattle.pie_store.specs.Pending.{lines, IsName}
 use Rattle.pie_store.proofs.pending.put_lines.Given as goal
 
 abbrev pub invariant-loop-path : goal.invariant-loop-path

@@ -1,5 +1,5 @@
 use Rattle.std.proofs.Common.{◌≡◌, drop}
-use Rattle.pie_value.specs.inner.TypeTrees.{ty_tree}
+use Rattle.pie_value.specs.TypeTrees.{ty_tree}
 use Rattle.pie_types.specs.Operators.{later_items}
 use Rattle.pie_types.proofs.part.later_items.Given as goal
 

@@ -1,5 +1,5 @@
 use Rattle.std.proofs.Common.{◌≡◌, ◌+◌, drop}
-use Rattle.pie_value.specs.inner.TypeTrees.{ty_trees}
+use Rattle.pie_value.specs.TypeTrees.{ty_trees}
 use Rattle.pie_parser.specs.TypeView.{types_of, type_mass, types_mass}
 use Rattle.pie_types.specs.Written.{written_each}
 use Rattle.pie_types.proofs.Steps.{onto}

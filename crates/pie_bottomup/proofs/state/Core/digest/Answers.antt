@@ -1,5 +1,5 @@
 use Rattle.std.proofs.Common.{◌≡◌}
-use Rattle.pie_named.specs.inner.Asking.{LooksAt}
+use Rattle.pie_named.specs.Asking.{LooksAt}
 use Rattle.pie_named.proofs.Calls.{asks_as, calls_then}
 use Rattle.pie_bottomup.specs.inner.Asked.{IsAskedBy}
 use Rattle.pie_value.specs.declared.event.Event.TheVariants as events

@@ -1,6 +1,6 @@
 use Rattle.std.proofs.Common.{◌≡◌, ℕ, ◌<◌, length}
 use Rattle.pie_files.specs.Reading.{LeavesAsBefore}
-use Rattle.pie_named.specs.inner.Asking.{AsksFor, IsNamedOrAbove}
+use Rattle.pie_named.specs.Asking.{AsksFor, IsNamedOrAbove}
 use Rattle.pie_bottomup.specs.inner.States.{IsDue, IsTested}
 use Rattle.pie_bottomup.specs.inner.Tested.{AreHeld, HoldsBy, Learns, OnlySchedules}
 use Rattle.pie_bottomup.proofs.state.Core.test_all.Given as goal

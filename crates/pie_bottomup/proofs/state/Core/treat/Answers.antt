@@ -1,5 +1,5 @@
 use Rattle.std.proofs.Common.{Ok, refl, sym, subst}
-use Rattle.pie_named.specs.inner.Asking.{LooksAt}
+use Rattle.pie_named.specs.Asking.{LooksAt}
 use Rattle.pie_named.proofs.Calls.{no_calls}
 use Rattle.pie_bottomup.specs.inner.Asked.{IsAskedBy}
 use Rattle.pie_value.specs.declared.event.Event.{Event}

@@ -1,5 +1,5 @@
 use Rattle.std.proofs.Common.{ap, ◌∙◌}
-use Rattle.pie_named.specs.Stamped.{differs_from}
+use Rattle.pie_named.specs.inner.Stamped.{differs_from}
 use Rattle.pie_named.proofs.named.Named.differs.Goals as goal
 
 pub returns-clause-compares : goal.returns-clause-compares

@@ -1,6 +1,6 @@
 use Rattle.std.proofs.Common.{ap, ◌∙◌}
 use Rattle.pie_value.specs.declared.stamp.Stamp.TheVariants as stamps
-use Rattle.pie_named.specs.Stamped.{differs_from}
+use Rattle.pie_named.specs.inner.Stamped.{differs_from}
 use Rattle.pie_named.proofs.named.Named.write_differs.Goals as goal
 
 pub returns-clause-compares : goal.returns-clause-compares

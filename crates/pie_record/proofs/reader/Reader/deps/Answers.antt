@@ -1,4 +1,4 @@
-use Rattle.pie_record.specs.inner.Reading.{dep_at, list_at}
+use Rattle.pie_record.specs.Reading.{dep_at, list_at}
 use Rattle.pie_record.proofs.Turns.{list_fails, fault_goes}
 use Rattle.std.proofs.Common.{arith}
 use Rattle.pie_record.proofs.Turns.{one_more}

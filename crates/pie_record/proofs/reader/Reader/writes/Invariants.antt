@@ -1,5 +1,5 @@
 use Rattle.std.proofs.Common.{◌≡◌, ◌-◌, []}
-use Rattle.pie_record.specs.inner.Reading.{many_at, write_at}
+use Rattle.pie_record.specs.Reading.{many_at, write_at}
 use Rattle.pie_record.proofs.reader.Reader.writes.Given as goal
 
 abbrev pub invariant-loop : goal.invariant-loop

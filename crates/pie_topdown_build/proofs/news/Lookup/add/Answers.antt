@@ -2,7 +2,7 @@ use Rattle.std.proofs.Common.{sym, subst}
 use Rattle.std.specs.Prelude.{IfSome}
 use Rattle.std.specs.List.{All}
 use Rattle.std.proofs.lemmas.List.Elements.{All-push}
-use Rattle.pie_topdown_build.specs.Offered.{IsNew}
+use Rattle.pie_topdown_build.specs.inner.Offered.{IsNew}
 use Rattle.pie_topdown_build.proofs.news.Lookup.add.Goals as goal
 
 pub returns-in-Some : goal.returns-in-Some

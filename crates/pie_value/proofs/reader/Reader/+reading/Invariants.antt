@@ -1,5 +1,5 @@
 use Rattle.std.proofs.Common.{◌≡◌, ◌-◌, ◌+◌, ◌*◌, []}
-use Rattle.pie_value.specs.inner.Reading.{values_of, value_within}
+use Rattle.pie_value.specs.Reading.{values_of, value_within}
 use Rattle.pie_value.proofs.reader.Reader.+reading.Given as goal
 
 abbrev pub decreases-value : goal.decreases-value

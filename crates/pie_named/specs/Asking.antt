@@ -3,12 +3,12 @@ use Rattle.std.specs.Prelude.{◌≡◌, ◌⊎◌, ℕ, true, List, ◌++◌, O
 use Rattle.std.specs.List.{All}
 use Rattle.pie_files.specs.declared.files.Call.{Call}
 use Rattle.pie_files.specs.declared.files.Call.TheVariants.{Read, Names, AllUnder, Write, Remove, Sync}
-use Rattle.pie_files.specs.inner.Calls.{Notes}
+use Rattle.pie_files.specs.Calls.{Notes}
 use Rattle.pie_record.specs.declared.dep.DepKind.{DepKind}
 use Rattle.pie_record.specs.declared.dep.DepKind.TheVariants as kinds
 use Rattle.pie_named.specs.declared.stamps.FileStamp.{FileStamp}
 use Rattle.pie_named.specs.declared.named.Named.{Named}
-use Rattle.pie_named.specs.Names.{is_named, is_above}
+use Rattle.pie_named.specs.inner.Names.{is_named, is_above}
 
 -- a path is a name, or a directory above one
 abbrev pub IsNamedOrAbove : Named → List ℕ → Type 0

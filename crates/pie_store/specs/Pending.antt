@@ -6,7 +6,7 @@ use Rattle.std.specs.BTreeSet.{insert_key}
 use Rattle.std.specs.declared.cmp.Ordering.{Ordering}
 use Rattle.std.specs.Ordering.{nat_cmp, is_lt}
 use Rattle.std.specs.Cmp.Lexicographic.{slice_cmp}
-use Rattle.pie_value.specs.inner.Reading.{is_path_text}
+use Rattle.pie_value.specs.Reading.{is_path_text}
 
 -- lines end with byte 10
 abbrev pub is_newline : ℕ → Bool

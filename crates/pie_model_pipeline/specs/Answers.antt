@@ -5,7 +5,7 @@ use Rattle.pie_value.specs.declared.event.Answer.TheVariants as answers
 use Rattle.pie_value.specs.declared.value.Value.{Value}
 use Rattle.pie_value.specs.declared.value.Value.TheVariants as values
 use Rattle.pie_value.specs.Tree.{Tree, TUnit, TBool, TInt, TText, TPath, TList, TTuple, TNull, TBytes, list_of}
-use Rattle.pie_value.specs.inner.Reading.{Parsed, value_whole}
+use Rattle.pie_value.specs.Reading.{Parsed, value_whole}
 use Rattle.pie_model.specs.declared.words.Answer.{Answer as ModelAnswer}
 use Rattle.pie_model.specs.declared.words.Answer.TheVariants as model
 

@@ -18,11 +18,11 @@ use Rattle.pie_value.specs.declared.builtin.Builtin.TheVariants.{Starts, Ends, R
 use Rattle.pie_value.specs.declared.builtin.Builtin.TheVariants.{Reverse, Sort, Flatten, Some as SomeOf, Get, IsNull, ToBytes, FromBytes}
 use Rattle.pie_value.specs.declared.builtin.Builtin.TheVariants.{SliceBytes}
 use Rattle.pie_value.specs.Tree.{Tree, Trees, TBool, TInt, TText, TPath, TList, TNull, TBytes, items_of, list_of, count_of}
-use Rattle.pie_value.specs.inner.BuiltinForms.{Answered, made, made_number, made_or_null, given, of_one, of_two, of_three, of_text, of_two_texts}
-use Rattle.pie_value.specs.inner.BuiltinForms.{of_path, of_list, at_place, cut_out}
-use Rattle.pie_value.specs.inner.BuiltinTexts.{starts_with, ends_with, first_place, pieces, with_between, replaced, lines_of, trimmed}
-use Rattle.pie_value.specs.inner.BuiltinTexts.{is_between_characters, int_spelt}
-use Rattle.pie_value.specs.inner.BuiltinItems.{all_as, as_int, as_text, as_path, as_bytes, as_list, sorted_by, ints_from, all_joined, text_list}
+use Rattle.pie_value.specs.BuiltinForms.{Answered, made, made_number, made_or_null, given, of_one, of_two, of_three, of_text, of_two_texts}
+use Rattle.pie_value.specs.BuiltinForms.{of_path, of_list, at_place, cut_out}
+use Rattle.pie_value.specs.BuiltinTexts.{starts_with, ends_with, first_place, pieces, with_between, replaced, lines_of, trimmed}
+use Rattle.pie_value.specs.BuiltinTexts.{is_between_characters, int_spelt}
+use Rattle.pie_value.specs.BuiltinItems.{all_as, as_int, as_text, as_path, as_bytes, as_list, sorted_by, ints_from, all_joined, text_list}
 
 -- a text that has to be a path
 abbrev pub path_or_fault : List ℕ → Answered

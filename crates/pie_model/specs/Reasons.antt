@@ -5,7 +5,7 @@ use Rattle.pie_model.specs.Tasks.{Task}
 use Rattle.pie_model.specs.Trees.{Trace, ends, looks, lists, writes, needs, Ended, trace_of}
 use Rattle.pie_model.specs.Evaluation.{World, Project, evaluation}
 use Rattle.pie_model.specs.Records.{Record, Observation}
-use Rattle.pie_model.specs.inner.StampNow.{Teller, by_evaluation, stamp_now, asked_before, RecordAgrees}
+use Rattle.pie_model.specs.StampNow.{Teller, by_evaluation, stamp_now, asked_before, RecordAgrees}
 use Rattle.pie_model.specs.Built.{Directory, bytes_at, store_path, open_path, pending_path}
 
 -- at some place a recorded stamp is not the one that its query would get now

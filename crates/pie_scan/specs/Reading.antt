@@ -5,13 +5,13 @@ use Rattle.std.specs.Ordering.{is_lt}
 use Rattle.pie_base.specs.Path.{is_out}
 use Rattle.pie_record.specs.declared.record_fault.RecordFault.{RecordFault}
 use Rattle.pie_record.specs.declared.record_fault.RecordFault.TheVariants.{Short as NoMore, BadTag, BadPath, BadValue, OutOfMemory as NoMemory}
-use Rattle.pie_record.specs.inner.Reading.{Parsed as Part, then_on as then_part, bytes_at, path_at, number_at, mark_at}
+use Rattle.pie_record.specs.Reading.{Parsed as Part, then_on as then_part, bytes_at, path_at, number_at, mark_at}
 use Rattle.pie_scan.specs.declared.entry.Entry.{Entry}
 use Rattle.pie_scan.specs.declared.manifest.Manifest.{Manifest}
 use Rattle.pie_scan.specs.declared.manifest_fault.ManifestFault.{ManifestFault}
 use Rattle.pie_scan.specs.declared.manifest_fault.ManifestFault.TheVariants.{Entry as BadEntry, Order, Rest as More, OutOfMemory}
 use Rattle.pie_scan.specs.Entries.{path_cmp}
-use Rattle.pie_scan.specs.inner.Frame.{framed}
+use Rattle.pie_scan.specs.Frame.{framed}
 
 -- what is read and the bytes after it, or a fault
 abbrev pub Parsed : Type 0 → Type 0

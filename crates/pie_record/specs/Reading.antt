@@ -9,7 +9,7 @@ use Rattle.pie_value.specs.declared.stamp.Stamp.{Stamp}
 use Rattle.pie_value.specs.declared.stamp.Stamp.TheVariants.{Absent, Present, Hash, Mark, Whole, Done}
 use Rattle.pie_value.specs.declared.value_fault.ValueFault.{ValueFault}
 use Rattle.pie_value.specs.declared.value_fault.ValueFault.TheVariants.{Short as TooShort, BadTag as NoTag, BadText, Rest, TooDeep, OutOfMemory as NoMemory}
-use Rattle.pie_value.specs.inner.Reading.{byte_of, bytes_of, number_of, counted_of, is_path_text, value_prefix, task_prefix}
+use Rattle.pie_value.specs.Reading.{byte_of, bytes_of, number_of, counted_of, is_path_text, value_prefix, task_prefix}
 use Rattle.pie_record.specs.declared.dep.Dep.{Dep}
 use Rattle.pie_record.specs.declared.dep.DepKind.{DepKind}
 use Rattle.pie_record.specs.declared.dep.DepOn.{DepOn}

@@ -3,7 +3,7 @@ use Rattle.std.specs.Prelude.{ℕ, zero, suc, cond, List, [], ◌∷◌, map, Op
 use Rattle.std.specs.declared.cmp.Ordering.{Ordering}
 use Rattle.std.specs.Ordering.{is_gt}
 use Rattle.pie_value.specs.Tree.{Tree, Trees, TInt, TText, TPath, TList, TBytes, Nil, Cons, items_of}
-use Rattle.pie_value.specs.inner.BuiltinTexts.{and_then}
+use Rattle.pie_value.specs.BuiltinTexts.{and_then}
 
 -- each item as something, where each one is
 abbrev pub all_as : {A : Type 0} → (Tree → Option A) → Trees → Option (List A)

@@ -4,7 +4,7 @@ use Rattle.pie_base.specs.declared.fault.FaultKind.{FaultKind}
 use Rattle.pie_base.specs.declared.fault.FaultKind.TheVariants.{Big, Range as RangeFault, Unknown}
 use Rattle.pie_value.specs.Tree.{Tree, Trees, TInt, TNull}
 use Rattle.pie_value.specs.Limits.{is_small}
-use Rattle.pie_value.specs.inner.BuiltinItems.{as_text, as_path, as_list}
+use Rattle.pie_value.specs.BuiltinItems.{as_text, as_path, as_list}
 
 -- a value or a fault
 abbrev pub Answered : Type 0

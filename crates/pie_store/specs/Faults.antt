@@ -13,7 +13,7 @@ use Rattle.pie_store.specs.declared.store_fault.StoreFault.TheVariants.{Short, M
 use Rattle.pie_store.specs.Frame.{magic}
 use Rattle.pie_store.specs.Canonical.{enc_func, enc_head, name_before, tasks_in, AreInOrder}
 use Rattle.pie_store.specs.Ranks.{IsStored}
-use Rattle.pie_store.specs.inner.ListFaults.{Unreadable, Misplaced}
+use Rattle.pie_store.specs.ListFaults.{Unreadable, Misplaced}
 use Rattle.pie_store.specs.Texts.{IsFunc, IsRow, IsFormat, AreKnown}
 
 -- functions that may stand together: by the lengths of their names and their bytes

@@ -2,7 +2,7 @@
 use Rattle.std.specs.Prelude.{◌≡◌, Result, Ok, Err}
 use Rattle.pie_value.specs.declared.value.Value.{Value}
 use Rattle.pie_value.specs.Values.{tree_of}
-use Rattle.pie_value.specs.inner.BuiltinForms.{Answered}
+use Rattle.pie_value.specs.BuiltinForms.{Answered}
 use Rattle.pie_operators.specs.declared.fault.OperatorFault.{OperatorFault}
 use Rattle.pie_operators.specs.declared.fault.OperatorFault.TheVariants.{Fault, OutOfMemory}
 

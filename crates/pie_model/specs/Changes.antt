@@ -8,7 +8,7 @@ use Rattle.pie_model.specs.Trees.{Node, node, Trace, ends, looks, lists, writes,
 use Rattle.pie_model.specs.Trees.{outcome_of, trace_of, HasTask, required_by}
 use Rattle.pie_model.specs.Evaluation.{World, Project, evaluation}
 use Rattle.pie_model.specs.Records.{Record, needs_of}
-use Rattle.pie_model.specs.inner.Separate.{StampsSeparate}
+use Rattle.pie_model.specs.Separate.{StampsSeparate}
 use Rattle.pie_model.specs.Forest.{entered_tasks, forest}
 use Rattle.pie_model.specs.Built.{Directory, bytes_at}
 
