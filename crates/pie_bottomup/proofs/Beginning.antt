@@ -1,6 +1,6 @@
 -- The tasks of an earlier build can be walked over, and nothing was done yet.
 use Rattle.std.proofs.Common.{◌≡◌, ◌⊎◌, ℕ, ◌<◌, ◌≤◌, Bool, true, false, List, [], ◌∷◌, Option, None, Some, cond, length, map, replicate, get_or, sym, ap, ◌∙◌, subst, refl, arith, inl, inr}
-use Rattle.std.specs.Prelude.{slice_get, IfSome, bytes_eq}
+use Rattle.std.specs.Prelude.{slice_get, slice_index_or, IfSome, bytes_eq}
 use Rattle.std.specs.List.{All, Contains}
 use Rattle.std.proofs.lemmas.Bool.{cases_lt}
 use Rattle.std.proofs.lemmas.List.{length-map, get_or-map, get_or_past, get_or-replicate, length-replicate}
@@ -34,6 +34,16 @@ use Rattle.pie_bottomup.specs.inner.States.{HaveDigests, IsOldTask, MayBegin}
 
 -- ---- old tasks
 
+pub unflagged : (count n : ℕ) → slice_index_or (replicate count false) n false ≡ false
+unflagged count n = by (cases_lt n count)
+  where
+    by : (n < count) ⊎ (count ≤ n) → slice_index_or (replicate count false) n false ≡ false
+    by (inl l) = get_or-replicate count n false false l
+    by (inr past) = get_or_past (replicate count false) n false (omega (arith, past, length-replicate count false))
+
+none_flagged : (count n : ℕ) (flags : List Bool) → flags ≡ replicate count false → slice_index_or flags n false ≡ false
+none_flagged count n flags same = ap (λ (bs : List Bool). slice_index_or bs n false) same ∙ unflagged count n
+
 element : {X : Type 0} (xs : List X) (P : X → Type 0) (n : ℕ) → All P xs → n < length xs → (x : X) × (slice_get xs n ≡ Some x) × P x
 element [] P n all l = absurd (omega (arith, l))
 element (x ∷ xs) P n all l = (get_or (x ∷ xs) n x, slice_get-get_or (x ∷ xs) n x l, all n x l)
@@ -66,11 +76,13 @@ old_begins records o storable parts is = record {
   earlier = is.earlier;
   each = old_task records o storable is;
   outputs = old_values records o parts is;
+  rested = λ n. none_flagged (length records) n o.tables.ran.items is.tables.ran;
 }
 
 -- no old task
-pub none_begins : (o : Old) → IsTables o.tables → o.tables.names ≡ [] → o.rows ≡ [] → o.looks_out.items ≡ [] → MayBegin o
-none_begins o tables names rows looks = record {
+pub none_begins : (o : Old) (k : ℕ) → IsTables o.tables → o.tables.names ≡ [] → o.tables.ran.items ≡ replicate k false → o.rows ≡ [] → o.looks_out.items ≡ []
+    → MayBegin o
+none_begins o k tables names ran rows looks = record {
   tables = tables;
   sized = ap length names ∙ sym (ap length rows);
   looks = ap length looks ∙ sym (ap length rows);
@@ -79,15 +91,10 @@ none_begins o tables names rows looks = record {
   outputs = λ n r kept.
       let at : IsRecordAt o.tables.names n r = subst (λ x. IfSome x (IsRecordAt o.tables.names n)) kept (tables.records n) in
       absurd (omega (arith, slice_get_within o.tables.names n r.task at.named, ap length names));
+  rested = λ n. none_flagged k n o.tables.ran.items ran;
 }
 
 -- ---- the beginning
-
-none_marked : (count n : ℕ) → IsMarked (replicate count false) n → ⊥
-none_marked count n flag = elim (cases_lt n count) [
-  | inl l ↦ (let clash : true ≡ false = sym flag ∙ get_or-replicate count n false false l in cc)
-  | inr past ↦ (let clash : true ≡ false = sym flag ∙ get_or_past (replicate count false) n false (omega (arith, past, length-replicate count false)) in cc)
-]
 
 pub start_fresh : (count n : ℕ) → mark_of (replicate count New) n ≡ New
 start_fresh count n = same (cases_lt n count)

@@ -57,16 +57,10 @@ use Rattle.pie_bottomup.specs.inner.Tested.{AreHeld, AreAsBefore, Learns}
 use Rattle.pie_bottomup.specs.inner.Exact.{IsPlanNow, KnowsTouched, AreWritten, AreUnchanged, WaitsAsOld, HoldsAsOld, AreExact}
 use Rattle.pie_bottomup.specs.inner.Exact.{IsExactCore, IsLoadedCore}
 use Rattle.pie_bottomup.specs.inner.Loaded.{IsLoadedFrom, IsUnmet, IsInformedOf, BeginsExact}
+use Rattle.pie_bottomup.proofs.Beginning.{unflagged}
 use Rattle.pie_bottomup.proofs.Trying.{tried_loaded}
 
 -- ---- what was loaded
-
-unflagged : (count n : ℕ) → slice_index_or (replicate count false) n false ≡ false
-unflagged count n = by (cases_lt n count)
-  where
-    by : (n < count) ⊎ (count ≤ n) → slice_index_or (replicate count false) n false ≡ false
-    by (inl l) = get_or-replicate count n false false l
-    by (inr past) = get_or_past (replicate count false) n false (omega (arith, past, length-replicate count false))
 
 -- a task whose flag is set is of a function with one digest
 code_marked : (funcs digests : List (List ℕ × List ℕ)) (names : List Task) (same : List Bool)

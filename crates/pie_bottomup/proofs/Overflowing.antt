@@ -3,7 +3,7 @@ use Rattle.std.proofs.Common.{◌≡◌, ◌≢◌, ◌⊎◌, ℕ, ◌+◌, ◌
 use Rattle.std.specs.Prelude.{bytes_eq, slice_get, slice_index_or, is_some, drop, take, IsSome}
 use Rattle.std.specs.List.{All, AllPairs, Contains}
 use Rattle.std.proofs.lemmas.List.{append-nil, get_or-drop, get_or-take, length-drop, length-take-le, take-append-drop}
-use Rattle.std.proofs.lemmas.List.Elements.{All-contains, All-nil, All-weaker}
+use Rattle.std.proofs.lemmas.List.Elements.{All-contains, All-nil, All-weaker, Contains-append_cases}
 use Rattle.std.proofs.lemmas.Option.{get_or_from_slice_get, slice_get-get_or, slice_get_within}
 use Rattle.pie_value.specs.declared.task.Task.{Task}
 use Rattle.pie_value.specs.Canonical.{enc_task}
@@ -35,7 +35,7 @@ use Rattle.pie_task_laws.specs.Whole.{NoneIsNew}
 use Rattle.pie_bottomup.specs.declared.state.Core.{Core}
 use Rattle.pie_bottomup.specs.declared.state.First.TheVariants.{TooMany, Done}
 use Rattle.pie_bottomup.specs.declared.state.Turn.TheVariants.{StartAfresh}
-use Rattle.pie_bottomup.specs.inner.Causes.{AreManyOld, AreTooMany, HadTooMany, HasAllTasks, HasRunIfKnown, IsKnownTask, IsOldTask, IsTried, IsTypedUpdate}
+use Rattle.pie_bottomup.specs.inner.Causes.{AreManyOld, AreTooMany, HadTooMany, HasAllTasks, HasRunIfKnown, HasRunNone, IsKnownTask, IsOldTask, IsTried, IsTypedUpdate}
 use Rattle.pie_bottomup.specs.inner.Exact.{IsExactCore}
 use Rattle.pie_bottomup.specs.inner.Going.{build_of, StandsWhole, StepsWhole}
 use Rattle.pie_bottomup.specs.inner.Loaded.{IsPastLimit, IsStoredIn, BeginsMany}
@@ -138,6 +138,12 @@ module _ (u : Update) (c : Core) (e : IsExactCore u c) (w : Stands c.frames.walk
     ran = λ i d inside.
         has_run (c.earlier + i) (get_or (drop c.earlier names) i d) (behind i d inside)
         (is_new (c.earlier + i) (get_or (drop c.earlier names) i d) (omega arith) (behind i d inside));
+    only = λ v run.
+        elim (Contains-append_cases (take c.earlier names) (drop c.earlier names) v
+        (subst (λ (xs : List Task). Contains xs v) (sym whole) (placed names run.number v run.named))) [
+          | inl within ↦ inl (All-contains (IsOldTask u) (take c.earlier names) v e.tried.old within)
+          | inr came ↦ inr came
+        ];
   }
 
 -- ---- there were more old ones
@@ -188,12 +194,14 @@ module _ (u : Update) (funcs digests : List (List ℕ × List ℕ)) (kept : List
   }
 
 pub begins_many : (funcs digests : List (List ℕ × List ℕ)) (kept : List TaskRecord) (changes : List (List ℕ)) (c : Core) → AreInOrder kept
-    → IsPastLimit kept c.first → BeginsMany funcs digests kept changes c
-begins_many funcs digests kept changes c order past = λ u stored task is.
-    many_old u funcs digests kept changes order stored task (subst (IsPastLimit kept) is past)
+    → IsPastLimit kept c.first → ((n : ℕ) → slice_index_or c.tables.ran.items n false ≡ false) → BeginsMany funcs digests kept changes c
+begins_many funcs digests kept changes c order past rested = λ u stored task is. (
+  many_old u funcs digests kept changes order stored task (subst (IsPastLimit kept) is past),
+  λ v run. (let clash : true ≡ false = sym run.ran ∙ rested run.number in cc),
+)
 
-many_tried : (u : Update) (t : Tables) (task : Task) → AreManyOld u task → AreTooMany u t 50000 0 task
-many_tried u t task are = record {
+many_tried : (u : Update) (t : Tables) (task : Task) → AreManyOld u task → HasRunNone t → AreTooMany u t 50000 0 task
+many_tried u t task are none = record {
   olds = are.tasks;
   news = [];
   these = record {
@@ -209,6 +217,7 @@ many_tried u t task are = record {
     one = old_tried u task are.one;
   };
   ran = All-nil (HasRunIfKnown u t);
+  only = λ v run. absurd (none v run);
 }
 
 -- its first step starts afresh for that
@@ -224,5 +233,5 @@ many_whole held c task told first same = λ u now site stands. by u stands
 
     by : (u : Update) → StandsWhole u c
         → (HasAllTasks u c 50000 0 told ⊎ HadTooMany c 50000 0 told) × AreTooMany u c.tables 50000 0 told
-    by u (inl begins) = (inr (record { first = is; all = refl; none = refl }), many_tried u c.tables told (begins.2 told is))
+    by u (inl begins) = (inr (record { first = is; all = refl; none = refl }), many_tried u c.tables told (begins.2 told is).0 (begins.2 told is).1)
     by u (inr whole) = absurd (apart (sym whole.exact.tested ∙ is))

@@ -317,6 +317,16 @@ module _ (e : Earlier) (list : List (List ℕ)) (d : Directory) (b : Base) (p : 
           no_some : (n : ℕ) → None ≡ Some n → ⊥
           no_some n h = cc
 
+  -- each other one is of the earlier build
+  olds_or_news : (old new : ℕ) (task : Task) (is : HasTooManyOf update_of old new task) (ran : List Task)
+      → All (λ v. IsOldTaskOf update_of v ⊎ Contains is.news v) ran → All (λ v. IsOldTask e v ⊎ Contains is.news v) ran
+  olds_or_news old new task is ran =
+      All-weaker (λ v. IsOldTaskOf update_of v ⊎ Contains is.news v) (λ v. IsOldTask e v ⊎ Contains is.news v) by ran
+    where
+      by : (v : Task) → IsOldTaskOf update_of v ⊎ Contains is.news v → IsOldTask e v ⊎ Contains is.news v
+      by v (inl old) = inl (old_of v old)
+      by v (inr came) = inr came
+
   are_before : (c : Cause) (ran : List Task) → IsCauseNow update_of c
       → HaveReasons update_of (digested d p.digests.items b.image).funcs p.digests.items ran → RanOf update_of c ran → AreBefore e d c ran
   unfolding too_many
@@ -327,7 +337,11 @@ module _ (e : Earlier) (list : List (List ℕ)) (d : Directory) (b : Base) (p : 
   are_before (causes.UnionCycle tasks) ran is have told = (ran_before ran have, record { task = told.task; listed = told.listed; ran = told.has })
   are_before (causes.UnionMany old new task) ran is have told = (
     ran_before ran have,
-    record { many = too_many old new task told.many; ran = news_ran old new task told.many ran told.has },
+    record {
+      many = too_many old new task told.many;
+      ran = news_ran old new task told.many ran told.has;
+      only = olds_or_news old new task told.many ran told.only;
+    },
   )
 
   cause_for : (c : Cause) → IsCauseNow update_of c → IsCauseFor e d c

@@ -1,10 +1,10 @@
 -- Which tasks an evaluation runs, and why.
 use Rattle.std.proofs.Common.{◌≡◌, ◌≢◌, ◌⊎◌, inl, inr, ℕ, ◌<◌, ◌≤◌, Bool, true, false, List, [], ◌∷◌, ◌++◌, length, get_or, drop, Option, None, Some, Vec, Global, refl, sym, ap, subst, ◌∙◌, arith}
-use Rattle.std.specs.Prelude.{slice_get, slice_index_or, Contains}
+use Rattle.std.specs.Prelude.{slice_get, slice_index_or, All, Contains}
 use Rattle.std.proofs.lemmas.Bool.{false≢true}
 use Rattle.std.proofs.Math.Seq.{drop-append_seam}
 use Rattle.std.proofs.lemmas.List.{append-nil, append_assoc}
-use Rattle.std.proofs.lemmas.List.Elements.{All-push, All-weaker, Contains-append_left, Contains-push}
+use Rattle.std.proofs.lemmas.List.Elements.{All-nil, All-push, All-weaker, Contains-append_left, Contains-push}
 use Rattle.std.proofs.lemmas.List.Quantifiers.{all_pairs_push}
 use Rattle.std.proofs.lemmas.Option.{slice_get-get_or, slice_get_within}
 use Rattle.pie_bottomup.specs.declared.plan.Plan.{Plan}
@@ -16,7 +16,7 @@ use Rattle.pie_bottomup.specs.declared.state.Turn.TheVariants.{Went, Settled, St
 use Rattle.pie_bottomup.specs.inner.Exact.{IsLoadedCore, IsSiteNow}
 use Rattle.pie_bottomup.specs.inner.Going.{IsBuildNow, IsWhole, StandsWhole, StepsWhole, TurnIsWhole}
 use Rattle.pie_bottomup.specs.inner.Loaded.{IsStoredIn}
-use Rattle.pie_bottomup.specs.inner.Causes.{HasRunAs, HasRunIfKnown, IsCauseOf, IsReached}
+use Rattle.pie_bottomup.specs.inner.Causes.{HasRunAs, HasRunIfKnown, HasRunNone, IsCauseOf, IsOldTask, IsReached}
 use Rattle.pie_bottomup.specs.inner.Many.{StartsNoneForMany}
 use Rattle.pie_bottomup.specs.inner.Ran.{BeginsKnowing, HasReason, IsEntered, IsKnownAs, KnowsCode, RunsFor, RunsNone, SettlesFor, StartsFor, StepsFor}
 use Rattle.pie_bottomup.specs.inner.States.{HasSettled, KeepsTasks}
@@ -160,16 +160,19 @@ module _ (u : Update) (funcs digests : List (List ℕ × List ℕ)) (first a b :
 -- ---- what a cause tells of them
 
 -- one of a ring, and those that came of too many
-told_of : (u : Update) (c : Core) (cause : Cause) (gained : List Task) → ((task : Task) → HasRunAs c.tables task → Contains gained task) → IsCauseOf u c cause
-    → RanOf u cause gained
-told_of u c causes.Interrupted gained within is = tt
-told_of u c causes.NoStore gained within is = tt
-told_of u c (causes.Damaged fault) gained within is = tt
-told_of u c causes.BadPending gained within is = tt
-told_of u c (causes.UnionCycle tasks) gained within is =
+told_of : (u : Update) (c : Core) (cause : Cause) (gained : List Task) → ((task : Task) → HasRunAs c.tables task → Contains gained task)
+    → All (HasRun c.tables) gained → IsCauseOf u c cause → RanOf u cause gained
+told_of u c causes.Interrupted gained within marked is = tt
+told_of u c causes.NoStore gained within marked is = tt
+told_of u c (causes.Damaged fault) gained within marked is = tt
+told_of u c causes.BadPending gained within marked is = tt
+told_of u c (causes.UnionCycle tasks) gained within marked is =
     record { task = is.ran.task; listed = is.ran.listed; has = within is.ran.task is.ran.has }
-told_of u c (causes.UnionMany old new task) gained within is = record {
+told_of u c (causes.UnionMany old new task) gained within marked is = record {
   many = record { olds = is.1.olds; news = is.1.news; these = is.1.these };
+  only =
+      All-weaker (HasRun c.tables) (λ v. IsOldTask u v ⊎ Contains is.1.news v)
+      (λ v run. is.1.only v (record { number = run.number; named = run.named; ran = run.marked })) gained marked;
   has = All-weaker (HasRunIfKnown u c.tables) (λ v. Contains gained v ⊎ (number_from 0 u.functions v ≡ None)) by is.1.news is.1.ran;
 }
   where
@@ -177,13 +180,15 @@ told_of u c (causes.UnionMany old new task) gained within is = record {
     by v (inl ran) = inl (within v ran)
     by v (inr lost) = inr lost
 
--- of too many old ones none came
-told_many : (u : Update) (c : Core) (cause : Cause) (task : Task) (gained : List Task) → cause ≡ UnionMany 50000 0 task → IsCauseOf u c cause → RanOf u cause gained
-told_many u c cause task gained same is = subst (λ x. RanOf u x gained) (sym same) (by (subst (IsCauseOf u c) same is))
+-- of too many old ones none came, and none ran
+told_many : (u : Update) (c : Core) (cause : Cause) (task : Task) (gained : List Task) → cause ≡ UnionMany 50000 0 task → All (λ v. ⊥) gained
+    → IsCauseOf u c cause → RanOf u cause gained
+told_many u c cause task gained same none is = subst (λ x. RanOf u x gained) (sym same) (by (subst (IsCauseOf u c) same is))
   where
     by : IsCauseOf u c (UnionMany 50000 0 task) → RanOf u (UnionMany 50000 0 task) gained
     by many = record {
       many = record { olds = many.1.olds; news = many.1.news; these = many.1.these };
+      only = All-weaker (λ v. ⊥) (λ v. IsOldTask u v ⊎ Contains many.1.news v) (λ v no. absurd no) gained none;
       has = λ i d inside. absurd (omega (arith, inside, many.1.these.came));
     }
 
@@ -242,24 +247,28 @@ module _ (held mid : Option Directory) (a b c : Core) (turn : Turn) (r s t : Lis
     begun_by : (cause : Cause) → IsCauseOf u c cause → NoneRan a → AreTasks b.tables.names → HaveBegun u funcs digests cause r t
     begun_by cause is none names =
         let h = more_run u funcs digests a.tables b.tables c.tables tasks (one_place b.tables.names names) r s t so_far.1 runs in
-        record { gained = h.gained; is = h.is; ran = h.ran; told = told_of u c cause h.gained (ran_in none h) is }
+        record { gained = h.gained; is = h.is; ran = h.ran; told = told_of u c cause h.gained (ran_in none h) h.marked is }
 
     begun_now : (cause : Cause) → IsCauseOf u c cause → NoneRan a → ((task : Task) → b.first ≡ TooMany task → cause ≡ UnionMany 50000 0 task)
         → StartsNoneForMany b s t → HaveBegun u funcs digests cause r t
     begun_now cause is none many idle = by (stands u site now begins)
       where
-        first_by : (f : First) → b.first ≡ f → (b.first ≡ Done → ⊥) → (b.first ≡ Tests → IsLoadedCore u b) → HaveBegun u funcs digests cause r t
-        first_by Tests at fresh loads = begun_by cause is none (loads at).loaded.tasks
-        first_by (TooMany task) at fresh loads = record {
+        first_by : (f : First) → b.first ≡ f → (b.first ≡ Done → ⊥) → (b.first ≡ Tests → IsLoadedCore u b)
+            → ((task : Task) → b.first ≡ TooMany task → HasRunNone b.tables) → HaveBegun u funcs digests cause r t
+        first_by Tests at fresh loads idles = begun_by cause is none (loads at).loaded.tasks
+        first_by (TooMany task) at fresh loads idles = record {
           gained = so_far.1.gained;
           is = idle task at ∙ so_far.1.is;
           ran = so_far.1.ran;
-          told = told_many u c cause task so_far.1.gained (many task at) is;
+          told =
+              told_many u c cause task so_far.1.gained (many task at)
+              (All-weaker (HasRun b.tables) (λ v. ⊥) (λ v run. idles task at v (record { number = run.number; named = run.named; ran = run.marked }))
+              so_far.1.gained so_far.1.marked) is;
         }
-        first_by Done at fresh loads = absurd (fresh at)
+        first_by Done at fresh loads idles = absurd (fresh at)
 
         by : StandsWhole u b → HaveBegun u funcs digests cause r t
-        by (inl loaded) = first_by b.first refl loaded.0 loaded.1
+        by (inl loaded) = first_by b.first refl loaded.0 loaded.1 (λ task at. (loaded.2 task at).1)
         by (inr w) = begun_by cause is none w.exact.are.tables.tasks
 
     -- once the roots are settled, each task with a reason that a clean build enters is among those that ran
@@ -334,7 +343,7 @@ module _ (held mid : Option Directory) (a b c : Core) (turn : Turn) (r s t : Lis
         gained = [];
         is = idle task (stays task is) ∙ none task is ∙ sym (append-nil r);
         ran = none_ran u funcs digests;
-        told = told_many u c cause task [] (caused task (stays task is)) (holds u site now begins);
+        told = told_many u c cause task [] (caused task (stays task is)) (All-nil (λ (v : Task). ⊥)) (holds u site now begins);
       }
       by u funcs digests site now begins knows Tests is =
           let has = knows (λ task many. apart_tests task (sym is ∙ many)) in

@@ -1,5 +1,5 @@
 -- Which tasks a build by what changed runs before it starts afresh.
-use Rattle.std.specs.Prelude.{◌≡◌, ◌≢◌, ℕ, List, [], All, Contains}
+use Rattle.std.specs.Prelude.{◌≡◌, ◌≢◌, ◌⊎◌, ℕ, List, [], All, Contains}
 use Rattle.std.specs.List.{AllPairs}
 use Rattle.pie_build.specs.Left.{IsProjectOf}
 use Rattle.pie_files.specs.Directory.{Directory}
@@ -7,7 +7,7 @@ use Rattle.pie_store.specs.declared.cause.Cause.{Cause}
 use Rattle.pie_store.specs.declared.cause.Cause.TheVariants as causes
 use Rattle.pie_value.specs.declared.task.Task.{Task}
 use Rattle.pie_incremental.specs.declared.base.Base.{Base}
-use Rattle.pie_incremental.specs.Causes.{HasTooMany}
+use Rattle.pie_incremental.specs.Causes.{HasTooMany, IsOldTask}
 use Rattle.pie_incremental.specs.Earlier.{Earlier}
 use Rattle.pie_incremental.specs.Ran.{HasReason, kept_digests}
 use Rattle.pie_incremental.specs.Reached.{IsReached}
@@ -30,10 +30,11 @@ pub record RanOfRing (tasks before : List Task) : Type 0 where
   pub listed : Contains tasks task
   pub ran : Contains before task
 
--- of the tasks that are too many, those that the earlier build didn't have ran
+-- of the tasks that are too many, those that the earlier build didn't have ran; of those that ran, it had each other one
 pub record RanOfMany (e : Earlier) (d : Directory) (old new : ℕ) (task : Task) (before : List Task) : Type 0 where
   pub many : HasTooMany e d old new task
   pub ran : All (λ t. Contains before t) many.news
+  pub only : All (λ t. IsOldTask e t ⊎ Contains many.news t) before
 
 -- the tasks that ran before a build started afresh for a cause: so they did where the cause came while it ran, and none did where it came first
 abbrev pub AreBefore : Earlier → Directory → Cause → List Task → Type 0

@@ -117,6 +117,10 @@ pub record AreManyOld (u : Update) (task : Task) : Type 0 where
   pub none : Contains tasks task → ⊥
   pub one : IsOldTask u task
 
+-- no task has run
+abbrev pub HasRunNone : Tables → Type 0
+HasRunNone t = (v : Task) → HasRunAs t v → ⊥
+
 -- a task has run, or is of no function of the pipeline
 abbrev pub HasRunIfKnown : Update → Tables → Task → Type 0
 HasRunIfKnown u t task = HasRunAs t task ⊎ (number_from 0 u.functions task ≡ None)
@@ -134,12 +138,13 @@ pub record AreThese (u : Update) (old new : ℕ) (task : Task) (olds news : List
   pub none : Contains (olds ++ news) task → ⊥
   pub one : IsTried u task
 
--- there are such tasks, and those that came have run
+-- there are such tasks, those that came have run, and no others that aren't old
 pub record AreTooMany (u : Update) (t : Tables) (old new : ℕ) (task : Task) : Type 0 where
   pub olds : List Task
   pub news : List Task
   pub these : AreThese u old new task olds news
   pub ran : All (HasRunIfKnown u t) news
+  pub only : (v : Task) → HasRunAs t v → IsOldTask u v ⊎ Contains news v
 
 -- ---- which cause holds
 

@@ -40,7 +40,7 @@ use Rattle.pie_bottomup.specs.declared.state.First.TheVariants.{Tests, TooMany, 
 use Rattle.pie_bottomup.specs.declared.state.InHand.{InHand}
 use Rattle.pie_bottomup.specs.declared.state.Turn.{Turn}
 use Rattle.pie_bottomup.specs.declared.state.Turn.TheVariants.{Went, Settled, StartAfresh}
-use Rattle.pie_bottomup.specs.inner.Causes.{AreManyOld, IsCauseOf}
+use Rattle.pie_bottomup.specs.inner.Causes.{AreManyOld, HasRunNone, IsCauseOf}
 use Rattle.pie_bottomup.specs.inner.Exact.{IsPlanNow, IsTakenExact, IsLoadedCore, IsExactCore, BeginsAsOld, EndedRight, IsWaitingFor, OwnsTold, IsSiteNow, lost_task}
 use Rattle.pie_bottomup.specs.inner.Finished.{end_row}
 use Rattle.pie_bottomup.specs.inner.Sights.{SeenIsStaged}
@@ -240,7 +240,8 @@ GoesWhole held old h new t =
 -- what holds of a build between two steps: before the first one these are loaded, unless it has too many old tasks and starts afresh
 abbrev pub StandsWhole : Update → Core → Type 0
 StandsWhole u c =
-    ((c.first ≡ Done → ⊥) × (c.first ≡ Tests → IsLoadedCore u c) × ((task : Task) → c.first ≡ TooMany task → AreManyOld u task)) ⊎ IsWhole u c
+    ((c.first ≡ Done → ⊥) × (c.first ≡ Tests → IsLoadedCore u c) × ((task : Task) → c.first ≡ TooMany task → AreManyOld u task × HasRunNone c.tables))
+    ⊎ IsWhole u c
 
 -- a build is whole once its old tasks were held against what is there, if the files tell that
 abbrev pub TestsWhole : Option Directory → Core → Core → Type 0

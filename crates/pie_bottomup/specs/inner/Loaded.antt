@@ -23,7 +23,7 @@ use Rattle.pie_core_laws.specs.Joins.{HasNames}
 use Rattle.pie_bottomup.specs.declared.state.Core.{Core}
 use Rattle.pie_bottomup.specs.declared.state.First.{First}
 use Rattle.pie_bottomup.specs.declared.state.First.TheVariants.{Tests, TooMany, Done}
-use Rattle.pie_bottomup.specs.inner.Causes.{AreManyOld}
+use Rattle.pie_bottomup.specs.inner.Causes.{AreManyOld, HasRunNone}
 use Rattle.pie_bottomup.specs.inner.Exact.{IsPlanNow, IsLoadedCore, IsExactCore}
 
 -- ---- what a build begins with
@@ -67,10 +67,10 @@ pub record IsStoredIn (u : Update) (funcs digests : List (List ℕ × List ℕ))
 abbrev pub BeginsExact : List (List ℕ × List ℕ) → List (List ℕ × List ℕ) → List TaskRecord → List (List ℕ) → Core → Type 0
 BeginsExact funcs digests kept changes c = (u : Update) → IsStoredIn u funcs digests kept changes → c.first ≡ Tests → IsLoadedCore u c
 
--- where it begins with too many, it tells one of them
+-- where it begins with too many, it tells one of them, and none has run
 abbrev pub BeginsMany : List (List ℕ × List ℕ) → List (List ℕ × List ℕ) → List TaskRecord → List (List ℕ) → Core → Type 0
 BeginsMany funcs digests kept changes c =
-    (u : Update) → IsStoredIn u funcs digests kept changes → (task : Task) → c.first ≡ TooMany task → AreManyOld u task
+    (u : Update) → IsStoredIn u funcs digests kept changes → (task : Task) → c.first ≡ TooMany task → AreManyOld u task × HasRunNone c.tables
 
 -- and is exact once these were held against what is there, if the files tell that
 abbrev pub TestsExact : Option Directory → Core → Core → Type 0

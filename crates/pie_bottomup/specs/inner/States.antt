@@ -297,6 +297,7 @@ pub record MayBegin (o : Old) : Type 0 where
   pub earlier : NeedsAreEarlier o.rows
   pub each : (n : ℕ) → n < length o.rows → IsOldTask o.tables.names o.tables.records o.rows n
   pub outputs : OutputsAreValues o.tables.records
+  pub rested : (n : ℕ) → slice_index_or o.tables.ran.items n false ≡ false
 
 -- no task was started, or one that has canonical bytes
 abbrev pub StartsOne : List Task → List Task → Type 0

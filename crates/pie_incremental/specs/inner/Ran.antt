@@ -3,7 +3,7 @@ use Rattle.std.specs.Prelude.{◌≡◌, ◌≢◌, ◌⊎◌, ℕ, false, List,
 use Rattle.std.specs.List.{AllPairs}
 use Rattle.pie_bottomup.specs.declared.state.Core.{Core}
 use Rattle.pie_bottomup.specs.declared.state.First.TheVariants.{TooMany}
-use Rattle.pie_bottomup.specs.inner.Causes.{IsReached}
+use Rattle.pie_bottomup.specs.inner.Causes.{IsOldTask, IsReached}
 use Rattle.pie_bottomup.specs.inner.Exact.{IsSiteNow}
 use Rattle.pie_bottomup.specs.inner.Going.{IsBuildNow, StandsWhole}
 use Rattle.pie_bottomup.specs.inner.Loaded.{IsStoredIn}
@@ -95,9 +95,10 @@ pub record RanOfRing (tasks ran : List Task) : Type 0 where
   pub listed : Contains tasks task
   pub has : Contains ran task
 
--- of the tasks that are too many, those that came ran, unless they are of no function of the pipeline
+-- of the tasks that are too many, those that came ran, unless they are of no function of the pipeline; besides these only old ones did
 pub record RanOfMany (u : Update) (old new : ℕ) (task : Task) (ran : List Task) : Type 0 where
   pub many : HasTooMany u old new task
+  pub only : All (λ v. IsOldTask u v ⊎ Contains many.news v) ran
   pub has : All (λ v. Contains ran v ⊎ (number_from 0 u.functions v ≡ None)) many.news
 
 -- so it is with the tasks that a cause tells

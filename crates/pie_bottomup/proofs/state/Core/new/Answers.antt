@@ -117,3 +117,4 @@ returns-clause-past c =
       first = c.in_ok-old.first;
     } in
     begins_many c.args.image.funcs c.args.digests.now c.args.image.rows c.args.changes.now core c.requires.order c.in_ok-old.ensures.many
+    c.in_ok-old.ensures.begins.rested
