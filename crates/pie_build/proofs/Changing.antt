@@ -23,7 +23,7 @@ unchanged p (Some d) after same = inl same
 pub accepted : (p : Project) (before after : Option Directory) (b : Built) (ran : List Task) → b.verdict ≡ Accepted
     → IfSome before (λ d. IsCleanBy p.typed d p.roots.items ran b) → IfSome before (λ d. ChangesFor p d after)
 accepted p None after b ran is clean = tt
-accepted p (Some d) after b ran is clean = inr (ap verdict_of (sym is) ∙ clean.verdict)
+accepted p (Some d) after b ran is clean = inr (ap verdict_of (sym is) ∙ clean.0.verdict)
 
 -- calls before that changed nothing
 pub changed_then : (p : Project) (before mid after : Option Directory) → mid ≡ before → IfSome mid (λ d. ChangesFor p d after)

@@ -38,6 +38,7 @@ use Rattle.pie_build.specs.Left.{LeavesBy, Puts}
 use Rattle.pie_build.specs.inner.Projects.{IsCleanBy, IsReady, LeavesFor}
 use Rattle.pie_build.specs.inner.Reported.{IsReportOf, PutsMade}
 use Rattle.pie_build.specs.Stored.{IsStoreOf}
+use Rattle.pie_fresh.specs.Told.{IsTrueOutput, IsTrueTask, IsTrueVerdict, TellsTrue}
 
 -- ---- the functions of a project are typed
 
@@ -129,8 +130,10 @@ cleaned (Some d) fs codes code roots asked old new b same these ready compiled m
 ran_clean : (n : ℕ) (old new : List Task) (ran : List Task) (fs : List FunctionTree) (d : Directory) (roots : List Task) (b : Built) → n ≡ length old
     → ran ≡ drop n new → IsCleanOf fs d roots old new b → IsCleanBy fs d roots ran b
 ran_clean n old new ran fs d roots b is behind h =
-    let these : ran ≡ h.started = behind ∙ ap (λ k. drop k new) is ∙ ap (drop (length old)) h.gained ∙ drop-append_seam old h.started in
-    subst (λ ts. IsCleanBuild fs d roots ts b.verdict b.rows.items (contents_in b.files.items) b.outputs.items) (sym these) h.clean
+    let these : ran ≡ h.started = behind ∙ ap (λ k. drop k new) is ∙ ap (drop (length old)) h.gained ∙ drop-append_seam old h.started in (
+      subst (λ ts. IsCleanBuild fs d roots ts b.verdict b.rows.items (contents_in b.files.items) b.outputs.items) (sym these) h.clean,
+      subst (λ ts. TellsTrue ts b.verdict b.outputs.items) (sym these) h.told,
+    )
 
 pub clean_by : (held mid : Option Directory) (n : ℕ) (old new : List Task) (ran : List Task) (fs : List FunctionTree) (roots : List Task) (b : Built)
     → n ≡ length old → ran ≡ drop n new → mid ≡ held → IfSome held (λ d. IsCleanOf fs d roots old new b) → IfSome mid (λ d. IsCleanBy fs d roots ran b)
@@ -149,6 +152,12 @@ clean_as fs d roots ran tasks v said rows files others outputs gave a e f g h =
     (subst (λ x. IsCleanBuild fs d roots ran x rows (contents_in others) gave) e
     (subst (λ x. IsCleanBuild fs d roots ran v rows (contents_in x) gave) (sym f)
     (subst (λ x. IsCleanBuild fs d roots ran v rows (contents_in files) x) (sym g) h)))
+
+-- and so it is with what is told
+true_as : (ran tasks : List Task) (v said : Verdict) (outputs gave : List (Task × Value)) → tasks ≡ ran → v ≡ said → gave ≡ outputs → TellsTrue ran v outputs
+    → TellsTrue tasks said gave
+true_as ran tasks v said outputs gave a e g h =
+    subst (λ x. TellsTrue x said gave) (sym a) (subst (λ x. TellsTrue ran x gave) e (subst (λ x. TellsTrue ran v x) (sym g) h))
 
 -- what was made of an accepted build
 pub record IsMadeOf (p : Project) (b : Built) (made : Made) : Type 0 where
@@ -171,7 +180,9 @@ built_left d p b made ran of is clean r after puts = (
     store = of.store;
     live = puts.1.live ∙ of.live;
     clean = clean_as p.typed d p.roots.items ran.items r.ran.items b.verdict Accepted b.rows.items b.files.items made.contents.items b.outputs.items
-        r.outputs.items (ap (λ v. v.items) puts.1.ran) is (ap (λ v. v.items) of.contents) (ap (λ v. v.items) (puts.1.outputs ∙ of.outputs)) clean;
+        r.outputs.items (ap (λ v. v.items) puts.1.ran) is (ap (λ v. v.items) of.contents) (ap (λ v. v.items) (puts.1.outputs ∙ of.outputs)) clean.0;
+    tells = true_as ran.items r.ran.items b.verdict Accepted b.outputs.items r.outputs.items (ap (λ v. v.items) puts.1.ran) is
+        (ap (λ v. v.items) (puts.1.outputs ∙ of.outputs)) clean.1;
   }),
 )
 
@@ -211,7 +222,7 @@ refused_left None p b ran x r is v f w g o l a clean = tt
 refused_left (Some d) p b ran x r is v f w g o l a clean =
     let h : IsCleanBuild p.typed d p.roots.items r.ran.items (Refused x) b.rows.items (contents_in b.files.items) b.outputs.items =
     clean_as p.typed d p.roots.items ran.items r.ran.items b.verdict (Refused x) b.rows.items b.files.items b.files.items b.outputs.items b.outputs.items
-    (ap (λ v. v.items) a) is refl refl clean in (
+    (ap (λ v. v.items) a) is refl refl clean.0 in (
       f,
       subst (λ (y : Verdict). LeavesBy p.typed p.digests.items p.roots.items y d r (Some d)) (sym v) (record {
         same = refl;
@@ -220,5 +231,10 @@ refused_left (Some d) p b ran x r is v f w g o l a clean =
         outputs = o;
         live = l;
         clean = record { verdict = h.verdict; built = (refl, refl, refl); started = h.started };
+        tells = record {
+          ran = subst (All IsTrueTask) (sym (ap (λ v. v.items) a)) clean.1.ran;
+          verdict = subst IsTrueVerdict is clean.1.verdict;
+          outputs = All-nil IsTrueOutput;
+        };
       }),
     )

@@ -24,6 +24,7 @@ use Rattle.pie_model_pipeline.specs.Clean.{IsCleanBuild}
 use Rattle.pie_model_pipeline.specs.Rows.{verdict_of}
 use Rattle.pie_model_pipeline.specs.World.{world, project}
 use Rattle.pie_build.specs.Stored.{IsStoreOf}
+use Rattle.pie_fresh.specs.Told.{TellsTrue}
 
 -- a path that a build may change: one under `out/`, or one of the builder's own three
 abbrev pub may_change : List ℕ → Bool
@@ -66,7 +67,8 @@ pub record IsProjectOf (d : Directory) (funcs : List (List ℕ × List ℕ)) (ro
   pub names : HasNames functions funcs
   pub digests : HasDigests d funcs
 
--- an accepted build of these functions and roots: the files and the store that it left, its tasks and its outputs are those of the clean build of the model
+-- an accepted build of these functions and roots: the files and the store that it left, its tasks and its outputs are those of the clean build of the model,
+-- and what its report tells is true
 pub record LeavesBuilt (fs : List FunctionTree) (funcs : List (List ℕ × List ℕ)) (roots : List Task) (d : Directory) (r : Report) (after : Option Directory)
     : Type 0 where
   pub left : Directory
@@ -78,8 +80,10 @@ pub record LeavesBuilt (fs : List FunctionTree) (funcs : List (List ℕ × List 
   pub store : IsStoreOf funcs roots rows text
   pub live : r.live ≡ length rows
   pub clean : IsCleanBuild fs d roots r.ran.items Accepted rows (contents_in files) r.outputs.items
+  pub tells : TellsTrue r.ran.items Accepted r.outputs.items
 
--- a refused build of these functions and roots: it changed nothing, no task is live, and the clean build of the model has this refusal and started the same tasks
+-- a refused build of these functions and roots: it changed nothing, no task is live, the clean build of the model has this refusal and started the same tasks,
+-- and what its report tells is true
 pub record LeavesAll (fs : List FunctionTree) (roots : List Task) (x : Refusal) (d : Directory) (r : Report) (after : Option Directory) : Type 0 where
   pub same : after ≡ Some d
   pub wrote : r.wrote.items ≡ []
@@ -87,6 +91,7 @@ pub record LeavesAll (fs : List FunctionTree) (roots : List Task) (x : Refusal) 
   pub outputs : r.outputs.items ≡ []
   pub live : r.live ≡ 0
   pub clean : IsCleanBuild fs d roots r.ran.items (Refused x) [] [] []
+  pub tells : TellsTrue r.ran.items (Refused x) []
 
 -- what a build of these functions and roots with this verdict and report leaves
 abbrev pub LeavesBy : List FunctionTree → List (List ℕ × List ℕ) → List Task → Verdict → Directory → Report → Option Directory → Type 0

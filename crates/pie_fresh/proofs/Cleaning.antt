@@ -28,6 +28,8 @@ use Rattle.pie_fresh.specs.inner.Builds.{MakesNothing, NothingWhere, IsEmptyWher
 use Rattle.pie_fresh.specs.inner.Means.{Site, names_of, IsKeptOutput, MeansTable, IsResting, RestsAs, RefusesAs, RootMeans}
 use Rattle.pie_fresh.specs.inner.Collected.{IsClean, CleansDone}
 use Rattle.pie_fresh.specs.Cleans.{contents_in, IsRootOf, RootsDone, NoRootsDone, EvaluatesRoot, DoesRoots, EvaluatesAs, IsCleanOf, CleansAs}
+use Rattle.pie_fresh.specs.Told.{IsTrueRefusal, IsTrueTask, TellsTrue}
+use Rattle.pie_fresh.proofs.CleanLemmas.{refused_true}
 
 -- ---- the root of a site, and what was entered before it, are nothing to a build that rests
 
@@ -66,6 +68,15 @@ module _ (s : Site) (root : List ℕ) (base : List (List ℕ)) (b : Builder) whe
     alone = R.alone;
   }
 
+-- a root is refused for tasks that the program has
+refuses_true : (s : Site) (l : Ledger) (r : Refusal) → RefusesAs s l r → IsTrueRefusal r
+refuses_true s l (refusals.Fault f) E = E.1
+refuses_true s l (refusals.Cycle ts) E = E.1
+refuses_true s l refusals.Many E = tt
+refuses_true s l (refusals.Overlap p t u) E = absurd E
+refuses_true s l (refusals.Nested p q) E = absurd E
+refuses_true s l (refusals.Hidden p t u) E = absurd E
+
 -- ---- one root after those that are done
 
 module _ (held : Option Directory) (s : Site) (b c : Builder) (done : List Task) (root : Task) (h : held ≡ Some s.directory) (D : RootsDone s b done)
@@ -88,9 +99,9 @@ module _ (held : Option Directory) (s : Site) (b c : Builder) (done : List Task)
   module _ (roots rest : List Task) (all : roots ≡ done ++ root ∷ rest) where
     stops_for : (r : Refusal) → RefusesAs here c.ledger r → IsCleanBuild s.functions s.directory roots c.ledger.names (Refused r) [] [] []
     stops_for (refusals.Fault f) E =
-        failed_is s.functions s.directory roots done rest c.ledger.names b.ledger.names b.ledger.records root f.task f.kind D.done all E
+        failed_is s.functions s.directory roots done rest c.ledger.names b.ledger.names b.ledger.records root f.task f.kind D.done all E.0
     stops_for (refusals.Cycle ts) E =
-        cycle_is s.functions s.directory roots done rest c.ledger.names b.ledger.names b.ledger.records root ts D.done all E
+        cycle_is s.functions s.directory roots done rest c.ledger.names b.ledger.names b.ledger.records root ts D.done all E.0
     stops_for refusals.Many E =
         full_is s.functions s.directory roots done rest c.ledger.names b.ledger.names b.ledger.records root E.one D.done all E.full E.begins
     stops_for (refusals.Overlap p t u) E = absurd E
@@ -98,8 +109,8 @@ module _ (held : Option Directory) (s : Site) (b c : Builder) (done : List Task)
     stops_for (refusals.Hidden p t u) E = absurd E
 
     root_stops : (r : Refusal) → EvaluatesRoot held b c root (Some r)
-        → IsCleanBuild s.functions s.directory roots c.ledger.names (Refused r) [] [] []
-    root_stops r e = stops_for r (comes (Some r) e)
+        → IsCleanBuild s.functions s.directory roots c.ledger.names (Refused r) [] [] [] × IsTrueRefusal r
+    root_stops r e = (stops_for r (comes (Some r) e), refuses_true here c.ledger r (comes (Some r) e))
 
 -- ---- the roots in order
 
@@ -198,22 +209,25 @@ module _ (held : Option Directory) (fs : List FunctionTree) (codes : List Code) 
   clean_after d C = record {
     started = starts.gained;
     gained = starts.started;
-    clean = subst (λ ts. IsCleanBuild fs d roots ts m.verdict m.rows.items (contents_in m.files.items) m.outputs.items) all_started C;
+    clean = subst (λ ts. IsCleanBuild fs d roots ts m.verdict m.rows.items (contents_in m.files.items) m.outputs.items) all_started C.0;
+    told = subst (λ ts. TellsTrue ts m.verdict m.outputs.items) all_started C.1;
   }
 
   -- a root ended the build
-  pub cleans_refused : (r : Refusal) → EvaluatesAs held a b roots (Some r) → m.verdict ≡ Refused r → IsEmptyWhereRefused m
+  pub cleans_refused : (r : Refusal) → EvaluatesAs held a b roots (Some r) → m.verdict ≡ Refused r → IsEmptyWhereRefused m → All IsTrueTask b.ledger.names
       → CleansAs held fs codes roots before after m
-  cleans_refused r means verdict empty d h well compiled all =
+  cleans_refused r means verdict empty entered d h well compiled all =
       let hs = headings_of fs well in
       let s : Site = site_of fs hs.0 codes d in
       let nothing : MakesNothing m = subst (λ v. NothingWhere v m) verdict empty in
-      clean_after d
-      (subst (λ v. IsCleanBuild fs d roots b.ledger.names v m.rows.items (contents_in m.files.items) m.outputs.items) (sym verdict)
-      (subst (λ rows. IsCleanBuild fs d roots b.ledger.names (Refused r) rows (contents_in m.files.items) m.outputs.items) (sym nothing.rows)
-      (subst (λ files. IsCleanBuild fs d roots b.ledger.names (Refused r) [] files m.outputs.items) (sym (ap contents_in nothing.files))
-      (subst (λ outputs. IsCleanBuild fs d roots b.ledger.names (Refused r) [] [] outputs) (sym nothing.outputs)
-      (means s h (begins s refl refl compiled hs.1) all)))))
+      let meant = means s h (begins s refl refl compiled hs.1) all in
+      clean_after d (
+        subst (λ v. IsCleanBuild fs d roots b.ledger.names v m.rows.items (contents_in m.files.items) m.outputs.items) (sym verdict)
+            (subst (λ rows. IsCleanBuild fs d roots b.ledger.names (Refused r) rows (contents_in m.files.items) m.outputs.items) (sym nothing.rows)
+            (subst (λ files. IsCleanBuild fs d roots b.ledger.names (Refused r) [] files m.outputs.items) (sym (ap contents_in nothing.files))
+            (subst (λ outputs. IsCleanBuild fs d roots b.ledger.names (Refused r) [] [] outputs) (sym nothing.outputs) meant.0))),
+        refused_true m r b.ledger.names verdict nothing entered meant.1,
+      )
 
   -- or all were done, and the last checks decided
   pub cleans_checked : EvaluatesAs held a b roots None → CleansDone roots b.ledger m → CleansAs held fs codes roots before after m
@@ -221,4 +235,4 @@ module _ (held : Option Directory) (fs : List FunctionTree) (codes : List Code) 
       let hs = headings_of fs well in
       let s : Site = site_of fs hs.0 codes d in
       let D : RootsDone s b roots = means s h (begins s refl refl compiled hs.1) all in
-      clean_after d (judged fs d (record { done = D.done; staged = D.resting.table.staged }))
+      clean_after d (judged fs d (record { done = D.done; staged = D.resting.table.staged; outputs = D.resting.table.outputs }))

@@ -5,7 +5,7 @@ use Rattle.std.specs.Prelude.{slice_get, leb, All, Contains}
 use Rattle.std.specs.List.{AllPairs}
 use Rattle.std.proofs.lemmas.Bool.{le-leb, lt-leb}
 use Rattle.std.proofs.lemmas.List.{reverse-append, reverse-reverse}
-use Rattle.std.proofs.lemmas.List.Elements.{All-contains, Contains-push_cases}
+use Rattle.std.proofs.lemmas.List.Elements.{All-append, All-cons, All-contains, All-nil, All-push, Contains-push_cases}
 use Rattle.std.proofs.lemmas.Option.{slice_get_within, get_or_from_slice_get}
 use Rattle.pie_value.specs.declared.task.Task.{Task}
 use Rattle.pie_value.specs.Canonical.{enc_task}
@@ -19,6 +19,7 @@ use Rattle.pie_builder_laws.specs.Names.{AreTasks}
 use Rattle.pie_builder_laws.proofs.Naming.{canonical_at}
 use Rattle.pie_running.specs.declared.frame.Caller.{Caller}
 use Rattle.pie_fresh.specs.declared.ledger.Ledger.{Ledger}
+use Rattle.pie_fresh.specs.Told.{IsTrueTask}
 use Rattle.pie_fresh.specs.inner.Ledgers.{AreOpen}
 use Rattle.pie_fresh.specs.inner.Frames.{numbers_of}
 use Rattle.pie_fresh.specs.inner.Cycles.{tasks_from}
@@ -145,3 +146,24 @@ module _ (s : Site) (l : Ledger) (is : AreTasks l.names) (number : ℕ) (u : Tas
           subst (λ xs. round (enc_task u) (tasks_of gs) found ≡ map enc_task (tasks_from number xs) ++ found) (reverse-reverse cs)
           (waiting_round gs (reverse cs) m (subst (λ xs. AllPairs (λ i j. i < j) (numbers_of xs)) (sym (reverse-reverse cs)) rise)
           (subst (λ xs. Contains (numbers_of xs) number) (sym (reverse-reverse cs)) k) found)
+
+-- ---- they are tasks that the program has
+
+module _ (s : Site) (l : Ledger) (is : AreTasks l.names) (number : ℕ) where
+  waiting_true : (gs : List ModelFrame) (cs : List Caller) → MeanCallers s l gs cs → All IsTrueTask (tasks_from number (reverse cs))
+  waiting_true [] [] m = All-nil IsTrueTask
+  waiting_true [] (c ∷ cs) m = absurd m
+  waiting_true (g ∷ gs) [] m = absurd m
+  waiting_true (g ∷ gs) (c ∷ cs) m =
+      subst (All IsTrueTask) (sym (ap (tasks_from number) (reverse-append (c ∷ []) cs) ∙ from_end number (reverse cs) c))
+      (All-append IsTrueTask (tasks_from number (reverse cs)) (tasks_from number (c ∷ [])) (waiting_true gs cs m.1) (by (leb number c.waiting.notes.number)))
+    where
+      by : (b : Bool) → All IsTrueTask (cond b (c.waiting.notes.task ∷ []) [])
+      by true = All-cons IsTrueTask c.waiting.notes.task [] (canonical_at l.names is c.waiting.notes.number c.waiting.notes.task m.0.frame.named) (All-nil IsTrueTask)
+      by false = All-nil IsTrueTask
+
+  pub cycle_true : (gs : List ModelFrame) (cs : List Caller) (n : ℕ) (t : Task) → MeanCallers s l gs (reverse cs) → slice_get l.names n ≡ Some t
+      → All IsTrueTask (tasks_from number cs ++ t ∷ [])
+  cycle_true gs cs n t m there =
+      All-push IsTrueTask (tasks_from number cs) t
+      (subst (λ xs. All IsTrueTask (tasks_from number xs)) (reverse-reverse cs) (waiting_true gs (reverse cs) m)) (canonical_at l.names is n t there)

@@ -1,6 +1,6 @@
 -- A task that was told what a required task evaluated to goes on as in the model.
 use Rattle.std.proofs.Common.{◌≡◌, ℕ, ◌-◌, ◌<◌, true, false, cond, Some, None, List, [], ◌∷◌, ◌++◌, map, refl, sym, ap, subst, ◌∙◌}
-use Rattle.std.specs.Prelude.{slice_get, IfSome}
+use Rattle.std.specs.Prelude.{slice_get, All, IfSome}
 use Rattle.std.specs.Option.{option_map}
 use Rattle.pie_base.specs.declared.fault.FaultKind.TheVariants as faults
 use Rattle.pie_value.specs.declared.task.Task.{Task}
@@ -37,6 +37,7 @@ use Rattle.pie_fresh.specs.declared.ledger.Ledger.{Ledger}
 use Rattle.pie_fresh.specs.declared.builder.Builder.{Builder}
 use Rattle.pie_running.specs.declared.requiring.Done.{Done}
 use Rattle.pie_running.specs.inner.Noted.{Noted, required}
+use Rattle.pie_fresh.specs.Told.{IsTrueTask}
 use Rattle.pie_fresh.specs.inner.Frames.{StandsAt}
 use Rattle.pie_fresh.specs.inner.Cycles.{tasks_from}
 use Rattle.pie_fresh.specs.inner.Kept.{IsKeptAs}
@@ -45,7 +46,7 @@ use Rattle.pie_fresh.specs.inner.Means.{Site, project_of, table_of, names_of, Is
 use Rattle.pie_running.proofs.Fitting.{fits_output}
 use Rattle.pie_running.proofs.FrameLemmas.{one_less, given_frame}
 use Rattle.pie_fresh.proofs.Telling.{fails_by, fails_turn}
-use Rattle.pie_fresh.proofs.Cycling.{cycle_round}
+use Rattle.pie_fresh.proofs.Cycling.{cycle_round, cycle_true}
 
 -- a task that is done has a canonical output
 pub output_canonical : (s : Site) (l : Ledger) (number : ℕ) (rec : TaskRecord) (v : Value) → MeansTable s l → kept_of l.records number ≡ Some rec
@@ -90,15 +91,18 @@ require_fails s b w t how A left small =
 pub cycle_means : (s : Site) (b : Builder) (w : Waiting) (how : How) (t : Task) (number : ℕ) (ts : List Task) → StandsAt w.notes.number b
     → IsAsking s b w (events.Require t how) → 0 < w.notes.left → is_small_task t ≡ true → slice_get b.ledger.names number ≡ Some t
     → kept_of b.ledger.records number ≡ None → ts ≡ tasks_from number b.stack.items ++ w.notes.task ∷ [] → RefusesAs s b.ledger (refusals.Cycle ts)
-cycle_means s b w how t number ts S A left small named none told =
-    subst (λ xs. HasEnded world (project_of s) s.root s.base (names_of b.ledger) (Cycled xs))
-    (ap (λ x. round (enc_task t) (x ∷ tasks_of A.means.waiting) []) A.means.top.task
-    ∙ cycle_round s b.ledger A.means.table.tasks number t named A.means.waiting b.stack.items w.notes.number w.notes.task A.means.stack A.means.top.named
-    S.unfinished none ∙ ap (map enc_task) (sym told))
-    (ends_in_a_cycle world (project_of s) s.root s.base (table_of b.ledger) (names_of b.ledger) A.means.waiting A.means.running A.means.under
-    (w.notes.left - 1) (how_of how) (enc_task t) (A.means.top.left ∙ one_less w.notes.left left)
-    (A.asks ∙ ap (λ z. cond z (Require (how_of how) (enc_task t)) (Fail model_faults.Big)) small) (among_at b.ledger.names number t named)
-    (record_by_number b.ledger.names b.ledger.records number t A.means.table.tasks named ∙ ap (option_map record_of) none))
+cycle_means s b w how t number ts S A left small named none told = (
+  subst (λ xs. HasEnded world (project_of s) s.root s.base (names_of b.ledger) (Cycled xs))
+      (ap (λ x. round (enc_task t) (x ∷ tasks_of A.means.waiting) []) A.means.top.task
+      ∙ cycle_round s b.ledger A.means.table.tasks number t named A.means.waiting b.stack.items w.notes.number w.notes.task A.means.stack A.means.top.named
+      S.unfinished none ∙ ap (map enc_task) (sym told))
+      (ends_in_a_cycle world (project_of s) s.root s.base (table_of b.ledger) (names_of b.ledger) A.means.waiting A.means.running A.means.under
+      (w.notes.left - 1) (how_of how) (enc_task t) (A.means.top.left ∙ one_less w.notes.left left)
+      (A.asks ∙ ap (λ z. cond z (Require (how_of how) (enc_task t)) (Fail model_faults.Big)) small) (among_at b.ledger.names number t named)
+      (record_by_number b.ledger.names b.ledger.records number t A.means.table.tasks named ∙ ap (option_map record_of) none)),
+  subst (All IsTrueTask) (sym told)
+      (cycle_true s b.ledger A.means.table.tasks number A.means.waiting b.stack.items w.notes.number w.notes.task A.means.stack A.means.top.named),
+)
 
 -- a require of a task that was entered: it is answered with the output in its record, or ends the root
 pub given_turn : (s : Site) (b : Builder) (w : Waiting) (how : How) (t : Task) (number : ℕ) (done : Done) (f : RunningTask) → IsAsking s b w (events.Require t how)

@@ -53,6 +53,7 @@ use Rattle.pie_running.proofs.Fitting.{output_has}
 use Rattle.pie_fresh.proofs.Moving.{callers_move}
 use Rattle.pie_running.proofs.FrameLemmas.{one_less}
 use Rattle.pie_running.proofs.Firsts.{same_number, other_number}
+use Rattle.pie_builder_laws.proofs.Naming.{canonical_at}
 
 -- ---- records that were put
 
@@ -230,11 +231,13 @@ finishes s b c n v E small canonical names puts rows stage stack there =
 pub too_big : (s : Site) (b : Builder) (n : Noted) (v : Value) (t : Turn) (task : Task) → EndsWith s b n v → is_small (tree_of v) ≡ false
     → t ≡ Stops (Fault (record { task = task; kind = faults.Big })) → task ≡ n.task → TurnMeans s b t
 too_big s b n v t task E small e same =
-    subst (TurnMeans s b) (sym e) (subst (λ x. RefusesAs s b.ledger (Fault (record { task = x; kind = faults.Big }))) (sym same)
-    (subst (λ x. HasEnded world (project_of s) s.root s.base (names_of b.ledger) (Failed x model_faults.Big)) E.means.top.task
-    (failed world (project_of s) s.root s.base (table_of b.ledger) (names_of b.ledger) E.means.waiting E.means.running E.means.under
-    (n.left - 1) model_faults.Big
-    (E.means.top.left ∙ one_less n.left E.left) (E.ends ∙ ap (λ z. cond z (Done (enc (tree_of v))) (Fail model_faults.Big)) small))))
+    subst (TurnMeans s b) (sym e) (subst (λ x. RefusesAs s b.ledger (Fault (record { task = x; kind = faults.Big }))) (sym same) (
+      subst (λ x. HasEnded world (project_of s) s.root s.base (names_of b.ledger) (Failed x model_faults.Big)) E.means.top.task
+          (failed world (project_of s) s.root s.base (table_of b.ledger) (names_of b.ledger) E.means.waiting E.means.running E.means.under
+          (n.left - 1) model_faults.Big
+          (E.means.top.left ∙ one_less n.left E.left) (E.ends ∙ ap (λ z. cond z (Done (enc (tree_of v))) (Fail model_faults.Big)) small)),
+      canonical_at b.ledger.names E.means.table.tasks n.number n.task E.means.top.named,
+    ))
 
 pub finishes_as : (b mid : Builder) (n : Noted) (v u : Value) (number : ℕ) (bytes : List ℕ) → is_small (tree_of v) ≡ true
     → IsCanonical (tree_of v) bytes → bytes ≡ enc (tree_of v) → mid.ledger.names ≡ b.ledger.names

@@ -88,9 +88,11 @@ module _ (s : Site) (b : Builder) (w : Waiting) (path : List ℕ) (by : By) (A :
   -- it fails, whatever it noted
   pub long_turn : (n : Noted) → n.task ≡ w.notes.task → (t : Told) → HasFailed n (too_much w.notes.left) t → TurnMeans s b (turned t)
   long_turn n same t h =
-      failed_turn s b w A.means left n (too_much w.notes.left) same
-      (subst (λ x. HasEnded world (project_of s) s.root s.base (names_of b.ledger) (Failed x (fault_of (too_much w.notes.left)))) A.means.top.task
-      (ended (w.notes.left == 1) refl)) t h
+      failed_turn s b w A.means left n (too_much w.notes.left) same (
+        subst (λ x. HasEnded world (project_of s) s.root s.base (names_of b.ledger) (Failed x (fault_of (too_much w.notes.left)))) A.means.top.task
+            (ended (w.notes.left == 1) refl),
+        canonical_at b.ledger.names A.means.table.tasks w.notes.number w.notes.task A.means.top.named,
+      ) t h
 
 pub reading_turn : (s : Site) (b : Builder) (w : Waiting) (path : List ℕ) (by : By) (t : Told) → IsAsking s b w (events.Read path by) → 0 < w.notes.left
     → IsToldSight s.directory (SeesOut b.ledger.stage b.ledger.rows w.notes path) w path by t → TurnMeans s b (turned t)

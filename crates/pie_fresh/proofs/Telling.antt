@@ -60,6 +60,8 @@ use Rattle.pie_fresh.specs.inner.Turns.{turned}
 use Rattle.pie_fresh.specs.inner.Sights.{SeesOut}
 use Rattle.pie_fresh.specs.inner.Means.{Site, project_of, table_of, names_of, Means, IsAsking, RefusesAs, TurnMeans}
 use Rattle.pie_fresh.proofs.Seeing.{seen_by, seen_visible}
+use Rattle.pie_builder_laws.proofs.Naming.{canonical_at}
+use Rattle.pie_fresh.specs.Told.{IsTrueTask}
 
 -- the running task fails for this
 abbrev pub fails_by : Waiting → FaultKind → Refusal
@@ -88,12 +90,18 @@ module _ (s : Site) (b : Builder) (w : Waiting) (M : Means s b w.code.now w.mach
         under = under;
       }))
 
+  -- the running task is one that the program has
+  true_task : IsTrueTask w.notes.task
+  true_task = canonical_at b.ledger.names M.table.tasks w.notes.number w.notes.task M.top.named
+
   -- the running task fails
   pub fails_turn : (k : FaultKind) → (project_of s).next M.running.task M.running.progress.answers ≡ Fail (fault_of k) → RefusesAs s b.ledger (fails_by w k)
-  fails_turn k q =
-      subst (λ t. HasEnded world (project_of s) s.root s.base (names_of b.ledger) (Failed t (fault_of k))) M.top.task
-      (failed world (project_of s) s.root s.base (table_of b.ledger) (names_of b.ledger) M.waiting M.running M.under (w.notes.left - 1)
-      (fault_of k) some_left q)
+  fails_turn k q = (
+    subst (λ t. HasEnded world (project_of s) s.root s.base (names_of b.ledger) (Failed t (fault_of k))) M.top.task
+        (failed world (project_of s) s.root s.base (table_of b.ledger) (names_of b.ledger) M.waiting M.running M.under (w.notes.left - 1)
+        (fault_of k) some_left q),
+    true_task,
+  )
 
   -- it has failed with notes of this task
   pub failed_turn : (n : Noted) (k : FaultKind) → n.task ≡ w.notes.task → RefusesAs s b.ledger (fails_by w k) → (t : Told) → HasFailed n k t
@@ -128,10 +136,11 @@ module _ (s : Site) (b : Builder) (w : Waiting) (M : Means s b w.code.now w.mach
       look_goes l p q seen v f (tells seen) (is seen refl) (none seen) e came (fits seen) h
   look_turn l p q (Some seen) v tells is none e came fits missed (told.Fails n k) h = absurd h
   look_turn l p q None v tells is none e came fits missed t h =
-      failed_turn (observed missed w.notes) faults.Clash refl
-      (subst (λ t. HasEnded world (project_of s) s.root s.base (names_of b.ledger) (Failed t model_faults.Clash)) M.top.task
-      (clashes world (project_of s) s.root s.base (table_of b.ledger) (names_of b.ledger) M.waiting M.running M.under (w.notes.left - 1) l p some_left q v))
-      t h
+      failed_turn (observed missed w.notes) faults.Clash refl (
+        subst (λ t. HasEnded world (project_of s) s.root s.base (names_of b.ledger) (Failed t model_faults.Clash)) M.top.task
+            (clashes world (project_of s) s.root s.base (table_of b.ledger) (names_of b.ledger) M.waiting M.running M.under (w.notes.left - 1) l p some_left q v),
+        true_task,
+      ) t h
 
   -- a listing: the task goes on with the entries, or fails where they are too many
   list_goes : (d : List ℕ) → (project_of s).next M.running.task M.running.progress.answers ≡ ListOf d
@@ -146,11 +155,12 @@ module _ (s : Site) (b : Builder) (w : Waiting) (M : Means s b w.code.now w.mach
       (limit_is s.functions s.directory d ∙ ap (λ z. cond z (Some es) None) e))
   list_goes d q came true e (told.Fails n k) h = absurd h
   list_goes d q came false e t h =
-      failed_turn (observed (absent_dep kinds.List d) w.notes) faults.Big refl
-      (subst (λ t. HasEnded world (project_of s) s.root s.base (names_of b.ledger) (Failed t model_faults.Big)) M.top.task
-      (lists_too_much world (project_of s) s.root s.base (table_of b.ledger) (names_of b.ledger) M.waiting M.running M.under (w.notes.left - 1) d some_left q
-      (limit_is s.functions s.directory d ∙ ap (λ z. cond z (Some (entries_of s.directory d)) None) e)))
-      t h
+      failed_turn (observed (absent_dep kinds.List d) w.notes) faults.Big refl (
+        subst (λ t. HasEnded world (project_of s) s.root s.base (names_of b.ledger) (Failed t model_faults.Big)) M.top.task
+            (lists_too_much world (project_of s) s.root s.base (table_of b.ledger) (names_of b.ledger) M.waiting M.running M.under (w.notes.left - 1) d some_left q
+            (limit_is s.functions s.directory d ∙ ap (λ z. cond z (Some (entries_of s.directory d)) None) e)),
+        true_task,
+      ) t h
 
 -- a step that stops for this fault of the running task
 pub stops_turn : (s : Site) (b : Builder) (w : Waiting) (k : FaultKind) (task : Task) (t : Turn) → t ≡ Stops (Fault (record { task = task; kind = k }))

@@ -89,8 +89,10 @@ module _ (s : Site) (b : Builder) (f : RunningTask) (M : Means s b f.code.now f.
   pub comes_failing : (n : Noted) (task : Task) (k : FaultKind) (t : Turn) → ComesAs f.code.now f.notes (map answer_of M.running.progress.answers) (Fails n k)
       → task ≡ n.task → t ≡ Stops (Fault (record { task = task; kind = k })) → TurnMeans s b t
   comes_failing n task k t h same e =
-      subst (TurnMeans s b) (sym e) (subst (λ x. RefusesAs s b.ledger (Fault (record { task = x; kind = k }))) (sym (same ∙ ap (λ (m : Noted). m.task) h.0))
-      (subst (λ x. HasEnded world (project_of s) s.root s.base (names_of b.ledger) (Failed x (fault_of k))) M.top.task (fails_as k h.1)))
+      subst (TurnMeans s b) (sym e) (subst (λ x. RefusesAs s b.ledger (Fault (record { task = x; kind = k }))) (sym (same ∙ ap (λ (m : Noted). m.task) h.0)) (
+        subst (λ x. HasEnded world (project_of s) s.root s.base (names_of b.ledger) (Failed x (fault_of k))) M.top.task (fails_as k h.1),
+        canonical_at b.ledger.names M.table.tasks f.notes.number f.notes.task M.top.named,
+      ))
 
 -- what a machine gave, with the answers so far
 abbrev pub ComesWith : RunningTask → Paused → Type 0

@@ -15,6 +15,7 @@ use Rattle.pie_builder_laws.specs.Events.{AreCompiled}
 use Rattle.pie_builder_laws.specs.Fits.{HasHeadings}
 use Rattle.pie_builder_laws.specs.Builds.{AreDone}
 use Rattle.pie_fresh.specs.declared.builder.Builder.{Builder}
+use Rattle.pie_fresh.specs.Told.{IsTrueRefusal, TellsTrue}
 use Rattle.pie_fresh.specs.inner.Means.{Site, IsResting, BeginsAs}
 
 -- the files with their contents
@@ -27,11 +28,12 @@ pub record IsRootOf (fs : List FunctionTree) (t : Task) : Type 0 where
   pub found : number_from 0 fs t ≡ Some number
   pub small : is_small_task t ≡ true
 
--- the clean build of the model, with the tasks that were started after those before
+-- the clean build of the model, with the tasks that were started after those before; what is told of it is true
 pub record IsCleanOf (fs : List FunctionTree) (d : Directory) (roots before after : List Task) (b : Built) : Type 0 where
   pub started : List Task
   pub gained : after ≡ before ++ started
   pub clean : IsCleanBuild fs d roots started b.verdict b.rows.items (contents_in b.files.items) b.outputs.items
+  pub told : TellsTrue started b.verdict b.outputs.items
 
 -- where the files hold a directory, the pipeline is typed and compiled and the roots are its tasks, a build is the clean build of the model
 abbrev pub CleansAs : Option Directory → List FunctionTree → List Code → List Task → List Task → List Task → Built → Type 0
@@ -62,7 +64,7 @@ DoesRoots held old new roots first =
 -- all roots are done, or one ends the build as in the model
 abbrev pub RootsMean : Site → Builder → List Task → Option Refusal → Type 0
 RootsMean s b roots None = RootsDone s b roots
-RootsMean s b roots (Some r) = IsCleanBuild s.functions s.directory roots b.ledger.names (Refused r) [] [] []
+RootsMean s b roots (Some r) = IsCleanBuild s.functions s.directory roots b.ledger.names (Refused r) [] [] [] × IsTrueRefusal r
 
 -- and so it is from where nothing was entered
 abbrev pub EvaluatesAs : Option Directory → Builder → Builder → List Task → Option Refusal → Type 0

@@ -43,7 +43,9 @@ pub fn fresh<F: Files>(
     ensures clean { IfOk result (CleansAs (F.holds files.old) typed.now code.now roots.now runs.old runs.new) }
 {
     let mut builder = Builder::new(alloc, typed, code);
-    match evaluate_all(&mut builder, roots, files, runs)? {
+    let refusal = evaluate_all(&mut builder, roots, files, runs)?;
+    let _names = builder.ledger.names.as_slice();
+    match refusal {
         Some(refusal) => Ok(refused(alloc, refusal)),
         None => Ok(checked(alloc, &builder.ledger, roots)?),
     }

@@ -10,15 +10,17 @@ use Rattle.pie_types.specs.inner.WholeRules.{IsTyped}
 use Rattle.pie_value.specs.declared.task.Task.{Task}
 use Rattle.pie_model_pipeline.specs.Clean.{IsCleanBuild}
 use Rattle.pie_build.specs.Left.{Accepts, LeavesOf}
+use Rattle.pie_fresh.specs.Told.{TellsTrue}
 
 -- the functions are typed, and the roots are tasks of them
 pub record IsReady (fs : List FunctionTree) (asked : List Task) : Type 0 where
   pub typed : IsTyped fs
   pub roots : All (IsRootOf fs) asked
 
--- a build is the clean build of the model, in which these tasks were started
+-- a build is the clean build of the model, in which these tasks were started, and what is told of it is true
 abbrev pub IsCleanBy : List FunctionTree → Directory → List Task → List Task → Built → Type 0
-IsCleanBy fs d roots ran b = IsCleanBuild fs d roots ran b.verdict b.rows.items (contents_in b.files.items) b.outputs.items
+IsCleanBy fs d roots ran b =
+    IsCleanBuild fs d roots ran b.verdict b.rows.items (contents_in b.files.items) b.outputs.items × TellsTrue ran b.verdict b.outputs.items
 
 -- what a build of a project with this report leaves
 abbrev pub LeavesFor : Project → Directory → Report → Option Directory → Type 0

@@ -20,6 +20,8 @@ use Rattle.pie_builder_laws.specs.Views.{IsStaged}
 use Rattle.pie_builder_laws.specs.Builds.{AreDone, AreLive, AreFiles, Answers, WroteAt, IsFile, IsOutput}
 use Rattle.pie_fresh.specs.declared.ledger.Ledger.{Ledger}
 use Rattle.pie_fresh.specs.Cleans.{contents_in}
+use Rattle.pie_fresh.specs.Told.{TellsTrue}
+use Rattle.pie_fresh.specs.inner.Means.{IsKeptOutput}
 
 -- ---- files
 
@@ -91,14 +93,16 @@ pub record PassesChecks (l : Ledger) : Type 0 where
   pub all : AreLive l.names live
   pub passes : Answers l.names l.records live None
 
--- these roots are done, and of each task what it wrote in the model is staged
+-- these roots are done, of each task what it wrote in the model is staged, and its output is one that the program has
 pub record HasDone (fs : List FunctionTree) (d : Directory) (roots : List Task) (l : Ledger) : Type 0 where
   pub done : AreDone fs d roots l.names l.records
   pub staged : IsStaged world (project fs d) l.names l.records (content l.stage)
+  pub outputs : (n : ℕ) → IfSome (record_of l.records n) (λ rec. IsKeptOutput rec.outcome)
 
--- it is the clean build of these roots, which starts the tasks of the ledger
+-- it is the clean build of these roots, which starts the tasks of the ledger, and what it tells is true
 abbrev pub IsClean : List FunctionTree → Directory → List Task → Ledger → Built → Type 0
-IsClean fs d roots l b = IsCleanBuild fs d roots l.names b.verdict b.rows.items (contents_in b.files.items) b.outputs.items
+IsClean fs d roots l b =
+    IsCleanBuild fs d roots l.names b.verdict b.rows.items (contents_in b.files.items) b.outputs.items × TellsTrue l.names b.verdict b.outputs.items
 
 -- whatever the pipeline and the directory are of which the roots are done, it is their clean build
 abbrev pub CleansDone : List Task → Ledger → Built → Type 0

@@ -1,5 +1,5 @@
 -- A root under way, with its tasks by numbers, machines and notes, is a root under way in the model.
-use Rattle.std.specs.Prelude.{◌≡◌, ℕ, suc, ◌<◌, ◌≤◌, false, List, [], ◌∷◌, ◌++◌, map, reverse, length, Option, Some, None, IfSome, slice_get}
+use Rattle.std.specs.Prelude.{◌≡◌, ℕ, suc, ◌<◌, ◌≤◌, false, List, [], ◌∷◌, ◌++◌, map, reverse, length, Option, Some, None, IfSome, slice_get, All}
 use Rattle.pie_value.specs.declared.task.Task.{Task}
 use Rattle.pie_value.specs.declared.event.Event.{Event}
 use Rattle.pie_value.specs.declared.event.Event.TheVariants as events
@@ -56,6 +56,7 @@ use Rattle.pie_running.specs.inner.Noted.{Noted}
 use Rattle.pie_running.specs.inner.Means as running
 use Rattle.pie_running.specs.inner.Told.{EvaluatedTo}
 use Rattle.pie_fresh.specs.inner.Kept.{HasOutput}
+use Rattle.pie_fresh.specs.Told.{IsTrueTask}
 
 -- where a root is under way: the functions with their headings and codes, the directory, the root, and the tasks that were entered before it,
 -- these by their canonical bytes
@@ -150,8 +151,9 @@ pub record EntersTooMany (s : Site) (l : Ledger) : Type 0 where
 
 -- a root is refused for what ends it in the model
 abbrev pub RefusesAs : Site → Ledger → Refusal → Type 0
-RefusesAs s l (refusals.Fault f) = HasEnded world (project_of s) s.root s.base (names_of l) (Failed (enc_task f.task) (fault_of f.kind))
-RefusesAs s l (refusals.Cycle ts) = HasEnded world (project_of s) s.root s.base (names_of l) (Cycled (map enc_task ts))
+RefusesAs s l (refusals.Fault f) =
+    HasEnded world (project_of s) s.root s.base (names_of l) (Failed (enc_task f.task) (fault_of f.kind)) × IsTrueTask f.task
+RefusesAs s l (refusals.Cycle ts) = HasEnded world (project_of s) s.root s.base (names_of l) (Cycled (map enc_task ts)) × All IsTrueTask ts
 RefusesAs s l refusals.Many = EntersTooMany s l
 RefusesAs s l (refusals.Overlap p t u) = ⊥
 RefusesAs s l (refusals.Nested p q) = ⊥

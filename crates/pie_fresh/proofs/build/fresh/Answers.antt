@@ -25,7 +25,7 @@ returns-in-Some-clause-clean g c =
     cleans_refused (g.F.Files.holds c.args.files.now) c.args.typed.now c.args.code.now c.args.roots.now c.args.runs.now c.evaluate_all.new.runs
     c.new-builder.result c.evaluate_all.new.builder c.new-builder.ensures.begins c.in_ok-refusal.ensures.starts c.new-builder.ensures.none c.refused.result
     c.in-Some.refusal (subst (EvaluatesAs (g.F.Files.holds c.args.files.now) c.new-builder.result c.evaluate_all.new.builder c.args.roots.now) c.in-Some.is
-    c.in_ok-refusal.ensures.means) c.refused.ensures.verdict c.refused.ensures.refused_empty
+    c.in_ok-refusal.ensures.means) c.refused.ensures.verdict c.refused.ensures.refused_empty c.as_slice-names.ensures.canonical
 
 pub returns-clause-clean : goal.returns-clause-clean
 returns-clause-clean g c =
