@@ -9,3 +9,6 @@ pub mod OneProject
 pub mod Tables
 pub mod Leaving
 pub mod Same
+pub mod InOrder
+pub mod Telling
+pub mod Printing

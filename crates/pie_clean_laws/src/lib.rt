@@ -5,8 +5,10 @@ mod basing;
 mod left;
 mod projects;
 mod sources;
+mod told;
 
 pub use basing::builds_are_bases;
 pub use left::{clean_builds_leave, same_files_leave_the_same};
 pub use projects::projects_are_one;
 pub use sources::sources_decide;
+pub use told::reports_are_one;

@@ -43,15 +43,21 @@ FreshSays d json after text ended = IsRefused d after text ended ⊎ IsReported 
 abbrev pub HasBuilt : Directory → Bool → Option Directory → Option (List ℕ) → Option (List ℕ) → Status → Type 0
 HasBuilt d json after held gained ended = (text : List ℕ) × FreshSays d json after text ended × Gains held gained text
 
+-- whatever the definitions let `fresh` say of a directory, whatever it leaves, it is what was answered: the status, and what the output gained
+abbrev pub FreshSaysOnly : Directory → Bool → Option (List ℕ) → Option (List ℕ) → Status → Type 0
+FreshSaysOnly d json held gained ended =
+    (after : Option Directory) (text : List ℕ) (told : Status) → FreshSays d json after text told → (ended ≡ told) × Gains held gained text
+
 -- a text that `fresh` prints of this directory, which it left so
 abbrev pub IsFreshText : Directory → Bool → Option Directory → List ℕ → Type 0
 IsFreshText d json after text = (ended : Status) × FreshSays d json after text ended
 
--- what `fresh` says, whatever it ended with: an answer, what the output gained of one, that no other project than one that the model accepts changes
--- anything, and what a crash leaves
+-- what `fresh` says, whatever it ended with: an answer, that the definitions have no other one, what the output gained of one, that no other project than one
+-- that the model accepts changes anything, and what a crash leaves
 pub record RunsFresh {S : Type 0} (holds : S → Option Directory) (moment : S → ℕ) (left_since : S → ℕ → Directory → Type 0) (images : S → Directory → Type 0)
     (faults : S → ℕ) (json : Bool) (old new : S) (held gained : Option (List ℕ)) (ended : Status) : Type 0 where
   pub built : is_answer ended ≡ true → IfSome (holds old) (λ d. HasBuilt d json (holds new) held gained ended)
+  pub only : is_answer ended ≡ true → IfSome (holds old) (λ d. FreshSaysOnly d json held gained ended)
   pub printed : IfSome (holds old) (λ d. GainsAtMost (IsFreshText d json (holds new)) (Rose (faults old) (faults new)) held gained ended)
   pub changed : IfSome (holds old) (λ d. ChangesIfAccepted d (holds new))
   pub crash : Withstands holds moment left_since images Leaves old new

@@ -49,6 +49,7 @@ returns-in-Err-Usage-clause-check g c = λ is. absurd (c.in-Err-Usage.ensures.re
 pub returns-in-Err-OutOfMemory-clause-fresh : goal.returns-in-Err-OutOfMemory-clause-fresh
 returns-in-Err-OutOfMemory-clause-fresh g c = λ json is. record {
   built = λ a. absurd (memory_is_no_answer a);
+  only = λ a. absurd (memory_is_no_answer a);
   printed = none_gained (g.F.Files.holds c.args.files.now) (λ d. IsFreshText d json (g.F.Files.holds c.args.files.now))
       (Rose (g.F.Files.faults c.args.files.now) (g.F.Files.faults c.args.files.now)) (g.K.Sink.held c.args.out.now) _ refl;
   changed = untouched (g.F.Files.holds c.args.files.now) (g.F.Files.holds c.args.files.now) refl;

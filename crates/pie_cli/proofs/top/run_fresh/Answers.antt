@@ -1,19 +1,19 @@
 use Rattle.std.proofs.Common.{ℕ, List, Err, refl, ap}
-use Rattle.std.specs.Prelude.{string_bytes}
+use Rattle.std.specs.Prelude.{◌≡◌, true, IfSome, string_bytes}
 use Rattle.pie_files.specs.Directory.{Directory}
 use Rattle.pie_files.specs.Faults.{Rose}
-use Rattle.pie_cli.specs.Fresh.{IsFreshText}
-use Rattle.pie_cli.proofs.Fresh.{built, printed}
+use Rattle.pie_cli.specs.Fresh.{HasBuilt, IsFreshText}
+use Rattle.pie_cli.specs.Run.{is_answer}
+use Rattle.pie_cli.proofs.Fresh.{built, printed, says_only}
 use Rattle.pie_cli.proofs.Gaining.{fault_gained, none_gained}
 use Rattle.pie_cli.proofs.Statuses.{answer_is_told, fault_is_no_answer, memory_is_no_answer}
 use Rattle.pie_cli.proofs.top.run_fresh.Goals as goal
 
 pub returns-in-Ok-clause-fresh : goal.returns-in-Ok-clause-fresh
 returns-in-Ok-clause-fresh g c = record {
-  built = λ a.
-      let shown = c.show_told.ensures.shown (answer_is_told c.show_told.result a) in
-      built (g.F.Files.holds c.args.files.now) (g.F.Files.holds c.fresh.new.files) c.args.json (string_bytes c.in-Ok.told.text) c.in-Ok.told.status
-      c.show_told.result (g.K.Sink.held c.args.out.now) (g.K.Sink.held c.show_told.new.out) c.in-Ok.ensures.built shown.0 shown.1;
+  built = has_built;
+  only = λ a. says_only (g.F.Files.holds c.args.files.now) (g.F.Files.holds c.fresh.new.files) c.args.json (g.K.Sink.held c.args.out.now)
+      (g.K.Sink.held c.show_told.new.out) c.show_told.result (has_built a);
   printed = printed (g.F.Files.holds c.args.files.now) (g.F.Files.holds c.fresh.new.files) c.args.json (string_bytes c.in-Ok.told.text) c.in-Ok.told.status
       c.show_told.result (Rose (g.F.Files.faults c.args.files.now) (g.F.Files.faults c.fresh.new.files)) (g.K.Sink.held c.args.out.now)
       (g.K.Sink.held c.show_told.new.out) c.in-Ok.ensures.built c.show_told.ensures.prefix;
@@ -21,11 +21,20 @@ returns-in-Ok-clause-fresh g c = record {
   crash = c.in-Ok.ensures.crash;
   durable = λ a. c.in-Ok.ensures.durable;
 }
+  where
+    has_built : is_answer c.show_told.result ≡ true
+        → IfSome (g.F.Files.holds c.args.files.now) (λ d. HasBuilt d c.args.json (g.F.Files.holds c.fresh.new.files) (g.K.Sink.held c.args.out.now)
+        (g.K.Sink.held c.show_told.new.out) c.show_told.result)
+    has_built a =
+        let shown = c.show_told.ensures.shown (answer_is_told c.show_told.result a) in
+        built (g.F.Files.holds c.args.files.now) (g.F.Files.holds c.fresh.new.files) c.args.json (string_bytes c.in-Ok.told.text) c.in-Ok.told.status
+        c.show_told.result (g.K.Sink.held c.args.out.now) (g.K.Sink.held c.show_told.new.out) c.in-Ok.ensures.built shown.0 shown.1
 
 pub returns-in-Err-Failed-clause-fresh : goal.returns-in-Err-Failed-clause-fresh
 returns-in-Err-Failed-clause-fresh g c =
     record {
       built = λ a. absurd (fault_is_no_answer c.show.result a (c.show.ensures.shown (answer_is_told c.show.result a)).0);
+      only = λ a. absurd (fault_is_no_answer c.show.result a (c.show.ensures.shown (answer_is_told c.show.result a)).0);
       printed = fault_gained (g.F.Files.holds c.args.files.now)
           (λ (d : Directory) (text : List ℕ). IsFreshText d c.args.json (g.F.Files.holds c.fresh.new.files) text)
           (Rose (g.F.Files.faults c.args.files.now) (g.F.Files.faults c.fresh.new.files)) (g.K.Sink.held c.args.out.now) (g.K.Sink.held c.show.new.out)
@@ -38,6 +47,7 @@ returns-in-Err-Failed-clause-fresh g c =
 pub returns-in-Err-OutOfMemory-clause-fresh : goal.returns-in-Err-OutOfMemory-clause-fresh
 returns-in-Err-OutOfMemory-clause-fresh g c = record {
   built = λ a. absurd (memory_is_no_answer a);
+  only = λ a. absurd (memory_is_no_answer a);
   printed = none_gained (g.F.Files.holds c.args.files.now)
       (λ (d : Directory) (text : List ℕ). IsFreshText d c.args.json (g.F.Files.holds c.fresh.new.files) text)
       (Rose (g.F.Files.faults c.args.files.now) (g.F.Files.faults c.fresh.new.files)) (g.K.Sink.held c.args.out.now) _ refl;
