@@ -33,12 +33,12 @@ use Rattle.pie_fresh.proofs.CleanLemmas.{refused_true}
 
 -- ---- the root of a site, and what was entered before it, are nothing to a build that rests
 
-abbrev with_root : Site → List ℕ → List (List ℕ) → Site
+abbrev pub with_root : Site → List ℕ → List (List ℕ) → Site
 with_root s root base =
     record { functions = s.functions; headings = s.headings; codes = s.codes; directory = s.directory; root = root; base = base }
 
 module _ (s : Site) (root : List ℕ) (base : List (List ℕ)) (b : Builder) where
-  rests_there : IsResting s b → IsResting (with_root s root base) b
+  pub rests_there : IsResting s b → IsResting (with_root s root base) b
   rests_there R = record {
     there = record { functions = R.there.functions; codes = R.there.codes; compiled = R.there.compiled; headings = R.there.headings };
     table = record {
@@ -118,7 +118,7 @@ parts : (roots : List Task) (i : ℕ) (root : Task) → i < length roots → roo
 parts roots i root lt is =
     sym (take-append-drop i roots) ∙ ap (λ ts. take i roots ++ ts) (drop_more roots i root lt ∙ ap (λ t. t ∷ drop (i + 1) roots) (sym is))
 
-is_root : (s : Site) (roots : List Task) (i : ℕ) (root : Task) → i < length roots → root ≡ get_or roots i root → All (IsRootOf s.functions) roots
+pub is_root : (s : Site) (roots : List Task) (i : ℕ) (root : Task) → i < length roots → root ≡ get_or roots i root → All (IsRootOf s.functions) roots
     → IsRootOf s.functions root
 is_root s roots i root lt is all = subst (λ t. IsRootOf s.functions t) (sym is) (all i root lt)
 
@@ -197,7 +197,7 @@ begins_empty fs codes b typed code names rows records stage stack s functions co
 -- ---- the whole
 
 -- the roots are those of a site
-abbrev site_of : List FunctionTree → List Heading → List Code → Directory → Site
+abbrev pub site_of : List FunctionTree → List Heading → List Code → Directory → Site
 site_of fs hs codes d = record { functions = fs; headings = hs; codes = codes; directory = d; root = []; base = [] }
 
 module _ (held : Option Directory) (fs : List FunctionTree) (codes : List Code) (roots before after : List Task) (a b : Builder)

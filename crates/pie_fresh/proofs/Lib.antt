@@ -24,8 +24,11 @@ pub mod Starting
 pub mod Leaving
 pub mod Resuming
 pub mod Turning
+pub mod Alone
+pub mod Asking
 pub mod Rooting
 pub mod Cleaning
+pub mod AskingSince
 pub mod Walks
 pub mod CleanLemmas
 pub mod ReadingFiles

@@ -9,3 +9,4 @@ pub mod Kept
 pub mod Means
 pub mod Builds
 pub mod Collected
+pub mod Asked

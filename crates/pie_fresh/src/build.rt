@@ -9,6 +9,7 @@ ghost use Rattle.pie_fresh.specs.inner.Frames.{AreEntered, IsIdle};
 ghost use Rattle.pie_fresh.specs.inner.Builds.{Gains, IsEmptyWhereRefused, IsKept, IsStoredOf, StoredWhere};
 ghost use Rattle.pie_fresh.specs.Cleans.{CleansAs, EvaluatesAs};
 ghost use Rattle.pie_fresh.specs.inner.Collected.{CleansDone, PassesChecks};
+ghost use Rattle.pie_fresh.specs.inner.Asked.{AsksAs, EvaluatesAsking};
 
 use crate::builder::Builder;
 use crate::ledger::Ledger;
@@ -41,6 +42,7 @@ pub fn fresh<F: Files>(
     ensures crash { LeavesAsBefore F.holds F.moment F.left_since F.images files.old files.new }
     ensures counted { Counted F.faults FilesError.Failed files.old files.new result }
     ensures clean { IfOk result (CleansAs (F.holds files.old) typed.now code.now roots.now runs.old runs.new) }
+    ensures asks { AsksAs (F.holds files.old) typed.now code.now roots.now runs.old runs.new (F.asked files.old) (F.asked files.new) }
 {
     let mut builder = Builder::new(alloc, typed, code);
     let refusal = evaluate_all(&mut builder, roots, files, runs)?;
@@ -67,6 +69,7 @@ fn evaluate_all<'a, F: Files>(
     ensures starts { IfOk result (λ _. Starts builder.old.ledger.names builder.new.ledger.names runs.old runs.new) }
     ensures reads { ReadsOnly F.holds F.moment F.left_since F.images F.faults files.old files.new result }
     ensures means { IfOk result (λ why. EvaluatesAs (F.holds files.old) builder.old builder.new roots.now why) }
+    ensures asks { EvaluatesAsking (F.holds files.old) builder.old roots.now runs.old runs.new (F.asked files.old) (F.asked files.new) }
 {
     for root in roots {
         match builder.evaluate(root, files, runs)? {

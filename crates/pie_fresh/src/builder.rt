@@ -3,12 +3,14 @@ ghost use Rattle.std.specs.Prelude.{◌≡◌, ◌+◌, ◌<◌, [], None, IfOk}
 ghost use Rattle.std.specs.List.{Contains};
 ghost use Rattle.pie_value.specs.Canonical.{IsEncodableTask};
 ghost use Rattle.pie_files.specs.Reading.{ReadsOnly};
+ghost use Rattle.pie_named.specs.Asking.{AsksFor};
 ghost use Rattle.pie_fresh.specs.inner.Ledgers.{Enters, IsPlaced, Starts};
 ghost use Rattle.pie_running.specs.inner.Frames.{IsWaiting};
 ghost use Rattle.pie_running.specs.inner.Steps.{IsEffect};
 ghost use Rattle.pie_fresh.specs.inner.Frames.{IsIdle, Running, StandsAt};
 ghost use Rattle.pie_fresh.specs.inner.Turns.{GoesOn, Nearer, below_left};
 ghost use Rattle.pie_fresh.specs.inner.Means.{TreatsAs, TurnsAs, RunsAs, BeginsAs};
+ghost use Rattle.pie_fresh.specs.inner.Asked.{BeginsAsking, IsAskedBy, RunsAsking, TurnsAsking};
 ghost use Rattle.pie_fresh.specs.Cleans.{NoRootsDone, EvaluatesRoot};
 
 use crate::ledger::Ledger;
@@ -76,6 +78,7 @@ impl<'a> Builder<'a> {
         ensures starts { IfOk result (λ _. Starts self.old.ledger.names self.new.ledger.names runs.old runs.new) }
         ensures reads { ReadsOnly F.holds F.moment F.left_since F.images F.faults files.old files.new result }
         ensures means { IfOk result (λ why. EvaluatesRoot (F.holds files.old) self.old self.new root.now why) }
+        ensures asks { BeginsAsking (F.holds files.old) self.old root.now runs.old runs.new (F.asked files.old) (F.asked files.new) }
     {
         if !root.is_small() {
             return Ok(Some(fault(root.copy()?, FaultKind::Big)));
@@ -104,6 +107,7 @@ impl<'a> Builder<'a> {
         ensures starts { IfOk result (λ _. Starts self.old.ledger.names self.new.ledger.names runs.old runs.new) }
         ensures reads { ReadsOnly F.holds F.moment F.left_since F.images F.faults files.old files.new result }
         ensures means { IfOk result (λ why. BeginsAs (F.holds files.old) self.old self.new root.now why) }
+        ensures asks { BeginsAsking (F.holds files.old) self.old root.now runs.old runs.new (F.asked files.old) (F.asked files.new) }
     {
         match self.enter(root, runs)? {
             Entered::Runs(frame) => self.run(frame, files, runs),
@@ -126,6 +130,7 @@ impl<'a> Builder<'a> {
         ensures starts { IfOk result (λ _. Starts self.old.ledger.names self.new.ledger.names runs.old runs.new) }
         ensures reads { ReadsOnly F.holds F.moment F.left_since F.images F.faults files.old files.new result }
         ensures means { IfOk result (λ why. RunsAs (F.holds files.old) self.old self.new frame.entry why) }
+        ensures asks { RunsAsking (F.holds files.old) self.old frame.entry runs.old runs.new (F.asked files.old) (F.asked files.new) }
     {
         let mut frame = frame;
         'turns: loop {
@@ -153,6 +158,7 @@ impl<'a> Builder<'a> {
         ensures starts { IfOk result (λ _. Starts self.old.ledger.names self.new.ledger.names runs.old runs.new) }
         ensures reads { ReadsOnly F.holds F.moment F.left_since F.images F.faults files.old files.new result }
         ensures means { IfOk result (λ t. TurnsAs (F.holds files.old) self.old self.new frame.entry t) }
+        ensures asks { TurnsAsking (F.holds files.old) self.old frame.entry (F.asked files.old) (F.asked files.new) }
     {
         match frame.next()? {
             Paused::Asks(waiting, event) => self.treat(waiting, event, files, runs),
@@ -181,6 +187,7 @@ impl<'a> Builder<'a> {
         ensures starts { IfOk result (λ _. Starts self.old.ledger.names self.new.ledger.names runs.old runs.new) }
         ensures reads { ReadsOnly F.holds F.moment F.left_since F.images F.faults files.old files.new result }
         ensures means { IfOk result (λ t. TreatsAs (F.holds files.old) self.old self.new waiting.entry event t) }
+        ensures asks { AsksFor (IsAskedBy event) (F.asked files.old) (F.asked files.new) }
     {
         match event {
             Event::Exists(path) => self.exists(waiting, path, files),

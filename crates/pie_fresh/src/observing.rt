@@ -3,9 +3,11 @@ ghost use Rattle.std.specs.Prelude.{◌≡◌, length, IfOk};
 ghost use Rattle.pie_value.specs.declared.event.Event.TheVariants as events;
 ghost use Rattle.pie_graph.specs.Numbers.{AllBelow};
 ghost use Rattle.pie_files.specs.Reading.{ReadsOnly};
+ghost use Rattle.pie_named.specs.Asking.{AsksFor};
 ghost use Rattle.pie_running.specs.inner.Frames.{IsWaiting};
 ghost use Rattle.pie_fresh.specs.inner.Turns.{Answered};
 ghost use Rattle.pie_fresh.specs.inner.Means.{LooksAs};
+ghost use Rattle.pie_fresh.specs.inner.Asked.{IsAskedBy};
 
 use crate::builder::Builder;
 use crate::turn::{Turn, turn_of};
@@ -28,6 +30,7 @@ impl<'a> Builder<'a> {
         ensures answered { IfOk result (λ t. Answered waiting.entry.notes t) }
         ensures reads { ReadsOnly F.holds F.moment F.left_since F.images F.faults files.old files.new result }
         ensures means { IfOk result (λ t. LooksAs (F.holds files.old) self.now waiting.entry (events.Exists path) t) }
+        ensures asks { AsksFor (IsAskedBy (events.Exists path)) (F.asked files.old) (F.asked files.new) }
     {
         let told = waiting.exists(&self.ledger, path, files)?;
         Ok(turn_of(told))
@@ -47,6 +50,7 @@ impl<'a> Builder<'a> {
         ensures answered { IfOk result (λ t. Answered waiting.entry.notes t) }
         ensures reads { ReadsOnly F.holds F.moment F.left_since F.images F.faults files.old files.new result }
         ensures means { IfOk result (λ t. LooksAs (F.holds files.old) self.now waiting.entry (events.Read path by) t) }
+        ensures asks { AsksFor (IsAskedBy (events.Read path by)) (F.asked files.old) (F.asked files.new) }
     {
         let told = waiting.read(self.alloc, &self.ledger, path, by, files)?;
         Ok(turn_of(told))
@@ -65,6 +69,7 @@ impl<'a> Builder<'a> {
         ensures answered { IfOk result (λ t. Answered waiting.entry.notes t) }
         ensures reads { ReadsOnly F.holds F.moment F.left_since F.images F.faults files.old files.new result }
         ensures means { IfOk result (λ t. LooksAs (F.holds files.old) self.now waiting.entry (events.Digest path) t) }
+        ensures asks { AsksFor (IsAskedBy (events.Digest path)) (F.asked files.old) (F.asked files.new) }
     {
         let told = waiting.digest(&self.ledger, path, files)?;
         Ok(turn_of(told))
@@ -82,6 +87,7 @@ impl<'a> Builder<'a> {
         ensures answered { IfOk result (λ t. Answered waiting.entry.notes t) }
         ensures reads { ReadsOnly F.holds F.moment F.left_since F.images F.faults files.old files.new result }
         ensures means { IfOk result (λ t. LooksAs (F.holds files.old) self.now waiting.entry (events.List dir) t) }
+        ensures asks { AsksFor (IsAskedBy (events.List dir)) (F.asked files.old) (F.asked files.new) }
     {
         let told = waiting.list(self.alloc, dir, files)?;
         Ok(turn_of(told))

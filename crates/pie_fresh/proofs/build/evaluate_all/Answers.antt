@@ -4,6 +4,7 @@ use Rattle.pie_fresh.proofs.Growing.{enters_then, starts_then}
 use Rattle.pie_fresh.specs.Cleans.{EvaluatesRoot}
 use Rattle.pie_fresh.proofs.Cleaning.{does_more, ends_build, does_all}
 use Rattle.pie_fresh.proofs.Roots.{entered_more, entered_all}
+use Rattle.pie_fresh.proofs.AskingSince.{roots_ask}
 use Rattle.pie_fresh.proofs.build.evaluate_all.Goals as goal
 
 pub loop-root-preserved : goal.loop-root-preserved
@@ -26,6 +27,10 @@ loop-root-preserved g c =
           c.in_ok-refusal.ensures.means),
       both_before g.F.Files.holds g.F.Files.moment g.F.Files.left_since g.F.Files.images c.args.files.now c.loop-root.files c.evaluate.new.files before.4
           before.8 c.evaluate.ensures.reads.crash,
+      roots_ask (g.F.Files.holds c.args.files.now) (g.F.Files.holds c.loop-root.files) c.args.builder.now c.loop-root.builder c.evaluate.new.self.ledger.names c.args.roots.now
+          c.loop-root.root-index c.root-item.result c.args.runs.now c.loop-root.runs c.evaluate.new.runs (g.F.Files.asked c.args.files.now) (g.F.Files.asked c.loop-root.files)
+          (g.F.Files.asked c.evaluate.new.files) before.4 c.loop-root-test.true c.root-item.is before.7 before.6
+          c.evaluate.ensures.enters before.9 c.evaluate.ensures.asks,
     )
 
 pub returns-clause-entered : goal.returns-clause-entered
@@ -58,3 +63,17 @@ returns-in-Some-clause-means g c =
     c.args.roots.now c.loop-root.root-index c.root-item.result c.loop-root.invariant.4 c.loop-root-test.true c.root-item.is c.loop-root.invariant.7
     c.in-Some.refusal (subst (EvaluatesRoot (g.F.Files.holds c.loop-root.files) c.loop-root.builder c.evaluate.new.self c.root-item.result) c.in-Some.is
     c.in_ok-refusal.ensures.means)
+
+pub returns-in_err-refusal-clause-asks : goal.returns-in_err-refusal-clause-asks
+returns-in_err-refusal-clause-asks g c =
+    roots_ask (g.F.Files.holds c.args.files.now) (g.F.Files.holds c.loop-root.files) c.args.builder.now c.loop-root.builder c.evaluate.new.self.ledger.names c.args.roots.now
+    c.loop-root.root-index c.root-item.result c.args.runs.now c.loop-root.runs c.evaluate.new.runs (g.F.Files.asked c.args.files.now) (g.F.Files.asked c.loop-root.files)
+    (g.F.Files.asked c.evaluate.new.files) c.loop-root.invariant.4 c.loop-root-test.true c.root-item.is c.loop-root.invariant.7 c.loop-root.invariant.6
+    c.evaluate.ensures.enters c.loop-root.invariant.9 c.evaluate.ensures.asks
+
+pub returns-in-Some-clause-asks : goal.returns-in-Some-clause-asks
+returns-in-Some-clause-asks g c =
+    roots_ask (g.F.Files.holds c.args.files.now) (g.F.Files.holds c.loop-root.files) c.args.builder.now c.loop-root.builder c.evaluate.new.self.ledger.names c.args.roots.now
+    c.loop-root.root-index c.root-item.result c.args.runs.now c.loop-root.runs c.evaluate.new.runs (g.F.Files.asked c.args.files.now) (g.F.Files.asked c.loop-root.files)
+    (g.F.Files.asked c.evaluate.new.files) c.loop-root.invariant.4 c.loop-root-test.true c.root-item.is c.loop-root.invariant.7 c.loop-root.invariant.6
+    c.evaluate.ensures.enters c.loop-root.invariant.9 c.evaluate.ensures.asks

@@ -8,6 +8,7 @@ use Rattle.pie_fresh.proofs.Cleaning.{cleans_refused, cleans_checked}
 use Rattle.pie_fresh.proofs.Roots.{idle_known}
 use Rattle.std.proofs.Common.{arith}
 use Rattle.pie_fresh.proofs.Growing.{gains}
+use Rattle.pie_fresh.proofs.AskingSince.{fresh_asks}
 use Rattle.pie_fresh.proofs.build.fresh.Goals as goal
 
 pub returns-in-Some-clause-stored : goal.returns-in-Some-clause-stored
@@ -46,3 +47,27 @@ returns-in_err-checked-in-None-clause-runs g c = grind (arith, gains)
 
 pub returns-in_err-refusal-clause-runs : goal.returns-in_err-refusal-clause-runs
 returns-in_err-refusal-clause-runs g c = grind (arith, gains)
+
+pub returns-clause-asks : goal.returns-clause-asks
+returns-clause-asks g c =
+    fresh_asks (g.F.Files.holds c.args.files.now) c.args.typed.now c.args.code.now c.args.roots.now c.args.runs.now c.evaluate_all.new.runs c.new-builder.result
+    c.evaluate_all.new.builder.ledger.names (g.F.Files.asked c.args.files.now) (g.F.Files.asked c.evaluate_all.new.files) c.new-builder.ensures.begins c.new-builder.ensures.none
+    c.evaluate_all.ensures.enters c.evaluate_all.ensures.asks
+
+pub returns-in-Some-clause-asks : goal.returns-in-Some-clause-asks
+returns-in-Some-clause-asks g c =
+    fresh_asks (g.F.Files.holds c.args.files.now) c.args.typed.now c.args.code.now c.args.roots.now c.args.runs.now c.evaluate_all.new.runs c.new-builder.result
+    c.evaluate_all.new.builder.ledger.names (g.F.Files.asked c.args.files.now) (g.F.Files.asked c.evaluate_all.new.files) c.new-builder.ensures.begins c.new-builder.ensures.none
+    c.evaluate_all.ensures.enters c.evaluate_all.ensures.asks
+
+pub returns-in_err-checked-in-None-clause-asks : goal.returns-in_err-checked-in-None-clause-asks
+returns-in_err-checked-in-None-clause-asks g c =
+    fresh_asks (g.F.Files.holds c.args.files.now) c.args.typed.now c.args.code.now c.args.roots.now c.args.runs.now c.evaluate_all.new.runs c.new-builder.result
+    c.evaluate_all.new.builder.ledger.names (g.F.Files.asked c.args.files.now) (g.F.Files.asked c.evaluate_all.new.files) c.new-builder.ensures.begins c.new-builder.ensures.none
+    c.evaluate_all.ensures.enters c.evaluate_all.ensures.asks
+
+pub returns-in_err-refusal-clause-asks : goal.returns-in_err-refusal-clause-asks
+returns-in_err-refusal-clause-asks g c =
+    fresh_asks (g.F.Files.holds c.args.files.now) c.args.typed.now c.args.code.now c.args.roots.now c.args.runs.now c.evaluate_all.new.runs c.new-builder.result
+    c.evaluate_all.new.builder.ledger.names (g.F.Files.asked c.args.files.now) (g.F.Files.asked c.evaluate_all.new.files) c.new-builder.ensures.begins c.new-builder.ensures.none
+    c.evaluate_all.ensures.enters c.evaluate_all.ensures.asks

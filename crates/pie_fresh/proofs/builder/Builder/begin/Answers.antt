@@ -9,6 +9,7 @@ use Rattle.pie_fresh.proofs.Growing.{enters_then, starts_then}
 use Rattle.pie_fresh.proofs.Entering.{begun_runs}
 use Rattle.pie_fresh.proofs.Leaving.{if_ok}
 use Rattle.pie_fresh.proofs.Rooting.{begins_runs, begins_refused}
+use Rattle.pie_fresh.proofs.AskingSince.{begin_asks, begin_asks_none}
 use Rattle.pie_fresh.proofs.builder.Builder.begin.Goals as goal
 
 pub run-requires : goal.run-requires
@@ -45,3 +46,18 @@ pub returns-in-Refused-clause-means : goal.returns-in-Refused-clause-means
 returns-in-Refused-clause-means g c =
     begins_refused (g.F.Files.holds c.args.files.now) c.args.self.now c.enter.new.self c.args.root.now c.in-Refused.refusal
     (subst (λ e. NewAs c.args.self.now c.enter.new.self c.args.root.now e) c.in-Refused.is c.in_ok-frame.ensures.means)
+
+pub returns-in-Runs-clause-asks : goal.returns-in-Runs-clause-asks
+returns-in-Runs-clause-asks g c =
+    begin_asks (g.F.Files.holds c.args.files.now) c.args.self.now c.enter.new.self c.args.root.now c.in-Runs.frame c.run.new.self.ledger.names c.args.runs.now
+    c.enter.new.runs c.run.new.runs (g.F.Files.asked c.args.files.now) (g.F.Files.asked c.run.new.files)
+    (subst (λ e. NewAs c.args.self.now c.enter.new.self c.args.root.now e) c.in-Runs.is c.in_ok-frame.ensures.means) c.in_ok-frame.ensures.starts
+    c.run.ensures.enters c.run.ensures.asks
+
+pub returns-in-Refused-clause-asks : goal.returns-in-Refused-clause-asks
+returns-in-Refused-clause-asks g c =
+    begin_asks_none (g.F.Files.holds c.args.files.now) c.args.self.now c.args.root.now c.args.runs.now c.enter.new.runs (g.F.Files.asked c.args.files.now)
+
+pub returns-in_err-frame-clause-asks : goal.returns-in_err-frame-clause-asks
+returns-in_err-frame-clause-asks g c =
+    begin_asks_none (g.F.Files.holds c.args.files.now) c.args.self.now c.args.root.now c.args.runs.now c.enter.new.runs (g.F.Files.asked c.args.files.now)

@@ -4,6 +4,7 @@ use Rattle.pie_fresh.proofs.Rooting.{known_rests}
 use Rattle.std.proofs.Common.{arith}
 use Rattle.pie_fresh.proofs.Growing.{enters_same, starts_same}
 use Rattle.pie_files.proofs.Reading.{reads}
+use Rattle.pie_fresh.proofs.AskingSince.{begin_asks_none}
 use Rattle.pie_fresh.proofs.builder.Builder.evaluate.Goals as goal
 
 pub returns-in-Some-clause-means : goal.returns-in-Some-clause-means
@@ -40,3 +41,19 @@ returns-then-not-is_small-clause-reads g c = grind (arith, reads)
 
 pub returns-then-not-is_small-clause-starts : goal.returns-then-not-is_small-clause-starts
 returns-then-not-is_small-clause-starts g c = grind (arith, starts_same)
+
+pub returns-in-Some-clause-asks : goal.returns-in-Some-clause-asks
+returns-in-Some-clause-asks g c =
+    begin_asks_none (g.F.Files.holds c.args.files.now) c.args.self.now c.args.root.now c.args.runs.now c.args.runs.now (g.F.Files.asked c.args.files.now)
+
+pub returns-in_err-copy-clause-asks : goal.returns-in_err-copy-clause-asks
+returns-in_err-copy-clause-asks g c =
+    begin_asks_none (g.F.Files.holds c.args.files.now) c.args.self.now c.args.root.now c.args.runs.now c.args.runs.now (g.F.Files.asked c.args.files.now)
+
+pub returns-in_err-number-clause-asks : goal.returns-in_err-number-clause-asks
+returns-in_err-number-clause-asks g c =
+    begin_asks_none (g.F.Files.holds c.args.files.now) c.args.self.now c.args.root.now c.args.runs.now c.args.runs.now (g.F.Files.asked c.args.files.now)
+
+pub returns-then-not-is_small-clause-asks : goal.returns-then-not-is_small-clause-asks
+returns-then-not-is_small-clause-asks g c =
+    begin_asks_none (g.F.Files.holds c.args.files.now) c.args.self.now c.args.root.now c.args.runs.now c.args.runs.now (g.F.Files.asked c.args.files.now)

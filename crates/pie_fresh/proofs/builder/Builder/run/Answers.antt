@@ -6,6 +6,7 @@ use Rattle.pie_fresh.proofs.Rooting.{runs_on, runs_out, runs_stop}
 use Rattle.std.proofs.Common.{arith}
 use Rattle.pie_fresh.proofs.Walks.{runs}
 use Rattle.pie_files.proofs.Reading.{reads}
+use Rattle.pie_fresh.proofs.AskingSince.{run_asks}
 use Rattle.pie_fresh.proofs.builder.Builder.run.Goals as goal
 
 pub turns-preserved : goal.turns-preserved
@@ -23,6 +24,9 @@ turns-preserved g c =
           before.3 before.6 c.in_ok-next.field-0 c.in_ok-next.ensures.means c.in-Goes.next c.in-Goes.is,
       both_before g.F.Files.holds g.F.Files.moment g.F.Files.left_since g.F.Files.images c.args.files.now c.turns.files c.turn.new.files before.3
           before.7 c.turn.ensures.reads.crash,
+      run_asks (g.F.Files.holds c.args.files.now) (g.F.Files.holds c.turns.files) c.args.self.now c.turns.self c.args.frame c.turns.frame c.turn.new.self.ledger.names
+          c.args.runs.now c.turns.runs c.turn.new.runs (g.F.Files.asked c.args.files.now) (g.F.Files.asked c.turns.files) (g.F.Files.asked c.turn.new.files) before.3
+          before.6 before.5 c.turn.ensures.enters before.0.top.placed.named before.8 c.turn.ensures.asks,
     )
 
 pub returns-in-Rests-clause-means : goal.returns-in-Rests-clause-means
@@ -61,3 +65,21 @@ returns-in_err-next-clause-reads g c = grind (arith, reads)
 
 pub returns-in_err-next-clause-starts : goal.returns-in_err-next-clause-starts
 returns-in_err-next-clause-starts g c = grind (arith, runs)
+
+pub returns-in-Rests-clause-asks : goal.returns-in-Rests-clause-asks
+returns-in-Rests-clause-asks g c =
+    run_asks (g.F.Files.holds c.args.files.now) (g.F.Files.holds c.turns.files) c.args.self.now c.turns.self c.args.frame c.turns.frame c.turn.new.self.ledger.names
+    c.args.runs.now c.turns.runs c.turn.new.runs (g.F.Files.asked c.args.files.now) (g.F.Files.asked c.turns.files) (g.F.Files.asked c.turn.new.files) c.turns.invariant.3
+    c.turns.invariant.6 c.turns.invariant.5 c.turn.ensures.enters c.turns.invariant.0.top.placed.named c.turns.invariant.8 c.turn.ensures.asks
+
+pub returns-in-Stops-clause-asks : goal.returns-in-Stops-clause-asks
+returns-in-Stops-clause-asks g c =
+    run_asks (g.F.Files.holds c.args.files.now) (g.F.Files.holds c.turns.files) c.args.self.now c.turns.self c.args.frame c.turns.frame c.turn.new.self.ledger.names
+    c.args.runs.now c.turns.runs c.turn.new.runs (g.F.Files.asked c.args.files.now) (g.F.Files.asked c.turns.files) (g.F.Files.asked c.turn.new.files) c.turns.invariant.3
+    c.turns.invariant.6 c.turns.invariant.5 c.turn.ensures.enters c.turns.invariant.0.top.placed.named c.turns.invariant.8 c.turn.ensures.asks
+
+pub returns-in_err-next-clause-asks : goal.returns-in_err-next-clause-asks
+returns-in_err-next-clause-asks g c =
+    run_asks (g.F.Files.holds c.args.files.now) (g.F.Files.holds c.turns.files) c.args.self.now c.turns.self c.args.frame c.turns.frame c.turn.new.self.ledger.names
+    c.args.runs.now c.turns.runs c.turn.new.runs (g.F.Files.asked c.args.files.now) (g.F.Files.asked c.turns.files) (g.F.Files.asked c.turn.new.files) c.turns.invariant.3
+    c.turns.invariant.6 c.turns.invariant.5 c.turn.ensures.enters c.turns.invariant.0.top.placed.named c.turns.invariant.8 c.turn.ensures.asks

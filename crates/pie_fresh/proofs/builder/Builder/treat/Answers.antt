@@ -3,6 +3,8 @@ use Rattle.pie_fresh.specs.inner.Means.{IsAsking}
 use Rattle.std.proofs.Common.{arith}
 use Rattle.pie_fresh.proofs.Walks.{treats}
 use Rattle.pie_files.proofs.Reading.{reads}
+use Rattle.pie_fresh.specs.inner.Asked.{IsAskedBy}
+use Rattle.pie_fresh.proofs.Asking.{asks_none}
 use Rattle.pie_fresh.proofs.builder.Builder.treat.Goals as goal
 
 pub returns-in-Write-clause-means : goal.returns-in-Write-clause-means
@@ -144,3 +146,23 @@ returns-in_err-write-in-Write-clause-reads g c = grind (arith, reads)
 
 pub returns-in_err-write-in-Write-clause-starts : goal.returns-in_err-write-in-Write-clause-starts
 returns-in_err-write-in-Write-clause-starts g c = grind (arith, treats)
+
+pub returns-clause-asks : goal.returns-clause-asks
+returns-clause-asks g c =
+    asks_none (IsAskedBy c.args.event) (g.F.Files.asked c.args.files.now)
+
+pub returns-in-Write-clause-asks : goal.returns-in-Write-clause-asks
+returns-in-Write-clause-asks g c =
+    asks_none (IsAskedBy c.args.event) (g.F.Files.asked c.args.files.now)
+
+pub returns-in-Require-clause-asks : goal.returns-in-Require-clause-asks
+returns-in-Require-clause-asks g c =
+    asks_none (IsAskedBy c.args.event) (g.F.Files.asked c.args.files.now)
+
+pub returns-in_err-write-in-Write-clause-asks : goal.returns-in_err-write-in-Write-clause-asks
+returns-in_err-write-in-Write-clause-asks g c =
+    asks_none (IsAskedBy c.args.event) (g.F.Files.asked c.args.files.now)
+
+pub returns-in_err-require-in-Require-clause-asks : goal.returns-in_err-require-in-Require-clause-asks
+returns-in_err-require-in-Require-clause-asks g c =
+    asks_none (IsAskedBy c.args.event) (g.F.Files.asked c.args.files.now)

@@ -5,6 +5,7 @@ use Rattle.pie_fresh.proofs.Turning.{ComesWith, turns_asking, turns_ending, turn
 use Rattle.std.proofs.Common.{arith}
 use Rattle.pie_fresh.proofs.Growing.{enters_same}
 use Rattle.pie_files.proofs.Reading.{reads}
+use Rattle.pie_fresh.proofs.Asking.{turn_asks, turn_asks_none}
 use Rattle.pie_fresh.proofs.builder.Builder.turn.Goals as goal
 
 pub returns-in-Asks-clause-means : goal.returns-in-Asks-clause-means
@@ -41,3 +42,25 @@ returns-in_err-waiting-clause-reads g c = grind (arith, reads)
 
 pub returns-in_ok-finish-in-Ends-clause-reads : goal.returns-in_ok-finish-in-Ends-clause-reads
 returns-in_ok-finish-in-Ends-clause-reads g c = grind (arith, reads)
+
+pub returns-in-Asks-clause-asks : goal.returns-in-Asks-clause-asks
+returns-in-Asks-clause-asks g c =
+    turn_asks (g.F.Files.holds c.args.files.now) c.args.self.now c.args.frame c.in-Asks.waiting c.in-Asks.event (g.F.Files.asked c.args.files.now) (g.F.Files.asked c.treat.new.files)
+    (subst (Comes c.args.frame.notes) c.in-Asks.is c.in_ok-waiting.ensures.comes) (subst (ComesWith c.args.frame) c.in-Asks.is c.in_ok-waiting.ensures.means)
+    c.treat.ensures.asks
+
+pub returns-in_ok-finish-in-Ends-clause-asks : goal.returns-in_ok-finish-in-Ends-clause-asks
+returns-in_ok-finish-in-Ends-clause-asks g c =
+    turn_asks_none (g.F.Files.holds c.args.files.now) c.args.self.now c.args.frame (g.F.Files.asked c.args.files.now)
+
+pub returns-in_err-finish-in-Ends-clause-asks : goal.returns-in_err-finish-in-Ends-clause-asks
+returns-in_err-finish-in-Ends-clause-asks g c =
+    turn_asks_none (g.F.Files.holds c.args.files.now) c.args.self.now c.args.frame (g.F.Files.asked c.args.files.now)
+
+pub returns-in-Fails-clause-asks : goal.returns-in-Fails-clause-asks
+returns-in-Fails-clause-asks g c =
+    turn_asks_none (g.F.Files.holds c.args.files.now) c.args.self.now c.args.frame (g.F.Files.asked c.args.files.now)
+
+pub returns-in_err-waiting-clause-asks : goal.returns-in_err-waiting-clause-asks
+returns-in_err-waiting-clause-asks g c =
+    turn_asks_none (g.F.Files.holds c.args.files.now) c.args.self.now c.args.frame (g.F.Files.asked c.args.files.now)
