@@ -4,6 +4,8 @@ pub mod Crashing
 pub mod InPlace
 pub mod OneAnswer
 pub mod OwnPaths
+pub mod Asking
+pub mod AskingClean
 pub mod Ran
 pub mod Removing
 pub mod Storing

@@ -1,3 +1,4 @@
+pub mod Asked
 pub mod Crashes
 pub mod Left
 pub mod Stored

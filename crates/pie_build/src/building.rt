@@ -5,10 +5,13 @@ ghost use Rattle.pie_value.specs.Canonical.{IsEncodableTask};
 ghost use Rattle.pie_digest.specs.Digests.{HasNames};
 ghost use Rattle.pie_files.specs.Reading.{LeavesAsBefore};
 ghost use Rattle.pie_fresh.specs.inner.Builds.{Gains, IsKept, StoredWhere};
+ghost use Rattle.pie_fresh.specs.inner.Asked.{AsksForSeen};
 ghost use Rattle.pie_fresh.specs.Cleans.{IsCleanOf};
 ghost use Rattle.pie_project.specs.Refusals.{IsVerdict, Says};
+ghost use Rattle.pie_build.specs.Asked.{AsksEntered};
 ghost use Rattle.pie_build.specs.Crashes.{StaysAtRest, Withstands};
 ghost use Rattle.pie_build.specs.Left.{ChangesIfAccepted, KeepsRest, Leaves};
+ghost use Rattle.pie_build.specs.inner.Asked.{AsksBuilt, AsksClean, MakesOwn};
 ghost use Rattle.pie_build.specs.inner.Projects.{ChangesFor, IsCleanBy, IsReady, LeavesFor};
 ghost use Rattle.pie_build.specs.inner.Rebuilt.{RebuildSays, RebuildsOnly, IsReport, IsRefusal, Tells};
 ghost use Rattle.pie_build.specs.Stored.{MayStand, IsStoreOf};
@@ -53,6 +56,8 @@ pub fn rebuild<F: Files>(
     ensures few { length runs.new ≤ length runs.old + 50000 }
     ensures encodable { IfOk result (λ r. All IsEncodableTask r.ran.items) }
     ensures told { Tells F.faults files.old files.new result }
+    ensures asks { IfSome (F.holds files.old) (λ d. AsksClean d runs.old runs.new (F.asked files.old) (F.asked files.new)) }
+    ensures entered { IfSome (F.holds files.old) (λ d. IsVerdict result → AsksEntered d (F.asked files.old) (F.asked files.new)) }
 {
     match read_project(alloc, files) {
         Ok(project) => with_project(alloc, files, project, runs),
@@ -80,6 +85,7 @@ fn with_project<F: Files>(
     ensures few { length runs.new ≤ length runs.old + 50000 }
     ensures encodable { IfOk result (λ r. All IsEncodableTask r.ran.items) }
     ensures told { Tells F.faults files.old files.new result }
+    ensures asks { IfSome (F.holds files.old) (λ d. AsksBuilt project.typed d runs.old runs.new (F.asked files.old) (F.asked files.new)) }
 {
     match build(alloc, files, project, runs) {
         Ok(report) => Ok(report),
@@ -107,6 +113,7 @@ fn build<F: Files>(
     ensures few { length runs.new ≤ length runs.old + 50000 }
     ensures encodable { IfOk result (λ r. All IsEncodableTask r.ran.items) }
     ensures counted { Counted F.faults FilesError.Failed files.old files.new result }
+    ensures asks { IfSome (F.holds files.old) (λ d. AsksBuilt project.typed d runs.old runs.new (F.asked files.old) (F.asked files.new)) }
 {
     let before = runs.count();
     let built = evaluate(alloc, files, &project, runs)?;
@@ -126,6 +133,7 @@ fn evaluate<F: Files>(
     ensures kept { IfOk result IsKept }
     ensures stored { IfOk result (λ b. StoredWhere b.verdict project.now.typed project.now.roots.items b) }
     ensures clean { IfSome (F.holds files.old) (λ d. IfOk result (IsCleanOf project.now.typed d project.now.roots.items runs.old runs.new)) }
+    ensures asks { IfSome (F.holds files.old) (λ d. AsksForSeen project.now.typed d runs.old runs.new (F.asked files.old) (F.asked files.new)) }
     ensures runs { Gains 50000 runs.old runs.new }
     ensures same { F.holds files.new ≡ F.holds files.old }
     ensures crash { LeavesAsBefore F.holds F.moment F.left_since F.images files.old files.new }
@@ -173,6 +181,7 @@ fn finish<F: Files>(
     ensures durable { OnOk result (StaysAtRest F.holds F.images files.old files.new) }
     ensures ran { IfOk result (λ r. r.ran ≡ ran) }
     ensures counted { Counted F.faults FilesError.Failed files.old files.new result }
+    ensures asks { MakesOwn (F.asked files.old) (F.asked files.new) }
 {
     let Built {
         verdict,

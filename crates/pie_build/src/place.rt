@@ -7,11 +7,13 @@ ghost use Rattle.pie_files.specs.Images.{Only};
 ghost use Rattle.pie_files.specs.Streams.{Counted};
 ghost use Rattle.pie_reach.specs.Plan.{IsPlan};
 ghost use Rattle.pie_files.specs.Reading.{LeavesAsBefore};
+ghost use Rattle.pie_named.specs.Asking.{MakesOnly};
 ghost use Rattle.pie_commit.specs.Outcomes.{HasBrought, KeepsOthers, IsAtRest, IsOfThree, LeavesFromRest, LeavesMarked};
 ghost use Rattle.pie_commit.specs.inner.Plans.{is_sound, is_empty, wanted_by};
 ghost use Rattle.pie_fresh.specs.inner.Builds.{InPathOrder};
 ghost use Rattle.pie_build.specs.Crashes.{StaysAtRest, Withstands};
 ghost use Rattle.pie_build.specs.Left.{KeepsRest, Puts};
+ghost use Rattle.pie_build.specs.inner.Asked.{IsChangeOf, MakesOwn};
 ghost use Rattle.pie_build.specs.inner.Reported.{IsReportOf, PutsMade};
 ghost use Rattle.pie_build.specs.inner.Plans.{IsPlanOf, gone_if};
 
@@ -53,6 +55,7 @@ pub(crate) fn put_into_place<F: Files>(
     ensures crash { Withstands F.holds F.moment F.left_since F.images (PutsMade made ran) files.old files.new }
     ensures durable { OnOk result (StaysAtRest F.holds F.images files.old files.new) }
     ensures counted { Counted F.faults FilesError.Failed files.old files.new result }
+    ensures asks { MakesOwn (F.asked files.old) (F.asked files.new) }
 {
     let Made {
         live,
@@ -78,6 +81,7 @@ fn commit_then<F: Files>(files: &mut F, plan: &Plan, report: Report) -> Result<R
     ensures failed { OnErr result (IfSome (F.holds files.old) (λ d. Only d (F.images files.old) → LeavesMarked plan.now d (F.images files.new))) }
     ensures durable { is_empty plan.now ≡ false → OnOk result (IfSome (F.holds files.old) (λ d. IsAtRest (F.holds files.new) (F.images files.new))) }
     ensures counted { Counted F.faults FilesError.Failed files.old files.new result }
+    ensures asks { MakesOnly (IsChangeOf plan.now) (F.asked files.old) (F.asked files.new) }
 {
     match commit(files, plan) {
         Ok(()) => Ok(report),
@@ -86,13 +90,14 @@ fn commit_then<F: Files>(files: &mut F, plan: &Plan, report: Report) -> Result<R
 }
 
 // The files under `out/` but for these.
-#[tactic(auto, using(pie_files::proofs::Reading::reads))]
+#[tactic(auto, using(pie_files::proofs::Reading::reads, crate::proofs::Asking::own_calls))]
 fn removals<F: Files>(alloc: Global, files: &mut F, kept: &[Path]) -> Result<Vec<Path>, FilesError>
     ensures plan { IfSome (F.holds files.old) (λ d. IfOk result (λ found. IsPlan (files_under d (codes "out")) kept.now found.items)) }
     ensures out { IfOk result (λ found. list_all is_out found.items ≡ true) }
     ensures same { F.holds files.new ≡ F.holds files.old }
     ensures crash { LeavesAsBefore F.holds F.moment F.left_since F.images files.old files.new }
     ensures counted { Counted F.faults FilesError.Failed files.old files.new result }
+    ensures asks { MakesOwn (F.asked files.old) (F.asked files.new) }
 {
     let out = Path::known(alloc, "out")?;
     let found = files.all_under(&out)?;
@@ -102,12 +107,13 @@ fn removals<F: Files>(alloc: Global, files: &mut F, kept: &[Path]) -> Result<Vec
 }
 
 // What becomes of the pending names: they go, where there are any.
-#[tactic(auto, using(pie_files::proofs::Reading::reads))]
+#[tactic(auto, using(pie_files::proofs::Reading::reads, crate::proofs::Asking::own_calls))]
 fn end_of_pending<F: Files>(alloc: Global, files: &mut F) -> Result<Pending, FilesError>
     ensures gone { IfSome (F.holds files.old) (λ d. IfOk result (λ p. p ≡ gone_if (is_some (file_at d (codes ".pie/pending"))))) }
     ensures same { F.holds files.new ≡ F.holds files.old }
     ensures crash { LeavesAsBefore F.holds F.moment F.left_since F.images files.old files.new }
     ensures counted { Counted F.faults FilesError.Failed files.old files.new result }
+    ensures asks { MakesOwn (F.asked files.old) (F.asked files.new) }
 {
     let names = Path::known(alloc, ".pie/pending")?;
     if files.exists(&names)? {

@@ -6,6 +6,7 @@ use Rattle.pie_build.proofs.OwnPaths.{same_keeps}
 use Rattle.pie_build.proofs.Ran.{still_there, ran_is, ran_encodable, left_before, rest_before}
 use Rattle.std.proofs.Common.{arith}
 use Rattle.pie_build.proofs.Crashing.{rests_ok}
+use Rattle.pie_build.proofs.AskingClean.{built_asks, built_asks_seen}
 use Rattle.pie_build.proofs.building.build.Goals as goal
 
 pub since-requires : goal.since-requires
@@ -65,3 +66,18 @@ returns-clause-durable g c = grind (arith, rests_ok)
 
 pub returns-in_err-built-clause-crash : goal.returns-in_err-built-clause-crash
 returns-in_err-built-clause-crash g c = grind (arith, withstands_still)
+
+pub returns-in_err-built-clause-asks : goal.returns-in_err-built-clause-asks
+returns-in_err-built-clause-asks g c =
+    built_asks_seen (g.F.Files.holds c.args.files.now) c.args.project.typed c.args.runs.now c.evaluate.new.runs (g.F.Files.asked c.args.files.now) (g.F.Files.asked c.evaluate.new.files)
+    c.evaluate.ensures.asks
+
+pub returns-in_err-ran-clause-asks : goal.returns-in_err-ran-clause-asks
+returns-in_err-ran-clause-asks g c =
+    built_asks_seen (g.F.Files.holds c.args.files.now) c.args.project.typed c.args.runs.now c.evaluate.new.runs (g.F.Files.asked c.args.files.now) (g.F.Files.asked c.evaluate.new.files)
+    c.evaluate.ensures.asks
+
+pub returns-clause-asks : goal.returns-clause-asks
+returns-clause-asks g c =
+    built_asks (g.F.Files.holds c.args.files.now) c.args.project.typed c.args.runs.now c.evaluate.new.runs (g.F.Files.asked c.args.files.now) (g.F.Files.asked c.evaluate.new.files)
+    (g.F.Files.asked c.finish.new.files) c.evaluate.ensures.asks c.finish.ensures.asks

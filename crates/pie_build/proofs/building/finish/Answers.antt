@@ -8,6 +8,7 @@ use Rattle.pie_build.proofs.Storing.{may_stand}
 use Rattle.std.proofs.Common.{arith}
 use Rattle.pie_build.proofs.Crashing.{withstands_none}
 use Rattle.pie_build.proofs.OwnPaths.{same_keeps}
+use Rattle.pie_build.proofs.Asking.{makes_none}
 use Rattle.pie_build.proofs.building.finish.Goals as goal
 
 pub made_of-requires : goal.made_of-requires
@@ -81,3 +82,11 @@ returns-in_err-made-in-Accepted-clause-crash g c = grind (arith, withstands_none
 
 pub returns-in_err-made-in-Accepted-clause-rest : goal.returns-in_err-made-in-Accepted-clause-rest
 returns-in_err-made-in-Accepted-clause-rest g c = grind (arith, same_keeps)
+
+pub returns-in_err-made-in-Accepted-clause-asks : goal.returns-in_err-made-in-Accepted-clause-asks
+returns-in_err-made-in-Accepted-clause-asks g c =
+    makes_none (g.F.Files.asked c.args.files.now) (g.F.Files.asked c.args.files.now) refl
+
+pub returns-in-Refused-clause-asks : goal.returns-in-Refused-clause-asks
+returns-in-Refused-clause-asks g c =
+    makes_none (g.F.Files.asked c.args.files.now) (g.F.Files.asked c.args.files.now) refl

@@ -8,6 +8,8 @@ use Rattle.pie_build.proofs.Crashing.{withstands_as, withstands_then}
 use Rattle.std.proofs.Common.{arith}
 use Rattle.pie_build.proofs.Crashing.{withstands_still, rests_still, rests_then}
 use Rattle.pie_build.proofs.OneAnswer.{report_only, refusal_only, reported}
+use Rattle.pie_build.proofs.Asking.{reads_project}
+use Rattle.pie_build.proofs.AskingClean.{project_asks, project_entered, refused_asks, refused_entered}
 use Rattle.pie_build.proofs.building.rebuild.Goals as goal
 
 pub returns-in-Err-clause-rest : goal.returns-in-Err-clause-rest
@@ -58,3 +60,27 @@ returns-in-Err-clause-only g c = refusal_only (g.F.Files.holds c.args.files.now)
 
 pub returns-in-Ok-clause-idle : goal.returns-in-Ok-clause-idle
 returns-in-Ok-clause-idle g c = reported c.with_project.result _ c.with_project.ensures.says
+
+pub returns-in-Ok-clause-asks : goal.returns-in-Ok-clause-asks
+returns-in-Ok-clause-asks g c =
+    project_asks (g.F.Files.holds c.args.files.now) (g.F.Files.holds c.read_project.new.files) c.in-Ok.project c.args.runs.now c.with_project.new.runs
+    (g.F.Files.asked c.args.files.now) (g.F.Files.asked c.read_project.new.files) (g.F.Files.asked c.with_project.new.files) c.in-Ok.ensures.found c.in-Ok.ensures.looks.same
+    (reads_project (g.F.Files.asked c.args.files.now) (g.F.Files.asked c.read_project.new.files) c.in-Ok.ensures.looks.asks) c.with_project.ensures.asks
+
+pub returns-in-Err-clause-asks : goal.returns-in-Err-clause-asks
+returns-in-Err-clause-asks g c =
+    refused_asks (g.F.Files.holds c.args.files.now) c.args.runs.now (g.F.Files.asked c.args.files.now) (g.F.Files.asked c.read_project.new.files)
+    (reads_project (g.F.Files.asked c.args.files.now) (g.F.Files.asked c.read_project.new.files) c.in-Err.ensures.looks.asks)
+
+pub returns-in-Ok-clause-entered : goal.returns-in-Ok-clause-entered
+returns-in-Ok-clause-entered g c =
+    project_entered (g.F.Files.holds c.args.files.now) (g.F.Files.holds c.read_project.new.files) (g.F.Files.holds c.with_project.new.files) c.in-Ok.project
+    c.args.runs.now c.with_project.new.runs c.with_project.result (g.F.Files.asked c.args.files.now) (g.F.Files.asked c.read_project.new.files)
+    (g.F.Files.asked c.with_project.new.files) c.in-Ok.ensures.found c.in-Ok.ensures.looks.same
+    (reads_project (g.F.Files.asked c.args.files.now) (g.F.Files.asked c.read_project.new.files) c.in-Ok.ensures.looks.asks) c.with_project.ensures.asks
+    c.with_project.ensures.says c.with_project.ensures.left c.with_project.ensures.ran
+
+pub returns-in-Err-clause-entered : goal.returns-in-Err-clause-entered
+returns-in-Err-clause-entered g c =
+    refused_entered (g.F.Files.holds c.args.files.now) _ (g.F.Files.asked c.args.files.now) (g.F.Files.asked c.read_project.new.files)
+    (reads_project (g.F.Files.asked c.args.files.now) (g.F.Files.asked c.read_project.new.files) c.in-Err.ensures.looks.asks)

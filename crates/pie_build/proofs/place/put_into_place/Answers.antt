@@ -14,6 +14,7 @@ use Rattle.pie_build.proofs.InPlace.{Fits, fits_before, puts_after}
 use Rattle.std.proofs.Common.{arith}
 use Rattle.pie_build.proofs.Crashing.{withstands_none}
 use Rattle.pie_files.proofs.Reading.{reads}
+use Rattle.pie_build.proofs.Asking.{changes_own, makes_none, makes_then}
 use Rattle.pie_build.proofs.place.put_into_place.Goals as goal
 
 pub returns-in_err-wrote-clause-rest : goal.returns-in_err-wrote-clause-rest
@@ -136,3 +137,30 @@ returns-in_err-removed-clause-crash g c = grind (arith, withstands_still, withst
 
 pub returns-in_err-wrote-clause-crash : goal.returns-in_err-wrote-clause-crash
 returns-in_err-wrote-clause-crash g c = grind (arith, withstands_none)
+
+pub returns-in_err-wrote-clause-asks : goal.returns-in_err-wrote-clause-asks
+returns-in_err-wrote-clause-asks g c =
+    makes_none (g.F.Files.asked c.args.files.now) (g.F.Files.asked c.args.files.now) refl
+
+pub returns-in_err-removed-clause-asks : goal.returns-in_err-removed-clause-asks
+returns-in_err-removed-clause-asks g c =
+    c.removals.ensures.asks
+
+pub returns-in_err-pending-clause-asks : goal.returns-in_err-pending-clause-asks
+returns-in_err-pending-clause-asks g c =
+    makes_then (g.F.Files.asked c.args.files.now) (g.F.Files.asked c.removals.new.files) (g.F.Files.asked c.end_of_pending.new.files) c.removals.ensures.asks c.end_of_pending.ensures.asks
+
+pub returns-in_err-plan-clause-asks : goal.returns-in_err-plan-clause-asks
+returns-in_err-plan-clause-asks g c =
+    makes_then (g.F.Files.asked c.args.files.now) (g.F.Files.asked c.removals.new.files) (g.F.Files.asked c.end_of_pending.new.files) c.removals.ensures.asks c.end_of_pending.ensures.asks
+
+pub returns-in_err-report-clause-asks : goal.returns-in_err-report-clause-asks
+returns-in_err-report-clause-asks g c =
+    makes_then (g.F.Files.asked c.args.files.now) (g.F.Files.asked c.removals.new.files) (g.F.Files.asked c.end_of_pending.new.files) c.removals.ensures.asks c.end_of_pending.ensures.asks
+
+pub returns-clause-asks : goal.returns-clause-asks
+returns-clause-asks g c =
+    makes_then (g.F.Files.asked c.args.files.now) (g.F.Files.asked c.end_of_pending.new.files) (g.F.Files.asked c.commit_then.new.files)
+    (makes_then (g.F.Files.asked c.args.files.now) (g.F.Files.asked c.removals.new.files) (g.F.Files.asked c.end_of_pending.new.files) c.removals.ensures.asks c.end_of_pending.ensures.asks)
+    (changes_own c.as_slice-3.result.now c.args.made.contents.items c.in_ok-pending.pending c.args.made.store c.in_ok-plan.plan c.in_ok-plan.ensures.plan
+    (g.F.Files.asked c.end_of_pending.new.files) (g.F.Files.asked c.commit_then.new.files) c.commit_then.ensures.asks)
