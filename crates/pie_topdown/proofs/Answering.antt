@@ -171,7 +171,7 @@ again_none b new c (Ok turn) absent = λ u done root fs plan s waiting h ended.
 
 -- ---- it is of no function
 
-no_function : (u : Update) (b : Builder) (t : Task) → IsPlanNow u b.plan → IsCodeFor b.plan.typed.now b.plan.code.now t None → number_from 0 u.functions t ≡ None
+pub no_function : (u : Update) (b : Builder) (t : Task) → IsPlanNow u b.plan → IsCodeFor b.plan.typed.now b.plan.code.now t None → number_from 0 u.functions t ≡ None
 no_function u b t plan none = by (number_from 0 u.functions t) refl
   where
     of_now : IsCodeFor u.functions b.plan.code.now t None

@@ -43,11 +43,11 @@ use Rattle.pie_topdown.proofs.Entered.{canonical_at}
 use Rattle.pie_topdown.proofs.Ended.{WroteRight, ended_site, ended_waiting, ended_hand}
 
 -- an outcome that is done in the model gave a value
-record Gave (o : Outcome) : Type 0 where
-  value : Value
-  is : o ≡ Done value
+pub record Gave (o : Outcome) : Type 0 where
+  pub value : Value
+  pub is : o ≡ Done value
 
-gave : (o : Outcome) → is_done (outcome_of o) ≡ true → Gave o
+pub gave : (o : Outcome) → is_done (outcome_of o) ≡ true → Gave o
 gave (Done v) h = record { value = v; is = refl }
 gave (Failed f) h = absurd (cc)
 gave (Cycled ts) h = absurd (cc)
@@ -126,13 +126,7 @@ module _ (b c : Builder) (check : Check) (kept : HasKept b check.no.0 check.rec 
 
 -- so it does where it is its own record
 pub keeps_if : {E : Type 0} (b c : Builder) (check : Check) (r : Result Turn E) → IsCheck b.ledger check → length check.rec.deps ≤ check.at
-    → IfOk r (EndsKept b check.no.0 check.rec (numbers check.required.items) c) → IfOk r (KeepsRight b check c)
-keeps_if b c check (Ok t) is over h = λ u done root fs own s waiting k.
+    → check.contents ≡ None → IfOk r (EndsKept b check.no.0 check.rec (numbers check.required.items) c) → IfOk r (KeepsRight b check c)
+keeps_if b c check (Ok t) is over own h = λ u done root fs s waiting k.
     subst (TurnIsRight u done root c) (sym h.1) (inl (keeps_check b c check h.0 u done root fs s waiting k own is.named is.storable over))
-keeps_if b c check (Err e) is over h = tt
-
--- of an offered one nothing is said
-pub offers_if : {E : Type 0} (b c : Builder) (check : Check) (contents : Vec (Vec ℕ Global) Global) (r : Result Turn E) → check.contents ≡ Some contents
-    → IfOk r (KeepsRight b check c)
-offers_if b c check contents (Ok t) is = λ u done root fs own s waiting k. let none : Some contents ≡ None = sym is ∙ own in absurd (cc)
-offers_if b c check contents (Err e) is = tt
+keeps_if b c check (Err e) is over own h = tt

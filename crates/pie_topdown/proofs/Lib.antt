@@ -22,3 +22,17 @@ pub mod Pushed
 pub mod Answering
 pub mod Rounds
 pub mod Resumed
+pub mod Outputs
+pub mod Rooting
+pub mod Turning
+pub mod Planning
+pub mod Resulting
+pub mod Learnt
+pub mod Differing
+pub mod Tried
+pub mod Begun
+pub mod Staging
+pub mod Reused
+pub mod Stepping
+pub mod Required
+pub mod Asked

@@ -179,15 +179,18 @@ unfolding world
 full_turn b w full absent left = λ canonical small u done root fs plan s waiting a.
     let R = a.asks.runs in
     let Q = requirer_waits (site_of u b) (build_of b) root fs w.waiting w.required w.how a.asks left small canonical in
-    inl (λ rest.
-    too_many (setting u) (records_of b) (names_of b) s.ledger.table done rest root (enc_task w.required) s.recorded (whole s.ledger.table.few) s.stand
-    (absent_among b.ledger.tables.names w.required s.ledger.tasks canonical absent)
-    (record {
-      from = root;
-      listed = among_right root done (root ∷ []) (among_here root []);
-      stands = required_has world (present u) (records_of b) (Passes (unrecorded (records_of b))) root fs R.frame R.top.goes Q.requires.left (how_of w.how)
-          (enc_task w.required) Q.requires.is_left Q.requires.next;
-    }))
+    inl (record {
+      calm = s.calm;
+      refused = λ rest.
+          too_many (setting u) (records_of b) (names_of b) s.ledger.table done rest root (enc_task w.required) s.recorded (whole s.ledger.table.few) s.stand
+          (absent_among b.ledger.tables.names w.required s.ledger.tasks canonical absent)
+          (record {
+            from = root;
+            listed = among_right root done (root ∷ []) (among_here root []);
+            stands = required_has world (present u) (records_of b) (Passes (unrecorded (records_of b))) root fs R.frame R.top.goes Q.requires.left (how_of w.how)
+                (enc_task w.required) Q.requires.is_left Q.requires.next;
+          });
+    })
   where
     whole : length (names_of b) ≤ 50000 → length (names_of b) ≡ 50000
     whole fewer = let size : length (names_of b) ≡ length b.ledger.tables.names = length-map b.ledger.tables.names enc_task in omega (arith, size, fewer, full)
@@ -246,17 +249,20 @@ pub check_full : (b : Builder) (k : Check) (t : Task) → 50000 ≤ length b.led
 unfolding world
 check_full b k t full canonical absent = λ u done root fs plan s waiting h needs.
     let C = h.check.check in
-    inl (λ rest.
-    too_many (setting u) (records_of b) (names_of b) s.ledger.table done rest root (enc_task t) s.recorded (whole s.ledger.table.few) s.stand
-    (absent_among b.ledger.tables.names t s.ledger.tasks canonical absent)
-    (record {
-      from = root;
-      listed = among_right root done (root ∷ []) (among_here root []);
-      stands = required_has world (present u) (records_of b) (Passes (unrecorded (records_of b))) root fs C.checked.frame h.top.goes C.checked.asks.left
-          (how_by needs.dep.kind) (enc_task t) C.checked.asks.is_left
-          (requires_at u h.check.before b.ledger.tables.names b.ledger.tables.records root fs k.rec k.at (numbers k.required.items) C needs.dep t needs.next
-          needs.what).next;
-    }))
+    inl (record {
+      calm = s.calm;
+      refused = λ rest.
+          too_many (setting u) (records_of b) (names_of b) s.ledger.table done rest root (enc_task t) s.recorded (whole s.ledger.table.few) s.stand
+          (absent_among b.ledger.tables.names t s.ledger.tasks canonical absent)
+          (record {
+            from = root;
+            listed = among_right root done (root ∷ []) (among_here root []);
+            stands = required_has world (present u) (records_of b) (Passes (unrecorded (records_of b))) root fs C.checked.frame h.top.goes C.checked.asks.left
+                (how_by needs.dep.kind) (enc_task t) C.checked.asks.is_left
+                (requires_at u h.check.before b.ledger.tables.names b.ledger.tables.records root fs k.rec k.at (numbers k.required.items) C needs.dep t needs.next
+                needs.what).next;
+          });
+    })
   where
     whole : length (names_of b) ≤ 50000 → length (names_of b) ≡ 50000
     whole fewer = let size : length (names_of b) ≡ length b.ledger.tables.names = length-map b.ledger.tables.names enc_task in omega (arith, size, fewer, full)

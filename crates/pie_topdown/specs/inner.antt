@@ -12,3 +12,5 @@ pub mod Ended
 pub mod Sights
 pub mod Asking
 pub mod Calling
+pub mod Rooted
+pub mod Offering

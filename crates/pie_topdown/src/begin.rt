@@ -5,6 +5,7 @@ ghost use Rattle.pie_record.specs.Canonical.{IsStorable};
 ghost use Rattle.pie_results.specs.inner.Failures.{is_done as specs_is_done};
 ghost use Rattle.pie_topdown.specs.inner.Calling.{StartsSo};
 ghost use Rattle.pie_topdown.specs.inner.Frames.{AreOffers, IsCheck, IsOwnRecord, MayStart, IsSite};
+ghost use Rattle.pie_topdown.specs.inner.Offering.{BeginsSo, BeginsWith};
 ghost use Rattle.pie_topdown.specs.inner.Right.{BeginsCheck};
 ghost use Rattle.pie_topdown.specs.inner.Turns.{TurnsTo, check_mass, rest_mass, below, Nearer, room, Spends, StartsOne, Keeps};
 
@@ -42,6 +43,8 @@ impl<'a> Builder<'a> {
         ensures few { length runs.new ≤ length runs.old + (room self.old + 1) }
         ensures kept { OnOk result (Keeps self.old self.new) }
         ensures reads { ReadsOnly F.holds F.moment F.left_since F.images F.faults files.old files.new result }
+        ensures told { O.told offers.new ≡ O.told offers.old }
+        ensures right { IfOk result (BeginsSo (F.holds files.old) (O.told offers.old) self.old no.0 code.now self.new) }
     {
         match self.old_record(no)? {
             Some(rec) => self.begin_with(no, code, rec, offers, files, runs),
@@ -96,6 +99,8 @@ impl<'a> Builder<'a> {
         ensures few { length runs.new ≤ length runs.old + (room self.old + 1) }
         ensures kept { OnOk result (Keeps self.old self.new) }
         ensures reads { ReadsOnly F.holds F.moment F.left_since F.images F.faults files.old files.new result }
+        ensures told { O.told offers.new ≡ O.told offers.old }
+        ensures right { IfOk result (BeginsWith (F.holds files.old) (O.told offers.old) self.old no.0 code.now rec.value self.new) }
     {
         if !writes_stand(&mut self.named, rec.writes.as_slice(), files)? {
             return self.ask(no, code, offers, files, runs);

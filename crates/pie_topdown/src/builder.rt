@@ -1,7 +1,9 @@
 //! A build between two steps, and its steps.
-ghost use Rattle.std.specs.Prelude.{◌≤◌, ◌+◌, length, IfOk, OnOk};
+ghost use Rattle.std.specs.Prelude.{◌≡◌, ◌≤◌, ◌+◌, length, IfOk, OnOk};
 ghost use Rattle.pie_files.specs.Reading.{ReadsOnly};
+ghost use Rattle.pie_topdown.specs.inner.Calling.{ResumesSo};
 ghost use Rattle.pie_topdown.specs.inner.Frames.{IsSite};
+ghost use Rattle.pie_topdown.specs.inner.Right.{StepsRight};
 ghost use Rattle.pie_topdown.specs.inner.Turns.{Stands, TurnsTo, hand_mass, below, Nearer, hand_room, room, Fits, Spends, StartsOne, Keeps};
 
 use crate::hand::{Frame, Hand, Turn};
@@ -52,6 +54,8 @@ impl<'a> Builder<'a> {
         ensures few { length runs.new ≤ length runs.old + (room self.old + hand_room hand.entry) }
         ensures kept { OnOk result (Keeps self.old self.new) }
         ensures reads { ReadsOnly F.holds F.moment F.left_since F.images F.faults files.old files.new result }
+        ensures told { O.told offers.new ≡ O.told offers.old }
+        ensures right { IfOk result (StepsRight (F.holds files.old) (O.told offers.old) self.old hand.entry self.new) }
     {
         match hand {
             Hand::Enters(no, code) => self.begin(no, code, offers, files, runs),
@@ -68,6 +72,7 @@ impl<'a> Builder<'a> {
         ensures nearer { IfOk result (Nearer (below self.old) self.new) }
         ensures fits { IfOk result (Fits (room self.old) self.new) }
         ensures kept { OnOk result (Keeps self.old self.new) }
+        ensures right { IfOk result (ResumesSo self.old self.new) }
     {
         match self.stack.pop() {
             Some(Frame::Checks(check)) => Ok(Turn::Goes(Hand::Checks(check))),

@@ -7,8 +7,10 @@ ghost use Rattle.pie_record.specs.Canonical.{IsStorableDep};
 ghost use Rattle.pie_value.specs.Canonical.{IsEncodableTask};
 ghost use Rattle.pie_compare.specs.inner.Standing.{DepStands, Tells};
 ghost use Rattle.pie_topdown.specs.declared.entering.Entry.TheVariants.{May};
+ghost use Rattle.pie_topdown.specs.inner.Calling.{ChecksSo};
 ghost use Rattle.pie_topdown.specs.inner.Entries.{MayEnter};
 ghost use Rattle.pie_topdown.specs.inner.Frames.{IsCheck, IsSite};
+ghost use Rattle.pie_topdown.specs.inner.Offering.{ComparesSo, GoesOnSo, RequiresSo};
 ghost use Rattle.pie_topdown.specs.inner.Places.{beside, AsksSource, Finds, IsPassed, IsPlace, IsUnentered};
 ghost use Rattle.pie_topdown.specs.inner.Right.{PassesRight};
 ghost use Rattle.pie_topdown.specs.inner.Turns.{TurnsTo, check_mass, below, Nearer, room, Fits, Spends, StartsOne, Keeps};
@@ -57,6 +59,8 @@ impl<'a> Builder<'a> {
         ensures few { length runs.new ≤ length runs.old + (room self.old + 1) }
         ensures kept { OnOk result (Keeps self.old self.new) }
         ensures reads { ReadsOnly F.holds F.moment F.left_since F.images F.faults files.old files.new result }
+        ensures told { O.told offers.new ≡ O.told offers.old }
+        ensures right { IfOk result (ComparesSo (F.holds files.old) (O.told offers.old) self.old check.entry.value self.new) }
     {
         let mut check = check;
         let place = self.look(&mut check, files)?;
@@ -82,6 +86,8 @@ impl<'a> Builder<'a> {
         ensures few { length runs.new ≤ length runs.old + (room self.old + 1) }
         ensures kept { OnOk result (Keeps self.old self.new) }
         ensures reads { ReadsOnly F.holds F.moment F.left_since F.images F.faults files.old files.new result }
+        ensures told { O.told offers.new ≡ O.told offers.old }
+        ensures right { IfOk result (GoesOnSo (F.holds files.old) (O.told offers.old) self.old check.entry.value place self.new) }
     {
         match place {
             Place::Over => Ok(self.keep(check)?),
@@ -126,6 +132,8 @@ impl<'a> Builder<'a> {
         ensures few { length runs.new ≤ length runs.old + (room self.old + 1) }
         ensures kept { OnOk result (Keeps self.old self.new) }
         ensures reads { ReadsOnly F.holds F.moment F.left_since F.images F.faults files.old files.new result }
+        ensures told { O.told offers.new ≡ O.told offers.old }
+        ensures right { IfOk result (RequiresSo (F.holds files.old) (O.told offers.old) self.old check.entry.value task self.new) }
     {
         match self.entry(&task) {
             Entry::May(code) => Ok(self.push_check(check, task, code)?),
@@ -150,6 +158,7 @@ impl<'a> Builder<'a> {
         ensures nearer { IfOk result (Nearer (below self.old + check_mass check.entry.value) self.new) }
         ensures fits { IfOk result (Fits (room self.old + 1) self.new) }
         ensures kept { OnOk result (Keeps self.old self.new) }
+        ensures right { IfOk result (ChecksSo self.old check.entry.value task self.new) }
     {
         let no = self.enter(task, code)?;
         self.stack.push(Frame::Checks(check))?;

@@ -3,7 +3,7 @@ ghost use Rattle.std.specs.Prelude.{◌≡◌, ◌<◌, ◌+◌, ◌*◌, length
 ghost use Rattle.pie_files.specs.Reading.{ReadsOnly};
 ghost use Rattle.pie_running.specs.inner.Frames.{IsWaiting};
 ghost use Rattle.pie_value.specs.declared.event.Event.TheVariants as events;
-ghost use Rattle.pie_topdown.specs.inner.Asking.{ActsSo, AsksSo, LooksSo, ToldSo};
+ghost use Rattle.pie_topdown.specs.inner.Asking.{ActsSo, AsksSo, LooksSo, RunsSo, ToldSo};
 ghost use Rattle.pie_topdown.specs.inner.Frames.{IsNoted, IsRunning, IsSite};
 ghost use Rattle.pie_topdown.specs.inner.Turns.{TurnsTo, below, Nearer, room, Fits, Keeps, MayGo, told_mass};
 
@@ -30,6 +30,7 @@ impl<'a> Builder<'a> {
         ensures fits { IfOk result (Fits (room self.old) self.new) }
         ensures kept { OnOk result (Keeps self.old self.new) }
         ensures reads { ReadsOnly F.holds F.moment F.left_since F.images F.faults files.old files.new result }
+        ensures right { IfOk result (RunsSo (F.holds files.old) self.old task.entry self.new) }
     {
         let no = task.notes.no();
         match task.next()? {
@@ -57,6 +58,7 @@ impl<'a> Builder<'a> {
         ensures fits { IfOk result (Fits (room self.old) self.new) }
         ensures kept { OnOk result (Keeps self.old self.new) }
         ensures reads { ReadsOnly F.holds F.moment F.left_since F.images F.faults files.old files.new result }
+        ensures right { IfOk result (AsksSo (F.holds files.old) self.old waiting.entry event self.new) }
     {
         match event {
             Event::Exists(path) => self.exists(no, waiting, path, files),

@@ -4,6 +4,7 @@ ghost use Rattle.pie_files.specs.Reading.{ReadsOnly};
 ghost use Rattle.pie_record.specs.Canonical.{IsStorable};
 ghost use Rattle.pie_store.specs.inner.Offers.{IsOffer};
 ghost use Rattle.pie_topdown.specs.inner.Frames.{MayStart, IsSite};
+ghost use Rattle.pie_topdown.specs.inner.Offering.{BeginsSo, DiffersSo, OffersSo, Takes, TriesSo, ChecksOffer};
 ghost use Rattle.pie_topdown.specs.inner.Places.{MayGiveWay};
 ghost use Rattle.pie_topdown.specs.inner.Turns.{TurnsTo, check_mass, below, Nearer, room, Fits, Spends, StartsOne, Keeps};
 
@@ -42,6 +43,8 @@ impl<'a> Builder<'a> {
         ensures few { length runs.new ≤ length runs.old + (room self.old + 1) }
         ensures kept { OnOk result (Keeps self.old self.new) }
         ensures reads { ReadsOnly F.holds F.moment F.left_since F.images F.faults files.old files.new result }
+        ensures told { O.told offers.new ≡ O.told offers.old }
+        ensures right { IfOk result (DiffersSo (F.holds files.old) (O.told offers.old) self.old check.entry.value self.new) }
     {
         let Check { no, code, rest, .. } = Box::into_inner(check);
         match rest {
@@ -69,6 +72,8 @@ impl<'a> Builder<'a> {
         ensures few { length runs.new ≤ length runs.old + (room self.old + 1) }
         ensures kept { OnOk result (Keeps self.old self.new) }
         ensures reads { ReadsOnly F.holds F.moment F.left_since F.images F.faults files.old files.new result }
+        ensures told { O.told offers.new ≡ O.told offers.old }
+        ensures right { IfOk result (BeginsSo (F.holds files.old) (O.told offers.old) self.old no.0 code.now self.new) }
     {
         let rest = self.offered(no, offers, files)?;
         Ok(self.try_next(no, code, rest, runs)?)
@@ -86,6 +91,8 @@ impl<'a> Builder<'a> {
         ensures offers { IfOk result (λ found. All IsOffer found.items) }
         ensures few { IfOk result (λ found. length found.items ≤ 4) }
         ensures reads { ReadsOnly F.holds F.moment F.left_since F.images F.faults files.old files.new result }
+        ensures told { O.told offers.new ≡ O.told offers.old }
+        ensures right { IfOk result (λ found. OffersSo (F.holds files.old) (O.told offers.old) self.now found.items) }
     {
         let _names = self.ledger.tables.names.as_slice();
         let task = self.ledger.tables.names.task(no);
@@ -114,6 +121,7 @@ impl<'a> Builder<'a> {
         ensures starts { StartsOne runs.old runs.new }
         ensures few { length runs.new ≤ length runs.old + (room self.old + 1) }
         ensures kept { OnOk result (Keeps self.old self.new) }
+        ensures right { IfOk result (TriesSo self.old no.0 code.now rest.items self.new) }
     {
         let mut rest = rest;
         match self.next_fitting(no, &mut rest)? {
@@ -133,6 +141,7 @@ impl<'a> Builder<'a> {
         ensures fewer { IfOk result (λ found. IfSome found (λ _. length rest.new.items < length rest.old.items)) }
         ensures storable { IfOk result (λ found. IfSome found (λ o. IsStorable o.value.row)) }
         ensures named { IfOk result (λ found. IfSome found (λ o. slice_get self.now.ledger.tables.names no.0 ≡ Some o.value.row.task)) }
+        ensures takes { IfOk result (Takes rest.old.items rest.new.items) }
     {
         'offers: loop {
             if rest.is_empty() {
@@ -179,6 +188,7 @@ impl<'a> Builder<'a> {
         ensures turns { IfOk result (TurnsTo self.now) }
         ensures nearer { IfOk result (Nearer (below self.now + (length rest.items * 1000003 + 3000006)) self.now) }
         ensures fits { IfOk result (Fits (room self.now + 1) self.now) }
+        ensures right { IfOk result (ChecksOffer self.now no.0 code.now offer.value rest.items self.now) }
     {
         let Offer { row, contents } = Box::into_inner(offer);
         let rec = Box::new(self.alloc, row)?;

@@ -4,8 +4,10 @@ ghost use Rattle.std.specs.Prelude.{◌≡◌, ◌+◌, ◌*◌, Some, slice_get
 ghost use Rattle.pie_running.specs.inner.Frames.{IsWaiting};
 ghost use Rattle.pie_value.specs.Canonical.{IsEncodable};
 ghost use Rattle.pie_value.specs.Values.{tree_of};
+ghost use Rattle.pie_value.specs.declared.event.Event.TheVariants as events;
 ghost use Rattle.pie_topdown.specs.declared.entering.Entry.TheVariants.{May};
-ghost use Rattle.pie_topdown.specs.inner.Calling.{GivesSo, LosesSo, NeedsSo};
+ghost use Rattle.pie_topdown.specs.inner.Asking.{ActsSo};
+ghost use Rattle.pie_topdown.specs.inner.Calling.{AnswersSo, CallsSo, DescendsSo, GivesSo, LosesSo};
 ghost use Rattle.pie_topdown.specs.inner.Entries.{MayEnter};
 ghost use Rattle.pie_topdown.specs.inner.Frames.{IsNoted, IsCaller, IsSite};
 ghost use Rattle.pie_topdown.specs.inner.Ledgers.{HasOutput};
@@ -19,7 +21,7 @@ use pie_code::Checked;
 use pie_graph::TaskNo;
 use pie_record::Outcome;
 use pie_running::{Caller, Done, Waiting};
-use pie_value::{Fault, How, Task, Tasks, Value};
+use pie_value::{Fault, How, Task, Tasks, Value, encode_task};
 
 impl<'a> Builder<'a> {
     /// A task is required: it is answered from how it ended, or is entered and settled first.
@@ -38,6 +40,7 @@ impl<'a> Builder<'a> {
         ensures nearer { IfOk result (Nearer (below self.old + (2 * waiting.entry.notes.left + 1)) self.new) }
         ensures fits { IfOk result (Fits (room self.old) self.new) }
         ensures kept { OnOk result (Keeps self.old self.new) }
+        ensures right { IfOk result (ActsSo self.old waiting.entry (events.Require required how) self.new) }
     {
         if !required.is_small() {
             return self.fail(no, FaultKind::Big);
@@ -61,6 +64,7 @@ impl<'a> Builder<'a> {
         ensures nearer { IfOk result (Nearer (below self.old + (2 * caller.entry.waiting.notes.left + 1)) self.new) }
         ensures fits { IfOk result (Fits (room self.old) self.new) }
         ensures kept { OnOk result (Keeps self.old self.new) }
+        ensures right { IfOk result (AnswersSo self.old caller.entry self.new) }
     {
         match self.ledger.tables.names.number(&caller.required)? {
             Some(callee) => self.answer(caller, callee),
@@ -77,6 +81,7 @@ impl<'a> Builder<'a> {
         ensures nearer { IfOk result (Nearer (below self.old + (2 * caller.entry.waiting.notes.left + 1)) self.new) }
         ensures fits { IfOk result (Fits (room self.old) self.new) }
         ensures kept { OnOk result (Keeps self.old self.new) }
+        ensures right { IfOk result (CallsSo self.old caller.entry self.new) }
     {
         let no = caller.waiting.notes.no();
         match self.ledger.outcome(callee)? {
@@ -130,12 +135,18 @@ impl<'a> Builder<'a> {
         ensures nearer { IfOk result (Nearer (below self.old + (2 * caller.entry.waiting.notes.left + 1)) self.new) }
         ensures fits { IfOk result (Fits (room self.old) self.new) }
         ensures kept { OnOk result (Keeps self.old self.new) }
-        ensures right { IfOk result (NeedsSo self.old caller.entry self.new) }
+        ensures right { IfOk result (DescendsSo self.old caller.entry self.new) }
     {
         match self.entry(&caller.required) {
             Entry::May(code) => self.push_caller(caller, code),
-            Entry::Unknown => self.fail_as_unknown(caller),
-            Entry::Full => Ok(Turn::Many),
+            Entry::Unknown => {
+                let _bytes = encode_task(self.alloc, &caller.required)?;
+                self.fail_as_unknown(caller)
+            }
+            Entry::Full => {
+                let _bytes = encode_task(self.alloc, &caller.required)?;
+                Ok(Turn::Many)
+            }
         }
     }
 
@@ -153,7 +164,7 @@ impl<'a> Builder<'a> {
         ensures nearer { IfOk result (Nearer (below self.old + (2 * caller.entry.waiting.notes.left + 1)) self.new) }
         ensures fits { IfOk result (Fits (room self.old) self.new) }
         ensures kept { OnOk result (Keeps self.old self.new) }
-        ensures right { IfOk result (NeedsSo self.old caller.entry self.new) }
+        ensures right { IfOk result (DescendsSo self.old caller.entry self.new) }
     {
         let no = self.enter(caller.required.copy()?, code)?;
         self.stack.push(Frame::Waits(caller))?;

@@ -1,13 +1,17 @@
 //! The roots, one after another.
 ghost use Rattle.std.specs.List.{Contains};
-ghost use Rattle.std.specs.Prelude.{◌≡◌, ◌≤◌, ◌+◌, length, All, None, true, IfOk, OnOk};
+ghost use Rattle.std.specs.Prelude.{◌≡◌, ◌≤◌, ◌+◌, length, All, None, true, false, IfOk, OnOk};
+ghost use Rattle.std.specs.Option.{option_map_or};
 ghost use Rattle.pie_files.specs.Reading.{ReadsOnly};
+ghost use Rattle.pie_results.specs.inner.Failures.{is_done as specs_is_done};
 ghost use Rattle.pie_value.specs.Canonical.{IsEncodableTask};
 ghost use Rattle.pie_topdown.specs.inner.Entries.{MayBe};
 ghost use Rattle.pie_topdown.specs.inner.Frames.{IsSite};
+ghost use Rattle.pie_topdown.specs.inner.Rooted.{lost, RunsOnRight, SettlesRight, SettlesAllRight};
 ghost use Rattle.pie_topdown.specs.inner.Roots.{IsSettledRoot, AreSettled, Started, Continues};
 ghost use Rattle.pie_topdown.specs.inner.Turns.{Stands, hand_room, room, Keeps};
 
+use crate::begin::is_done;
 use crate::builder::Builder;
 use crate::entering::Entry;
 use crate::hand::{Hand, Turn};
@@ -16,12 +20,12 @@ use pie_code::Checked;
 use pie_files::{Files, FilesError};
 use pie_record::Outcome;
 use pie_store::Offers;
-use pie_value::{Fault, Refusal, Task};
+use pie_value::{Fault, Refusal, Task, encode_task};
 use pie_vm::Runs;
 
 impl<'a> Builder<'a> {
     /// Settles the roots up to the first that fails; why it does.
-    #[tactic(auto, using(pie_files::proofs::Reading::reads))]
+    #[tactic(auto, using(pie_files::proofs::Reading::reads, crate::proofs::Turning::none_settled))]
     pub(crate) fn settle_all<F: Files, O: Offers>(
         &mut self,
         roots: &[Task],
@@ -37,6 +41,8 @@ impl<'a> Builder<'a> {
         ensures started { Started runs.old runs.new }
         ensures few { length runs.new ≤ length runs.old + room self.old }
         ensures reads { ReadsOnly F.holds F.moment F.left_since F.images F.faults files.old files.new result }
+        ensures told { O.told offers.new ≡ O.told offers.old }
+        ensures right { IfOk result (SettlesAllRight (F.holds files.old) (O.told offers.old) self.old roots.now self.new) }
     {
         for root in roots {
             match self.settle(root, offers, files, runs)? {
@@ -65,9 +71,11 @@ impl<'a> Builder<'a> {
         ensures started { Started runs.old runs.new }
         ensures few { length runs.new ≤ length runs.old + room self.old }
         ensures reads { ReadsOnly F.holds F.moment F.left_since F.images F.faults files.old files.new result }
+        ensures told { O.told offers.new ≡ O.told offers.old }
+        ensures right { IfOk result (SettlesRight (F.holds files.old) (O.told offers.old) self.old root.now self.new) }
     {
         match self.ledger.tables.names.number(root)? {
-            Some(_) => Ok(self.unless_done(root)?),
+            Some(_no) => Ok(self.unless_done(root)?),
             None => self.settle_new(root, offers, files, runs),
         }
     }
@@ -91,7 +99,11 @@ impl<'a> Builder<'a> {
         ensures started { Started runs.old runs.new }
         ensures few { length runs.new ≤ length runs.old + room self.old }
         ensures reads { ReadsOnly F.holds F.moment F.left_since F.images F.faults files.old files.new result }
+        ensures told { O.told offers.new ≡ O.told offers.old }
+        ensures right { IfOk result (SettlesRight (F.holds files.old) (O.told offers.old) self.old root.now self.new) }
     {
+        // The model knows the root by its canonical bytes.
+        let _bytes = encode_task(self.alloc, root)?;
         match self.entry(root) {
             Entry::May(code) => self.settle_with(root, code, offers, files, runs),
             Entry::Unknown => Ok(Some(unknown(root.copy()?))),
@@ -120,6 +132,8 @@ impl<'a> Builder<'a> {
         ensures started { Started runs.old runs.new }
         ensures few { length runs.new ≤ length runs.old + room self.old }
         ensures reads { ReadsOnly F.holds F.moment F.left_since F.images F.faults files.old files.new result }
+        ensures told { O.told offers.new ≡ O.told offers.old }
+        ensures right { IfOk result (SettlesRight (F.holds files.old) (O.told offers.old) self.old root.now self.new) }
     {
         let no = self.enter(root.copy()?, code)?;
         let rests = self.run(Hand::Enters(no, code), offers, files, runs)?;
@@ -133,7 +147,7 @@ impl<'a> Builder<'a> {
     }
 
     // Goes on until nothing waits, or one task more was to be entered than a build may have.
-    #[tactic(auto, using(pie_files::proofs::Reading::reads))]
+    #[tactic(auto, using(pie_files::proofs::Reading::reads, crate::proofs::Turning::stays_first))]
     fn run<F: Files, O: Offers>(
         &mut self,
         hand: Hand<'a>,
@@ -148,6 +162,8 @@ impl<'a> Builder<'a> {
         ensures started { Started runs.old runs.new }
         ensures few { length runs.new ≤ length runs.old + (room self.old + hand_room hand.entry) }
         ensures reads { ReadsOnly F.holds F.moment F.left_since F.images F.faults files.old files.new result }
+        ensures told { O.told offers.new ≡ O.told offers.old }
+        ensures right { IfOk result (RunsOnRight (F.holds files.old) (O.told offers.old) self.old hand.entry self.new) }
     {
         let mut hand = hand;
         'steps: loop {
@@ -160,23 +176,39 @@ impl<'a> Builder<'a> {
     }
 
     // Nothing, where a root has an output: it has one wherever no task failed.
+    #[tactic(auto, using(crate::proofs::Outputs::output_settles, crate::proofs::Outputs::never_settled))]
     fn unless_done(&self, root: &Task) -> Result<Option<Refusal>, OutOfMemory>
         requires site { IsSite self.now }
         requires root { IsEncodableTask root.now }
-        ensures { IfOk result (λ why. why ≡ None → IsSettledRoot self.now.ledger root.now) }
+        ensures settled { IfOk result (λ why. why ≡ None → IsSettledRoot self.now.ledger root.now) }
+        ensures none { IfOk result (λ why. IsSettledRoot self.now.ledger root.now → why ≡ None) }
     {
+        let _names = self.ledger.tables.names.as_slice();
         let Some(no) = self.ledger.tables.names.number(root)? else {
             return Ok(Some(unknown(root.copy()?)));
         };
-        match self.ledger.outcome(no)? {
-            Some(Outcome::Done(_)) => Ok(None),
-            _ => Ok(Some(unknown(root.copy()?))),
+        let outcome = self.ledger.outcome(no)?;
+        if has_output(&outcome) {
+            return Ok(None);
         }
+        Ok(Some(unknown(root.copy()?)))
+    }
+}
+
+// Whether a task has ended with an output.
+fn has_output(outcome: &Option<Outcome>) -> bool
+    ensures { result ≡ option_map_or specs_is_done outcome.now false }
+{
+    match outcome {
+        Some(outcome) => is_done(outcome),
+        None => false,
     }
 }
 
 // A task is of no function.
-fn unknown(task: Task) -> Refusal {
+fn unknown(task: Task) -> Refusal
+    ensures { result ≡ lost task }
+{
     Refusal::Fault(Fault {
         task,
         kind: FaultKind::Unknown,

@@ -8,8 +8,10 @@ ghost use Rattle.pie_store.specs.Canonical.{AreInOrder};
 ghost use Rattle.pie_tables.specs.Tabled.{IsTables};
 ghost use Rattle.pie_value.specs.Canonical.{IsEncodableTask};
 ghost use Rattle.pie_value.specs.declared.verdict.Verdict.TheVariants.{Refused};
+ghost use Rattle.pie_topdown_result_laws.specs.Builds.{MakesClean};
 ghost use Rattle.pie_topdown.specs.inner.Ended.{StoredIf};
 ghost use Rattle.pie_topdown.specs.inner.Frames.{IsSite};
+ghost use Rattle.pie_topdown.specs.inner.Rooted.{AreOldTables, IsPlanOf, IsProgram, IsUnbegun, MakesSettled};
 ghost use Rattle.pie_topdown.specs.inner.Roots.{AreSettled, Started};
 ghost use Rattle.pie_topdown.specs.inner.Turns.{room, StartsOne};
 
@@ -36,7 +38,8 @@ use std::alloc::Global;
 /// Settles the roots in order up to the first that fails, from the records of an earlier build. A record is kept where its function has one of these
 /// digests and what it wrote and observed is there as it was recorded; else the first of its offers that stands is kept, and the task is added to the
 /// reused ones; else its task runs. It changes no file. `Failed` comes only where the count of faults rose. The tasks that are started are added to
-/// the runs. The files are those of the live tasks that ran or were reused.
+/// the runs. The files are those of the live tasks that ran or were reused. What is made is what a clean build makes, where the records are those of an
+/// earlier build's store, and honest ones are offered.
 /// Rule: docs/BUILDING.md, "A build without a list".
 #[tactic(auto, using(pie_files::proofs::Reading::reads))]
 pub fn topdown<F: Files, O: Offers>(
@@ -61,6 +64,8 @@ pub fn topdown<F: Files, O: Offers>(
     ensures few { length runs.new ≤ length runs.old + 50000 }
     ensures reused { Started reused.old.items reused.new.items }
     ensures reads { ReadsOnly F.holds F.moment F.left_since F.images F.faults files.old files.new result }
+    ensures clean { IsProgram typed.now code.now image.rows
+        → IfOk result (MakesClean (F.holds files.old) typed.now image.funcs digests.now image.rows (O.told offers.old) roots.now) }
 {
     let mut builder = begun(alloc, typed, code, digests, image)?;
     let why = builder.settle_all(roots, offers, files, runs)?;
@@ -87,6 +92,8 @@ fn begun<'a>(
     ensures site { IfOk result (λ b. IsSite b.value) }
     ensures room { IfOk result (λ b. room b.value ≤ MAX_TASKS) }
     ensures typed { IfOk result (λ b. b.value.plan.typed.now ≡ typed.now) }
+    ensures plan { IfOk result (λ b. IsPlanOf typed.now code.now image.funcs digests.now image.rows b.value.plan) }
+    ensures unbegun { IfOk result (λ b. IsUnbegun b.value) }
 {
     let StoreImage { funcs, rows, .. } = image;
     let plan = plan_of(alloc, typed, code, digests, funcs, rows)?;
@@ -118,6 +125,7 @@ fn plan_of<'a>(
     requires order { AreInOrder rows }
     ensures earlier { IfOk result (λ p. IsTables p.earlier) }
     ensures typed { IfOk result (λ p. p.typed.now ≡ typed.now) }
+    ensures plan { IfOk result (IsPlanOf typed.now code.now funcs digests.now rows) }
 {
     let earlier = earlier_of(alloc, rows)?;
     let same = same_code(alloc, earlier.names.as_slice(), funcs.as_slice(), digests)?;
@@ -135,7 +143,8 @@ fn plan_of<'a>(
 fn earlier_of(alloc: Global, rows: Rows) -> Result<Tables, OutOfMemory>
     requires storable { All IsStorable rows }
     requires order { AreInOrder rows }
-    ensures { IfOk result IsTables }
+    ensures tables { IfOk result IsTables }
+    ensures old { IfOk result (AreOldTables rows) }
 {
     match load(alloc, rows)? {
         Loaded::Whole(old) => {
@@ -181,6 +190,7 @@ impl<'a> Builder<'a> {
         ensures refused_empty { IfOk result IsEmptyWhereRefused }
         ensures kept { IfOk result IsKept }
         ensures stored { IfOk result (λ b. StoredIf b.verdict self.now.plan.typed.now roots.now b) }
+        ensures clean { IfOk result (MakesSettled self.now roots.now) }
     {
         let _names = self.ledger.tables.names.as_slice();
         let built = results(

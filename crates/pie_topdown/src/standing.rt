@@ -6,6 +6,7 @@ ghost use Rattle.pie_record.specs.Canonical.{IsStorable};
 ghost use Rattle.pie_store.specs.Canonical.{needs as needs_by};
 ghost use Rattle.pie_topdown.specs.inner.Frames.{IsCheck, IsSite};
 ghost use Rattle.pie_topdown.specs.inner.Ledgers.{HasOutput};
+ghost use Rattle.pie_topdown.specs.inner.Offering.{EndsReused, StagesAll};
 ghost use Rattle.pie_topdown.specs.inner.Right.{KeepsRight, EndsKept};
 ghost use Rattle.pie_topdown.specs.inner.Turns.{TurnsTo, below, Nearer, room, Fits, Keeps};
 
@@ -80,6 +81,7 @@ impl<'a> Builder<'a> {
         ensures nearer { IfOk result (Nearer (below self.old + 1) self.new) }
         ensures fits { IfOk result (Fits (room self.old) self.new) }
         ensures kept { OnOk result (Keeps self.old self.new) }
+        ensures ended { IfOk result (EndsReused self.old no.0 rec (numbers required.items) (map (λ v. v.items) contents.items) self.new) }
     {
         self.reuse(no, rec.writes.as_slice(), contents)?;
         self.ledger.end(no, rec, required)?;
@@ -95,6 +97,7 @@ impl<'a> Builder<'a> {
         contents: Vec<Vec<u8>>,
     ) -> Result<(), OutOfMemory>
         ensures same { self.new ≡ record self.old { stage = self.new.stage; reused = self.new.reused } }
+        ensures staged { OnOk result (StagesAll self.old.stage self.new.stage no.0 writes.now (map (λ v. v.items) contents.items)) }
     {
         stage_all(&mut self.stage, no, writes, contents)?;
         self.reused.push(no)?;
@@ -108,7 +111,9 @@ fn stage_all(
     no: TaskNo,
     writes: &[(Path, [u8; 32])],
     contents: Vec<Vec<u8>>,
-) -> Result<(), OutOfMemory> {
+) -> Result<(), OutOfMemory>
+    ensures { OnOk result (StagesAll stage.old stage.new no.0 writes.now (map (λ v. v.items) contents.items)) }
+{
     let mut contents = contents;
     'contents: loop {
         let Some(content) = contents.pop() else {

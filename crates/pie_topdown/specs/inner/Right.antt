@@ -248,12 +248,16 @@ pub record IsAtRest (u : Update) (done : List (List ℕ)) (root : List ℕ) (b :
   pub settled : AreRecorded (records_of b) (root ∷ [])
   pub all : AreTheBusy b []
 
+-- one task more was to be entered than may be, and no task failed: so it is in the clean build, whatever roots come after this one
+pub record IsFull (u : Update) (done : List (List ℕ)) (root : List ℕ) (b : Builder) : Type 0 where
+  pub calm : b.failure ≡ None
+  pub refused : (rest : List (List ℕ)) → verdict world (present u) (done ++ root ∷ rest) ≡ TooMany
+
 -- what a step leaves of it
 abbrev pub TurnIsRight : Update → List (List ℕ) → List ℕ → Builder → Turn → Type 0
 TurnIsRight u done root b (Goes h) = IsRightOrFailed u done root b h
 TurnIsRight u done root b Rests = IsAtRest u done root b ⊎ FailsRight u done root b
-TurnIsRight u done root b Many =
-    ((rest : List (List ℕ)) → verdict world (present u) (done ++ root ∷ rest) ≡ TooMany) ⊎ FailsRight u done root b
+TurnIsRight u done root b Many = IsFull u done root b ⊎ FailsRight u done root b
 
 -- what is offered to a task by the present digest of its function is honest
 abbrev pub AreOffersHonest : Update → Plan → (Directory → Task → List ℕ → List Offered) → Type 0
@@ -301,10 +305,10 @@ pub record HasKept (old : Builder) (n : ℕ) (rec : TaskRecord) (needs : List �
 abbrev pub EndsKept : Builder → ℕ → TaskRecord → List ℕ → Builder → Turn → Type 0
 EndsKept old n rec needs new t = HasKept old n rec needs new × (t ≡ Goes hands.Ended)
 
--- a record of the store stands: its task ends with it
+-- a record stands, the store's or an offered one: its task ends with it
 abbrev pub KeepsRight : Builder → Check → Builder → Turn → Type 0
 KeepsRight old c new t =
-    (u : Update) (done : List (List ℕ)) (root : List ℕ) (fs : List ModelFrame) → c.contents ≡ None → IsRightSite u done root old → AreWaiting u old root fs
+    (u : Update) (done : List (List ℕ)) (root : List ℕ) (fs : List ModelFrame) → IsRightSite u done root old → AreWaiting u old root fs
     → ChecksRight u old root fs c → TurnIsRight u done root new t
 
 -- a task fails by itself: that is why the clean build is refused

@@ -1,5 +1,8 @@
-use Rattle.std.proofs.Common.{ap}
+use Rattle.std.proofs.Common.{◌≡◌, ap, subst}
+use Rattle.pie_topdown.specs.declared.hand.Check.{Check}
+use Rattle.pie_topdown.specs.inner.Places.{Finds}
 use Rattle.pie_topdown.proofs.Twice.{reads_then}
+use Rattle.pie_topdown.proofs.Differing.{compares}
 use Rattle.pie_topdown.proofs.Stacking.{same_site}
 use Rattle.pie_topdown.proofs.builder.Builder.check.Goals as goal
 
@@ -12,3 +15,13 @@ pub returns-clause-reads : goal.returns-clause-reads
 returns-clause-reads g c =
     reads_then g.F.Files.holds g.F.Files.moment g.F.Files.left_since g.F.Files.images g.F.Files.faults c.args.files.now c.look.new.files
     c.go_on.new.files _ c.go_on.result c.in_ok-place.ensures.reads c.go_on.ensures.reads
+
+pub returns-clause-right : goal.returns-clause-right
+returns-clause-right g c =
+    let held = g.F.Files.holds c.args.files.now in
+    let same = c.deref_mut.ensures.value in
+    compares held (g.F.Files.holds c.look.new.files) (g.O.Offers.told c.args.offers.now) c.args.self.now c.look.new.self c.go_on.new.self c.args.check.value
+    c.look.new.check c.in_ok-place.place c.go_on.result c.in_ok-place.ensures.reads.same c.look.ensures.same
+    (subst (λ (x : Check). c.look.new.check ≡ record x { required = c.look.new.check.required }) same c.look.ensures.check)
+    (subst (λ (x : Check). Finds held c.args.self.now c.look.new.self x c.look.new.check c.in_ok-place.place) same c.in_ok-place.ensures.finds)
+    c.go_on.ensures.right

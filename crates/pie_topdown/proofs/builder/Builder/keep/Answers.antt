@@ -2,17 +2,23 @@ use Rattle.std.proofs.Common.{sym, ap, subst, ◌∙◌}
 use Rattle.std.specs.Prelude.{IfOk}
 use Rattle.pie_graph.specs.Numbers.{numbers}
 use Rattle.pie_topdown.specs.declared.hand.Check.{Check}
+use Rattle.pie_topdown.specs.inner.Offering.{EndsReused}
 use Rattle.pie_topdown.specs.inner.Right.{EndsKept}
-use Rattle.pie_topdown.proofs.Kept.{keeps_if, offers_if}
+use Rattle.pie_topdown.proofs.Kept.{keeps_if}
+use Rattle.pie_topdown.proofs.Reused.{reuses_if}
+use Rattle.pie_topdown.proofs.Staging.{bytes_in}
 use Rattle.pie_topdown.proofs.builder.Builder.keep.Goals as goal
 
 pub returns-in-Some-clause-right : goal.returns-in-Some-clause-right
 returns-in-Some-clause-right c =
-    offers_if c.args.self.now c.keep_offered.new.self c.args.check.value c.in-Some.contents c.keep_offered.result
-    (ap (λ (x : Check). x.contents) (sym c.into_inner-rec.ensures) ∙ c.in-Some.is)
+    reuses_if c.args.self.now c.keep_offered.new.self c.args.check.value c.in-Some.contents c.keep_offered.result c.requires.site c.requires.check
+    c.requires.over (ap (λ (x : Check). x.contents) (sym c.into_inner-rec.ensures) ∙ c.in-Some.is)
+    (subst (λ (x : Check). IfOk c.keep_offered.result (EndsReused c.args.self.now x.no.0 x.rec (numbers x.required.items) (bytes_in c.in-Some.contents.items)
+    c.keep_offered.new.self)) c.into_inner-rec.ensures c.keep_offered.ensures.ended)
 
 pub returns-in-None-clause-right : goal.returns-in-None-clause-right
 returns-in-None-clause-right c =
     keeps_if c.args.self.now c.keep_own.new.self c.args.check.value c.keep_own.result c.requires.check c.requires.over
+    (ap (λ (x : Check). x.contents) (sym c.into_inner-rec.ensures) ∙ c.in-None.is)
     (subst (λ (x : Check). IfOk c.keep_own.result (EndsKept c.args.self.now x.no.0 x.rec (numbers x.required.items) c.keep_own.new.self)) c.into_inner-rec.ensures
     c.keep_own.ensures.ended)

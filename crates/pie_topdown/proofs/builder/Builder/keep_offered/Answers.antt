@@ -1,6 +1,12 @@
-use Rattle.std.proofs.Common.{◌∙◌, ap, refl}
+use Rattle.std.proofs.Common.{◌∙◌, ap, subst, refl}
+use Rattle.pie_graph.specs.Numbers.{numbers}
+use Rattle.pie_topdown.specs.declared.builder.Builder.{Builder}
+use Rattle.pie_topdown.specs.declared.ledger.Ledger.{Ledger}
+use Rattle.pie_topdown.specs.inner.Effects.{EndsIfNew}
+use Rattle.pie_topdown.specs.inner.Offering.{StagesAll}
 use Rattle.pie_topdown.proofs.Going.{grows_then, keeps_then}
 use Rattle.pie_topdown.proofs.Stacking.{grown_site, same_keeps, same_site}
+use Rattle.pie_topdown.proofs.Staging.{bytes_in}
 use Rattle.pie_topdown.proofs.builder.Builder.keep_offered.Goals as goal
 
 pub returns-clause-turns : goal.returns-clause-turns
@@ -23,3 +29,19 @@ returns-clause-kept c =
       grows = grows_then c.reuse.new.self.ledger c.end.new.self c.runs.new.self c.in_ok-end.ensures.grows c.runs.ensures.grows;
       failed = λ why had. had;
     })
+
+pub returns-clause-ended : goal.returns-clause-ended
+returns-clause-ended c =
+    let e = c.reuse.ensures.same in (
+      record {
+        between = c.end.new.self;
+        ended = subst (λ (l : Ledger). EndsIfNew l c.args.no.0 c.args.rec (numbers c.args.required.items) c.end.new.self) (ap (λ b. b.ledger) e)
+            c.in_ok-end.ensures.ends;
+        marked = c.runs.ensures.started;
+        ledger = c.runs.ensures.ledger;
+        staged = subst (λ ws. StagesAll c.args.self.now.stage c.reuse.new.self.stage c.args.no.0 ws (bytes_in c.args.contents.items)) c.as_slice.ensures
+            c.in_ok-reuse.ensures.staged;
+        rest = ap (λ (b : Builder). record b { ledger = c.runs.new.self }) e;
+      },
+      refl,
+    )

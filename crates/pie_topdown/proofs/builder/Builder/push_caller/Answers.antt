@@ -6,7 +6,7 @@ use Rattle.pie_value.specs.declared.task.Task.{Task}
 use Rattle.pie_topdown.specs.inner.Entries.{HasEntered}
 use Rattle.pie_topdown.specs.inner.Right.{EntersSite}
 use Rattle.pie_topdown.proofs.Entered.{last_unrecorded}
-use Rattle.pie_topdown.proofs.Pushed.{caller_pushed}
+use Rattle.pie_topdown.proofs.Required.{caller_descends}
 use Rattle.pie_topdown.proofs.builder.Builder.push_caller.Goals as goal
 
 pub returns-clause-turns : goal.returns-clause-turns
@@ -33,7 +33,7 @@ returns-clause-fits c =
 pub returns-clause-right : goal.returns-clause-right
 returns-clause-right c =
     let same = c.in_ok-copy.ensures in
-    caller_pushed c.args.self.now c.enter.new.self c.args.caller c.args.code c.in_ok-no.no c.push.new.self c.in_ok-no.ensures.number
+    caller_descends c.args.self.now c.enter.new.self c.args.caller c.args.code c.in_ok-no.no c.push.new.self c.in_ok-no.ensures.number
     (subst (λ (t : Task). HasEntered c.args.self.now t c.enter.new.self) same c.in_ok-no.ensures.added)
     (subst (λ (t : Task). EntersSite c.args.self.now t c.enter.new.self) same c.in_ok-no.ensures.right) c.requires.may
     (last_unrecorded c.args.self.now.ledger c.requires.site.ledger) c.requires.absent c.requires.caller.waits.left c.in_ok-push.ensures.items

@@ -1,7 +1,9 @@
 use Rattle.std.proofs.Common.{[], ◌∷◌, ◌++◌, length, refl, ap, ◌∙◌, arith}
 use Rattle.pie_topdown.specs.declared.hand.Frame.TheVariants as frames
 use Rattle.pie_topdown.specs.inner.Turns.{check_mass}
+use Rattle.pie_topdown.proofs.Entered.{last_unrecorded}
 use Rattle.pie_topdown.proofs.Growing.{check_grows}
+use Rattle.pie_topdown.proofs.Pushed.{check_pushed}
 use Rattle.pie_topdown.proofs.Stacking.{pushed_site, pushed_nearer, pushed_room}
 use Rattle.pie_topdown.proofs.builder.Builder.push_check.Goals as goal
 
@@ -25,3 +27,9 @@ returns-clause-fits c =
     c.push.new.self.items (frames.Checks c.args.check) c.requires.may.few c.in_ok-no.ensures.one
     (c.in_ok-push.ensures.items ∙ ap (λ v. v.items ++ frames.Checks c.args.check ∷ []) c.in_ok-no.ensures.stack) in
     omega (arith, r)
+
+pub returns-clause-right : goal.returns-clause-right
+returns-clause-right c =
+    check_pushed c.args.self.now c.enter.new.self c.args.check c.args.task c.args.code c.in_ok-no.no c.push.new.self c.in_ok-no.ensures.number
+    c.in_ok-no.ensures.added c.in_ok-no.ensures.right c.requires.may (last_unrecorded c.args.self.now.ledger c.requires.site.ledger) c.requires.absent
+    c.in_ok-push.ensures.items

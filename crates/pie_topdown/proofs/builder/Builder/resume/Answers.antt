@@ -3,6 +3,7 @@ use Rattle.std.specs.Prelude.{IfOk}
 use Rattle.std.specs.Option.{option_to_list}
 use Rattle.pie_topdown.specs.declared.hand.Frame.TheVariants as frames
 use Rattle.pie_topdown.specs.inner.Turns.{Fits, Nearer}
+use Rattle.pie_topdown.proofs.Resumed.{caller_resumes, check_resumes, none_resumes}
 use Rattle.pie_topdown.proofs.Stacking.{popped_mass, popped_room}
 use Rattle.pie_topdown.proofs.builder.Builder.resume.Goals as goal
 
@@ -33,3 +34,19 @@ returns-in-Some-Waits-clause-fits c =
     let m = popped_room c.args.self.now.stack.items c.pop.new.self.items e
     (c.in-Some-Waits.ensures.items ∙ ap (λ x. c.pop.new.self.items ++ option_to_list (Some x)) c.in-Some-Waits.field-0-is) in
     subst (λ n. IfOk c.answer_again.result (Fits n c.answer_again.new.self)) (omega (arith, m)) c.answer_again.ensures.fits
+
+pub returns-in-Some-Checks-clause-right : goal.returns-in-Some-Checks-clause-right
+returns-in-Some-Checks-clause-right c =
+    check_resumes c.args.self.now c.pop.new.self c.in-Some-Checks.check
+    (c.in-Some-Checks.ensures.items ∙ ap (λ x. c.pop.new.self.items ++ option_to_list (Some x)) c.in-Some-Checks.field-0-is)
+
+pub returns-in-Some-Waits-clause-right : goal.returns-in-Some-Waits-clause-right
+returns-in-Some-Waits-clause-right c =
+    caller_resumes c.args.self.now c.answer_again.new.self c.pop.new.self c.in-Some-Waits.caller c.answer_again.result
+    (c.in-Some-Waits.ensures.items ∙ ap (λ x. c.pop.new.self.items ++ option_to_list (Some x)) c.in-Some-Waits.field-0-is) c.answer_again.ensures.right
+
+pub returns-in-None-clause-right : goal.returns-in-None-clause-right
+returns-in-None-clause-right c =
+    let no_old = c.in-None.ensures.cases.0 in
+    let no_new = c.in-None.ensures.cases.1 in
+    none_resumes c.args.self.now c.pop.new.self (omega (arith, c.args.self.now.stack.ok.0, no_old)) (omega (arith, c.pop.new.self.ok.0, no_new))

@@ -2,6 +2,7 @@ use Rattle.std.proofs.Common.{◌∙◌, ◌+◌, subst, arith}
 use Rattle.pie_files.proofs.Reading.{both_before}
 use Rattle.pie_topdown.specs.inner.Turns.{Spends, TurnsTo, hand_room, room}
 use Rattle.pie_topdown.proofs.Going.{keeps_then, started_more}
+use Rattle.pie_topdown.proofs.Turning.{stays_on, stops_many, stops_rests}
 use Rattle.pie_topdown.proofs.builder.Builder.run.Goals as goal
 
 pub steps-preserved : goal.steps-preserved
@@ -17,6 +18,9 @@ steps-preserved g c =
       c.in_ok-next.ensures.reads.counted.steady ∙ before.5,
       both_before g.F.Files.holds g.F.Files.moment g.F.Files.left_since g.F.Files.images c.args.files.now c.steps.files c.step.new.files before.4
           before.6 c.step.ensures.reads.crash,
+      stays_on (g.F.Files.holds c.args.files.now) (g.F.Files.holds c.steps.files) (g.O.Offers.told c.args.offers.now) (g.O.Offers.told c.steps.offers) c.args.self.now
+          c.steps.self c.step.new.self c.args.hand c.steps.hand _ before.4 before.8 before.1.plan before.7 c.in_ok-next.ensures.right c.in-Goes.next c.in-Goes.is,
+      c.step.ensures.told ∙ before.8,
     )
 
 pub returns-in_err-next-clause-started : goal.returns-in_err-next-clause-started
@@ -34,3 +38,15 @@ returns-in-Many-clause-kept g c = keeps_then c.args.self.now c.steps.self c.step
 
 pub returns-in-Many-clause-started : goal.returns-in-Many-clause-started
 returns-in-Many-clause-started g c = started_more c.args.runs.now c.steps.runs c.step.new.runs c.steps.invariant.2 c.step.ensures.starts
+
+pub returns-in-Rests-clause-right : goal.returns-in-Rests-clause-right
+returns-in-Rests-clause-right g c =
+    let before = c.steps.invariant in
+    stops_rests (g.F.Files.holds c.args.files.now) (g.F.Files.holds c.steps.files) (g.O.Offers.told c.args.offers.now) (g.O.Offers.told c.steps.offers) c.args.self.now
+    c.steps.self c.step.new.self c.args.hand c.steps.hand _ before.4 before.8 before.1.plan before.7 c.in_ok-next.ensures.right c.in-Rests.is
+
+pub returns-in-Many-clause-right : goal.returns-in-Many-clause-right
+returns-in-Many-clause-right g c =
+    let before = c.steps.invariant in
+    stops_many (g.F.Files.holds c.args.files.now) (g.F.Files.holds c.steps.files) (g.O.Offers.told c.args.offers.now) (g.O.Offers.told c.steps.offers) c.args.self.now
+    c.steps.self c.step.new.self c.args.hand c.steps.hand _ before.4 before.8 before.1.plan before.7 c.in_ok-next.ensures.right c.in-Many.is

@@ -1,6 +1,8 @@
-use Rattle.std.proofs.Common.{◌∙◌}
+use Rattle.std.proofs.Common.{◌∙◌, subst}
 use Rattle.pie_files.proofs.Reading.{both_before}
+use Rattle.pie_topdown.specs.inner.Rooted.{SettlesRight}
 use Rattle.pie_topdown.proofs.Going.{continues_then, settled_all, settled_more, started_then}
+use Rattle.pie_topdown.proofs.Turning.{all_settled, refused_one, settled_one}
 use Rattle.pie_topdown.proofs.builder.Builder.settle_all.Goals as goal
 
 pub loop-root-preserved : goal.loop-root-preserved
@@ -16,6 +18,12 @@ loop-root-preserved g c =
       c.in_ok-refusal.ensures.reads.counted.steady ∙ before.5,
       both_before g.F.Files.holds g.F.Files.moment g.F.Files.left_since g.F.Files.images c.args.files.now c.loop-root.files c.settle.new.files before.4
           before.6 c.settle.ensures.reads.crash,
+      settled_one (g.F.Files.holds c.args.files.now) (g.F.Files.holds c.loop-root.files) (g.O.Offers.told c.args.offers.now) (g.O.Offers.told c.loop-root.offers)
+          c.args.self.now c.loop-root.self c.settle.new.self c.args.roots.now c.loop-root.root-index c.root-item.result c.loop-root-test.true c.root-item.is before.4
+          before.8 before.2.plan before.7
+          (subst (SettlesRight (g.F.Files.holds c.loop-root.files) (g.O.Offers.told c.loop-root.offers) c.loop-root.self c.root-item.result c.settle.new.self)
+          c.in-None.is c.in_ok-refusal.ensures.right),
+      c.settle.ensures.told ∙ before.8,
     )
 
 pub returns-clause-settled : goal.returns-clause-settled
@@ -29,3 +37,17 @@ returns-in_err-refusal-clause-started g c =
 pub returns-in-Some-clause-started : goal.returns-in-Some-clause-started
 returns-in-Some-clause-started g c =
     started_then c.args.runs.now c.loop-root.runs c.settle.new.runs c.loop-root.invariant.3 c.settle.ensures.started
+
+pub returns-clause-right : goal.returns-clause-right
+returns-clause-right g c =
+    all_settled (g.F.Files.holds c.args.files.now) (g.O.Offers.told c.args.offers.now) c.args.self.now c.loop-root.self c.args.roots.now c.loop-root.root-index
+    c.loop-root-test.false c.loop-root.invariant.7
+
+pub returns-in-Some-clause-right : goal.returns-in-Some-clause-right
+returns-in-Some-clause-right g c =
+    let before = c.loop-root.invariant in
+    refused_one (g.F.Files.holds c.args.files.now) (g.F.Files.holds c.loop-root.files) (g.O.Offers.told c.args.offers.now) (g.O.Offers.told c.loop-root.offers)
+    c.args.self.now c.loop-root.self c.settle.new.self c.args.roots.now c.loop-root.root-index c.root-item.result c.loop-root-test.true c.root-item.is before.4
+    before.8 before.2.plan before.7 c.in-Some.refusal
+    (subst (SettlesRight (g.F.Files.holds c.loop-root.files) (g.O.Offers.told c.loop-root.offers) c.loop-root.self c.root-item.result c.settle.new.self)
+    c.in-Some.is c.in_ok-refusal.ensures.right)

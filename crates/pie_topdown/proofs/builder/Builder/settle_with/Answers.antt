@@ -1,6 +1,9 @@
-use Rattle.std.proofs.Common.{◌∙◌, ap, arith}
+use Rattle.std.proofs.Common.{◌≡◌, ◌∙◌, None, Some, ap, subst, arith, rules}
+use Rattle.pie_topdown.specs.inner.Entries.{HasEntered}
+use Rattle.pie_topdown.specs.inner.Right.{EntersSite}
 use Rattle.pie_topdown.specs.inner.Turns.{stack_room}
 use Rattle.pie_topdown.proofs.Going.{grows_then}
+use Rattle.pie_topdown.proofs.Rooting.{with_failure, with_many, with_rest}
 use Rattle.pie_topdown.proofs.builder.Builder.settle_with.Goals as goal
 
 pub returns-clause-continues : goal.returns-clause-continues
@@ -12,3 +15,31 @@ returns-clause-continues g c = λ _.
       grows = grows_then c.args.self.now.ledger c.enter.new.self.ledger c.run.new.self.ledger c.in_ok-no.ensures.kept.grows c.in_ok-rests.ensures.kept.grows;
       spends = omega (arith, spends, waits, c.in_ok-no.ensures.one, c.requires.may.few);
     }
+
+pub returns-in-Some-clause-right : goal.returns-in-Some-clause-right
+returns-in-Some-clause-right g c =
+    let a = c.args.self.now in
+    let failed : c.run.new.self.failure ≡ Some c.in-Some.why = search rules in
+    with_failure (g.F.Files.holds c.args.files.now) (g.O.Offers.told c.args.offers.now) a c.enter.new.self c.run.new.self c.args.root.now c.args.code c.in_ok-no.no
+    c.in_ok-no.ensures.number (subst (λ t. HasEntered a t c.enter.new.self) c.in_ok-copy.ensures c.in_ok-no.ensures.added)
+    (subst (λ t. EntersSite a t c.enter.new.self) c.in_ok-copy.ensures c.in_ok-no.ensures.right) c.requires.may c.requires.site c.requires.absent
+    c.in_ok-rests.ensures.kept c.in_ok-rests.rests c.in_ok-rests.ensures.right c.run.new.self c.in-Some.why failed
+
+pub returns-then-not-rests-clause-right : goal.returns-then-not-rests-clause-right
+returns-then-not-rests-clause-right g c =
+    let a = c.args.self.now in
+    let calm : c.run.new.self.failure ≡ None = search rules in
+    with_many (g.F.Files.holds c.args.files.now) (g.O.Offers.told c.args.offers.now) a c.enter.new.self c.run.new.self c.args.root.now c.args.code c.in_ok-no.no
+    c.in_ok-no.ensures.number (subst (λ t. HasEntered a t c.enter.new.self) c.in_ok-copy.ensures c.in_ok-no.ensures.added)
+    (subst (λ t. EntersSite a t c.enter.new.self) c.in_ok-copy.ensures c.in_ok-no.ensures.right) c.requires.may c.requires.site c.requires.absent
+    c.in_ok-rests.ensures.kept c.in_ok-rests.rests c.in_ok-rests.ensures.right c.run.new.self c.if-not-rests.true calm
+
+pub returns-clause-right : goal.returns-clause-right
+returns-clause-right g c =
+    let a = c.args.self.now in
+    let calm : c.run.new.self.failure ≡ None = search rules in
+    with_rest (g.F.Files.holds c.args.files.now) (g.O.Offers.told c.args.offers.now) a c.enter.new.self c.run.new.self c.args.root.now c.args.code c.in_ok-no.no
+    c.in_ok-no.ensures.number (subst (λ t. HasEntered a t c.enter.new.self) c.in_ok-copy.ensures c.in_ok-no.ensures.added)
+    (subst (λ t. EntersSite a t c.enter.new.self) c.in_ok-copy.ensures c.in_ok-no.ensures.right) c.requires.may c.requires.site c.requires.absent
+    c.in_ok-rests.ensures.kept c.in_ok-rests.rests c.in_ok-rests.ensures.right (record c.run.new.self { failure = c.take.new.self }) c.in_ok-unless_done.field-0
+    (ap (λ f. record c.run.new.self { failure = f }) c.take.ensures.after) c.if-not-rests.false calm c.in_ok-unless_done.ensures.none

@@ -1,0 +1,6 @@
+use Rattle.pie_topdown.proofs.Resulting.{made_settled}
+use Rattle.pie_topdown.proofs.builder.Builder.built.Goals as goal
+
+pub returns-clause-clean : goal.returns-clause-clean
+returns-clause-clean c =
+    made_settled c.args.self.now c.args.roots.now c.in_ok-built.built c.requires.settled c.in_ok-built.ensures.makes c.in_ok-built.ensures.stored

@@ -1,0 +1,22 @@
+use Rattle.std.proofs.Common.{Ok}
+use Rattle.pie_files.specs.declared.files.FilesError.{FilesError}
+use Rattle.pie_topdown.specs.declared.entering.Entry.TheVariants.{Full}
+use Rattle.pie_topdown.specs.inner.Entries.{MayEnter}
+use Rattle.pie_topdown.proofs.Differing.{pushed_requires, lost_requires, full_requires}
+use Rattle.pie_topdown.proofs.builder.Builder.descend.Goals as goal
+
+pub returns-in-May-clause-right : goal.returns-in-May-clause-right
+returns-in-May-clause-right g c =
+    pushed_requires {E = FilesError} (g.F.Files.holds c.args.files.now) (g.O.Offers.told c.args.offers.now) c.args.self.now c.push_check.new.self
+    c.args.check.value c.args.task (Ok c.in_ok-push_check-in-May.field-0) c.in_ok-push_check-in-May.ensures.right
+
+pub returns-in-Unknown-clause-right : goal.returns-in-Unknown-clause-right
+returns-in-Unknown-clause-right g c =
+    lost_requires (g.F.Files.holds c.args.files.now) (g.O.Offers.told c.args.offers.now) c.args.self.now c.differs.new.self c.args.check.value c.args.task
+    c.differs.result c.requires.check.named c.differs.ensures.right
+
+pub returns-clause-right : goal.returns-clause-right
+returns-clause-right g c =
+    let may : MayEnter c.args.self.now c.args.task Full = rw c.in-Full.is at c.entry.ensures in
+    full_requires (g.F.Files.holds c.args.files.now) (g.O.Offers.told c.args.offers.now) c.args.self.now c.args.check.value c.args.task may
+    c.requires.encodable c.requires.absent

@@ -1,0 +1,21 @@
+use Rattle.std.proofs.Common.{sym, ap, subst, ◌∙◌}
+use Rattle.pie_value.specs.Canonical.{enc_task, IsCanonicalTask}
+use Rattle.pie_topdown.specs.inner.Entries.{MayEnter}
+use Rattle.pie_topdown.specs.inner.Right.{IsRefused}
+use Rattle.pie_topdown.specs.inner.Rooted.{lost}
+use Rattle.pie_topdown.proofs.Rooting.{full_refused, lost_refused}
+use Rattle.pie_topdown.proofs.builder.Builder.settle_new.Goals as goal
+
+pub returns-in-Unknown-clause-right : goal.returns-in-Unknown-clause-right
+returns-in-Unknown-clause-right g c = λ u done of listed s.
+    let t = c.args.root.now in
+    let may = subst (MayEnter c.args.self.now t) c.in-Unknown.is c.entry.ensures in
+    subst (IsRefused u done (enc_task t)) (sym (c.unknown.ensures ∙ ap lost c.in_ok-copy-in-Unknown.ensures))
+    (lost_refused c.args.self.now t (subst (IsCanonicalTask t) c.in_ok-_bytes.ensures.bytes c.in_ok-_bytes.ensures.canonical) c.requires.absent u done s of.plan
+    may.0 may.1)
+
+pub returns-clause-right : goal.returns-clause-right
+returns-clause-right g c = λ u done of listed s.
+    let t = c.args.root.now in
+    full_refused c.args.self.now t (subst (IsCanonicalTask t) c.in_ok-_bytes.ensures.bytes c.in_ok-_bytes.ensures.canonical) c.requires.absent u done s
+    (subst (MayEnter c.args.self.now t) c.in-Full.is c.entry.ensures)

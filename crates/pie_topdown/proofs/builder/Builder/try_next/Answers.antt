@@ -1,0 +1,13 @@
+use Rattle.std.proofs.Common.{subst}
+use Rattle.pie_topdown.specs.inner.Offering.{Takes}
+use Rattle.pie_topdown.proofs.Tried.{check_tries, start_tries}
+use Rattle.pie_topdown.proofs.builder.Builder.try_next.Goals as goal
+
+pub returns-in-Some-clause-right : goal.returns-in-Some-clause-right
+returns-in-Some-clause-right c =
+    check_tries c.args.self.now c.args.self.now c.args.no.0 c.args.code.now c.args.rest.items c.next_fitting.new.rest.items c.in-Some.offer c.check_offer.result
+    c.requires.offers (subst (Takes c.args.rest.items c.next_fitting.new.rest.items) c.in-Some.is c.in_ok-offer.ensures.takes) c.check_offer.ensures.right
+
+pub returns-clause-right : goal.returns-clause-right
+returns-clause-right c =
+    start_tries c.args.self.now c.start.new.self c.args.no.0 c.args.code.now c.args.rest.items c.start.result c.start.ensures.right

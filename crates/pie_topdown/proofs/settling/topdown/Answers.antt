@@ -1,0 +1,28 @@
+use Rattle.std.proofs.Common.{◌≡◌, sym, subst, rules}
+use Rattle.pie_topdown.specs.declared.builder.Builder.{Builder}
+use Rattle.pie_topdown.specs.inner.Frames.{IsSite}
+use Rattle.pie_topdown.specs.inner.Rooted.{IsPlanOf, IsUnbegun, MakesSettled}
+use Rattle.pie_topdown.proofs.Resulting.{built_clean, refused_so}
+use Rattle.pie_topdown.proofs.settling.topdown.Goals as goal
+
+pub returns-in-Some-clause-clean : goal.returns-in-Some-clause-clean
+returns-in-Some-clause-clean g c = λ program.
+    let old = c.deref_mut.result.now in
+    let first : old ≡ c.in_ok-builder.builder.value = search rules in
+    refused_so (g.F.Files.holds c.args.files.now) c.args.typed.now c.args.code.now c.args.image.funcs c.args.digests.now c.args.image.rows
+    (g.O.Offers.told c.args.offers.now) c.args.roots.now old c.settle_all.new.self c.refused.result program c.requires.storable
+    (subst IsSite (sym first) c.in_ok-builder.ensures.site)
+    (subst (λ (b : Builder). IsPlanOf c.args.typed.now c.args.code.now c.args.image.funcs c.args.digests.now c.args.image.rows b.plan) (sym first)
+    c.in_ok-builder.ensures.plan) (subst IsUnbegun (sym first) c.in_ok-builder.ensures.unbegun) c.in_ok-why.why c.in-Some.refusal c.in-Some.is
+    c.refused.ensures.verdict c.in_ok-why.ensures.right
+
+pub returns-clause-clean : goal.returns-clause-clean
+returns-clause-clean g c = λ program.
+    let old = c.deref_mut.result.now in
+    let first : old ≡ c.in_ok-builder.builder.value = search rules in
+    let makes : MakesSettled c.settle_all.new.self c.args.roots.now c.in_ok-built-in-None.built = search rules in
+    built_clean (g.F.Files.holds c.args.files.now) c.args.typed.now c.args.code.now c.args.image.funcs c.args.digests.now c.args.image.rows
+    (g.O.Offers.told c.args.offers.now) c.args.roots.now old c.settle_all.new.self c.in_ok-built-in-None.built program c.requires.storable
+    (subst IsSite (sym first) c.in_ok-builder.ensures.site)
+    (subst (λ (b : Builder). IsPlanOf c.args.typed.now c.args.code.now c.args.image.funcs c.args.digests.now c.args.image.rows b.plan) (sym first)
+    c.in_ok-builder.ensures.plan) (subst IsUnbegun (sym first) c.in_ok-builder.ensures.unbegun) c.in_ok-why.why c.in-None.is c.in_ok-why.ensures.right makes
