@@ -3,7 +3,9 @@ use Rattle.std.proofs.Common.{◌≡◌, ℕ, Bool, List, Option, None, Some, Er
 use Rattle.std.specs.Prelude.{IfSome, All}
 use Rattle.pie_base.specs.declared.status.Status.{Status}
 use Rattle.pie_base.specs.declared.status.Status.TheVariants as status
+use Rattle.pie_build.specs.Asked.{AsksEntered}
 use Rattle.pie_build.specs.Left.{Leaves}
+use Rattle.pie_files.specs.declared.files.Call.{Call}
 use Rattle.pie_files.specs.Directory.{Directory}
 use Rattle.pie_fresh.specs.Told.{IsTrueTask}
 use Rattle.pie_parser.specs.FunctionTrees.{FunctionTree}
@@ -37,6 +39,12 @@ pub refused : (o after : Option Directory) (json : Bool) (e : Refusal) (text : L
     → IfSome o (λ d. FreshSays d json after text ended)
 refused None after json e text ended says same line is = tt
 refused (Some d) after json e text ended says same line is = inl (e, says, same, line, is)
+
+-- which paths are asked for, once there is an answer
+pub told_asks : (o : Option Directory) (asked asked_now : Option (List Call)) → IfSome o (λ d. Unit {0} → AsksEntered d asked asked_now)
+    → IfSome o (λ d. AsksEntered d asked asked_now)
+told_asks None asked asked_now asks = tt
+told_asks (Some d) asked asked_now asks = asks tt
 
 -- all of it was printed
 pub built : (o after : Option Directory) (json : Bool) (text : List ℕ) (told ended : Status) (held gained : Option (List ℕ))

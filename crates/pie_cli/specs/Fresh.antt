@@ -2,9 +2,11 @@
 use Rattle.std.specs.Prelude.{◌≡◌, ◌⊎◌, ℕ, Bool, true, false, List, Option, Some, IfSome, Err}
 use Rattle.pie_base.specs.declared.status.Status.{Status}
 use Rattle.pie_base.specs.declared.status.Status.TheVariants as status
+use Rattle.pie_build.specs.Asked.{AsksEntered}
 use Rattle.pie_build.specs.Crashes.{StaysAtRest, Withstands}
 use Rattle.pie_build.specs.Left.{ChangesIfAccepted, Leaves}
 use Rattle.pie_files.specs.Directory.{Directory}
+use Rattle.pie_files.specs.declared.files.Call.{Call}
 use Rattle.pie_files.specs.Faults.{Rose}
 use Rattle.pie_project.specs.Fronts.{ProjectSays}
 use Rattle.pie_project.specs.Refusals.{Refusal}
@@ -53,12 +55,13 @@ abbrev pub IsFreshText : Directory → Bool → Option Directory → List ℕ �
 IsFreshText d json after text = (ended : Status) × FreshSays d json after text ended
 
 -- what `fresh` says, whatever it ended with: an answer, that the definitions have no other one, what the output gained of one, that no other project than one
--- that the model accepts changes anything, and what a crash leaves
+-- that the model accepts changes anything, what a crash leaves, and which paths an answer takes
 pub record RunsFresh {S : Type 0} (holds : S → Option Directory) (moment : S → ℕ) (left_since : S → ℕ → Directory → Type 0) (images : S → Directory → Type 0)
-    (faults : S → ℕ) (json : Bool) (old new : S) (held gained : Option (List ℕ)) (ended : Status) : Type 0 where
+    (asked : S → Option (List Call)) (faults : S → ℕ) (json : Bool) (old new : S) (held gained : Option (List ℕ)) (ended : Status) : Type 0 where
   pub built : is_answer ended ≡ true → IfSome (holds old) (λ d. HasBuilt d json (holds new) held gained ended)
   pub only : is_answer ended ≡ true → IfSome (holds old) (λ d. FreshSaysOnly d json held gained ended)
   pub printed : IfSome (holds old) (λ d. GainsAtMost (IsFreshText d json (holds new)) (Rose (faults old) (faults new)) held gained ended)
   pub changed : IfSome (holds old) (λ d. ChangesIfAccepted d (holds new))
   pub crash : Withstands holds moment left_since images Leaves old new
   pub durable : is_answer ended ≡ true → StaysAtRest holds images old new
+  pub asks : is_answer ended ≡ true → IfSome (holds old) (λ d. AsksEntered d (asked old) (asked new))

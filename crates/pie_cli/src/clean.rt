@@ -1,5 +1,6 @@
 //! A clean build, and what is told of it.
 ghost use Rattle.std.specs.Prelude.{◌≡◌, true, IfSome, IfOk, OnOk, string_bytes};
+ghost use Rattle.pie_build.specs.Asked.{AsksEntered};
 ghost use Rattle.pie_build.specs.Crashes.{StaysAtRest, Withstands};
 ghost use Rattle.pie_build.specs.Left.{ChangesIfAccepted, KeepsRest, Leaves};
 ghost use Rattle.pie_files.specs.Streams.{Counted};
@@ -16,6 +17,7 @@ use std::alloc::Global;
 
 /// Builds a directory as from an empty store, and tells the report, as JSON where that is wanted, or the first refusal
 /// of the project.
+#[tactic(auto, using(crate::proofs::Fresh::told_asks))]
 pub(crate) fn fresh<F: Files>(
     alloc: Global,
     files: &mut F,
@@ -27,6 +29,7 @@ pub(crate) fn fresh<F: Files>(
     ensures rest { KeepsRest (F.holds files.old) (F.holds files.new) }
     ensures crash { Withstands F.holds F.moment F.left_since F.images Leaves files.old files.new }
     ensures durable { OnOk result (StaysAtRest F.holds F.images files.old files.new) }
+    ensures asks { IfSome (F.holds files.old) (λ d. IfOk result (λ _. AsksEntered d (F.asked files.old) (F.asked files.new))) }
     ensures counted { Counted F.faults FilesError.Failed files.old files.new result }
 {
     let mut runs = Runs::new(alloc);

@@ -52,7 +52,7 @@ pub fn run<F: Files, I: Source, K: Sink>(
     out: &mut K,
 ) -> Status
     ensures fresh { (json : Bool) → texts_of words.now ≡ words_of (commands.Fresh json)
-        → RunsFresh F.holds F.moment F.left_since F.images F.faults json files.old files.new (K.held out.old) (K.held out.new) result }
+        → RunsFresh F.holds F.moment F.left_since F.images F.asked F.faults json files.old files.new (K.held out.old) (K.held out.new) result }
     ensures check { texts_of words.now ≡ words_of commands.Check
         → RunsCheck F.holds F.moment F.left_since F.images F.asked F.faults files.old files.new (K.held out.old) (K.held out.new) result }
     ensures build { (json : Bool) → texts_of words.now ≡ words_of (commands.Build json)
@@ -94,7 +94,7 @@ fn run_command<F: Files, I: Source, K: Sink>(
 ) -> Status
     requires { is_allowed command ≡ true }
     ensures fresh { (json : Bool) → command ≡ commands.Fresh json
-        → RunsFresh F.holds F.moment F.left_since F.images F.faults json files.old files.new (K.held out.old) (K.held out.new) result }
+        → RunsFresh F.holds F.moment F.left_since F.images F.asked F.faults json files.old files.new (K.held out.old) (K.held out.new) result }
     ensures check { command ≡ commands.Check
         → RunsCheck F.holds F.moment F.left_since F.images F.asked F.faults files.old files.new (K.held out.old) (K.held out.new) result }
     ensures build { (json : Bool) → command ≡ commands.Build json
@@ -131,7 +131,7 @@ fn run_command<F: Files, I: Source, K: Sink>(
 
 // A clean build, with its report.
 fn run_fresh<F: Files, K: Sink>(alloc: Global, files: &mut F, out: &mut K, json: bool) -> Status
-    ensures fresh { RunsFresh F.holds F.moment F.left_since F.images F.faults json files.old files.new (K.held out.old) (K.held out.new) result }
+    ensures fresh { RunsFresh F.holds F.moment F.left_since F.images F.asked F.faults json files.old files.new (K.held out.old) (K.held out.new) result }
     ensures rest { KeepsRest (F.holds files.old) (F.holds files.new) }
     ensures ends { EndsUnread (F.faults files.old) (F.faults files.new) (K.faults out.old) (K.faults out.new) (K.held out.old) (K.held out.new) result }
     ensures infallible { StaysInfallible K.infallible K.faults out.old out.new }

@@ -55,6 +55,7 @@ returns-in-Err-OutOfMemory-clause-fresh g c = λ json is. record {
   changed = untouched (g.F.Files.holds c.args.files.now) (g.F.Files.holds c.args.files.now) refl;
   crash = withstands_none g.F.Files.holds g.F.Files.moment g.F.Files.left_since g.F.Files.images Leaves c.args.files.now;
   durable = λ a. absurd (memory_is_no_answer a);
+  asks = λ a. absurd (memory_is_no_answer a);
 }
 
 pub returns-in-Err-OutOfMemory-clause-check : goal.returns-in-Err-OutOfMemory-clause-check

@@ -20,6 +20,7 @@ returns-in-Ok-clause-fresh g c = record {
   changed = c.in-Ok.ensures.changed;
   crash = c.in-Ok.ensures.crash;
   durable = λ a. c.in-Ok.ensures.durable;
+  asks = λ a. c.in-Ok.ensures.asks;
 }
   where
     has_built : is_answer c.show_told.result ≡ true
@@ -42,6 +43,7 @@ returns-in-Err-Failed-clause-fresh g c =
       changed = c.in-Err-Failed.ensures.changed;
       crash = c.in-Err-Failed.ensures.crash;
       durable = λ a. absurd (fault_is_no_answer c.show.result a (c.show.ensures.shown (answer_is_told c.show.result a)).0);
+      asks = λ a. absurd (fault_is_no_answer c.show.result a (c.show.ensures.shown (answer_is_told c.show.result a)).0);
     }
 
 pub returns-in-Err-OutOfMemory-clause-fresh : goal.returns-in-Err-OutOfMemory-clause-fresh
@@ -54,4 +56,5 @@ returns-in-Err-OutOfMemory-clause-fresh g c = record {
   changed = c.in-Err-OutOfMemory.ensures.changed;
   crash = c.in-Err-OutOfMemory.ensures.crash;
   durable = λ a. absurd (memory_is_no_answer a);
+  asks = λ a. absurd (memory_is_no_answer a);
 }
