@@ -114,6 +114,8 @@ impl Files for DirFiles {
 
     ghost only_now = { λ files c left. left };
 
+    ghost holds_now = { λ files d is. tt };
+
     fn read(&mut self, path: &Path) -> Result<Option<Found>, FilesError> {
         self.enter()?;
         let answer = self.disk.read(path);

@@ -4,7 +4,7 @@ use Rattle.std.specs.Prelude.{Some, Ok}
 use Rattle.pie_files.specs.declared.files.Call.{Call}
 use Rattle.pie_files.specs.declared.files.Call.TheVariants.{Write, Remove, Sync}
 use Rattle.pie_files.specs.declared.sure_files.Logged.{Logged}
-use Rattle.pie_files.specs.declared.sure_files.Logged.TheVariants.{Put, Asked, Wrote, Removed, Synced}
+use Rattle.pie_files.specs.declared.sure_files.Logged.TheVariants.{Put, FailsAt, Asked, Failed, Wrote, Removed, Synced}
 use Rattle.pie_files.specs.declared.sure_files.SureFiles.{SureFiles}
 use Rattle.pie_files.specs.Calls.{Called}
 use Rattle.pie_files.specs.inner.Memory.{asked_of}
@@ -13,7 +13,9 @@ use Rattle.pie_files.specs.inner.SureFiles.{asked_by}
 pub asked_push : (log : List Logged) (x : Logged) → asked_of (log ++ x ∷ []) ≡ asked_of log ++ asked_of (x ∷ [])
 asked_push [] x = refl
 asked_push (Put path bytes mark ∷ log) x = asked_push log x
+asked_push (FailsAt numbers ∷ log) x = asked_push log x
 asked_push (Asked call ∷ log) x = ap (λ cs. call ∷ cs) (asked_push log x)
+asked_push (Failed call ∷ log) x = ap (λ cs. call ∷ cs) (asked_push log x)
 asked_push (Wrote path bytes mark ∷ log) x = ap (λ cs. Write path (Some mark) ∷ cs) (asked_push log x)
 asked_push (Removed path ∷ log) x = ap (λ cs. Remove path ∷ cs) (asked_push log x)
 asked_push (Synced ∷ log) x = ap (λ cs. Sync ∷ cs) (asked_push log x)

@@ -7,10 +7,11 @@ use Rattle.pie_files.specs.declared.files.Call.{Call}
 use Rattle.pie_files.specs.declared.files.Call.TheVariants.{Read, Names, AllUnder, Write, Remove, Sync}
 use Rattle.pie_files.specs.declared.pick.Pick.TheVariants.{All}
 use Rattle.pie_files.specs.declared.sure_files.Logged.{Logged}
-use Rattle.pie_files.specs.declared.sure_files.Logged.TheVariants.{Put, Asked, Wrote, Removed, Synced}
+use Rattle.pie_files.specs.declared.sure_files.Logged.TheVariants.{Put, FailsAt, Asked, Failed, Wrote, Removed, Synced}
 use Rattle.pie_files.specs.Directory.{Directory}
 use Rattle.pie_files.specs.Images.{Stays, MayWrite, MayRemove, Elapses, Only, Follows, Sets}
 use Rattle.pie_files.specs.inner.Story.{picked, after_all, MayTry, LeftAfter, LeftFrom, IsLeft, WasLeft}
+use Rattle.pie_files.specs.inner.StoryLaws.{done_left}
 
 -- the directory after one thing more
 pub after_more : (d : Directory) (log : List Logged) (x : Logged) → after_all d (log ++ x ∷ []) ≡ picked All (after_all d log) x
@@ -40,28 +41,6 @@ looks_stay (Write path mark) d c looks h = elim looks [ ]
 looks_stay (Remove path) d c looks h = elim looks [ ]
 looks_stay Sync d c looks h = h
 
--- a call that failed may have done nothing
-pub tried_not : (call : Call) (d : Directory) → MayTry call d d
-tried_not (Read path) d = refl
-tried_not (Names dir) d = refl
-tried_not (AllUnder dir) d = refl
-tried_not (Write path mark) d = inl refl
-tried_not (Remove path) d = inl refl
-tried_not Sync d = refl
-
--- one thing that was done is one that may have been done
-done_may : (now : Directory) (earlier : Directory → Type 0) (x : Logged) → earlier now → LeftAfter now earlier x (picked All now x)
-done_may now earlier (Put path bytes mark) is = (now, is, refl)
-done_may now earlier (Asked call) is = (now, is, tried_not call now)
-done_may now earlier (Wrote path bytes mark) is = (now, is, inr (bytes.items, mark, refl))
-done_may now earlier (Removed path) is = (now, is, inr refl)
-done_may now earlier Synced is = refl
-
--- a crash may leave all of it done
-pub done_left : (now : Directory) (earlier : Directory → Type 0) (log : List Logged) → earlier now → LeftFrom now earlier log (after_all now log)
-done_left now earlier [] is = is
-done_left now earlier (x ∷ log) is = done_left (picked All now x) (LeftAfter now earlier x) log (done_may now earlier x is)
-
 -- what was left at an earlier moment or later, or is left now
 older : (began : Directory) (log longer : List Logged) (t : ℕ) (c : Directory) → length longer ≡ length log + 1
     → ((k : ℕ) → k ≤ length log → take k longer ≡ take k log) → WasLeft began longer t c → WasLeft began log t c ⊎ IsLeft began longer c
@@ -87,22 +66,27 @@ grown step began same log longer x start is may =
       keeps = λ t c le was. (was.0, was.1, omega (arith, len, was.2), subst (λ l. IsLeft began l c) (sym (front was.0 was.2)) was.3);
     })
 
--- a look, or a sync that failed
-pub looked : (began same : Directory) (log longer : List Logged) (call : Call) → same ≡ began → longer ≡ log ++ Asked call ∷ [] → Looks call
+-- a look that was answered
+pub looked : (began same : Directory) (log longer : List Logged) (call : Call) → same ≡ began → longer ≡ log ++ Asked call ∷ []
     → Elapses Stays (length log) (length longer) (WasLeft began log) (WasLeft same longer) (IsLeft began log) (IsLeft same longer)
-looked began same log longer call start is looks =
-    grown Stays began same log longer (Asked call) start is (λ c left. (left.0, left.1, looks_stay call left.0 c looks left.2))
+looked began same log longer call start is = grown Stays began same log longer (Asked call) start is (λ c left. left)
+
+-- a look that failed, or a sync
+pub look_tried : (began same : Directory) (log longer : List Logged) (call : Call) → same ≡ began → longer ≡ log ++ Failed call ∷ [] → Looks call
+    → Elapses Stays (length log) (length longer) (WasLeft began log) (WasLeft same longer) (IsLeft began log) (IsLeft same longer)
+look_tried began same log longer call start is looks =
+    grown Stays began same log longer (Failed call) start is (λ c left. (left.0, left.1, looks_stay call left.0 c looks left.2))
 
 -- a write that failed
 pub write_tried : (began same : Directory) (log longer : List Logged) (path : List ℕ) (mark : Option ℕ) → same ≡ began
-    → longer ≡ log ++ Asked (Write path mark) ∷ []
+    → longer ≡ log ++ Failed (Write path mark) ∷ []
     → Elapses (MayWrite path) (length log) (length longer) (WasLeft began log) (WasLeft same longer) (IsLeft began log) (IsLeft same longer)
-write_tried began same log longer path mark start is = grown (MayWrite path) began same log longer (Asked (Write path mark)) start is (λ c left. left)
+write_tried began same log longer path mark start is = grown (MayWrite path) began same log longer (Failed (Write path mark)) start is (λ c left. left)
 
 -- a removal that failed
-pub removal_tried : (began same : Directory) (log longer : List Logged) (path : List ℕ) → same ≡ began → longer ≡ log ++ Asked (Remove path) ∷ []
+pub removal_tried : (began same : Directory) (log longer : List Logged) (path : List ℕ) → same ≡ began → longer ≡ log ++ Failed (Remove path) ∷ []
     → Elapses (MayRemove path) (length log) (length longer) (WasLeft began log) (WasLeft same longer) (IsLeft began log) (IsLeft same longer)
-removal_tried began same log longer path start is = grown (MayRemove path) began same log longer (Asked (Remove path)) start is (λ c left. left)
+removal_tried began same log longer path start is = grown (MayRemove path) began same log longer (Failed (Remove path)) start is (λ c left. left)
 
 -- a write
 pub wrote : (began same : Directory) (log longer : List Logged) (path : List ℕ) (bytes : Vec ℕ Global) (mark : ℕ) → same ≡ began
@@ -152,3 +136,10 @@ write_unmoved path began start log same begins is = unmoved (MayWrite path) (λ 
 pub removal_unmoved : (path : List ℕ) (began start : Directory) (log same : List Logged) → start ≡ began → same ≡ log
     → Elapses (MayRemove path) (length log) (length same) (WasLeft began log) (WasLeft start same) (IsLeft began log) (IsLeft start same)
 removal_unmoved path began start log same begins is = unmoved (MayRemove path) (λ d. inl refl) began start log same begins is
+
+-- that calls are to fail changes no image
+pub listed_still : (began same : Directory) (log longer : List Logged) (numbers : Vec ℕ Global) → same ≡ began → longer ≡ log ++ FailsAt numbers ∷ []
+    → (c : Directory) → IsLeft same longer c → IsLeft began log c
+listed_still began same log longer numbers start is c left =
+    let found = left_more began (λ d. d ≡ began) log (FailsAt numbers) c (subst (λ l. IsLeft began l c) is (subst (λ b. IsLeft b longer c) start left)) in
+    subst (IsLeft began log) (sym found.2) found.1

@@ -1,8 +1,11 @@
 pub mod Asked
 pub mod Copies
+pub mod Failing
 pub mod HeldLemmas
 pub mod Leaving
+pub mod Marked
 pub mod Moving
 pub mod OrderedPaths
 pub mod Picking
 pub mod Reading
+pub mod Turning

@@ -3,12 +3,14 @@ use Rattle.std.proofs.Common.{◌≡◌, ◌++◌, List, [], ◌∷◌, ℕ, ap,
 use Rattle.std.specs.Prelude.{None}
 use Rattle.pie_files.specs.declared.files.Call.{Call}
 use Rattle.pie_files.specs.declared.files.Call.TheVariants.{Write, Remove}
+use Rattle.pie_files.specs.declared.files.FilesError.{FilesError}
+use Rattle.pie_files.specs.declared.files.FilesError.TheVariants.{OutOfMemory, Failed as FilesFailed}
 use Rattle.pie_files.specs.declared.sure_files.SureFiles.{SureFiles}
-use Rattle.pie_files.specs.declared.sure_files.Logged.TheVariants.{Put, Asked, Wrote, Removed, Synced}
+use Rattle.pie_files.specs.declared.sure_files.Logged.TheVariants.{Put, Asked, Failed, Wrote, Removed, Synced}
 use Rattle.pie_files.specs.Images.{Stays, MayWrite, MayRemove, Elapses, Follows, Only, Sets}
 use Rattle.pie_files.specs.inner.Story.{IsLeft}
-use Rattle.pie_files.specs.inner.SureFiles.{images_by, moment_by, left_since_by}
-use Rattle.pie_files.proofs.Leaving.{Looks, looked, write_tried, removal_tried, wrote, removed, synced_all, put_left, only_done, look_unmoved, write_unmoved}
+use Rattle.pie_files.specs.inner.SureFiles.{HasTurned, images_by, moment_by, left_since_by}
+use Rattle.pie_files.proofs.Leaving.{Looks, looked, look_tried, write_tried, removal_tried, wrote, removed, synced_all, put_left, only_done, look_unmoved, write_unmoved}
 use Rattle.pie_files.proofs.Leaving.{removal_unmoved}
 
 -- a look for which there was no memory
@@ -26,22 +28,30 @@ pub removal_unnoted : (s t : SureFiles) (path : List ℕ) → t.began ≡ s.bega
     → Elapses (MayRemove path) (moment_by s) (moment_by t) (left_since_by s) (left_since_by t) (images_by s) (images_by t)
 removal_unnoted s t path began story = removal_unmoved path s.began t.began s.log.items t.log.items began story
 
--- a look, or a sync that failed
-pub look_noted : (s t : SureFiles) (call : Call) → Looks call → t.began ≡ s.began → t.log.items ≡ s.log.items ++ Asked call ∷ []
+-- a look that was answered
+pub look_noted : (s t : SureFiles) (call : Call) → t.began ≡ s.began → t.log.items ≡ s.log.items ++ Asked call ∷ []
     → Elapses Stays (moment_by s) (moment_by t) (left_since_by s) (left_since_by t) (images_by s) (images_by t)
-look_noted s t call looks began story = looked s.began t.began s.log.items t.log.items call began story looks
+look_noted s t call began story = looked s.began t.began s.log.items t.log.items call began story
 
--- a write that failed
-pub write_noted : (s t : SureFiles) (path : List ℕ) (call : Call) → call ≡ Write path None → t.began ≡ s.began → t.log.items ≡ s.log.items ++ Asked call ∷ []
+-- a look or a sync that failed, or was out of memory
+pub look_turned : (s t : SureFiles) (call : Call) (e : FilesError) → Looks call → HasTurned call s t e
+    → Elapses Stays (moment_by s) (moment_by t) (left_since_by s) (left_since_by t) (images_by s) (images_by t)
+look_turned s t call OutOfMemory looks h = look_unmoved s.began t.began s.log.items t.log.items h.0 h.1
+look_turned s t call FilesFailed looks h = look_tried s.began t.began s.log.items t.log.items call h.0 h.1 looks
+
+-- a write that failed, or was out of memory
+pub write_turned : (s t : SureFiles) (path : List ℕ) (call : Call) (e : FilesError) → call ≡ Write path None → HasTurned call s t e
     → Elapses (MayWrite path) (moment_by s) (moment_by t) (left_since_by s) (left_since_by t) (images_by s) (images_by t)
-write_noted s t path call is began story =
-    write_tried s.began t.began s.log.items t.log.items path None began (story ∙ ap (λ k. s.log.items ++ Asked k ∷ []) is)
+write_turned s t path call OutOfMemory is h = write_unmoved path s.began t.began s.log.items t.log.items h.0 h.1
+write_turned s t path call FilesFailed is h =
+    write_tried s.began t.began s.log.items t.log.items path None h.0 (h.1 ∙ ap (λ k. s.log.items ++ Failed k ∷ []) is)
 
--- a removal that failed
-pub removal_noted : (s t : SureFiles) (path : List ℕ) (call : Call) → call ≡ Remove path → t.began ≡ s.began → t.log.items ≡ s.log.items ++ Asked call ∷ []
+-- a removal that failed, or was out of memory
+pub removal_turned : (s t : SureFiles) (path : List ℕ) (call : Call) (e : FilesError) → call ≡ Remove path → HasTurned call s t e
     → Elapses (MayRemove path) (moment_by s) (moment_by t) (left_since_by s) (left_since_by t) (images_by s) (images_by t)
-removal_noted s t path call is began story =
-    removal_tried s.began t.began s.log.items t.log.items path began (story ∙ ap (λ k. s.log.items ++ Asked k ∷ []) is)
+removal_turned s t path call OutOfMemory is h = removal_unmoved path s.began t.began s.log.items t.log.items h.0 h.1
+removal_turned s t path call FilesFailed is h =
+    removal_tried s.began t.began s.log.items t.log.items path h.0 (h.1 ∙ ap (λ k. s.log.items ++ Failed k ∷ []) is)
 
 -- a write
 pub write_done : (s t : SureFiles) (path copy : List ℕ) (bytes : Vec ℕ Global) (mark : ℕ) → copy ≡ path → t.began ≡ s.began

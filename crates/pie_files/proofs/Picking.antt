@@ -6,12 +6,12 @@ use Rattle.std.proofs.lemmas.List.{take-append-drop}
 use Rattle.pie_files.specs.declared.pick.Pick.{Pick}
 use Rattle.pie_files.specs.declared.pick.Pick.TheVariants.{All, Nothing, Torn}
 use Rattle.pie_files.specs.declared.sure_files.Logged.{Logged}
-use Rattle.pie_files.specs.declared.sure_files.Logged.TheVariants.{Put, Asked, Wrote, Removed, Synced}
+use Rattle.pie_files.specs.declared.sure_files.Logged.TheVariants.{Put, FailsAt, Asked, Failed, Wrote, Removed, Synced}
 use Rattle.pie_files.specs.Directory.{Directory}
 use Rattle.pie_files.specs.Images.{MayWrite, MayRemove}
 use Rattle.pie_files.specs.inner.Story.{picked, picked_all, picked_write, picked_removal, picked_image, after_all, LeftAfter, LeftFrom, IsLeft}
 use Rattle.pie_files.specs.inner.Story.{is_sync, has_sync, synced}
-use Rattle.pie_files.proofs.Leaving.{tried_not, done_left}
+use Rattle.pie_files.specs.inner.StoryLaws.{tried_not, done_left}
 
 -- a picked write is one of those that may have been left
 write_picked : (pick : Pick) (d : Directory) (path bytes : List ℕ) (mark : ℕ) → MayWrite path d (picked_write pick d path bytes mark)
@@ -28,7 +28,9 @@ removal_picked Torn d path = inr refl
 one_picked : (pick : Pick) (now d : Directory) (earlier : Directory → Type 0) (x : Logged) → is_sync x ≡ false → earlier d
     → LeftAfter now earlier x (picked pick d x)
 one_picked pick now d earlier (Put path bytes mark) isn't is = (d, is, refl)
-one_picked pick now d earlier (Asked call) isn't is = (d, is, tried_not call d)
+one_picked pick now d earlier (FailsAt numbers) isn't is = (d, is, refl)
+one_picked pick now d earlier (Asked call) isn't is = (d, is, refl)
+one_picked pick now d earlier (Failed call) isn't is = (d, is, tried_not call d)
 one_picked pick now d earlier (Wrote path bytes mark) isn't is = (d, is, write_picked pick d path bytes.items mark)
 one_picked pick now d earlier (Removed path) isn't is = (d, is, removal_picked pick d path)
 one_picked pick now d earlier Synced isn't is = absurd (cc)

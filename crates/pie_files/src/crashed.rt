@@ -72,7 +72,7 @@ fn replay_one(
             remove(held, path, pick);
             Ok(())
         }
-        Logged::Asked(_) | Logged::Synced => Ok(()),
+        Logged::FailsAt(_) | Logged::Asked(_) | Logged::Failed(_) | Logged::Synced => Ok(()),
     }
 }
 

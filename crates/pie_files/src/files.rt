@@ -179,6 +179,9 @@ pub trait Files {
     /// What a crash may leave now it may have left since each earlier moment.
     ghost counts_now: { (files : Self) (t : ℕ) (c : Directory) → t ≤ moment files → images files c → left_since files t c };
 
+    /// What the files hold a crash may leave now.
+    ghost holds_now: { (files : Self) (d : Directory) → holds files ≡ Some d → images files d };
+
     /// What it may have left since now it may leave now.
     ghost only_now: { (files : Self) (c : Directory) → left_since files (moment files) c → images files c };
 }

@@ -1,10 +1,11 @@
 //! Files in memory that never fail.
-ghost use Rattle.std.specs.Prelude.{◌≡◌, ◌++◌, ◌<◌, [], ◌∷◌, Some, OnOk, OnErr, IfOk, vec_len, vec_capacity};
+ghost use Rattle.std.specs.Prelude.{◌≡◌, ◌++◌, ◌+◌, ◌<◌, true, [], ◌∷◌, Some, OnOk, OnErr, IfOk, vec_len, vec_capacity};
 ghost use Rattle.std.specs.Option.{option_map};
 ghost use Rattle.std.specs.FinMap as fin;
 ghost use Rattle.pie_files.specs.Directory.{Directory, file_at, with_file, without_file};
 ghost use Rattle.pie_files.specs.inner.Held.{content_of, directory_code};
 ghost use Rattle.pie_files.specs.inner.Within.{IsWithin};
+ghost use Rattle.pie_files.specs.inner.Marks.{writes_by, writes_in, is_marked, are_marked};
 ghost use Rattle.pie_files.specs.inner.Memory.{asked_of};
 ghost use Rattle.pie_files.specs.Images.{Follows, Only, Sets};
 ghost use Rattle.pie_files.specs.inner.Story.{picked, after_all, picked_image};
@@ -19,14 +20,18 @@ use pie_base::{OutOfMemory, Path};
 use sha2::{Digest, Sha256};
 use std::alloc::Global;
 
-/// What has happened to files in memory, oldest first: each call, and the bytes and the mark that
-/// each `put` and each write left.
+/// What has happened to files in memory, oldest first: each call, the bytes and the mark that
+/// each `put` and each write left, and which calls were to fail.
 #[derive(Drop)]
 pub enum Logged {
     /// A file was set by `put`, outside the calls.
     Put(Path, Vec<u8>, u64),
-    /// A call that changed nothing: a look, or one that failed.
+    /// From here on the calls with these numbers fail: `MemFiles::fail_at`, which is no call.
+    FailsAt(Vec<u64>),
+    /// A look that was answered.
     Asked(Call),
+    /// A call that failed. It changed nothing.
+    Failed(Call),
     /// A write that succeeded.
     Wrote(Path, Vec<u8>, u64),
     /// A removal that succeeded.
@@ -35,7 +40,7 @@ pub enum Logged {
     Synced,
 }
 
-/// Files in memory. A call on them never fails.
+/// Files in memory. A call on them never fails. The n-th write that succeeds gives the mark n, counted from 1.
 #[derive(Drop)]
 pub struct SureFiles {
     pub(crate) alloc: Global,
@@ -45,15 +50,18 @@ pub struct SureFiles {
     pub(crate) log: Vec<Logged>,
     pub(crate) writes: u64,
     ghost told: { held ≡ after_all began log.items } by { Coded-set directory_code _ _ },
+    ghost counted: { writes ≡ writes_in log.items },
+    ghost marked: { are_marked 0 log.items ≡ true },
 }
 
 impl SureFiles {
-    ghost use Rattle.pie_files.specs.inner.SureFiles.{held_by, began_by, story_by, asked_by, images_by};
+    ghost use Rattle.pie_files.specs.inner.SureFiles.{HasPut, HasWritten, held_by, began_by, story_by, asked_by, images_by};
 
     /// No file.
     pub fn new(alloc: Global) -> SureFiles
         ensures empty { held_by result ≡ fin.empty }
         ensures asked { asked_by result ≡ [] }
+        ensures story { story_by result ≡ [] }
         ensures rest { Only (held_by result) (images_by result) }
     {
         SureFiles {
@@ -72,16 +80,19 @@ impl SureFiles {
         ensures unchanged { OnErr result (held_by self.new ≡ held_by self.old) }
         ensures images_unchanged { OnErr result ((c : Directory) → images_by self.new c → images_by self.old c) }
         ensures asked { asked_by self.new ≡ asked_by self.old }
+        ensures noted { OnOk result (HasPut path.now bytes.now mark self.old self.new) }
+        ensures story { OnErr result (story_by self.new ≡ story_by self.old) }
     {
         let kept = copied(self.alloc, bytes)?;
         let put = Logged::Put(path.copy()?, kept, mark);
-        self.set(path, bytes, mark, put)?;
+        self.set(path, bytes, mark, put, self.writes)?;
         Ok(())
     }
 
     /// All that has happened, oldest first.
     pub fn log(&self) -> &[Logged]
-        ensures { result.now ≡ story_by self.now }
+        ensures story { result.now ≡ story_by self.now }
+        ensures marked { are_marked 0 result.now ≡ true }
     {
         self.log.as_slice()
     }
@@ -103,8 +114,8 @@ impl SureFiles {
         })
     }
 
-    /// Notes a call that changes nothing: a look, or one that failed.
-    #[tactic(auto, using(crate::proofs::Leaving::after_more, crate::proofs::Asked::asked_push))]
+    /// Notes a look that is answered.
+    #[tactic(auto, using(crate::proofs::Leaving::after_more, crate::proofs::Asked::asked_push, crate::proofs::Marked::writes_more, crate::proofs::Marked::marked_more))]
     pub(crate) fn note_asked(&mut self, call: Call) -> Result<(), OutOfMemory>
         ensures held { held_by self.new ≡ held_by self.old }
         ensures began { began_by self.new ≡ began_by self.old }
@@ -116,16 +127,59 @@ impl SureFiles {
         note(&mut self.log, Logged::Asked(call))
     }
 
+    /// Notes a call that fails.
+    #[tactic(auto, using(crate::proofs::Leaving::after_more, crate::proofs::Marked::writes_more, crate::proofs::Marked::marked_more))]
+    pub(crate) fn note_failed(&mut self, call: Call) -> Result<(), OutOfMemory>
+        ensures held { held_by self.new ≡ held_by self.old }
+        ensures began { began_by self.new ≡ began_by self.old }
+        ensures noted { OnOk result (story_by self.new ≡ story_by self.old ++ Logged.Failed call ∷ []) }
+        ensures unchanged { OnErr result (story_by self.new ≡ story_by self.old) }
+    {
+        note(&mut self.log, Logged::Failed(call))
+    }
+
+    /// Notes which calls are to fail.
+    #[tactic(auto, using(crate::proofs::Leaving::after_more, crate::proofs::Marked::writes_more, crate::proofs::Marked::marked_more))]
+    pub(crate) fn note_failing(&mut self, numbers: Vec<u64>) -> Result<(), OutOfMemory>
+        ensures held { held_by self.new ≡ held_by self.old }
+        ensures began { began_by self.new ≡ began_by self.old }
+        ensures noted { OnOk result (story_by self.new ≡ story_by self.old ++ Logged.FailsAt numbers ∷ []) }
+        ensures unchanged { OnErr result (story_by self.new ≡ story_by self.old) }
+    {
+        note(&mut self.log, Logged::FailsAt(numbers))
+    }
+
+    /// Makes the file hold these bytes, with the next mark.
+    pub(crate) fn write_file(&mut self, path: &Path, bytes: &[u8]) -> Result<(), OutOfMemory>
+        ensures written { OnOk result (held_by self.new ≡ with_file (held_by self.old) path.now bytes.now (self.old.writes + 1)) }
+        ensures began { began_by self.new ≡ began_by self.old }
+        ensures noted { OnOk result (HasWritten path.now bytes.now self.old self.new) }
+        ensures asked { OnOk result (asked_by self.new ≡ asked_by self.old ++ Call.Write path.now (Some (self.old.writes + 1)) ∷ []) }
+        ensures unchanged { OnErr result ((held_by self.new ≡ held_by self.old) × (asked_by self.new ≡ asked_by self.old)) }
+        ensures story { OnErr result (story_by self.new ≡ story_by self.old) }
+    {
+        let Some(mark) = self.writes.checked_add(1) else {
+            return Err(OutOfMemory);
+        };
+        let kept = copied(self.alloc, bytes)?;
+        let logged = Logged::Wrote(path.copy()?, kept, mark);
+        self.set(path, bytes, mark, logged, mark)?;
+        Ok(())
+    }
+
     // Sets a file and logs it; takes all its memory before it changes anything.
-    #[tactic(auto, using(crate::proofs::Leaving::after_more, crate::proofs::Asked::asked_push))]
+    #[tactic(auto, using(crate::proofs::Leaving::after_more, crate::proofs::Asked::asked_push, crate::proofs::Marked::writes_more, crate::proofs::Marked::marked_more))]
     fn set(
         &mut self,
         path: &Path,
         bytes: &[u8],
         mark: u64,
         logged: Logged,
+        writes: u64,
     ) -> Result<(), OutOfMemory>
-        requires { picked All (held_by self.old) logged ≡ with_file (held_by self.old) path.now bytes.now mark }
+        requires picked { picked All (held_by self.old) logged ≡ with_file (held_by self.old) path.now bytes.now mark }
+        requires marked { is_marked self.old.writes logged ≡ true }
+        requires counted { writes ≡ self.old.writes + writes_by logged }
         ensures set { OnOk result (held_by self.new ≡ with_file (held_by self.old) path.now bytes.now mark) }
         ensures began { began_by self.new ≡ began_by self.old }
         ensures noted { OnOk result (story_by self.new ≡ story_by self.old ++ logged ∷ []) }
@@ -141,12 +195,13 @@ impl SureFiles {
         self.log.reserve(1)?;
         self.held.insert(path, found)?;
         push_reserved(&mut self.log, logged);
+        self.writes = writes;
         Ok(())
     }
 
-    // Takes a file away and logs it.
-    #[tactic(auto, using(crate::proofs::Leaving::after_more))]
-    fn take_away(&mut self, path: &Path) -> Result<(), OutOfMemory>
+    /// Takes a file away and logs it.
+    #[tactic(auto, using(crate::proofs::Leaving::after_more, crate::proofs::Marked::writes_more, crate::proofs::Marked::marked_more))]
+    pub(crate) fn take_away(&mut self, path: &Path) -> Result<(), OutOfMemory>
         ensures taken { OnOk result (held_by self.new ≡ without_file (held_by self.old) path.now) }
         ensures began { began_by self.new ≡ began_by self.old }
         ensures noted { OnOk result (story_by self.new ≡ story_by self.old ++ Logged.Removed path.now ∷ []) }
@@ -158,9 +213,9 @@ impl SureFiles {
         Ok(())
     }
 
-    // Notes a sync that succeeds.
-    #[tactic(auto, using(crate::proofs::Leaving::after_more))]
-    fn note_synced(&mut self) -> Result<(), OutOfMemory>
+    /// Notes a sync that succeeds.
+    #[tactic(auto, using(crate::proofs::Leaving::after_more, crate::proofs::Marked::writes_more, crate::proofs::Marked::marked_more))]
+    pub(crate) fn note_synced(&mut self) -> Result<(), OutOfMemory>
         ensures held { held_by self.new ≡ held_by self.old }
         ensures began { began_by self.new ≡ began_by self.old }
         ensures noted { OnOk result (story_by self.new ≡ story_by self.old ++ Logged.Synced ∷ []) }
@@ -169,8 +224,8 @@ impl SureFiles {
         note(&mut self.log, Logged::Synced)
     }
 
-    // The file at a path, where it has at most so many bytes.
-    fn copy_within(&self, path: &Path, most: usize) -> Result<Within, OutOfMemory>
+    /// The file at a path, where it has at most so many bytes.
+    pub(crate) fn copy_within(&self, path: &Path, most: usize) -> Result<Within, OutOfMemory>
         ensures { IfOk result (λ found. IsWithin most found (file_at (held_by self.now) path.now)) }
     {
         match self.held.get(path) {
@@ -179,8 +234,8 @@ impl SureFiles {
         }
     }
 
-    // The digest of the file at a path.
-    fn digest_of(&self, path: &Path) -> Option<[u8; 32]>
+    /// The digest of the file at a path.
+    pub(crate) fn digest_of(&self, path: &Path) -> Option<[u8; 32]>
         ensures { result ≡ option_map (λ f. sha256 f.0) (file_at (held_by self.now) path.now) }
     {
         match self.held.get(path) {
@@ -189,8 +244,8 @@ impl SureFiles {
         }
     }
 
-    // The mark of the file at a path.
-    fn mark_of(&self, path: &Path) -> Option<u64>
+    /// The mark of the file at a path.
+    pub(crate) fn mark_of(&self, path: &Path) -> Option<u64>
         ensures { result ≡ option_map (λ f. f.1) (file_at (held_by self.now) path.now) }
     {
         match self.held.get(path) {
@@ -199,8 +254,8 @@ impl SureFiles {
         }
     }
 
-    // A copy of the file at a path.
-    fn copy_of(&self, path: &Path) -> Result<Option<Found>, OutOfMemory>
+    /// A copy of the file at a path.
+    pub(crate) fn copy_of(&self, path: &Path) -> Result<Option<Found>, OutOfMemory>
         ensures { IfOk result (λ found. option_map content_of found ≡ file_at (held_by self.now) path.now) }
     {
         match self.held.get(path) {
@@ -260,7 +315,7 @@ fn push_reserved(log: &mut Vec<Logged>, logged: Logged)
 impl Files for SureFiles {
     ghost use Rattle.std.specs.Prelude.{Some};
     ghost use Rattle.pie_files.specs.inner.SureFiles.{held_by, asked_by, images_by, moment_by, left_since_by};
-    ghost use Rattle.pie_files.specs.inner.StoryLaws.{counts_now, only_now};
+    ghost use Rattle.pie_files.specs.inner.StoryLaws.{counts_now, holds_now, only_now};
 
     ghost holds = { λ s. Some (held_by s) };
 
@@ -277,6 +332,8 @@ impl Files for SureFiles {
     ghost counts_now = { λ s. counts_now s.began s.log.items };
 
     ghost only_now = { λ s. only_now s.began s.log.items };
+
+    ghost holds_now = { λ s d is. holds_now s.began s.held s.log.items s.told d is };
 
     fn read(&mut self, path: &Path) -> Result<Option<Found>, FilesError> {
         let call = Call::Read(path.copy()?);
@@ -328,11 +385,7 @@ impl Files for SureFiles {
     }
 
     fn write(&mut self, path: &Path, bytes: &[u8]) -> Result<(), FilesError> {
-        let mark = self.writes.saturating_add(1);
-        let kept = bytes.to_vec(self.alloc)?;
-        let logged = Logged::Wrote(path.copy()?, kept, mark);
-        self.set(path, bytes, mark, logged)?;
-        self.writes = mark;
+        self.write_file(path, bytes)?;
         Ok(())
     }
 

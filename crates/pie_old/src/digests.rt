@@ -7,8 +7,8 @@ use pie_base::{OutOfMemory, Text};
 use std::alloc::Global;
 use std::collections::BTreeMap;
 
-/// The first digest of each name.
-pub(crate) fn digests_of(
+/// The digests of functions by their names. Where a name comes twice, the first counts.
+pub fn digests_of(
     alloc: Global,
     funcs: &[(Text, [u8; 32])],
 ) -> Result<BTreeMap<String, [u8; 32]>, OutOfMemory>

@@ -11,5 +11,6 @@ mod old;
 mod row;
 
 pub use code::same_code;
+pub use digests::digests_of;
 pub use loading::load;
 pub use old::{Loaded, Old};

@@ -17,14 +17,14 @@ ghost use Rattle.pie_topdown.specs.inner.Turns.{room, StartsOne};
 
 use crate::builder::Builder;
 use crate::ledger::Ledger;
-use crate::plan::{Plan, digests_of};
+use crate::plan::Plan;
 use pie_base::{MAX_TASKS, OutOfMemory, Text};
 use pie_checks::Built;
 use pie_code::Checked;
 use pie_files::{Files, FilesError};
 use pie_graph::TaskNo;
 use pie_named::Named;
-use pie_old::{Loaded, Old, load, same_code};
+use pie_old::{Loaded, Old, digests_of, load, same_code};
 use pie_record::{Records, TaskNames};
 use pie_results::results;
 use pie_store::{Funcs, Offers, Rows, StoreImage};

@@ -5,7 +5,7 @@ use Rattle.pie_files.specs.declared.files.Call.TheVariants.{Read, Names, AllUnde
 use Rattle.pie_files.specs.declared.pick.Pick.{Pick}
 use Rattle.pie_files.specs.declared.pick.Pick.TheVariants.{All, Nothing, Torn}
 use Rattle.pie_files.specs.declared.sure_files.Logged.{Logged}
-use Rattle.pie_files.specs.declared.sure_files.Logged.TheVariants.{Put, Asked, Wrote, Removed, Synced}
+use Rattle.pie_files.specs.declared.sure_files.Logged.TheVariants.{Put, FailsAt, Asked, Failed, Wrote, Removed, Synced}
 use Rattle.pie_files.specs.Directory.{Directory, with_file, without_file}
 use Rattle.pie_files.specs.Images.{Stays, MayWrite, MayRemove}
 
@@ -24,7 +24,9 @@ picked_removal Torn d path = without_file d path
 -- one thing that happened as a crash picks it; what was put is there in any case
 abbrev pub picked : Pick → Directory → Logged → Directory
 picked pick d (Put path bytes mark) = with_file d path bytes.items mark
+picked pick d (FailsAt numbers) = d
 picked pick d (Asked call) = d
+picked pick d (Failed call) = d
 picked pick d (Wrote path bytes mark) = picked_write pick d path bytes.items mark
 picked pick d (Removed path) = picked_removal pick d path
 picked pick d Synced = d
@@ -50,7 +52,9 @@ MayTry Sync = Stays
 -- what a crash may leave of one thing that happened
 abbrev pub MayDo : Logged → Directory → Directory → Type 0
 MayDo (Put path bytes mark) before after = after ≡ with_file before path bytes.items mark
-MayDo (Asked call) before after = MayTry call before after
+MayDo (FailsAt numbers) before after = after ≡ before
+MayDo (Asked call) before after = after ≡ before
+MayDo (Failed call) before after = MayTry call before after
 MayDo (Wrote path bytes mark) before after = MayWrite path before after
 MayDo (Removed path) before after = MayRemove path before after
 MayDo Synced before after = after ≡ before
@@ -76,7 +80,9 @@ WasLeft began log t c = (k : ℕ) × (t ≤ k) × (k ≤ length log) × IsLeft b
 -- a sync that succeeded
 abbrev pub is_sync : Logged → Bool
 is_sync (Put path bytes mark) = false
+is_sync (FailsAt numbers) = false
 is_sync (Asked call) = false
+is_sync (Failed call) = false
 is_sync (Wrote path bytes mark) = false
 is_sync (Removed path) = false
 is_sync Synced = true

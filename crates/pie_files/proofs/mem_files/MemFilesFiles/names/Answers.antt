@@ -1,15 +1,29 @@
-use Rattle.std.proofs.Common.{refl}
+use Rattle.std.proofs.Common.{◌≡◌, ap, refl, rules}
+use Rattle.std.specs.Prelude.{Err}
 use Rattle.pie_files.specs.declared.files.Call.TheVariants.{Names}
-use Rattle.pie_files.proofs.Moving.{look_unnoted, look_noted}
+use Rattle.pie_files.proofs.Moving.{look_unnoted, look_noted, look_turned}
+use Rattle.pie_files.proofs.Turning.{looked_called, result_called}
 use Rattle.pie_files.proofs.mem_files.MemFilesFiles.names.Goals as goal
 
 pub returns-in_err-copy-clause-crash : goal.returns-in_err-copy-clause-crash
 returns-in_err-copy-clause-crash c = look_unnoted c.args.self.now.files c.args.self.now.files refl refl
 
-pub returns-in_err-note_asked-clause-crash : goal.returns-in_err-note_asked-clause-crash
-returns-in_err-note_asked-clause-crash c =
-    look_unnoted c.args.self.now.files c.note_asked.new.self c.note_asked.ensures.began c.in_err-note_asked.ensures.unchanged
+pub returns-in_err-paths-clause-crash : goal.returns-in_err-paths-clause-crash
+returns-in_err-paths-clause-crash c = look_unnoted c.args.self.now.files c.args.self.now.files refl refl
 
-pub returns-then-next_fails-clause-crash : goal.returns-then-next_fails-clause-crash
-returns-then-next_fails-clause-crash c =
-    look_noted c.args.self.now.files c.note_asked.new.self (Names c.in_ok-copy.field-0) tt c.note_asked.ensures.began c.in_ok-note_asked.ensures.noted
+pub returns-in_err-look-clause-crash : goal.returns-in_err-look-clause-crash
+returns-in_err-look-clause-crash c =
+    look_turned c.args.self.now.files c.look.new.self.files (Names c.in_ok-copy.field-0) c.in_err-look.field-0.0 tt c.in_err-look.ensures.turned
+
+pub returns-in_err-look-clause-called : goal.returns-in_err-look-clause-called
+returns-in_err-look-clause-called c =
+    let failed : Err c.in_err-look.field-0.0 ≡ c.from_residual-in_err-look.result = search rules in
+    result_called _ (Names c.in_ok-copy.field-0) c.args.self.now c.look.new.self c.in_err-look.field-0.0 c.from_residual-in_err-look.result failed
+    (ap Names c.in_ok-copy.ensures) c.in_err-look.ensures.turned
+
+pub returns-clause-crash : goal.returns-clause-crash
+returns-clause-crash c =
+    look_noted c.args.self.now.files c.look.new.self.files (Names c.in_ok-copy.field-0) c.look.ensures.began c.in_ok-look.ensures.noted
+
+pub returns-clause-called : goal.returns-clause-called
+returns-clause-called c = looked_called _ _ c.args.self.now c.look.new.self _ (ap Names c.in_ok-copy.ensures) c.in_ok-look.ensures.noted

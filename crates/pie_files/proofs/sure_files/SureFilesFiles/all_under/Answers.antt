@@ -15,7 +15,7 @@ returns-in_err-note_asked-clause-crash c = look_unnoted c.args.self.now c.note_a
 
 pub returns-clause-crash : goal.returns-clause-crash
 returns-clause-crash c = look_noted c.args.self.now c.note_asked.new.self
-    (AllUnder c.in_ok-copy.field-0) tt c.note_asked.ensures.began c.in_ok-note_asked.ensures.noted
+    (AllUnder c.in_ok-copy.field-0) c.note_asked.ensures.began c.in_ok-note_asked.ensures.noted
 
 pub returns-clause-called : goal.returns-clause-called
 returns-clause-called c = infallible_called _ _ _ _ _ (ap AllUnder c.in_ok-copy.ensures) c.in_ok-note_asked.ensures.asked
