@@ -1,5 +1,5 @@
 -- What is settled in a build is of the language: its tasks, and the values of their records.
-use Rattle.std.proofs.Common.{◌≡◌, ◌⊎◌, inl, inr, ℕ, true, Option, List, map, sym, ap, subst, ◌∙◌}
+use Rattle.std.proofs.Common.{◌≡◌, ◌⊎◌, inl, inr, ℕ, List, map, sym, ap, subst, ◌∙◌}
 use Rattle.std.specs.Prelude.{IfSome}
 use Rattle.pie_value.specs.Canonical.{enc, enc_task, IsCanonical, IsCanonicalTask}
 use Rattle.pie_value.specs.Values.{tree_of}
@@ -10,7 +10,6 @@ use Rattle.pie_record.specs.declared.task_record.Outcome.TheVariants as outcomes
 use Rattle.pie_record.specs.declared.task_record.TaskRecord.{TaskRecord}
 use Rattle.pie_tables.specs.Tabled.{HasFailed, IsKept, IsRecordAt}
 use Rattle.pie_walk.specs.Standing.{Stands}
-use Rattle.pie_model.specs.Trees.{HasTask}
 use Rattle.pie_model.specs.Evaluation.{evaluation}
 use Rattle.pie_model.specs.Records.{Record, record_of as model_record}
 use Rattle.pie_model.specs.declared.words.Outcome.TheVariants.{Ended}
@@ -24,7 +23,7 @@ use Rattle.pie_settle_laws.proofs.Settling.{is_known}
 use Rattle.pie_manner_laws.proofs.Listings.{listings_tell}
 use Rattle.pie_model_pipeline.specs.Rows.{outcome_of as model_outcome}
 use Rattle.pie_model_pipeline.specs.World.{world}
-use Rattle.pie_builder_laws.specs.Tables.{recorded, HasNumber}
+use Rattle.pie_builder_laws.specs.Tables.{recorded}
 use Rattle.pie_builder_laws.proofs.Naming.{canonical_at}
 use Rattle.pie_builder_laws.proofs.Tabled.{record_has_number}
 use Rattle.pie_earlier_laws.specs.Telling.{told_by}

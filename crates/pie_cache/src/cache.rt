@@ -16,9 +16,13 @@ pub struct Cache {
 }
 
 impl Offers for Cache {
+    ghost use Rattle.std.specs.Prelude.{[], ◌∷◌};
+    ghost use Rattle.pie_cache.specs.inner.Places.{cache_path as specs_cache_path};
     ghost use Rattle.pie_cache.specs.inner.Stored.{offers_in};
 
     ghost told = { λ _ d task digest. offers_in d task digest };
+
+    ghost looks = { λ _ task digest. specs_cache_path task digest ∷ [] };
 
     fn offers<F: Files>(
         &mut self,

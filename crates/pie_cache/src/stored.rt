@@ -1,9 +1,9 @@
 //! The entries of one file of the cache.
-ghost use Rattle.std.specs.Prelude.{◌≡◌, ◌≤◌, length, map, All, IfSome, IfOk, [], OnOk};
+ghost use Rattle.std.specs.Prelude.{◌≡◌, ◌≤◌, length, map, All, IfSome, IfOk, [], ◌∷◌, OnOk};
 ghost use Rattle.pie_files.specs.Images.{MayLeave, Stays};
 ghost use Rattle.pie_files.specs.Streams.{Counted};
 ghost use Rattle.pie_files.specs.Directory.{file_at};
-ghost use Rattle.pie_store.specs.inner.Offers.{offered};
+ghost use Rattle.pie_store.specs.inner.Offers.{offered, LooksAtOnly};
 ghost use Rattle.pie_cache.specs.inner.Texts.{IsEntry};
 ghost use Rattle.pie_cache.specs.inner.Reading.{cache_says};
 ghost use Rattle.pie_cache.specs.inner.Steps.{Changes};
@@ -25,6 +25,7 @@ pub(crate) fn stored<F: Files>(
     ensures entries { IfSome (F.holds files.old) (λ d. IfOk result (λ es. map offered es.items ≡ entries_of (file_at d path.now))) }
     ensures good { IfOk result (λ es. All IsEntry (map offered es.items)) }
     ensures looks { OnOk result (Changes [] (F.asked files.old) (F.asked files.new)) }
+    ensures place { LooksAtOnly (path.now ∷ []) (F.asked files.old) (F.asked files.new) }
     ensures same { F.holds files.new ≡ F.holds files.old }
     ensures crash { MayLeave F.holds F.moment F.left_since F.images Stays files.old files.new }
     ensures counted { Counted F.faults FilesError.Failed files.old files.new result }

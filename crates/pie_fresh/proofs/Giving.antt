@@ -1,5 +1,5 @@
 -- A task that was told what a required task evaluated to goes on as in the model.
-use Rattle.std.proofs.Common.{◌≡◌, ℕ, ◌-◌, ◌<◌, true, false, cond, Some, None, List, [], ◌∷◌, ◌++◌, map, refl, sym, ap, subst, ◌∙◌}
+use Rattle.std.proofs.Common.{◌≡◌, ℕ, ◌-◌, ◌<◌, true, false, cond, Some, None, List, [], ◌∷◌, ◌++◌, map, sym, ap, subst, ◌∙◌}
 use Rattle.std.specs.Prelude.{slice_get, All, IfSome}
 use Rattle.std.specs.Option.{option_map}
 use Rattle.pie_base.specs.declared.fault.FaultKind.TheVariants as faults
@@ -36,7 +36,7 @@ use Rattle.pie_running.specs.declared.frame.Waiting.{Waiting}
 use Rattle.pie_fresh.specs.declared.ledger.Ledger.{Ledger}
 use Rattle.pie_fresh.specs.declared.builder.Builder.{Builder}
 use Rattle.pie_running.specs.declared.requiring.Done.{Done}
-use Rattle.pie_running.specs.inner.Noted.{Noted, required}
+use Rattle.pie_running.specs.inner.Noted.{required}
 use Rattle.pie_fresh.specs.Told.{IsTrueTask}
 use Rattle.pie_fresh.specs.inner.Frames.{StandsAt}
 use Rattle.pie_fresh.specs.inner.Cycles.{tasks_from}

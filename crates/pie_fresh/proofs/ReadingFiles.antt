@@ -1,5 +1,5 @@
 -- A task that reads a file goes on, or fails for a clash or for too many bytes, as in the model.
-use Rattle.std.proofs.Common.{◌≡◌, ℕ, suc, ◌-◌, ◌<◌, Bool, true, false, cond, Option, Some, None, List, [], ◌∷◌, ◌++◌, length, map, refl, sym, ap, subst, ◌∙◌}
+use Rattle.std.proofs.Common.{◌≡◌, ℕ, suc, ◌-◌, ◌<◌, Bool, true, false, cond, Some, None, List, [], ◌∷◌, ◌++◌, length, map, refl, ap, subst, ◌∙◌}
 use Rattle.std.proofs.Common.{arith}
 use Rattle.std.proofs.lemmas.Bool.Decides.{nat_tests}
 use Rattle.std.specs.Prelude.{◌==◌}
@@ -9,7 +9,6 @@ use Rattle.pie_value.specs.declared.event.By.{By}
 use Rattle.pie_value.specs.declared.event.By.TheVariants as stamped
 use Rattle.pie_value.specs.declared.event.Event.TheVariants as events
 use Rattle.pie_operators.specs.Domain.{fails}
-use Rattle.pie_files.specs.Directory.{file_at}
 use Rattle.pie_model.specs.declared.words.Event.TheVariants.{Fail}
 use Rattle.pie_model.specs.declared.words.FaultKind.TheVariants as model_faults
 use Rattle.pie_model.specs.declared.words.Outcome.TheVariants.{Failed}

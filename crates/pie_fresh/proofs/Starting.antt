@@ -24,7 +24,7 @@ use Rattle.pie_model.specs.declared.words.Event.TheVariants.{Require, Fail}
 use Rattle.pie_model.specs.declared.words.FaultKind.TheVariants as model_faults
 use Rattle.pie_model.specs.Trees.{entered}
 use Rattle.pie_model.specs.Evaluation.{evaluation}
-use Rattle.pie_model.specs.inner.Stack.{Frame as ModelFrame, Begins}
+use Rattle.pie_model.specs.inner.Stack.{Begins}
 use Rattle.pie_step_laws.specs.Frames.{begun as model_begun, set_aside}
 use Rattle.pie_step_laws.specs.UnderWay.{UnderWay}
 use Rattle.pie_step_laws.proofs.StepLemmas.{map_end, root_begins, require_descends}
@@ -47,7 +47,7 @@ use Rattle.pie_fresh.specs.declared.builder.Builder.{Builder}
 use Rattle.pie_running.specs.inner.Coded.{IsCodeFor, HasFunction}
 use Rattle.pie_fresh.specs.inner.Means as means
 use Rattle.pie_fresh.specs.inner.Means.{Site, project_of, table_of, names_of, IsThere, MeansTable, MeansFrame, MeanCallers, Means, IsAsking}
-use Rattle.pie_fresh.specs.inner.Means.{AddsTask, HasNoRoom, RefusesNew, EntersTooMany, RefusesAs, IsResting}
+use Rattle.pie_fresh.specs.inner.Means.{AddsTask, HasNoRoom, RefusesNew, RefusesAs, IsResting}
 use Rattle.pie_running.proofs.Fitting.{required_has}
 use Rattle.pie_fresh.proofs.Moving.{Extends, frame_moves, callers_move}
 use Rattle.pie_running.specs.inner.Frames.{IsStarted}

@@ -1,5 +1,5 @@
 -- A task that was told something goes on as in the model.
-use Rattle.std.proofs.Common.{◌≡◌, ℕ, suc, ◌-◌, ◌<◌, Bool, true, false, cond, Option, Some, None, List, [], ◌∷◌, ◌++◌, map, refl, sym, ap, subst, ◌∙◌}
+use Rattle.std.proofs.Common.{◌≡◌, ℕ, suc, ◌-◌, ◌<◌, Bool, true, false, cond, Some, None, List, [], ◌∷◌, ◌++◌, map, refl, sym, ap, subst, ◌∙◌}
 use Rattle.std.specs.Prelude.{is_some}
 use Rattle.std.specs.Option.{option_map}
 use Rattle.pie_base.specs.declared.fault.FaultKind.{FaultKind}
@@ -28,7 +28,7 @@ use Rattle.pie_model.specs.Evaluation.{answered, absent_answer, present_answer}
 use Rattle.pie_model.specs.Records.{Observation, Absent, Hash, Looked, Listed, observed as observation, contents_stamp}
 use Rattle.pie_step_laws.specs.Frames.{gone_on}
 use Rattle.pie_step_laws.specs.UnderWay.{UnderWay, HasEnded}
-use Rattle.pie_step_laws.proofs.StepLemmas.{map_end, absent_look, present_look, listing_made}
+use Rattle.pie_step_laws.proofs.StepLemmas.{absent_look, present_look, listing_made}
 use Rattle.pie_step_laws.proofs.EndLemmas.{failed, clashes, lists_too_much}
 use Rattle.pie_model_pipeline.specs.Words.{fault_of, look_by}
 use Rattle.pie_model_pipeline.specs.Answers.{answer_of}

@@ -1,5 +1,5 @@
 -- What a machine gives is what the task does next in the model.
-use Rattle.std.proofs.Common.{◌≡◌, inl, inr, ◌-◌, ◌<◌, Option, List, map, refl, sym, ap, subst, ◌∙◌}
+use Rattle.std.proofs.Common.{◌≡◌, inl, inr, ◌-◌, ◌<◌, Option, List, map, sym, ap, subst, ◌∙◌}
 use Rattle.pie_base.specs.declared.fault.FaultKind.{FaultKind}
 use Rattle.pie_value.specs.declared.task.Task.{Task}
 use Rattle.pie_value.specs.declared.value.Value.{Value}

@@ -9,7 +9,7 @@ use Rattle.pie_value.specs.declared.task.Task.{Task}
 use Rattle.pie_value.specs.declared.event.Answer.TheVariants as answers
 use Rattle.pie_value.specs.declared.event.Event.TheVariants as events
 use Rattle.pie_value.specs.Canonical.{enc_task}
-use Rattle.pie_view.specs.Content.{Staged, content}
+use Rattle.pie_view.specs.Content.{Staged}
 use Rattle.pie_operators.specs.Domain.{wants}
 use Rattle.pie_record.specs.declared.task_record.TaskRecord.{TaskRecord}
 use Rattle.pie_record.specs.inner.Records.{record_of as kept_of}

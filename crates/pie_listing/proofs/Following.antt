@@ -1,13 +1,10 @@
 -- What follows from the manifest that a directory holds.
-use Rattle.std.proofs.Common.{◌≡◌, ℕ, Bool, true, false, not, cond, List, refl, sym, ap, ◌∙◌, subst, Vec, Global}
-use Rattle.std.specs.Prelude.{Option, Some, None, Ok, Err, IfSome}
-use Rattle.std.specs.List.{list_any}
-use Rattle.pie_base.specs.Path.{same_text}
+use Rattle.std.proofs.Common.{◌≡◌, ℕ, not, cond, List, sym, ap, ◌∙◌, subst}
+use Rattle.std.specs.Prelude.{Option, Some, None, IfSome}
 use Rattle.pie_files.specs.Directory.{Directory, file_at}
 use Rattle.pie_scan.specs.declared.entry.Entry.{Entry}
 use Rattle.pie_scan.specs.declared.manifest.Manifest.{Manifest}
 use Rattle.pie_scan.specs.Covering.{IsSeparate, DiffersBelow, Covers}
-use Rattle.pie_scan.specs.Changes.{AreChanged}
 use Rattle.pie_scan.specs.Entries.{entry_at, alike}
 use Rattle.pie_scan.specs.Scanned.{AreScanned}
 use Rattle.pie_scan.specs.Texts.{IsManifestText}

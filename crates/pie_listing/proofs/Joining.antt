@@ -1,6 +1,6 @@
 -- Entries of sources joined with those under `out/`: their order, and the entry of each path.
 use Rattle.std.proofs.Common.{◌≡◌, ℕ, ◌==◌, Bool, true, false, cond, List, [], ◌∷◌, ◌++◌, refl, sym, ap, subst, ◌∙◌, eqb}
-use Rattle.std.specs.Prelude.{◌&&◌, ◌||◌, Option, Some, None, IfSome, Result, Ok, Err, IfOk, All, is_some}
+use Rattle.std.specs.Prelude.{◌&&◌, ◌||◌, Option, Some, None, IfSome, All, is_some}
 use Rattle.std.specs.Option.{option_map}
 use Rattle.std.specs.List.{filter, AllByRecursion}
 use Rattle.std.specs.List.Sorted.{IsStrictlySortedBy}

@@ -1,8 +1,7 @@
 -- What scanning finds, or why it finds nothing.
-use Rattle.std.specs.Prelude.{◌≡◌, ℕ, Bool, true, false, not, cond, List, Option, Some, None, Err}
+use Rattle.std.specs.Prelude.{◌≡◌, ℕ, true, false, not, cond, List, Option, Some, None, Err}
 use Rattle.std.specs.List.{list_any}
 use Rattle.std.specs.List.Sorted.{IsStrictlySortedBy}
-use Rattle.sha2.specs.Sha256.{sha256}
 use Rattle.pie_base.specs.Path.{same_text}
 use Rattle.pie_files.specs.Directory.{Directory, file_at, in_path_order}
 use Rattle.pie_scan.specs.declared.entry.Entry.{Entry}

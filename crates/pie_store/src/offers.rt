@@ -3,7 +3,7 @@ ghost use Rattle.std.specs.Prelude.{◌≡◌, [], All, map, IfSome, IfOk};
 ghost use Rattle.pie_value.specs.Canonical.{IsEncodableTask};
 ghost use Rattle.pie_files.specs.Streams.{Counted};
 ghost use Rattle.pie_files.specs.Images.{MayLeave, Stays};
-ghost use Rattle.pie_store.specs.inner.Offers.{offered, IsOffer};
+ghost use Rattle.pie_store.specs.inner.Offers.{offered, IsOffer, LooksAtOnly};
 
 use pie_files::{Files, FilesError};
 use pie_record::TaskRecord;
@@ -28,7 +28,10 @@ pub trait Offers {
     /// The offers for a task whose function has a digest, over files that hold a directory, in order.
     ghost told: { Self → Directory → Task → List ℕ → List Offered };
 
-    /// The offers for a task whose function has this digest, the first to be tried first. It changes no file.
+    /// The paths of the files at which it may look for a task whose function has a digest.
+    ghost looks: { Self → Task → List ℕ → List (List ℕ) };
+
+    /// The offers for a task whose function has this digest, the first to be tried first. It looks at files that it tells, and makes no other call.
     /// `Failed` comes only where the count of faults rose.
     fn offers<F: Files>(
         &mut self,
@@ -41,6 +44,8 @@ pub trait Offers {
         ensures offers { IfSome (F.holds files.old) (λ d. IfOk result (λ offers. map offered offers.items ≡ told self.old d task.now digest.now)) }
         ensures rows { IfOk result (λ offers. All IsOffer offers.items) }
         ensures told { told self.new ≡ told self.old }
+        ensures looks { LooksAtOnly (looks self.old task.now digest.now) (F.asked files.old) (F.asked files.new) }
+        ensures keeps { looks self.new ≡ looks self.old }
         ensures same { F.holds files.new ≡ F.holds files.old }
         ensures crash { MayLeave F.holds F.moment F.left_since F.images Stays files.old files.new }
         ensures counted { Counted F.faults FilesError.Failed files.old files.new result };
@@ -54,6 +59,8 @@ impl Offers for NoOffers {
     ghost use Rattle.std.specs.Prelude.{[]};
 
     ghost told = { λ _ _ _ _. [] };
+
+    ghost looks = { λ _ _ _. [] };
 
     fn offers<F: Files>(
         &mut self,

@@ -1,5 +1,5 @@
 -- A required task answers from how it ended, or closes a cycle, in the words of the model.
-use Rattle.std.proofs.Common.{◌≡◌, ◌⊎◌, ℕ, suc, ◌-◌, ◌<◌, ◌≤◌, Bool, true, false, cond, List, [], ◌∷◌, ◌++◌, Option, None, Some, Result, Ok, Err, length, map, reverse, refl, sym, ap, subst, ◌∙◌, inl, inr, arith, bytes_eq}
+use Rattle.std.proofs.Common.{◌≡◌, ◌⊎◌, ℕ, suc, ◌-◌, ◌<◌, ◌≤◌, Bool, true, false, List, [], ◌∷◌, ◌++◌, Option, None, Some, Result, Ok, Err, length, map, refl, sym, ap, subst, ◌∙◌, inl, arith}
 use Rattle.std.specs.Prelude.{slice_get, IfOk, OnOk, ◌==◌}
 use Rattle.std.specs.List.{Contains}
 use Rattle.std.specs.Option.{option_map}
@@ -31,8 +31,6 @@ use Rattle.pie_running.specs.inner.Steps.{Given}
 use Rattle.pie_running.specs.inner.Told.{IsTold}
 use Rattle.pie_model.specs.Paths.{among}
 use Rattle.pie_model.specs.Trees.{is_done, outcome_of}
-use Rattle.pie_model.specs.Evaluation.{evaluation, round}
-use Rattle.pie_model.specs.declared.words.How.{How}
 use Rattle.pie_model.specs.declared.words.Outcome.TheVariants.{Failed, Cycled}
 use Rattle.pie_model.specs.declared.words.Event.TheVariants.{Require, Fail}
 use Rattle.pie_model.specs.declared.words.Verdict.TheVariants.{Fault as ModelFault}
@@ -48,7 +46,7 @@ use Rattle.pie_model_pipeline.specs.World.{world, next}
 use Rattle.pie_builder_laws.specs.Requiring.{of_task, requiring_answer}
 use Rattle.pie_builder_laws.specs.Tables.{recorded}
 use Rattle.pie_builder_laws.proofs.Coded.{unknown_fails}
-use Rattle.pie_builder_laws.proofs.Naming.{named_back, placed}
+use Rattle.pie_builder_laws.proofs.Naming.{placed}
 use Rattle.pie_builder_laws.proofs.Numbered.{code_found}
 use Rattle.pie_builder_laws.proofs.Tabled.{record_by_number}
 use Rattle.pie_core_laws.specs.Update.{Update, present}
@@ -64,9 +62,9 @@ use Rattle.pie_topdown.specs.declared.hand.Frame.{Frame}
 use Rattle.pie_topdown.specs.declared.hand.Hand.TheVariants as hands
 use Rattle.pie_topdown.specs.declared.hand.Turn.{Turn}
 use Rattle.pie_topdown.specs.declared.hand.Turn.TheVariants.{Goes}
-use Rattle.pie_topdown.specs.inner.Asking.{AsksRight, ActsSo}
-use Rattle.pie_topdown.specs.inner.Calling.{CallsRight, CallsSo, AnswersSo, GivesSo, DescendsSo, NeedsSo, LosesSo}
-use Rattle.pie_topdown.specs.inner.Right.{site_of, build_of, names_of, records_of, HasEndedAs, CanGoOn, IsPlanNow, IsRightSite, AreWaiting, AreTheBusy, FailsRight}
+use Rattle.pie_topdown.specs.inner.Asking.{ActsSo}
+use Rattle.pie_topdown.specs.inner.Calling.{CallsSo, AnswersSo, GivesSo, DescendsSo, NeedsSo, LosesSo}
+use Rattle.pie_topdown.specs.inner.Right.{site_of, build_of, names_of, records_of, IsPlanNow, IsRightSite, AreTheBusy}
 use Rattle.pie_topdown.specs.inner.Turns.{FailsFirst}
 use Rattle.pie_topdown.proofs.Entered.{canonical_at}
 use Rattle.pie_topdown.proofs.Failing.{failed_turn}

@@ -1,7 +1,7 @@
 -- An entered task begins with the check of its own record, in the words of the model.
 use Rattle.std.proofs.Common.{◌≡◌, ℕ, Bool, true, false, cond, List, [], ◌∷◌, Option, None, Some, Box, Result, Ok, Err, refl, sym, ap, subst, ◌∙◌, inl, bytes_eq}
 use Rattle.std.specs.declared.alloc.Global.{Global}
-use Rattle.std.specs.Prelude.{IfOk, IfSome, option_map}
+use Rattle.std.specs.Prelude.{IfOk, option_map}
 use Rattle.std.specs.List.{All}
 use Rattle.std.proofs.lemmas.List.Elements.{All-head, All-tail}
 use Rattle.sha2.specs.Sha256.{sha256}
@@ -15,7 +15,7 @@ use Rattle.pie_store.specs.inner.Offers.{Offered}
 use Rattle.pie_model.proofs.Basics.{same_bytes}
 use Rattle.pie_model_pipeline.specs.World.{world}
 use Rattle.pie_earlier_laws.specs.Left.{AreThere}
-use Rattle.pie_core_laws.specs.Update.{Update, earlier}
+use Rattle.pie_core_laws.specs.Update.{earlier}
 use Rattle.pie_topdown_laws.proofs.Comparing.{stored_old, tells_apart}
 use Rattle.pie_topdown.specs.declared.builder.Builder.{Builder}
 use Rattle.pie_topdown.specs.declared.hand.Check.{Check}

@@ -2,10 +2,10 @@
 use Rattle.std.proofs.Common.{◌≡◌, ℕ, ◌≤◌, true, List, [], ◌∷◌, ◌++◌, Option, Some, Result, Ok, Err, Vec, length, map, take, refl, sym, ap, subst, ◌∙◌}
 use Rattle.std.specs.declared.alloc.Global.{Global}
 use Rattle.std.specs.Prelude.{slice_get, drop, IfOk}
-use Rattle.std.specs.List.{All, Contains, flat_map}
+use Rattle.std.specs.List.{Contains}
 use Rattle.std.proofs.lemmas.Option.{slice_get_within, get_or_from_slice_get}
 use Rattle.pie_value.specs.declared.task.Task.{Task}
-use Rattle.pie_value.specs.Canonical.{enc_task, IsCanonicalTask, IsEncodableTask}
+use Rattle.pie_value.specs.Canonical.{enc_task, IsEncodableTask}
 use Rattle.pie_files.specs.Directory.{Directory}
 use Rattle.pie_graph.specs.Numbers.{numbers}
 use Rattle.pie_graph.specs.declared.edges.TaskNo.{TaskNo}

@@ -1,5 +1,5 @@
 -- The file that a task is about to look at is staged, and what tasks staged that run stays.
-use Rattle.std.proofs.Common.{◌≡◌, ◌⊎◌, ℕ, ◌<◌, ◌≤◌, ◌&&◌, Bool, true, false, cond, List, [], ◌∷◌, Option, None, Some, Result, Ok, Err, length, map, refl, sym, ap, subst, ◌∙◌, inl, inr, arith, bytes_eq}
+use Rattle.std.proofs.Common.{◌≡◌, ◌⊎◌, ℕ, ◌<◌, ◌≤◌, ◌&&◌, Bool, true, false, cond, List, [], ◌∷◌, Option, None, Some, Result, Ok, Err, map, refl, sym, ap, subst, ◌∙◌, inl, inr, arith, bytes_eq}
 use Rattle.std.specs.Prelude.{slice_get, slice_index_or, option_map, is_some, IfSome, OnOk, All}
 use Rattle.std.specs.List.{Contains}
 use Rattle.std.specs.declared.cmp.Ordering.TheVariants.{Less, Equal, Greater}
@@ -15,7 +15,7 @@ use Rattle.pie_files.specs.Directory.{Directory, file_at}
 use Rattle.pie_files.specs.declared.files.Found.{Found}
 use Rattle.pie_graph.specs.declared.edges.TaskNo.{TaskNo}
 use Rattle.pie_graph.specs.Numbers.{IsMarked}
-use Rattle.pie_graph.specs.Rows.{Row, row_at}
+use Rattle.pie_graph.specs.Rows.{Row}
 use Rattle.pie_graph.proofs.Among.{contains_cases}
 use Rattle.pie_record.specs.declared.task_record.TaskRecord.{TaskRecord}
 use Rattle.pie_record.specs.inner.Records.{record_of as kept_of}
@@ -24,11 +24,9 @@ use Rattle.pie_view.specs.Seen.{Visible, IsOnly, IsOwn}
 use Rattle.pie_view.specs.declared.seen.Seen.{Seen}
 use Rattle.pie_view.specs.declared.seen.Seen.TheVariants.{Absent, By, Clash}
 use Rattle.pie_walk.specs.Marks.{IsSettled}
-use Rattle.pie_walk.specs.Standing.{Stands}
 use Rattle.pie_walk.proofs.TurnSteps.{settled_reach}
 use Rattle.pie_running.specs.inner.Noted.{Noted}
 use Rattle.pie_running.proofs.Firsts.{same_number}
-use Rattle.pie_model.specs.Paths.{among}
 use Rattle.pie_model.specs.Seen.{first_write}
 use Rattle.pie_model.specs.Trees.{trace_of, writes_of}
 use Rattle.pie_model.specs.Evaluation.{evaluation}
@@ -44,7 +42,7 @@ use Rattle.pie_core_laws.proofs.Seen.{record_now, files_written}
 use Rattle.pie_topdown_laws.specs.Ledgers.{walk_of, IsAsExact}
 use Rattle.pie_topdown_laws.proofs.Exactness.{as_exact, kept_settled, settled_kept}
 use Rattle.pie_topdown.specs.declared.builder.Builder.{Builder}
-use Rattle.pie_topdown.specs.inner.Asking.{MayStage, HasStaged, StagesFile, HasFetched, FetchesSo}
+use Rattle.pie_topdown.specs.inner.Asking.{MayStage, HasStaged, StagesFile, FetchesSo}
 use Rattle.pie_topdown.specs.inner.Ledgers.{HasOutput}
 use Rattle.pie_topdown.specs.inner.Right.{AreWritten, IsPlanNow, IsRightSite}
 use Rattle.pie_topdown.specs.inner.Sights.{IsStaged, SeenIsStaged, Lacks}

@@ -1,7 +1,6 @@
 -- Events of the task that runs, in the words of the model.
 use Rattle.std.proofs.Common.{◌≡◌, ℕ, ◌<◌, true, false, Bool, List, ◌∷◌, Option, None, Some, Result, Ok, Err, refl, sym, ap, subst, ◌∙◌, inl}
 use Rattle.std.specs.Prelude.{slice_get, slice_index_or, IfOk, All}
-use Rattle.std.specs.List.{Contains}
 use Rattle.std.proofs.lemmas.List.Elements.{All-contains}
 use Rattle.pie_base.specs.Path.{is_out}
 use Rattle.pie_base.specs.declared.fault.FaultKind.{FaultKind}
@@ -12,7 +11,6 @@ use Rattle.pie_value.specs.declared.event.Event.TheVariants as events
 use Rattle.pie_value.specs.declared.event.By.{By}
 use Rattle.pie_value.specs.Canonical.{enc_task}
 use Rattle.pie_files.specs.Directory.{Directory}
-use Rattle.pie_graph.specs.declared.edges.TaskNo.{TaskNo}
 use Rattle.pie_graph.specs.Numbers.{IsMarked}
 use Rattle.pie_graph.specs.Rows.{Row}
 use Rattle.pie_record.specs.declared.task_record.Outcome.{Outcome}
@@ -48,7 +46,7 @@ use Rattle.pie_task_laws.specs.Sites.{IsSound, HaveOutputs}
 use Rattle.pie_task_laws.specs.Sights.{OwnFirst, SeesOthers, SeesOut}
 use Rattle.pie_task_laws.specs.Coming.{Gives}
 use Rattle.pie_task_laws.proofs.Frames.{frame_moves}
-use Rattle.pie_topdown_laws.specs.Running.{AsksAbove, GoesOrFails, LooksAbove}
+use Rattle.pie_topdown_laws.specs.Running.{GoesOrFails, LooksAbove}
 use Rattle.pie_topdown_laws.proofs.Acting.{pauses_above, exists_told, reading_told, digest_told, list_told, write_told}
 use Rattle.pie_topdown_laws.proofs.Remaining.{fetches}
 use Rattle.pie_topdown.specs.declared.builder.Builder.{Builder}
@@ -56,13 +54,13 @@ use Rattle.pie_topdown.specs.declared.hand.Hand.TheVariants as hands
 use Rattle.pie_topdown.specs.declared.hand.Turn.{Turn}
 use Rattle.pie_topdown.specs.declared.hand.Turn.TheVariants.{Goes}
 use Rattle.pie_topdown.specs.inner.Asking.{AsksRight, ActsSo, AsksSo, LooksSo, RunsSo, FetchesSo, IsOf, IsToldRight, ToldSo, EndsSo}
-use Rattle.pie_topdown.specs.inner.Frames.{IsNoted, IsSite}
+use Rattle.pie_topdown.specs.inner.Frames.{IsSite}
 use Rattle.pie_topdown.specs.inner.Ledgers.{HasOutput}
-use Rattle.pie_topdown.specs.inner.Right.{site_of, build_of, IsPlanNow, IsRightSite, AreWaiting, AreTheBusy, FailsSo}
+use Rattle.pie_topdown.specs.inner.Right.{site_of, build_of, IsPlanNow, IsRightSite, AreTheBusy, FailsSo}
 use Rattle.pie_topdown.specs.inner.Sights.{ShowsOthers, ShowsOut, IsStaged, SeenIsStaged}
 use Rattle.pie_topdown.proofs.Fetched.{exact_now, settled_now, reached_kept, puts_beside}
 use Rattle.pie_topdown.proofs.Topmost.{one_some, own_unkept, own_site, own_waiting}
-use Rattle.pie_topdown.proofs.Touched.{IsSameBut, StaysOf, touched_waiting, touched_beside}
+use Rattle.pie_topdown.proofs.Touched.{IsSameBut, StaysOf, touched_waiting}
 
 -- nothing changed but what is staged
 pub stage_same : (b : Builder) (later : Staged) → IsSameBut b (record b { stage = later })

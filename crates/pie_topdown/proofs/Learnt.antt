@@ -1,6 +1,6 @@
 -- More is known of the files, and nothing else changed: what was right is.
 use Rattle.std.proofs.Common.{◌≡◌, ℕ, List, sym, subst}
-use Rattle.std.specs.Prelude.{slice_index_or, All}
+use Rattle.std.specs.Prelude.{slice_index_or}
 use Rattle.pie_code.specs.declared.code.Code.{Code}
 use Rattle.pie_named.specs.declared.named.Named.{Named}
 use Rattle.pie_named.specs.inner.Known.{IsTrueOf}
@@ -10,7 +10,7 @@ use Rattle.pie_topdown.specs.declared.builder.Builder.{Builder}
 use Rattle.pie_topdown.specs.declared.hand.Check.{Check}
 use Rattle.pie_topdown.specs.declared.hand.Frame.{Frame}
 use Rattle.pie_topdown.specs.declared.hand.Frame.TheVariants as frames
-use Rattle.pie_topdown.specs.inner.Right.{AreWritten, IsRightSite, IsUntouched, MayStillRun, IsBesides, AreWaiting, EntersRight, ChecksRight}
+use Rattle.pie_topdown.specs.inner.Right.{IsRightSite, IsUntouched, MayStillRun, IsBesides, AreWaiting, EntersRight, ChecksRight}
 
 module _ (b : Builder) (n : Named) where
   abbrev after : Builder

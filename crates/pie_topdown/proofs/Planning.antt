@@ -1,8 +1,7 @@
 -- How a build without a list begins, in the words of the model.
 use Rattle.std.proofs.Common.{◌≡◌, ◌⊎◌, ℕ, zero, suc, ◌<◌, Bool, true, false, cond, List, [], ◌∷◌, Option, None, Some, length, map, get_or, refl, sym, ap, subst, ◌∙◌, inl, inr, arith, bytes_eq}
-use Rattle.std.specs.Prelude.{slice_get, IfSome}
+use Rattle.std.specs.Prelude.{slice_get}
 use Rattle.std.specs.List.{All}
-use Rattle.std.specs.BTreeMap.{get_by_text}
 use Rattle.std.proofs.lemmas.List.{get_or-map, length-map}
 use Rattle.std.proofs.lemmas.List.Elements.{All-contains}
 use Rattle.std.proofs.lemmas.Option.{slice_get_within, get_or_from_slice_get}
@@ -19,20 +18,16 @@ use Rattle.pie_store.specs.Canonical.{tasks_in}
 use Rattle.pie_store.specs.inner.Offers.{Offered}
 use Rattle.pie_tables.specs.declared.tables.Tables.{Tables}
 use Rattle.pie_old.specs.inner.Code.{digest_in, kept, is_same_code}
-use Rattle.pie_old.specs.inner.Loaded.{AreTablesOf}
 use Rattle.pie_model.specs.Paths.{among}
 use Rattle.pie_model.specs.Records.{Record}
 use Rattle.pie_model.specs.Running.{IsDistinct}
 use Rattle.pie_model.proofs.Basics.{bytes_same, same_bytes, clash}
 use Rattle.pie_model_pipeline.specs.Rows.{record_of}
-use Rattle.pie_model_pipeline.specs.World.{next}
 use Rattle.pie_builder_laws.specs.Events.{AreCompiled}
-use Rattle.pie_builder_laws.specs.Names.{AreTasks}
 use Rattle.pie_builder_laws.proofs.Naming.{among_at, canonical_at, distinct_names, placed}
 use Rattle.pie_earlier_laws.specs.Functions.{digest_under}
 use Rattle.pie_earlier_laws.specs.Rows.{record_among}
 use Rattle.pie_core_laws.specs.Update.{Update}
-use Rattle.pie_core_laws.specs.Comparing.{IsOld}
 use Rattle.pie_core_laws.proofs.Joined.{same_codes}
 use Rattle.pie_topdown_result_laws.specs.Builds.{AreHonest, IsFromStore, IsNowHere}
 use Rattle.pie_topdown.specs.declared.plan.Plan.{Plan}

@@ -1,5 +1,5 @@
 -- A task is entered above one that waits for it from then on, in the words of the model.
-use Rattle.std.proofs.Common.{◌≡◌, ◌⊎◌, ℕ, suc, ◌-◌, ◌<◌, ◌≤◌, Bool, true, false, List, [], ◌∷◌, ◌++◌, Option, None, Some, Bor, Box, Result, Ok, Err, Vec, length, map, refl, sym, ap, subst, ◌∙◌, inl, inr, arith}
+use Rattle.std.proofs.Common.{◌≡◌, ◌⊎◌, ℕ, suc, ◌-◌, ◌<◌, ◌≤◌, Bool, true, false, List, [], ◌∷◌, ◌++◌, Option, None, Some, Bor, Box, Result, Ok, Err, Vec, length, map, refl, sym, ap, subst, ◌∙◌, inl, arith}
 use Rattle.std.specs.declared.alloc.Global.{Global}
 use Rattle.std.specs.Prelude.{slice_get, slice_index_or, All, IfOk}
 use Rattle.std.specs.List.{Contains}
@@ -13,9 +13,8 @@ use Rattle.pie_value.specs.Canonical.{enc_task, IsCanonicalTask}
 use Rattle.pie_base.specs.declared.fault.FaultKind.TheVariants.{Big}
 use Rattle.pie_code.specs.declared.code.Code.{Code}
 use Rattle.pie_graph.specs.declared.edges.TaskNo.{TaskNo}
-use Rattle.pie_graph.specs.Numbers.{numbers, IsMarked}
+use Rattle.pie_graph.specs.Numbers.{numbers}
 use Rattle.pie_parser.specs.FunctionTrees.{FunctionTree}
-use Rattle.pie_record.specs.declared.task_record.TaskRecord.{TaskRecord}
 use Rattle.pie_record.specs.inner.Records.{record_of as kept_of}
 use Rattle.pie_view.specs.Content.{content}
 use Rattle.pie_running.specs.declared.frame.Caller.{Caller}
@@ -39,12 +38,9 @@ use Rattle.pie_builder_laws.specs.Names.{AreTasks, called_in}
 use Rattle.pie_builder_laws.proofs.Naming.{named_to}
 use Rattle.pie_core_laws.specs.Update.{Update, present}
 use Rattle.pie_task_laws.specs.Frames.{IsCaller}
-use Rattle.pie_task_laws.specs.Beginning.{calling}
 use Rattle.pie_task_laws.proofs.Frames.{frame_moves}
 use Rattle.pie_topdown_laws.specs.Tables.{unrecorded}
-use Rattle.pie_topdown_laws.specs.Ends.{StandsUnder}
 use Rattle.pie_topdown_laws.specs.Ledgers.{setting}
-use Rattle.pie_topdown_laws.specs.Places.{Requires}
 use Rattle.pie_topdown_laws.specs.Running.{IsTop}
 use Rattle.pie_topdown_laws.specs.Stacks.{IsStack}
 use Rattle.pie_topdown_laws.specs.Whole.{AreEntries, IsEntry, WaitsAt}
@@ -60,12 +56,11 @@ use Rattle.pie_topdown.specs.declared.hand.Frame.TheVariants as frames
 use Rattle.pie_topdown.specs.declared.hand.Hand.TheVariants as hands
 use Rattle.pie_topdown.specs.declared.hand.Turn.{Turn}
 use Rattle.pie_topdown.specs.declared.hand.Turn.TheVariants.{Goes, Many}
-use Rattle.pie_topdown.specs.inner.Asking.{AsksRight, ActsSo}
-use Rattle.pie_topdown.specs.inner.Calling.{ChecksSo, NeedsSo, DescendsSo}
+use Rattle.pie_topdown.specs.inner.Asking.{ActsSo}
+use Rattle.pie_topdown.specs.inner.Calling.{ChecksSo, NeedsSo}
 use Rattle.pie_topdown.specs.inner.Entries.{HasEntered, MayBe}
 use Rattle.pie_topdown.specs.inner.Right.{site_of, build_of, names_of, records_of, entry_of, entries_up, EntersSite, ChecksRight, IsUntouched, MayStillRun, IsBesides, IsPlanNow, IsRight, IsRightSite, AreWaiting, AreTheBusy, FailsSo}
 use Rattle.pie_topdown.proofs.Entered.{entered_names, entered_records, entered_all, entered_beside, entered_busy, entered_number, canonical_at, flag_more}
-use Rattle.pie_topdown.proofs.Topmost.{own_unkept}
 use Rattle.pie_topdown.proofs.Touched.{restacked_site, restacked_untouched, restacked_besides}
 use Rattle.pie_topdown.proofs.Waited.{entries_push}
 

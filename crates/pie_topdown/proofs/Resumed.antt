@@ -1,7 +1,7 @@
 -- What waits goes on, and tasks begin to run, in the words of the model.
-use Rattle.std.proofs.Common.{◌≡◌, ℕ, ◌<◌, true, false, List, [], ◌∷◌, ◌++◌, Option, None, Some, Box, Vec, Result, Ok, Err, length, map, reverse, refl, sym, ap, subst, ◌∙◌, inl, arith}
+use Rattle.std.proofs.Common.{◌≡◌, ℕ, ◌<◌, true, false, List, [], ◌∷◌, ◌++◌, Some, Box, Vec, Result, Ok, Err, length, refl, sym, ap, subst, ◌∙◌, inl, arith}
 use Rattle.std.specs.declared.alloc.Global.{Global}
-use Rattle.std.specs.Prelude.{slice_get, slice_index_or, slice_set, All, IfOk}
+use Rattle.std.specs.Prelude.{slice_get, slice_index_or, All, IfOk}
 use Rattle.std.specs.Option.{option_to_list}
 use Rattle.std.proofs.lemmas.List.{get_or-set_same, get_or-set_other}
 use Rattle.std.proofs.lemmas.List.Elements.{All-pop}
@@ -20,13 +20,11 @@ use Rattle.pie_model.specs.inner.Stack.{Frame as ModelFrame, tasks_of}
 use Rattle.pie_step_laws.specs.Frames.{begun}
 use Rattle.pie_model_pipeline.specs.World.{world}
 use Rattle.pie_core_laws.specs.Update.{Update}
-use Rattle.pie_core_laws.proofs.Exactly.{same_or_not}
 use Rattle.pie_topdown_laws.specs.Running.{IsTop}
-use Rattle.pie_topdown_laws.specs.Whole.{Entry, AreEntries}
+use Rattle.pie_topdown_laws.specs.Whole.{AreEntries}
 use Rattle.pie_topdown_laws.proofs.Acting.{begins_above}
 use Rattle.pie_topdown_laws.proofs.Remaining.{check_is_back}
 use Rattle.pie_topdown.specs.declared.builder.Builder.{Builder}
-use Rattle.pie_topdown.specs.declared.ledger.Ledger.{Ledger}
 use Rattle.pie_topdown.specs.declared.hand.Check.{Check}
 use Rattle.pie_topdown.specs.declared.hand.Frame.{Frame}
 use Rattle.pie_topdown.specs.declared.hand.Frame.TheVariants as frames
@@ -36,7 +34,7 @@ use Rattle.pie_topdown.specs.declared.hand.Turn.TheVariants.{Goes, Rests}
 use Rattle.pie_topdown.specs.inner.Calling.{AnswersSo, ResumesSo, StartsSo}
 use Rattle.pie_topdown.specs.inner.Effects.{HasStarted}
 use Rattle.pie_topdown.specs.inner.Frames.{IsSite}
-use Rattle.pie_topdown.specs.inner.Right.{site_of, build_of, entry_of, entries_up, IsBesides, AreWaiting, IsRightSite, EndedRight, EntersRight, AreTheBusy, IsRight, IsAtRest, IsPlanNow, HasEndedAs, TurnIsRight}
+use Rattle.pie_topdown.specs.inner.Right.{site_of, build_of, entry_of, entries_up, IsBesides, AreWaiting, IsRightSite, EndedRight, AreTheBusy, IsRight, IsAtRest, IsPlanNow, HasEndedAs, TurnIsRight}
 use Rattle.pie_topdown.proofs.Topmost.{one_some, own_site, own_waiting}
 use Rattle.pie_topdown.proofs.Touched.{IsSameBut, StaysOf, touched_top, touched_busy, restacked_site, restacked_may, restacked_besides}
 use Rattle.pie_topdown.proofs.Waited.{entries_push}

@@ -1,7 +1,7 @@
 -- An offered record stands: its task ends with it as one that ran, in the words of the model.
-use Rattle.std.proofs.Common.{◌≡◌, ℕ, ◌≤◌, Bool, true, false, List, [], ◌∷◌, Option, None, Some, Vec, Result, Ok, Err, length, map, refl, sym, ap, subst, ◌∙◌, inl, arith}
+use Rattle.std.proofs.Common.{◌≡◌, ℕ, ◌≤◌, true, false, List, [], ◌∷◌, Option, None, Some, Vec, Result, Ok, Err, length, map, refl, sym, ap, subst, ◌∙◌, inl, arith}
 use Rattle.std.specs.declared.alloc.Global.{Global}
-use Rattle.std.specs.Prelude.{slice_get, slice_index_or, slice_set, IfOk}
+use Rattle.std.specs.Prelude.{slice_get, slice_index_or, IfOk}
 use Rattle.std.specs.Option.{option_map, option_or}
 use Rattle.std.proofs.lemmas.List.{take_all, get_or-set_same, get_or-set_other}
 use Rattle.std.proofs.lemmas.Option.{slice_get_within}

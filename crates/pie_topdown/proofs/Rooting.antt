@@ -1,5 +1,5 @@
 -- Roots, one after another, in the words of the model.
-use Rattle.std.proofs.Common.{◌≡◌, ◌⊎◌, ℕ, zero, suc, ◌+◌, ◌<◌, ◌≤◌, Bool, true, false, List, [], ◌∷◌, ◌++◌, Option, None, Some, Bor, length, map, refl, sym, ap, subst, ◌∙◌, inl, inr, arith}
+use Rattle.std.proofs.Common.{◌≡◌, ◌⊎◌, ℕ, ◌+◌, ◌<◌, ◌≤◌, Bool, true, false, List, [], ◌∷◌, ◌++◌, Option, None, Some, Bor, length, map, refl, sym, ap, subst, ◌∙◌, inl, inr, arith}
 use Rattle.std.specs.Prelude.{slice_get, option_map, All}
 use Rattle.std.specs.List.{Contains}
 use Rattle.std.proofs.lemmas.List.{length-map}
@@ -24,24 +24,22 @@ use Rattle.pie_model.specs.Paths.{among}
 use Rattle.pie_model.specs.Records.{Record}
 use Rattle.pie_model.specs.Trees.{is_done, HasTask}
 use Rattle.pie_model.specs.Evaluation.{evaluation}
-use Rattle.pie_model.specs.Verdict.{verdict}
 use Rattle.pie_model.specs.declared.words.Event.TheVariants.{Fail}
 use Rattle.pie_model.specs.declared.words.Outcome.TheVariants.{Failed}
-use Rattle.pie_model.specs.inner.Stack.{Frame as ModelFrame}
-use Rattle.pie_model.proofs.Basics.{among_here, among_left, among_right, among_either, clash}
+use Rattle.pie_model.proofs.Basics.{among_here, among_right, among_either, clash}
 use Rattle.pie_step_laws.specs.Frames.{begun}
 use Rattle.pie_step_laws.specs.Table.{IsTable}
 use Rattle.pie_step_laws.proofs.Tables.{one_more_entered}
 use Rattle.pie_settle_laws.specs.Going.{Ends}
 use Rattle.pie_settle_laws.specs.Going.Ends.{failing}
-use Rattle.pie_model_pipeline.specs.Rows.{outcome_of, record_of, refusal_of}
+use Rattle.pie_model_pipeline.specs.Rows.{outcome_of, record_of}
 use Rattle.pie_model_pipeline.specs.Words.{fault_of}
 use Rattle.pie_model_pipeline.specs.World.{world}
 use Rattle.pie_builder_laws.proofs.Coded.{unknown_fails}
 use Rattle.pie_builder_laws.proofs.Naming.{among_at, other_back}
 use Rattle.pie_builder_laws.proofs.Tabled.{record_by_number}
 use Rattle.pie_core_laws.specs.Update.{Update, present}
-use Rattle.pie_topdown_laws.specs.Ends.{AreRecorded, StandsUnder}
+use Rattle.pie_topdown_laws.specs.Ends.{AreRecorded}
 use Rattle.pie_topdown_laws.specs.Ledgers.{setting}
 use Rattle.pie_topdown_laws.specs.Running.{IsTop}
 use Rattle.pie_topdown_laws.specs.Stacks.{IsStack}
@@ -54,7 +52,7 @@ use Rattle.pie_topdown.specs.declared.hand.Hand.TheVariants as hands
 use Rattle.pie_topdown.specs.inner.Entries.{HasEntered, MayBe}
 use Rattle.pie_topdown.specs.inner.Frames.{IsSite}
 use Rattle.pie_topdown.specs.inner.Ledgers.{HasOutput}
-use Rattle.pie_topdown.specs.inner.Right.{site_of, build_of, names_of, records_of, entries_up, EntersSite, IsAtRest, IsBesides, IsPlanNow, IsRefused, IsRight, IsRightSite, IsUntouched, AreWaiting, AreTheBusy}
+use Rattle.pie_topdown.specs.inner.Right.{site_of, build_of, names_of, records_of, entries_up, EntersSite, IsAtRest, IsBesides, IsPlanNow, IsRefused, IsRight, IsRightSite, IsUntouched, AreWaiting}
 use Rattle.pie_topdown.specs.inner.Rooted.{lost, IsBuildOf, IsSettledSoFar, RootEndsRight, RunsOnRight, SettlesRight, StopsRight}
 use Rattle.pie_topdown.specs.inner.Roots.{IsSettledRoot}
 use Rattle.pie_topdown.specs.inner.Turns.{Keeps}

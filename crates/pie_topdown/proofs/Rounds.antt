@@ -20,7 +20,6 @@ use Rattle.pie_model.proofs.Basics.{among_split, among_left, among_right, among_
 use Rattle.pie_model_pipeline.proofs.Joining.{tasks_told}
 use Rattle.pie_builder_laws.specs.Names.{AreTasks}
 use Rattle.pie_builder_laws.proofs.Naming.{named_back, placed, one_place}
-use Rattle.pie_topdown_laws.specs.Whole.{Entry}
 use Rattle.pie_model.specs.declared.words.Verdict.TheVariants.{Cycle as ModelCycle}
 use Rattle.pie_settle_laws.specs.Going.{before_wait}
 use Rattle.pie_model_pipeline.specs.Rows as rows

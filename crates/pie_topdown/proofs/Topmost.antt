@@ -1,6 +1,6 @@
 -- The task in hand is none of those that have ended or wait, so what is done for it changes nothing of them.
-use Rattle.std.proofs.Common.{◌≡◌, ℕ, ◌≤◌, true, false, List, ◌∷◌, None, Some, length, sym, ap, subst, ◌∙◌, arith}
-use Rattle.std.specs.Prelude.{slice_get, slice_index_or}
+use Rattle.std.proofs.Common.{◌≡◌, ℕ, ◌≤◌, true, List, ◌∷◌, None, Some, length, sym, ap, subst, ◌∙◌, arith}
+use Rattle.std.specs.Prelude.{slice_get}
 use Rattle.std.proofs.lemmas.Option.{slice_get_within}
 use Rattle.pie_value.specs.declared.task.Task.{Task}
 use Rattle.pie_value.specs.Canonical.{enc_task}
@@ -16,7 +16,7 @@ use Rattle.pie_topdown.specs.declared.builder.Builder.{Builder}
 use Rattle.pie_topdown.specs.inner.Frames.{IsSite}
 use Rattle.pie_topdown.specs.inner.Right.{site_of, build_of, names_of, records_of, AreWritten, IsRightSite, AreWaiting}
 use Rattle.pie_topdown.proofs.Kept.{no_kept, not_recorded}
-use Rattle.pie_topdown.proofs.Touched.{IsSameBut, StaysOf, StayOf, kept_is, touched_site, touched_waiting}
+use Rattle.pie_topdown.proofs.Touched.{IsSameBut, StaysOf, kept_is, touched_site, touched_waiting}
 
 pub one_some : {A : Type 0} (x y : A) → Some x ≡ Some y → x ≡ y
 one_some x y e = cc

@@ -1,12 +1,9 @@
 -- Nothing changed but what is staged and marked: what that leaves right.
-use Rattle.std.proofs.Common.{◌≡◌, ℕ, true, false, List, ◌∷◌, Option, None, Some, Vec, map, refl, sym, ap, subst, ◌∙◌}
+use Rattle.std.proofs.Common.{◌≡◌, ℕ, true, false, List, ◌∷◌, Option, None, Some, Vec, map, sym, ap, subst, ◌∙◌}
 use Rattle.std.specs.declared.alloc.Global.{Global}
 use Rattle.std.specs.Prelude.{slice_get, slice_index_or, All}
-use Rattle.std.proofs.lemmas.Option.{slice_get-get_or}
 use Rattle.pie_value.specs.declared.task.Task.{Task}
 use Rattle.pie_value.specs.Canonical.{enc_task}
-use Rattle.pie_graph.specs.Numbers.{IsMarked}
-use Rattle.pie_record.specs.declared.task_record.TaskRecord.{TaskRecord}
 use Rattle.pie_record.specs.inner.Records.{record_of as kept_of}
 use Rattle.pie_view.specs.Content.{content}
 use Rattle.pie_running.specs.inner.Coded.{HasFunction}
@@ -19,7 +16,7 @@ use Rattle.pie_model.specs.inner.Stack.{Frame as ModelFrame, tasks_of}
 use Rattle.pie_builder_laws.specs.Tables.{recorded}
 use Rattle.pie_core_laws.specs.Update.{Update}
 use Rattle.pie_topdown_laws.specs.Tables.{unrecorded}
-use Rattle.pie_topdown_laws.specs.Ends.{AreRecorded, StandsUnder}
+use Rattle.pie_topdown_laws.specs.Ends.{AreRecorded}
 use Rattle.pie_topdown_laws.specs.Ledgers.{setting, IsRightLedger}
 use Rattle.pie_topdown_laws.specs.Running.{IsTop}
 use Rattle.pie_topdown_laws.specs.Stacks.{IsStack}

@@ -1,5 +1,5 @@
 -- Offers are asked for, and the next of them is checked, in the words of the model.
-use Rattle.std.proofs.Common.{◌≡◌, ℕ, ◌<◌, true, List, [], ◌∷◌, ◌++◌, Option, None, Some, Box, Result, Ok, Err, Vec, length, map, take, refl, sym, ap, subst, ◌∙◌, inl, arith, append_assoc}
+use Rattle.std.proofs.Common.{◌≡◌, ℕ, ◌<◌, List, [], ◌∷◌, ◌++◌, Option, Some, Box, Result, Ok, Err, Vec, length, map, take, sym, ap, subst, ◌∙◌, inl, arith, append_assoc}
 use Rattle.std.specs.declared.alloc.Global.{Global}
 use Rattle.std.specs.Prelude.{slice_index_or, IfOk, IfSome}
 use Rattle.std.specs.List.{All, remove}
@@ -28,7 +28,7 @@ use Rattle.pie_topdown.specs.declared.hand.Turn.{Turn}
 use Rattle.pie_topdown.specs.declared.hand.Turn.TheVariants.{Goes}
 use Rattle.pie_topdown.specs.inner.Calling.{StartsSo}
 use Rattle.pie_topdown.specs.inner.Offering.{BeginsSo, OffersSo, Takes, TriesSo, ChecksOffer}
-use Rattle.pie_topdown.specs.inner.Right.{AreOffersHonest, BeginsCheck}
+use Rattle.pie_topdown.specs.inner.Right.{BeginsCheck}
 
 -- ---- what is offered
 

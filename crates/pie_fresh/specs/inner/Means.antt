@@ -1,5 +1,5 @@
 -- A root under way, with its tasks by numbers, machines and notes, is a root under way in the model.
-use Rattle.std.specs.Prelude.{◌≡◌, ℕ, suc, ◌<◌, ◌≤◌, false, List, [], ◌∷◌, ◌++◌, map, reverse, length, Option, Some, None, IfSome, slice_get, All}
+use Rattle.std.specs.Prelude.{◌≡◌, ℕ, ◌<◌, ◌≤◌, false, List, [], ◌∷◌, ◌++◌, map, reverse, length, Option, Some, None, IfSome, slice_get, All}
 use Rattle.pie_value.specs.declared.task.Task.{Task}
 use Rattle.pie_value.specs.declared.event.Event.{Event}
 use Rattle.pie_value.specs.declared.event.Event.TheVariants as events
@@ -7,10 +7,10 @@ use Rattle.pie_value.specs.declared.value.Value.{Value}
 use Rattle.pie_value.specs.declared.verdict.Refusal.{Refusal}
 use Rattle.pie_value.specs.declared.verdict.Refusal.TheVariants as refusals
 use Rattle.pie_value.specs.Values.{tree_of}
-use Rattle.pie_value.specs.Canonical.{enc, enc_task, IsCanonical, IsCanonicalTask}
+use Rattle.pie_value.specs.Canonical.{enc, enc_task, IsCanonical}
 use Rattle.pie_operators.specs.Domain.{done, wants}
 use Rattle.pie_code.specs.declared.code.Code.{Code}
-use Rattle.pie_vm.specs.Machines.{Standing, Follows}
+use Rattle.pie_vm.specs.Machines.{Standing}
 use Rattle.pie_files.specs.Directory.{Directory}
 use Rattle.pie_view.specs.Content.{content}
 use Rattle.pie_record.specs.inner.Records.{record_of as kept_of}
@@ -26,21 +26,19 @@ use Rattle.pie_model.specs.declared.words.How.{How}
 use Rattle.pie_model.specs.declared.words.Event.TheVariants.{Require}
 use Rattle.pie_model.specs.declared.words.Outcome.TheVariants.{Ended, Failed, Cycled}
 use Rattle.pie_model.specs.Trees.{entered}
-use Rattle.pie_model.specs.Seen.{first_write}
 use Rattle.pie_model.specs.Evaluation.{Project, evaluation}
-use Rattle.pie_model.specs.Records.{Record, hashed}
+use Rattle.pie_model.specs.Records.{Record}
 use Rattle.pie_model.specs.inner.Stack.{Frame as ModelFrame, Begins}
 use Rattle.pie_step_laws.specs.Table.{Rests as TableRests}
 use Rattle.pie_step_laws.specs.Frames.{begun, was_answered}
 use Rattle.pie_step_laws.specs.UnderWay.{UnderWay, HasEnded}
 use Rattle.pie_step_laws.specs.EndLaws.{Requires}
-use Rattle.pie_model_pipeline.specs.Words.{fault_of, how_of, effect_of, output_or_big}
+use Rattle.pie_model_pipeline.specs.Words.{fault_of, effect_of, output_or_big}
 use Rattle.pie_model_pipeline.specs.Answers.{answer_of}
-use Rattle.pie_model_pipeline.specs.Rows.{observation_of}
 use Rattle.pie_model_pipeline.specs.World.{world, project}
-use Rattle.pie_builder_laws.specs.Names.{AreTasks, called_in}
+use Rattle.pie_builder_laws.specs.Names.{AreTasks}
 use Rattle.pie_builder_laws.specs.Tables.{recorded}
-use Rattle.pie_builder_laws.specs.Views.{AreNumbersOf, IsGraphOf, IsStaged}
+use Rattle.pie_builder_laws.specs.Views.{IsGraphOf, IsStaged}
 use Rattle.pie_builder_laws.specs.Events.{AreCompiled}
 use Rattle.pie_builder_laws.specs.Fits.{HasHeadings, Fit}
 use Rattle.pie_running.specs.declared.frame.RunningTask.{RunningTask}

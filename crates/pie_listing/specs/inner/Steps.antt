@@ -1,7 +1,7 @@
 -- The steps of a listing.
-use Rattle.std.specs.Prelude.{◌≡◌, ℕ, true, false, List, All, Option, Some, None, Ok, Err, IfSome, Vec}
+use Rattle.std.specs.Prelude.{◌≡◌, ℕ, true, false, List, All, Option, Some, Err, IfSome, Vec}
 use Rattle.std.specs.declared.alloc.Global.{Global}
-use Rattle.pie_files.specs.Directory.{Directory, file_at, in_path_order}
+use Rattle.pie_files.specs.Directory.{Directory, in_path_order}
 use Rattle.pie_scan.specs.declared.entry.Entry.{Entry}
 use Rattle.pie_scan.specs.declared.manifest.Manifest.{Manifest}
 use Rattle.pie_scan.specs.Changes.{AreChanged}
@@ -15,7 +15,7 @@ use Rattle.pie_listing.specs.declared.listing.Listing.{Listing}
 use Rattle.pie_listing.specs.declared.listing.Listing.TheVariants.{Listed, Unlisted}
 use Rattle.pie_listing.specs.declared.listing.Scan.{Scan}
 use Rattle.pie_listing.specs.declared.listing.Reason.TheVariants.{NoManifest, BadManifest, OtherStore, OtherTops}
-use Rattle.pie_listing.specs.Held.{manifest_path, store_path, bytes_at, hash_in, is_hash, same_paths}
+use Rattle.pie_listing.specs.Held.{store_path, hash_in, is_hash, same_paths}
 use Rattle.pie_listing.specs.Listings.{HoldsManifest, IsListing}
 
 -- what is read of a manifest's bytes

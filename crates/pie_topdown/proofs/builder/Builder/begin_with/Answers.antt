@@ -1,4 +1,4 @@
-use Rattle.std.proofs.Common.{Bool, true, ℕ, List, refl, ap, subst, ◌∙◌}
+use Rattle.std.proofs.Common.{Bool, ℕ, List, refl, ap, subst, ◌∙◌}
 use Rattle.std.specs.Prelude.{All}
 use Rattle.pie_record.specs.declared.task_record.TaskRecord.{TaskRecord}
 use Rattle.pie_topdown.specs.inner.Written.{IsThereIn, FindsThere}
