@@ -192,14 +192,15 @@ fn failed_write(alloc: Global, files: &mut MemFiles) -> Result<String, Fail> {
     let before = shown(alloc, files, "out/page")?;
     files.write(&page, b"three")?;
     let after = shown(alloc, files, "out/page")?;
-    let calls = files.log().len();
-    Ok(format!(in alloc; "{failed} {before} {after} {calls}")?)
+    let things = files.log().len();
+    let told = matches!(files.log().get(2), Some(Logged::Failed(Call::Write(_, None))));
+    Ok(format!(in alloc; "{failed} {before} {after} {things} {told}")?)
 }
 
 #[test]
 fn a_call_that_is_told_to_fails_and_changes_nothing(rt: HostRuntime) -> Result<(), Fail> {
     let told = failed_write(rt.alloc(), &mut MemFiles::new(rt.alloc()))?;
-    assert!(rt; told.as_str() == "true 3:1 5:2 5");
+    assert!(rt; told.as_str() == "true 3:1 5:2 6 true");
     Ok(())
 }
 

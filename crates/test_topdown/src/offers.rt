@@ -23,6 +23,8 @@ impl Offers for Counting {
 
     ghost told = { λ _ _ _ _. [] };
 
+    ghost looks = { λ _ _ _. [] };
+
     fn offers<F: Files>(
         &mut self,
         alloc: Global,
@@ -43,11 +45,13 @@ pub(crate) struct Texts {
 }
 
 impl Offers for Texts {
-    ghost use Rattle.std.specs.Prelude.{◌++◌};
+    ghost use Rattle.std.specs.Prelude.{[], ◌++◌};
     ghost use Rattle.pie_cache.specs.inner.Reading.{cache_says};
     ghost use Rattle.pie_cache.specs.inner.Stored.{or_none};
 
     ghost told = { λ s _ _ _. or_none (cache_says s.first.items) ++ or_none (cache_says s.second.items) };
+
+    ghost looks = { λ _ _ _. [] };
 
     fn offers<F: Files>(
         &mut self,
@@ -69,12 +73,14 @@ pub(crate) struct Swapped {
 }
 
 impl Offers for Swapped {
-    ghost use Rattle.std.specs.Prelude.{map};
+    ghost use Rattle.std.specs.Prelude.{[], map};
     ghost use Rattle.pie_cache.specs.inner.Reading.{cache_says};
     ghost use Rattle.pie_cache.specs.inner.Stored.{or_none};
     ghost use Rattle.test_topdown.specs.Swaps.{swapped_by};
 
     ghost told = { λ s _ _ _. map (swapped_by s.content.items) (or_none (cache_says s.text.items)) };
+
+    ghost looks = { λ _ _ _. [] };
 
     fn offers<F: Files>(
         &mut self,
