@@ -5,12 +5,12 @@ use Rattle.std.specs.FinMap as fin
 use Rattle.std.specs.Prelude.{◌&&◌, ◌||◌, IfSome, IfOk, Result, Ok, Err, is_some}
 use Rattle.std.specs.List.{filter, list_any}
 use Rattle.std.specs.Option.{option_map}
-use Rattle.std.specs.Ordering.{nat_cmp, is_eq, eq_by_cmp}
+use Rattle.std.specs.Ordering.{nat_cmp, eq_by_cmp}
 use Rattle.std.specs.Cmp.Lexicographic.{slice_cmp}
 use Rattle.sha2.specs.Sha256.{sha256}
 use Rattle.pie_base.specs.Path.{is_below, is_out, same_text}
 use Rattle.pie_commit.proofs.Standing.{same_path}
-use Rattle.pie_diff.specs.Hashes.{hash_in, held_at}
+use Rattle.pie_diff.specs.Hashes.{hash_in}
 use Rattle.pie_diff.specs.inner.Held.{Looks}
 use Rattle.pie_files.specs.Directory.{Directory, file_at, files_under, paths_of}
 use Rattle.pie_files.specs.declared.files.FilesError.{FilesError}

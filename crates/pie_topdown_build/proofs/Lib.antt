@@ -1,6 +1,10 @@
+pub mod Cleanly
 pub mod Contents
 pub mod Holding
 pub mod Leaving
 pub mod Making
+pub mod Meaning
 pub mod Placing
 pub mod Refusing
+pub mod Running
+pub mod Starting

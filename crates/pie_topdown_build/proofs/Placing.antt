@@ -3,10 +3,8 @@ use Rattle.std.proofs.Common.{◌≡◌, ◌⊎◌, inl, inr, ℕ, Bool, true, f
 use Rattle.std.proofs.lemmas.Bool.{false≢true}
 use Rattle.std.proofs.lemmas.Cmp.{nat_list_cmp_total}
 use Rattle.std.specs.FinMap as fin
-use Rattle.std.specs.Prelude.{◌||◌, Contains, Option, None, Some, Result, Ok, IfSome, OnOk, is_some}
+use Rattle.std.specs.Prelude.{◌||◌, Contains, Option, None, Some, Ok, is_some}
 use Rattle.std.specs.Option.{option_map}
-use Rattle.std.specs.Ordering.{nat_cmp}
-use Rattle.std.specs.Cmp.Lexicographic.{slice_cmp}
 use Rattle.sha2.specs.Sha256.{sha256}
 use Rattle.pie_base.specs.Path.{is_out, same_text}
 use Rattle.pie_check_laws.proofs.Members.{from_map}
@@ -17,7 +15,6 @@ use Rattle.pie_commit.specs.declared.plan.Plan.{Plan}
 use Rattle.pie_commit.specs.inner.Plans.{Gone, Meets, later, at, removed, written, pended, stored, changes}
 use Rattle.pie_diff.specs.Hashes.{hash_in}
 use Rattle.pie_files.specs.Directory.{Directory, file_at, with_file}
-use Rattle.pie_files.specs.declared.files.FilesError.{FilesError}
 use Rattle.pie_graph.proofs.EdgeOrder.{text_tie}
 use Rattle.pie_incremental.specs.declared.base.OwnFiles.{OwnFiles}
 use Rattle.pie_incremental.specs.Kept.{is_builders}
@@ -25,7 +22,7 @@ use Rattle.pie_incremental.specs.Own.{bytes_at, open_path, store_path, pending_p
 use Rattle.pie_incremental.specs.inner.Built.{AreFilesOf, IsKnown}
 use Rattle.pie_incremental.specs.inner.Changes.{bytes_of, Changes}
 use Rattle.pie_incremental.specs.inner.Plans.{HasChanged, IsChangesPlan, Places}
-use Rattle.pie_incremental.proofs.OwnPaths.{or_left, or_right, places}
+use Rattle.pie_incremental.proofs.OwnPaths.{or_right, places}
 use Rattle.pie_incremental.proofs.Placing.{places_by}
 use Rattle.pie_left_laws.specs.Placed.{IsPlaced, StaysAs}
 use Rattle.pie_record.specs.declared.task_record.TaskRecord.{TaskRecord}

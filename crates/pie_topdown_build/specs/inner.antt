@@ -1,4 +1,5 @@
 -- Definitions that no clause of `pie_cli::run` rests on: what functions say to each other.
 pub mod Bases
+pub mod Clean
 pub mod Cleaned
 pub mod Offered

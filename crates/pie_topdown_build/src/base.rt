@@ -1,8 +1,8 @@
 //! What a build without a list begins from.
-ghost use Rattle.std.specs.Prelude.{IfOk};
+ghost use Rattle.std.specs.Prelude.{IfOk, IfSome};
 ghost use Rattle.pie_files.specs.Reading.{ReadsOnly};
 ghost use Rattle.pie_incremental.specs.inner.Joined.{IsImage};
-ghost use Rattle.pie_topdown_build.specs.inner.Bases.{IsWhole};
+ghost use Rattle.pie_topdown_build.specs.inner.Bases.{IsWhole, StartsAt, StartsBy};
 
 use pie_base::{OutOfMemory, Path};
 use pie_files::{Files, FilesError};
@@ -31,6 +31,7 @@ pub(crate) struct Base {
 /// looked at. Rule: docs/BUILDING.md, "A build without a list".
 #[tactic(auto, using(pie_files::proofs::Reading::reads))]
 pub(crate) fn find_base<F: Files>(alloc: Global, files: &mut F) -> Result<Start, FilesError>
+    ensures starts { IfSome (F.holds files.old) (λ d. IfOk result (StartsAt d)) }
     ensures whole { IfOk result IsWhole }
     ensures reads { ReadsOnly F.holds F.moment F.left_since F.images F.faults files.old files.new result }
 {
@@ -63,6 +64,7 @@ pub(crate) fn no_base(alloc: Global) -> Result<Box<Base>, OutOfMemory>
 
 // What a build begins from where these are the bytes of the store.
 fn with_store(alloc: Global, store: Vec<u8>) -> Result<Start, OutOfMemory>
+    ensures starts { IfOk result (StartsBy store) }
     ensures whole { IfOk result IsWhole }
 {
     match decode_store(alloc, store.as_slice()) {

@@ -1,11 +1,14 @@
 //! A build that needs no list of changes.
-ghost use Rattle.std.specs.Prelude.{◌≡◌, ◌≤◌, ◌+◌, ◌++◌, Some, length, All, IfOk, IfSome};
+ghost use Rattle.std.specs.Prelude.{◌≡◌, ◌≤◌, ◌+◌, ◌++◌, [], Some, length, All, IfOk, IfSome};
 ghost use Rattle.pie_build.specs.Left.{KeepsRest};
 ghost use Rattle.pie_build.specs.inner.Rebuilt.{IsRefusal, Tells};
 ghost use Rattle.pie_incremental.specs.inner.Refused.{RefusesRight};
 ghost use Rattle.pie_incremental.specs.inner.Joined.{IsImage};
+ghost use Rattle.pie_incremental.specs.inner.Updated.{IsAfreshAfter};
 ghost use Rattle.pie_value.specs.Canonical.{IsEncodableTask};
 ghost use Rattle.pie_topdown_build.specs.inner.Offered.{IsNew};
+ghost use Rattle.pie_topdown_build.specs.Clean.{BuildsAsClean};
+ghost use Rattle.pie_topdown_build.specs.inner.Clean.{FromAsClean, OffersClean};
 ghost use Rattle.pie_topdown_build.specs.Refusals.{KeepsRefused};
 
 use crate::base::{Base, Start, find_base, no_base};
@@ -33,6 +36,7 @@ pub fn build_topdown<F: Files>(
     ensures rest { KeepsRest (F.holds files.old) (F.holds files.new) }
     ensures refused { IsRefusal result → F.holds files.new ≡ F.holds files.old }
     ensures kept { IfSome (F.holds files.old) (λ d. IfOk result (λ r. KeepsRefused r.verdict d (F.holds files.new))) }
+    ensures clean { IfSome (F.holds files.old) (λ d. IfOk result (λ r. BuildsAsClean d r (F.holds files.new))) }
     ensures ran { IfOk result (λ r. runs.new ≡ runs.old ++ r.ran.items) }
     ensures few { length runs.new ≤ length runs.old + 50000 }
     ensures encodable { IfOk result (λ r. All IsEncodableTask r.ran.items) }
@@ -60,6 +64,7 @@ pub fn build_offered<F: Files, O: Offers>(
     ensures rest { KeepsRest (F.holds files.old) (F.holds files.new) }
     ensures refused { IsRefusal result → F.holds files.new ≡ F.holds files.old }
     ensures kept { IfSome (F.holds files.old) (λ d. IfOk result (λ o. KeepsRefused o.report.value.verdict d (F.holds files.new))) }
+    ensures clean { IfSome (F.holds files.old) (λ d. IfOk result (λ o. OffersClean (O.told offers.old) d o.report.value (F.holds files.new))) }
     ensures ran { IfOk result (λ o. runs.new ≡ runs.old ++ o.report.value.ran.items) }
     ensures few { length runs.new ≤ length runs.old + 50000 }
     ensures encodable { IfOk result (λ o. All IsEncodableTask o.report.value.ran.items) }
@@ -88,6 +93,7 @@ fn from_store<F: Files>(
     ensures rest { KeepsRest (F.holds files.old) (F.holds files.new) }
     ensures refused { IsRefusal result → F.holds files.new ≡ F.holds files.old }
     ensures kept { IfSome (F.holds files.old) (λ d. IfOk result (λ r. KeepsRefused r.verdict d (F.holds files.new))) }
+    ensures clean { IfOk result (FromAsClean base.value (λ d t digest. []) (F.holds files.old) (F.holds files.new)) }
     ensures ran { IfOk result (λ r. runs.new ≡ runs.old ++ r.ran.items) }
     ensures few { length runs.new ≤ length runs.old + 50000 }
     ensures encodable { IfOk result (λ r. All IsEncodableTask r.ran.items) }
@@ -111,6 +117,7 @@ fn afresh<F: Files>(
     ensures rest { KeepsRest (F.holds files.old) (F.holds files.new) }
     ensures refused { IsRefusal result → F.holds files.new ≡ F.holds files.old }
     ensures kept { IfSome (F.holds files.old) (λ d. IfOk result (λ r. KeepsRefused r.verdict d (F.holds files.new))) }
+    ensures clean { IfSome (F.holds files.old) (λ d. IfOk result (λ r. IsAfreshAfter d r (F.holds files.new) [])) }
     ensures fresh { IfOk result (λ r. r.fresh ≡ Some cause) }
     ensures ran { IfOk result (λ r. runs.new ≡ runs.old ++ r.ran.items) }
     ensures few { length runs.new ≤ length runs.old + 50000 }

@@ -1,9 +1,10 @@
 //! The end of a build: what it made is put into place and reported.
-ghost use Rattle.std.specs.Prelude.{◌≡◌, ◌≤◌, length, drop, All, None, IfOk, IfSome, IsTrue};
+ghost use Rattle.std.specs.Prelude.{◌≡◌, ◌≤◌, true, false, length, drop, All, None, IfOk, IfSome, IsTrue};
 ghost use Rattle.pie_build.specs.Left.{KeepsRest};
 ghost use Rattle.pie_files.specs.Streams.{Counted};
 ghost use Rattle.pie_incremental.specs.inner.Joined.{IsMade};
 ghost use Rattle.pie_value.specs.Canonical.{IsEncodableTask};
+ghost use Rattle.pie_value.specs.Limits.{is_small_task};
 ghost use Rattle.pie_value.specs.declared.verdict.Verdict.TheVariants as verdicts;
 ghost use Rattle.pie_topdown_build.specs.inner.Bases.{Quiet};
 ghost use Rattle.pie_topdown_build.specs.inner.Cleaned.{LeavesBy};
@@ -84,9 +85,10 @@ pub(crate) fn since(alloc: Global, runs: &Runs, before: usize) -> Result<Vec<Tas
 }
 
 /// Whether each root is within the limits of values.
-#[tactic(auto, using(pie_incremental::proofs::Joining::none_small, pie_incremental::proofs::Joining::small_more, pie_incremental::proofs::Joining::all_small))]
+#[tactic(auto, using(pie_incremental::proofs::Joining::none_small, pie_incremental::proofs::Joining::small_more, pie_incremental::proofs::Joining::all_small, pie_incremental::proofs::Joining::one_large))]
 pub(crate) fn are_small(roots: &[Task]) -> bool
     ensures encodable { IsTrue result → All IsEncodableTask roots.now }
+    ensures large { result ≡ false → ¬ (All (λ t. is_small_task t ≡ true) roots.now) }
 {
     for root in roots {
         if !root.is_small() {

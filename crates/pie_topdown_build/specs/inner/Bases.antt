@@ -1,11 +1,22 @@
 -- What the parts of a build without a list say to each other.
-use Rattle.std.specs.Prelude.{◌≡◌, Option}
+use Rattle.std.specs.Prelude.{◌≡◌, ℕ, Option, Some, None}
+use Rattle.std.specs.declared.alloc.Global.{Global}
+use Rattle.std.proofs.Common.{Vec}
 use Rattle.pie_files.specs.Directory.{Directory}
+use Rattle.pie_store.specs.Canonical.{IsStorableStore}
+use Rattle.pie_store.specs.Faults.{HasFault}
+use Rattle.pie_store.specs.Texts.{IsStoreText}
+use Rattle.pie_store.specs.declared.cause.Cause.{Cause}
+use Rattle.pie_store.specs.declared.cause.Cause.TheVariants as causes
+use Rattle.pie_store.specs.declared.image.StoreImage.{StoreImage}
 use Rattle.pie_value.specs.declared.verdict.Verdict.{Verdict}
 use Rattle.pie_value.specs.declared.verdict.Verdict.TheVariants.{Accepted, Refused}
+use Rattle.pie_incremental.specs.Starts.{IsReadable}
 use Rattle.pie_incremental.specs.inner.Joined.{IsImage}
+use Rattle.pie_topdown_build.specs.declared.base.Base.{Base}
 use Rattle.pie_topdown_build.specs.declared.base.Start.{Start}
 use Rattle.pie_topdown_build.specs.declared.base.Start.TheVariants.{Afresh, From}
+use Rattle.pie_topdown_build.specs.Clean.{IsStoreCause}
 
 -- a store that was read has records that can be stored and stand in order
 abbrev pub IsWhole : Start → Type 0
@@ -16,3 +27,38 @@ IsWhole (From b) = IsImage b.value.image
 abbrev pub Quiet : Verdict → Option Directory → Option Directory → Type 0
 Quiet Accepted before after = Unit {0}
 Quiet (Refused r) before after = after ≡ before
+
+-- ---- what a build begins from
+
+-- there was a store to build from: these are the bytes of the directory's, and it says this
+abbrev pub IsReadFrom : Directory → StoreImage → Option (Vec ℕ Global) → Type 0
+IsReadFrom d s None = ⊥
+IsReadFrom d s (Some text) = IsReadable d s text.items
+
+abbrev pub HasBase : Directory → Base → Type 0
+HasBase d b = IsReadFrom d b.image b.store
+
+-- a build of a directory starts afresh for the first cause that holds of it, or from its store
+abbrev pub StartsAt : Directory → Start → Type 0
+StartsAt d (Afresh cause) = IsStoreCause d cause
+StartsAt d (From b) = HasBase d b.value
+
+-- a cause is that these bytes are no store
+abbrev pub IsFaultOf : Vec ℕ Global → Cause → Type 0
+IsFaultOf text causes.Interrupted = ⊥
+IsFaultOf text causes.NoStore = ⊥
+IsFaultOf text (causes.Damaged fault) = HasFault text.items fault
+IsFaultOf text causes.BadPending = ⊥
+IsFaultOf text (causes.UnionCycle tasks) = ⊥
+IsFaultOf text (causes.UnionMany old entered task) = ⊥
+
+-- a base is what these bytes say
+pub record IsTextOf (text : Vec ℕ Global) (b : Base) : Type 0 where
+  pub store : b.store ≡ Some text
+  pub says : IsStoreText b.image text.items
+  pub writable : b.image.version ≡ 2 → IsStorableStore b.image
+
+-- what a build begins from where these are the bytes of the store
+abbrev pub StartsBy : Vec ℕ Global → Start → Type 0
+StartsBy text (Afresh cause) = IsFaultOf text cause
+StartsBy text (From b) = IsTextOf text b.value

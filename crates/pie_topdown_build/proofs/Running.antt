@@ -1,0 +1,124 @@
+-- The evaluation of a build without a list, and its end, as the model of building knows them.
+use Rattle.std.proofs.Common.{◌≡◌, ℕ, true, List, Option, None, Some, Result, Ok, Err, Vec, Global, refl, sym, ap, subst, ◌∙◌}
+use Rattle.std.specs.Prelude.{All, IfOk, IfSome}
+use Rattle.std.proofs.lemmas.List.Elements.{All-weaker}
+use Rattle.pie_build.specs.inner.Projects.{IsReady}
+use Rattle.pie_builder_laws.specs.Events.{AreCompiled}
+use Rattle.pie_checks.specs.declared.built.Built.{Built}
+use Rattle.pie_code.specs.declared.code.Code.{Code}
+use Rattle.pie_core_laws.specs.Update.{Update}
+use Rattle.pie_files.specs.Directory.{Directory}
+use Rattle.pie_files.specs.declared.files.FilesError.{FilesError}
+use Rattle.pie_fresh.specs.Cleans.{IsRootOf}
+use Rattle.pie_model_pipeline.specs.Rows.{verdict_of}
+use Rattle.pie_project.specs.declared.fault.BuildError.{BuildError}
+use Rattle.pie_project.specs.declared.project.Project.{Project}
+use Rattle.pie_record.specs.Canonical.{IsTrueRecord}
+use Rattle.pie_record.specs.declared.task_record.TaskRecord.{TaskRecord}
+use Rattle.pie_report.specs.declared.report.Report.{Report}
+use Rattle.pie_store.specs.declared.image.StoreImage.{StoreImage}
+use Rattle.pie_store.specs.inner.Offers.{Offered as OfferedRecord}
+use Rattle.pie_topdown.specs.inner.Rooted.{IsProgram}
+use Rattle.pie_topdown_result_laws.specs.Builds.{AreHonest, IsFromStore, IsNowHere, MakesClean}
+use Rattle.pie_topdown_result_laws.specs.Results.{IsResultOf}
+use Rattle.pie_value.specs.Limits.{is_small_task}
+use Rattle.pie_value.specs.declared.task.Task.{Task}
+use Rattle.pie_value.specs.declared.verdict.Verdict.{Verdict}
+use Rattle.pie_value.specs.declared.verdict.Verdict.TheVariants.{Accepted}
+use Rattle.pie_incremental.specs.inner.Clean.{BuildsCleanOf, LeavesAsClean}
+use Rattle.pie_incremental.specs.inner.Digested.{digested}
+use Rattle.pie_incremental.specs.inner.Joined.{IsImage}
+use Rattle.pie_topdown_build.specs.declared.base.Base.{Base}
+use Rattle.pie_topdown_build.specs.declared.evaluating.Evaluated.{Evaluated}
+use Rattle.pie_topdown_build.specs.declared.offered.Offered.{Offered}
+use Rattle.pie_topdown_build.specs.inner.Bases.{IsReadFrom}
+use Rattle.pie_topdown_build.specs.inner.Clean.{IsUpdateBy, MakesFrom, RunsAsClean, RunsIfTold}
+use Rattle.pie_topdown_build.specs.inner.Cleaned.{IsStoreIn, LeavesBy}
+
+-- the offers for each task
+abbrev pub Told : Type 0
+Told = Directory → Task → List ℕ → List OfferedRecord
+
+-- ---- the evaluation
+
+-- over files that are as before
+here_still : (u : Update) (before mid : Option Directory) (p : Project) → mid ≡ before → IsNowHere u before p.typed p.roots.items
+    → IsNowHere u mid p.typed p.roots.items
+here_still u before mid p same here = subst (λ m. IsNowHere u m p.typed p.roots.items) (sym same) here
+
+makes_from : (before mid : Option Directory) (p : Project) (codes : List Code) (s t : StoreImage) (told : Told) (b : Built) → mid ≡ before
+    → AreCompiled p.typed codes → IsImage s → t.rows ≡ s.rows → IfSome before (λ d. t ≡ digested d p.digests.items s)
+    → (IsProgram p.typed codes t.rows → MakesClean mid p.typed t.funcs p.digests.items t.rows told p.roots.items b) → MakesFrom before p s told b
+makes_from before mid p codes s t told b same compiled image rows put makes = record {
+  each = λ u here stored honest.
+      (makes (record { compiled = compiled; parts = subst (All IsTrueRecord) (sym rows) image.parts })).each u (here_still u before mid p same here)
+      (from_store u here stored) honest;
+}
+  where
+    from_store : (u : Update) → IsNowHere u before p.typed p.roots.items
+        → IsFromStore u (digested u.directory p.digests.items s).funcs p.digests.items s.rows → IsFromStore u t.funcs p.digests.items t.rows
+    from_store u here stored =
+        let is : t ≡ digested u.directory p.digests.items s = subst (λ o. IfSome o (λ d. t ≡ digested d p.digests.items s)) here.holds put in
+        subst (λ (x : List TaskRecord). IsFromStore u t.funcs p.digests.items x) (sym rows)
+        (subst (λ (x : StoreImage). IsFromStore u x.funcs p.digests.items s.rows) (sym is) stored)
+
+pub evaluates : (before mid : Option Directory) (p : Project) (codes : List Code) (s t : StoreImage) (told : Told) (result : Result Evaluated FilesError)
+    → mid ≡ before → AreCompiled p.typed codes → IsImage s → t.rows ≡ s.rows → IfSome before (λ d. t ≡ digested d p.digests.items s)
+    → (IsProgram p.typed codes t.rows
+    → IfOk result (λ e. MakesClean mid p.typed t.funcs p.digests.items t.rows told p.roots.items e.built.value))
+    → IfOk result (λ e. MakesFrom before p s told e.built.value)
+evaluates before mid p codes s t told (Ok e) same compiled image rows put makes =
+    makes_from before mid p codes s t told e.built.value same compiled image rows put makes
+evaluates before mid p codes s t told (Err x) same compiled image rows put makes = tt
+
+-- ---- its end
+
+module _ (b : Base) (p : Project) (told : Told) (before mid after : Option Directory) (made : Built) (r : Report) (same : mid ≡ before)
+    (makes : MakesFrom before p b.image told made)
+    (leaves : IfSome mid (λ d. LeavesBy made.verdict b.store p.digests.items p.roots.items made d r after)) (is : r.verdict ≡ made.verdict) (u : Update)
+    (from : IsUpdateBy u before b p) (honest : AreHonest u p.digests.items told) where
+  result : IsResultOf u made
+  result = makes.each u from.here from.stored honest
+
+  left : LeavesBy made.verdict b.store p.digests.items p.roots.items made u.directory r after
+  left = subst (λ m. IfSome m (λ d. LeavesBy made.verdict b.store p.digests.items p.roots.items made d r after)) (same ∙ from.here.holds) leaves
+
+  store_in : (o : Option (Vec ℕ Global)) → IsReadFrom u.directory b.image o → IsStoreIn o u.directory
+  store_in None has = absurd has
+  store_in (Some text) has = has.stored
+
+  leaves_clean : made.verdict ≡ Accepted → LeavesAsClean u p.digests.items p.roots.items r after
+  leaves_clean accepted = record {
+    rows = made.rows.items;
+    outputs = made.outputs.items;
+    rows_are = (result.made accepted).rows;
+    outputs_are = result.outputs accepted;
+    left = (subst (λ (v : Verdict). LeavesBy v b.store p.digests.items p.roots.items made u.directory r after) accepted left) u
+        (record { directory = refl; separates = from.here.separates; met = from.here.met; made = result.made accepted }) (store_in b.store from.base);
+  }
+
+  builds_clean : BuildsCleanOf u p.digests.items p.roots.items r after
+  builds_clean = record { verdict = ap verdict_of is ∙ result.verdict; left = λ accepted. leaves_clean (sym is ∙ accepted) }
+
+pub runs_clean : (b : Base) (p : Project) (told : Told) (before mid after : Option Directory) (made : Built) (r : Report) → mid ≡ before
+    → MakesFrom before p b.image told made → IfSome mid (λ d. LeavesBy made.verdict b.store p.digests.items p.roots.items made d r after)
+    → r.verdict ≡ made.verdict → r.fresh ≡ None → RunsAsClean b p told before after r
+runs_clean b p told before mid after made r same makes leaves is none = record {
+  none = none;
+  each = λ u from honest. builds_clean b p told before mid after made r same makes leaves is u from honest;
+}
+
+-- ---- the build of a project
+
+pub runs_ok : (b : Base) (p : Project) (told : Told) (before after : Option Directory) (o : Offered)
+    → RunsAsClean b p told before after o.report.value → RunsIfTold b p told before after o.report.value
+runs_ok b p told before after o runs = record { of = λ d is ready. runs }
+
+-- roots of a project that is observable are within the limits of values
+pub large_ok : (b : Base) (p : Project) (told : Told) (before after : Option Directory) (result : Result Offered BuildError)
+    → ¬ (All (λ t. is_small_task t ≡ true) p.roots.items) → IfOk result (λ o. RunsIfTold b p told before after o.report.value)
+large_ok b p told before after (Err e) large = tt
+large_ok b p told before after (Ok o) large = record { of = λ d is ready. absurd (never ready) }
+  where
+    never : IsReady p.typed p.roots.items → ⊥
+    never ready = large (All-weaker (IsRootOf p.typed) (λ t. is_small_task t ≡ true) (λ t root. root.small) p.roots.items ready.roots)

@@ -1,0 +1,14 @@
+use Rattle.pie_topdown_build.proofs.Starting.{none_starts, stored_starts}
+use Rattle.pie_topdown_build.proofs.base.find_base.Goals as goal
+
+pub returns-in-Some-clause-starts : goal.returns-in-Some-clause-starts
+returns-in-Some-clause-starts g c =
+    stored_starts (g.F.Files.holds c.args.files.now) (g.F.Files.holds c.exists.new.self) c.in_ok-marker.marker c.in_ok-place.place c.in_ok-exists.field-0
+    c.in_ok-found.field-0 c.in_ok-marker.ensures c.if-branch.false c.in_ok-exists.ensures.found c.in_ok-exists.ensures.same c.in_ok-place.ensures
+    c.in_ok-found.ensures.found c.in-Some.found c.in_ok-with_store-in-Some.field-0 c.in-Some.is c.in_ok-with_store-in-Some.ensures.starts
+
+pub returns-clause-starts : goal.returns-clause-starts
+returns-clause-starts g c =
+    none_starts (g.F.Files.holds c.args.files.now) (g.F.Files.holds c.exists.new.self) c.in_ok-marker.marker c.in_ok-place.place c.in_ok-exists.field-0
+    c.in_ok-found.field-0 c.in_ok-marker.ensures c.if-branch.false c.in_ok-exists.ensures.found c.in_ok-exists.ensures.same c.in_ok-place.ensures
+    c.in_ok-found.ensures.found c.in-None.is

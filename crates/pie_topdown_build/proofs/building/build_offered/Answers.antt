@@ -1,0 +1,14 @@
+use Rattle.pie_topdown_build.proofs.Cleanly.{anew_cleans, offered_cleans}
+use Rattle.pie_topdown_build.proofs.building.build_offered.Goals as goal
+
+pub returns-in-Ok-Afresh-clause-clean : goal.returns-in-Ok-Afresh-clause-clean
+returns-in-Ok-Afresh-clause-clean g c =
+    let e = c.in-Ok-Afresh in
+    anew_cleans (g.O.Offers.told c.args.offers.now) e.field-0 e.cause (g.F.Files.holds c.args.files.now) (g.F.Files.holds c.anew.new.files)
+    c.anew.result e.field-0-is e.ensures.starts c.anew.ensures.fresh
+
+pub returns-in-Ok-From-clause-clean : goal.returns-in-Ok-From-clause-clean
+returns-in-Ok-From-clause-clean g c =
+    let e = c.in-Ok-From in
+    offered_cleans (g.O.Offers.told c.args.offers.now) e.field-0 e.base (g.F.Files.holds c.args.files.now) (g.F.Files.holds c.find_base.new.files)
+    (g.F.Files.holds c.from.new.files) c.from.result e.field-0-is e.ensures.starts e.ensures.reads.same c.from.ensures.clean

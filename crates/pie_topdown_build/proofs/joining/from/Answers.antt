@@ -1,0 +1,9 @@
+use Rattle.pie_topdown_build.proofs.Cleanly.{from_project}
+use Rattle.pie_topdown_build.proofs.joining.from.Goals as goal
+
+pub returns-in-Ok-clause-clean : goal.returns-in-Ok-clause-clean
+returns-in-Ok-clause-clean g c =
+    let e = c.in-Ok.ensures in
+    from_project c.args.base.value c.in-Ok.project (g.O.Offers.told c.args.offers.now) (g.F.Files.holds c.args.files.now)
+    (g.F.Files.holds c.read_project.new.files) (g.F.Files.holds c.with_project.new.files) c.with_project.result e.looks.same e.found e.digests e.names e.funcs
+    c.with_project.ensures.clean

@@ -1,0 +1,18 @@
+use Rattle.std.proofs.Common.{◌≡◌, true, List, subst}
+use Rattle.std.specs.List.{All}
+use Rattle.pie_value.specs.Limits.{is_small_task}
+use Rattle.pie_value.specs.declared.task.Task.{Task}
+use Rattle.pie_topdown_build.proofs.Running.{large_ok, runs_ok}
+use Rattle.pie_topdown_build.proofs.joining.with_project.Goals as goal
+
+pub returns-then-not-are_small-clause-clean : goal.returns-then-not-are_small-clause-clean
+returns-then-not-are_small-clause-clean g c =
+    large_ok c.args.base.value c.args.project.now (g.O.Offers.told c.args.offers.now) (g.F.Files.holds c.args.files.now) (g.F.Files.holds c.rebuilt.new.files)
+    c.rebuilt.result
+    (subst (λ (roots : List Task). ¬ (All (λ (t : Task). is_small_task t ≡ true) roots)) c.as_slice.ensures.value
+    (c.are_small.ensures.large c.if-not-are_small.true))
+
+pub returns-in-Ok-clause-clean : goal.returns-in-Ok-clause-clean
+returns-in-Ok-clause-clean g c =
+    runs_ok c.args.base.value c.args.project.now (g.O.Offers.told c.args.offers.now) (g.F.Files.holds c.args.files.now) (g.F.Files.holds c.run.new.files)
+    c.in-Ok.offered c.in-Ok.ensures.clean
