@@ -10,6 +10,7 @@ use Rattle.pie_listing.specs.Listings.{IsListing}
 use Rattle.pie_listing.specs.declared.listing.Listing.{Listing}
 use Rattle.pie_listing.specs.declared.listing.Listing.TheVariants.{Listed, Unlisted}
 use Rattle.pie_report.specs.declared.report.Report.{Report}
+use Rattle.pie_topdown_build.specs.Clean.{BuildsAsClean}
 use Rattle.pie_value.specs.declared.verdict.Verdict.{Verdict}
 use Rattle.pie_value.specs.declared.verdict.Verdict.TheVariants.{Accepted, Refused}
 use Rattle.pie_auto.specs.Kept.{Wrote}
@@ -17,7 +18,7 @@ use Rattle.pie_auto.specs.Kept.{Wrote}
 -- a build by what was found of a directory: by the change list, or without one
 abbrev pub BuildsBy : Listing → Directory → Report → Option Directory → Type 0
 BuildsBy (Listed paths) d r after = TreatsNames paths.items d r after × BuildsClean paths.items d r after
-BuildsBy (Unlisted reason) d r after = Unit {0}
+BuildsBy (Unlisted reason) d r after = BuildsAsClean d r after
 
 -- after an accepted build the manifest of what it left was written; after another one nothing
 abbrev pub Follows : Verdict → List (List ℕ) → Option Directory → Option Directory → Type 0
