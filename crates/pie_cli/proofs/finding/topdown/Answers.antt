@@ -24,6 +24,7 @@ returns-in-Ok-clause-says g c =
       report = report;
       few = few_of 50000 c.new-runs.result c.build_topdown.new.runs report.ran.items c.in-Ok.ensures.ran c.in-Ok.ensures.few;
       kept = c.in-Ok.ensures.kept;
+      clean = c.in-Ok.ensures.clean;
       is = told.ensures.text;
       status = told.ensures.status;
     })
