@@ -1,6 +1,6 @@
 -- A required task answers from how it ended, or closes a cycle, in the words of the model.
-use Rattle.std.proofs.Common.{◌≡◌, ◌⊎◌, ℕ, suc, ◌-◌, ◌<◌, ◌≤◌, Bool, true, false, List, [], ◌∷◌, ◌++◌, Option, None, Some, Result, Ok, Err, length, map, refl, sym, ap, subst, ◌∙◌, inl, arith}
-use Rattle.std.specs.Prelude.{slice_get, IfOk, OnOk, ◌==◌}
+use Rattle.std.proofs.Common.{◌≡◌, ℕ, suc, ◌-◌, ◌<◌, ◌≤◌, Bool, true, false, List, [], ◌∷◌, ◌++◌, Option, None, Some, Result, Ok, Err, length, refl, sym, ap, subst, ◌∙◌, inl, arith}
+use Rattle.std.specs.Prelude.{slice_get, IfOk, OnOk}
 use Rattle.std.specs.List.{Contains}
 use Rattle.std.specs.Option.{option_map}
 use Rattle.std.proofs.lemmas.List.{length-append, length-map}
@@ -9,7 +9,7 @@ use Rattle.pie_value.specs.declared.task.Task.{Task}
 use Rattle.pie_value.specs.declared.value.Value.{Value}
 use Rattle.pie_value.specs.declared.event.Event.TheVariants as events
 use Rattle.pie_value.specs.declared.event.How.{How as Asked}
-use Rattle.pie_value.specs.declared.verdict.Refusal.TheVariants.{Fault, Cycle}
+use Rattle.pie_value.specs.declared.verdict.Refusal.TheVariants.{Fault}
 use Rattle.pie_value.specs.Values.{tree_of}
 use Rattle.pie_value.specs.Limits.{is_small_task}
 use Rattle.pie_value.specs.Canonical.{enc_task, IsCanonicalTask, IsEncodable}
@@ -31,8 +31,8 @@ use Rattle.pie_running.specs.inner.Steps.{Given}
 use Rattle.pie_running.specs.inner.Told.{IsTold}
 use Rattle.pie_model.specs.Paths.{among}
 use Rattle.pie_model.specs.Trees.{is_done, outcome_of}
-use Rattle.pie_model.specs.declared.words.Outcome.TheVariants.{Failed, Cycled}
-use Rattle.pie_model.specs.declared.words.Event.TheVariants.{Require, Fail}
+use Rattle.pie_model.specs.declared.words.Outcome.TheVariants.{Failed}
+use Rattle.pie_model.specs.declared.words.Event.TheVariants.{Fail}
 use Rattle.pie_model.specs.declared.words.Verdict.TheVariants.{Fault as ModelFault}
 use Rattle.pie_model.specs.Records.{Record}
 use Rattle.pie_model.specs.inner.Stack.{Frame as ModelFrame, tasks_of}
@@ -42,9 +42,8 @@ use Rattle.pie_step_laws.proofs.Tables.{no_more}
 use Rattle.pie_settle_laws.specs.Going.{before_wait}
 use Rattle.pie_model_pipeline.specs.Rows as rows
 use Rattle.pie_model_pipeline.specs.Words.{how_of, fault_of}
-use Rattle.pie_model_pipeline.specs.World.{world, next}
+use Rattle.pie_model_pipeline.specs.World.{world}
 use Rattle.pie_builder_laws.specs.Requiring.{of_task, requiring_answer}
-use Rattle.pie_builder_laws.specs.Tables.{recorded}
 use Rattle.pie_builder_laws.proofs.Coded.{unknown_fails}
 use Rattle.pie_builder_laws.proofs.Naming.{placed}
 use Rattle.pie_builder_laws.proofs.Numbered.{code_found}
@@ -53,12 +52,10 @@ use Rattle.pie_core_laws.specs.Update.{Update, present}
 use Rattle.pie_task_laws.specs.Beginning.{calling}
 use Rattle.pie_topdown_laws.specs.Ledgers.{setting}
 use Rattle.pie_topdown_laws.specs.Running.{IsTop}
-use Rattle.pie_topdown_laws.specs.Whole.{waits}
 use Rattle.pie_topdown_laws.proofs.Acting.{requirer_waits, caller_runs, some_left}
 use Rattle.pie_topdown_laws.proofs.Deciding.{failed_decides}
 use Rattle.pie_topdown_laws.proofs.Sinking.{lost_by_names, required_sinks, new_fails}
 use Rattle.pie_topdown.specs.declared.builder.Builder.{Builder}
-use Rattle.pie_topdown.specs.declared.hand.Frame.{Frame}
 use Rattle.pie_topdown.specs.declared.hand.Hand.TheVariants as hands
 use Rattle.pie_topdown.specs.declared.hand.Turn.{Turn}
 use Rattle.pie_topdown.specs.declared.hand.Turn.TheVariants.{Goes}

@@ -42,6 +42,7 @@ use Rattle.pie_topdown.specs.declared.hand.Check.{Check}
 use Rattle.pie_topdown.specs.declared.hand.Hand.TheVariants as hands
 use Rattle.pie_topdown.specs.declared.hand.Turn.TheVariants.{Goes}
 use Rattle.pie_topdown.specs.declared.hand.Rest.{Rest}
+use Rattle.pie_topdown.specs.inner.Due.{IsDueBy}
 use Rattle.pie_topdown.specs.inner.Places.{IsStill, StandsNext}
 use Rattle.pie_running.specs.inner.Coded.{HasFunction}
 use Rattle.pie_topdown.specs.inner.Right.{site_of, build_of, names_of, records_of, IsRightSite, IsSourced, AreHonest, IsUntouched, AreTheBusy, EntersRight, ChecksRight, BeginsCheck, PassesRight}
@@ -60,8 +61,9 @@ module _ (b : Builder) (n : ℕ) (code : Code) (u : Update) (done : List (List �
   top_of = subst (λ (t : Task). IsTop (site_of u b) (build_of b) root fs (begun world (enc_task t))) same_task e.top
 
   pub begins_check : c.no.0 ≡ n → c.code.now ≡ code → c.at ≡ 0 → numbers c.required.items ≡ [] → IsOldRecord (setting u) before (enc_task c.rec.task) (record_of c.rec)
-      → TellsApart (setting u) before → IsTrueRecord c.rec → IsSourced u c.rec c.contents → AreHonest u c.rest → ChecksRight u b root fs c
-  begins_check number coded at none old apart parts source rest =
+      → TellsApart (setting u) before → IsTrueRecord c.rec → IsSourced u c.rec c.contents → IsDueBy u b.plan c.rec c.contents
+      → AreHonest u c.rest → ChecksRight u b root fs c
+  begins_check number coded at none old apart parts source due rest =
       let first = begins_at u before b.ledger.tables.names b.ledger.tables.records root fs c.rec s.listed old top_of.goes in
       let it : ChecksAt u before b.ledger.tables.names b.ledger.tables.records root fs c.rec c.at (numbers c.required.items) =
       subst (λ k. ChecksAt u before b.ledger.tables.names b.ledger.tables.records root fs c.rec k (numbers c.required.items)) (sym at)
@@ -75,6 +77,7 @@ module _ (b : Builder) (n : ℕ) (code : Code) (u : Update) (done : List (List �
               (subst (HasFunction u.functions b.plan.code.now e.task) (sym coded) e.function);
           parts = parts;
           source = source;
+          due = due;
           rest = rest;
         };
         busy = subst (λ (t : Task). AreTheBusy b (enc_task t ∷ tasks_of fs)) same_task e.busy;
@@ -84,11 +87,12 @@ module _ (b : Builder) (n : ℕ) (code : Code) (u : Update) (done : List (List �
 pub begins_with : (b : Builder) (n : ℕ) (code : Code) (rec : TaskRecord) (contents : Option (Vec (Vec ℕ Global) Global)) (rest : Rest) (c : Check) → c.no.0 ≡ n
     → c.code.now ≡ code → c.rec ≡ rec → c.contents ≡ contents → c.rest ≡ rest → c.at ≡ 0 → numbers c.required.items ≡ []
     → slice_get b.ledger.tables.names n ≡ Some rec.task → BeginsCheck b n code rec contents rest c
-begins_with b n code rec contents rest c number coded same held more at none named = λ u done root fs before s e old apart parts source honest.
+begins_with b n code rec contents rest c number coded same held more at none named = λ u done root fs before s e old apart parts source due honest.
     begins_check b n code u done root fs before c s e (subst (λ (x : TaskRecord). slice_get b.ledger.tables.names n ≡ Some x.task) (sym same) named) number coded
     at none (subst (λ (x : TaskRecord). IsOldRecord (setting u) before (enc_task x.task) (record_of x)) (sym same) old) apart
     (subst IsTrueRecord (sym same) parts)
-    (subst (IsSourced u c.rec) (sym held) (subst (λ (x : TaskRecord). IsSourced u x contents) (sym same) source)) (subst (AreHonest u) (sym more) honest)
+    (subst (IsSourced u c.rec) (sym held) (subst (λ (x : TaskRecord). IsSourced u x contents) (sym same) source))
+    (subst (IsDueBy u b.plan c.rec) (sym held) (subst (λ (x : TaskRecord). IsDueBy u b.plan x contents) (sym same) due)) (subst (AreHonest u) (sym more) honest)
 
 -- ---- it passes an observation
 
@@ -150,7 +154,7 @@ module _ (u : Update) (done : List (List ℕ)) (root : List ℕ) (fs : List Mode
     check = record { before = k.check.before; apart = k.check.apart; check = after };
     top = goes_on (setting u) (records_of b) (names_of b) root fs k.check.check.checked.frame k.top after.checked.frame
         (after.checked.task ∙ sym k.check.check.checked.task) after.checked.goes;
-    may = record { untouched = k.may.untouched; function = k.may.function; parts = k.may.parts; source = k.may.source; rest = k.may.rest };
+    may = record { untouched = k.may.untouched; function = k.may.function; parts = k.may.parts; source = k.may.source; due = k.may.due; rest = k.may.rest };
     busy = k.busy;
   }
 

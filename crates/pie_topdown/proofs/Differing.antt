@@ -1,5 +1,5 @@
 -- A check gives way, goes on by what was found, or requires a task, in the words of the model.
-use Rattle.std.proofs.Common.{◌≡◌, ℕ, ◌≤◌, true, List, [], ◌∷◌, ◌++◌, Option, Some, Result, Ok, Err, Vec, length, map, take, refl, sym, ap, subst, ◌∙◌}
+use Rattle.std.proofs.Common.{◌≡◌, ℕ, ◌≤◌, List, [], ◌∷◌, ◌++◌, Option, Some, Result, Ok, Err, Vec, length, map, take, refl, sym, ap, subst, ◌∙◌}
 use Rattle.std.specs.declared.alloc.Global.{Global}
 use Rattle.std.specs.Prelude.{slice_get, drop, IfOk}
 use Rattle.std.specs.List.{Contains}
@@ -7,7 +7,6 @@ use Rattle.std.proofs.lemmas.Option.{slice_get_within, get_or_from_slice_get}
 use Rattle.pie_value.specs.declared.task.Task.{Task}
 use Rattle.pie_value.specs.Canonical.{enc_task, IsEncodableTask}
 use Rattle.pie_files.specs.Directory.{Directory}
-use Rattle.pie_graph.specs.Numbers.{numbers}
 use Rattle.pie_graph.specs.declared.edges.TaskNo.{TaskNo}
 use Rattle.pie_record.specs.Canonical.{IsTrueRecord, IsTrueDep, IsTrueOn, IsTrueTask}
 use Rattle.pie_record.specs.declared.task_record.TaskRecord.{TaskRecord}
@@ -28,6 +27,7 @@ use Rattle.pie_topdown_laws.specs.Ledgers.{setting}
 use Rattle.pie_topdown_laws.proofs.Building.{gives_way}
 use Rattle.pie_topdown_laws.proofs.Stacking.{goes_on}
 use Rattle.pie_topdown.specs.declared.builder.Builder.{Builder}
+use Rattle.pie_topdown.specs.declared.entering.Entry.TheVariants.{Unknown}
 use Rattle.pie_topdown.specs.declared.checking.Place.{Place}
 use Rattle.pie_topdown.specs.declared.checking.Place.TheVariants.{Over, Stands, Differs, Needs}
 use Rattle.pie_topdown.specs.declared.hand.Check.{Check}
@@ -35,10 +35,13 @@ use Rattle.pie_topdown.specs.declared.hand.Rest.TheVariants as rests
 use Rattle.pie_topdown.specs.declared.hand.Turn.{Turn}
 use Rattle.pie_topdown.specs.declared.hand.Turn.TheVariants.{Many}
 use Rattle.pie_topdown.specs.inner.Calling.{ChecksSo}
-use Rattle.pie_topdown.specs.inner.Frames.{IsCheck}
-use Rattle.pie_topdown.specs.inner.Offering.{BeginsSo, TriesSo, DiffersSo, ComparesSo, GoesOnSo, RequiresSo}
+use Rattle.pie_topdown.specs.inner.Frames.{IsCheck, IsSite}
+use Rattle.pie_topdown.specs.inner.Offering.{OffersOrRuns, TriesSo, DiffersSo, ComparesSo, GoesOnSo, RequiresSo}
+use Rattle.pie_topdown.specs.inner.Due.{IsDueAt}
+use Rattle.pie_topdown.specs.inner.Entries.{MayEnter}
 use Rattle.pie_topdown.specs.inner.Places.{Finds, FindsHere, MayGiveWay, NeedsNext}
 use Rattle.pie_topdown.specs.inner.Right.{names_of, records_of, IsPlanNow, AreHonest, AreOffersHonest, EntersRight, ChecksRight, PassesRight, KeepsRight}
+use Rattle.pie_topdown.proofs.Differences.{differs_due, lost_due}
 use Rattle.pie_topdown.proofs.Learnt.{site_by, waiting_by, checks_by}
 use Rattle.pie_topdown.proofs.Pushed.{check_full}
 
@@ -62,17 +65,18 @@ gives_enters u b root fs c named k =
 
 -- its offers are asked for
 pub unasked_differs : {E : Type 0} (held : Option Directory) (told : Directory → Task → List ℕ → List Offered) (b new : Builder) (c : Check) (r : Result Turn E)
-    → IfOk r (BeginsSo held told b c.no.0 c.code.now new) → IfOk r (DiffersSo held told b c new)
+    → IfOk r (OffersOrRuns held told b c.no.0 c.code.now new) → IfOk r (DiffersSo held told b c new)
 unasked_differs held told b new c (Err x) begins = tt
-unasked_differs held told b new c (Ok t) begins = λ u done root fs holds plan honest s waiting e rest. begins u done root fs holds plan honest s waiting e
+unasked_differs held told b new c (Ok t) begins = λ u done root fs holds plan honest s waiting e due rest.
+    begins u done root fs holds plan honest s waiting e due
 
 -- or the next of them is tried
 pub asked_differs : {E : Type 0} (held : Option Directory) (told : Directory → Task → List ℕ → List Offered) (b new : Builder) (c : Check)
     (offers : Vec Offer Global) (r : Result Turn E) → c.rest ≡ rests.Asked offers → IfOk r (TriesSo b c.no.0 c.code.now offers.items new)
     → IfOk r (DiffersSo held told b c new)
 asked_differs held told b new c offers (Err x) is tries = tt
-asked_differs held told b new c offers (Ok t) is tries = λ u done root fs holds plan honest s waiting e rest.
-    tries u done root fs (subst (AreHonest u) is rest) s waiting e
+asked_differs held told b new c offers (Ok t) is tries = λ u done root fs holds plan honest s waiting e due rest.
+    tries u done root fs (subst (AreHonest u) is rest) s waiting e due
 
 -- ---- the tasks that were required have the numbers that the check has
 
@@ -98,7 +102,7 @@ renumbered u b root fs from r is k = record {
     };
   };
   top = k.top;
-  may = record { untouched = k.may.untouched; function = k.may.function; parts = k.may.parts; source = k.may.source; rest = k.may.rest };
+  may = record { untouched = k.may.untouched; function = k.may.function; parts = k.may.parts; source = k.may.source; due = k.may.due; rest = k.may.rest };
   busy = k.busy;
 }
 
@@ -121,12 +125,17 @@ stands_goes held told b c t passes = λ u done root fs before from holds plan ho
     passes u done root fs held before from holds known s waiting k same found
 
 pub differs_goes : {E : Type 0} (held : Option Directory) (told : Directory → Task → List ℕ → List Offered) (b new : Builder) (c : Check) (r : Result Turn E)
-    → MayGiveWay b.ledger c → IfOk r (DiffersSo held told b c new) → IfOk r (GoesOnSo held told b c Differs new)
-differs_goes held told b new c (Err x) may differs = tt
-differs_goes held told b new c (Ok t) may differs = λ u done root fs before from holds plan honest known s waiting k same found.
+    → IsSite b → MayGiveWay b.ledger c → IfOk r (DiffersSo held told b c new) → IfOk r (GoesOnSo held told b c Differs new)
+differs_goes held told b new c (Err x) is may differs = tt
+differs_goes held told b new c (Ok t) is may differs = λ u done root fs before from holds plan honest known s waiting k same found.
     differs u done root fs holds plan honest s waiting
     (subst (λ (x : Check). EntersRight u b root fs x.no.0 x.code.now) (sym same)
     (gives_enters u b root fs from (subst (λ (x : Check). slice_get b.ledger.tables.names x.no.0 ≡ Some x.rec.task) same may.named) k))
+    (subst (λ (x : Check). IsDueAt u b x.no.0) (sym same) (record {
+      task = from.rec.task;
+      named = subst (λ (x : Check). slice_get b.ledger.tables.names x.no.0 ≡ Some x.rec.task) same may.named;
+      due = differs_due u done root b fs from plan is s k found;
+    }))
     (subst (λ (x : Check). AreHonest u x.rest) (sym same) k.may.rest)
 
 pub needs_goes : {E : Type 0} (held : Option Directory) (told : Directory → Task → List ℕ → List Offered) (b new : Builder) (c : Check) (task : Task)
@@ -143,18 +152,24 @@ pub pushed_requires : {E : Type 0} (held : Option Directory) (told : Directory �
 pushed_requires held told b new c task (Err x) checks = tt
 pushed_requires held told b new c task (Ok t) checks = λ u done root fs holds plan honest s waiting k needs. checks u done root fs plan s waiting k needs
 
-pub lost_requires : {E : Type 0} (held : Option Directory) (told : Directory → Task → List ℕ → List Offered) (b new : Builder) (c : Check) (task : Task)
-    (r : Result Turn E) → slice_get b.ledger.tables.names c.no.0 ≡ Some c.rec.task → IfOk r (DiffersSo held told b c new)
-    → IfOk r (RequiresSo held told b c task new)
-lost_requires held told b new c task (Err x) named differs = tt
-lost_requires held told b new c task (Ok t) named differs = λ u done root fs holds plan honest s waiting k needs.
-    differs u done root fs holds plan honest s waiting (gives_enters u b root fs c named k) k.may.rest
-
 -- what a record observed has canonical parts
 called_true : (rec : TaskRecord) (at : ℕ) (dep : Dep) (task : Task) → IsTrueRecord rec → slice_get rec.deps at ≡ Some dep → dep.what ≡ Called task → IsTrueTask task
 called_true rec at dep task parts next what =
     subst IsTrueOn what
     (subst IsTrueDep (get_or_from_slice_get rec.deps at dep dep next) (parts.deps at dep (slice_get_within rec.deps at dep next))).0
+
+-- that is of no function
+pub lost_requires : {E : Type 0} (held : Option Directory) (told : Directory → Task → List ℕ → List Offered) (b new : Builder) (c : Check) (task : Task)
+    (r : Result Turn E) → slice_get b.ledger.tables.names c.no.0 ≡ Some c.rec.task → IfOk r (DiffersSo held told b c new)
+    → MayEnter b task Unknown → IsEncodableTask task → ¬ (Contains b.ledger.tables.names task) → IfOk r (RequiresSo held told b c task new)
+lost_requires held told b new c task (Err x) named differs may encodable absent = tt
+lost_requires held told b new c task (Ok t) named differs may encodable absent = λ u done root fs holds plan honest s waiting k needs.
+    let parts : IsTrueTask task = called_true c.rec c.at needs.dep task k.may.parts needs.next needs.what in
+    differs u done root fs holds plan honest s waiting (gives_enters u b root fs c named k) (record {
+      task = c.rec.task;
+      named = named;
+      due = lost_due u done root b fs c task plan s k needs may (record { encodable = encodable; name = parts.0; leaves = parts.1; bytes = refl }) absent;
+    }) k.may.rest
 
 pub full_requires : (held : Option Directory) (told : Directory → Task → List ℕ → List Offered) (b : Builder) (c : Check) (task : Task)
     → 50000 ≤ length b.ledger.tables.names → IsEncodableTask task → ¬ (Contains b.ledger.tables.names task) → RequiresSo held told b c task b Many

@@ -53,11 +53,13 @@ use Rattle.pie_topdown.specs.declared.builder.Builder.{Builder}
 use Rattle.pie_topdown.specs.declared.hand.Frame.{Frame}
 use Rattle.pie_topdown.specs.declared.hand.Frame.TheVariants as frames
 use Rattle.pie_topdown.specs.inner.Effects.{HasEnded}
+use Rattle.pie_topdown.specs.inner.Frames.{IsOwnRecord}
 use Rattle.pie_topdown.specs.inner.Ledgers.{IsLedger, row_with}
 use Rattle.pie_topdown.specs.inner.Right.{site_of, build_of, names_of, records_of, entries_up, AreWritten, IsRightSite, IsUntouched, IsBesides, AreWaiting, AreTheBusy}
 use Rattle.pie_topdown.specs.inner.Right.{HasEndedAs, CanGoOn, EndedRight}
 use Rattle.pie_topdown.proofs.Keeping.{put_at, put_other}
 use Rattle.pie_topdown.proofs.Entered.{alone}
+use Rattle.pie_topdown.proofs.Lasting.{by_lasts, due_lasts, own_lasts}
 
 one_some : {A : Type 0} (x y : A) → Some x ≡ Some y → x ≡ y
 one_some x y e = cc
@@ -74,6 +76,7 @@ pub record WroteRight (u : Update) (b : Builder) (n : ℕ) (rec : TaskRecord) : 
   pub fetched : (path bytes : List ℕ) → slice_index_or b.ledger.tables.ran.items n false ≡ false → content b.stage n path ≡ Some bytes
       → written_now u rec.task path ≡ Some bytes
   pub ran : (path : List ℕ) → IsMarked b.ledger.tables.ran.items n → content b.stage n path ≡ written_now u rec.task path
+  pub own : slice_index_or b.ledger.tables.ran.items n false ≡ false → IsOwnRecord b.plan rec
 
 -- ---- a record more
 
@@ -130,6 +133,7 @@ module _ (b c : Builder) (n : ℕ) (rec : TaskRecord) (needs : List ℕ) (h : Ha
       function = subst (λ p. HasFunction u.functions p.code.now d.value.rec.task d.value.code.now) (sym same_plan) was.function;
       parts = was.parts;
       source = was.source;
+      due = by_lasts u b.plan c.plan d.value.rec d.value.contents same_plan was.due;
       rest = was.rest;
     }
     besides (frames.Waits d) was = same_flag d.waiting.notes.number ∙ was
@@ -163,6 +167,10 @@ module _ (b c : Builder) (n : ℕ) (rec : TaskRecord) (needs : List ℕ) (h : Ha
       fetched = λ m r path bytes rested k staged.
           fetched m r path bytes (sym (same_flag m) ∙ rested) (sym (same_content m path) ∙ staged) (how m r k);
       ran = λ m r path marked k. same_content m path ∙ ran m r path (sym (same_flag m) ∙ marked) (how m r k);
+      own = λ m r rested k. own_lasts b.plan c.plan r same_plan (own m r (sym (same_flag m) ∙ rested) (how m r k));
+      due = λ m marked.
+          due_lasts u b c m (λ t at. subst (λ (ts : List Task). slice_get ts m ≡ Some t) (sym h.names) at) same_plan
+          (s.written.due m (sym (same_flag m) ∙ marked));
       beyond = λ m path past. same_content m path ∙ s.written.beyond m path (subst (λ (ts : List Task). length ts ≤ m) h.names past);
     }
       where
@@ -185,6 +193,11 @@ module _ (b c : Builder) (n : ℕ) (rec : TaskRecord) (needs : List ℕ) (h : Ha
             ap (λ k. content b.stage k path) e ∙ wrote.ran path (subst (IsMarked b.ledger.tables.ran.items) e marked)
             ∙ ap (λ (x : TaskRecord). written_now u x.task path) (sym q)
         ran m r path marked (was k) = s.written.ran m r path marked k
+
+        own : (m : ℕ) (r : TaskRecord) → slice_index_or b.ledger.tables.ran.items m false ≡ false → Came m r → IsOwnRecord b.plan r
+        own m r rested (put e q) =
+            subst (IsOwnRecord b.plan) (sym q) (wrote.own (subst (λ k. slice_index_or b.ledger.tables.ran.items k false ≡ false) e rested))
+        own m r rested (was k) = s.written.own m r rested k
 
     outputs : (m : ℕ) (r : TaskRecord) → kept_of c.ledger.tables.records m ≡ Some r → IsTrueOutcome r.outcome
     outputs m r k = by (how m r k)

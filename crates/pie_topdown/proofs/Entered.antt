@@ -44,6 +44,7 @@ use Rattle.pie_topdown.specs.inner.Ledgers.{IsLedger}
 use Rattle.pie_topdown.specs.inner.Frames.{IsSite}
 use Rattle.pie_topdown.specs.inner.Right.{site_of, build_of, names_of, records_of, entries_up, AreWritten, IsRightSite, IsUntouched, IsBesides, AreWaiting, AreTheBusy}
 use Rattle.pie_topdown.specs.inner.Right.{EntersSite}
+use Rattle.pie_topdown.proofs.Lasting.{by_lasts, due_lasts, own_lasts}
 use Rattle.pie_topdown.proofs.Keeping.{named_more}
 
 -- ---- flags
@@ -132,6 +133,7 @@ module _ (b c : Builder) (t : Task) (e : HasEntered b t c) (fresh : kept_of b.le
     function = subst (λ p. HasFunction u.functions p.code.now d.value.rec.task d.value.code.now) (sym same_plan) is.function;
     parts = is.parts;
     source = is.source;
+    due = by_lasts u b.plan c.plan d.value.rec d.value.contents same_plan is.due;
     rest = is.rest;
   }
   entered_besides u (frames.Waits d) is = same_flag d.waiting.notes.number ∙ is
@@ -153,6 +155,8 @@ module _ (b c : Builder) (t : Task) (e : HasEntered b t c) (fresh : kept_of b.le
     fetched = λ n rec path bytes rested kept staged.
         is.fetched n rec path bytes (sym (same_flag n) ∙ rested) (sym (same_kept n) ∙ kept) (sym (same_content n path) ∙ staged);
     ran = λ n rec path marked kept. same_content n path ∙ is.ran n rec path (sym (same_flag n) ∙ marked) (sym (same_kept n) ∙ kept);
+    own = λ n rec rested kept. own_lasts b.plan c.plan rec same_plan (is.own n rec (sym (same_flag n) ∙ rested) (sym (same_kept n) ∙ kept));
+    due = λ n marked. due_lasts u b c n (entered_names n) same_plan (is.due n (sym (same_flag n) ∙ marked));
     beyond = λ n path past.
         let size : length c.ledger.tables.names ≡ length b.ledger.tables.names + 1 = ap length e.added.names ∙ length-append b.ledger.tables.names (t ∷ []) in
         same_content n path ∙ is.beyond n path (omega (arith, past, size));

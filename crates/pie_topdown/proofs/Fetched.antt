@@ -1,5 +1,5 @@
 -- The file that a task is about to look at is staged, and what tasks staged that run stays.
-use Rattle.std.proofs.Common.{◌≡◌, ◌⊎◌, ℕ, ◌<◌, ◌≤◌, ◌&&◌, Bool, true, false, cond, List, [], ◌∷◌, Option, None, Some, Result, Ok, Err, map, refl, sym, ap, subst, ◌∙◌, inl, inr, arith, bytes_eq}
+use Rattle.std.proofs.Common.{◌≡◌, ◌⊎◌, ℕ, ◌<◌, ◌&&◌, Bool, true, false, cond, List, [], ◌∷◌, Option, None, Some, Result, Ok, Err, map, refl, sym, ap, subst, ◌∙◌, inl, inr, arith, bytes_eq}
 use Rattle.std.specs.Prelude.{slice_get, slice_index_or, option_map, is_some, IfSome, OnOk, All}
 use Rattle.std.specs.List.{Contains}
 use Rattle.std.specs.declared.cmp.Ordering.TheVariants.{Less, Equal, Greater}
@@ -47,6 +47,7 @@ use Rattle.pie_topdown.specs.inner.Ledgers.{HasOutput}
 use Rattle.pie_topdown.specs.inner.Right.{AreWritten, IsPlanNow, IsRightSite}
 use Rattle.pie_topdown.specs.inner.Sights.{IsStaged, SeenIsStaged, Lacks}
 use Rattle.pie_topdown.proofs.Touched.{IsSameBut, touched_site}
+use Rattle.pie_topdown.proofs.Lasting.{due_lasts}
 
 -- ---- one content more
 
@@ -210,6 +211,8 @@ module _ (u : Update) (done : List (List ℕ)) (root : List ℕ) (b : Builder) (
         | inl same ↦ same ∙ s.written.ran n rec p flag kept
         | inr put ↦ absurd (ran_not (subst (IsMarked b.ledger.tables.ran.items) put.same_task flag))
       ];
+      own = s.written.own;
+      due = λ n marked. due_lasts u b (record b { stage = later }) n (λ t at. at) refl (s.written.due n marked);
       beyond = λ n p past. elim (put_cases b.stage later writer path bytes puts n p) [
         | inl same ↦ same ∙ s.written.beyond n p past
         | inr put ↦ absurd (let within = slice_get_within b.ledger.tables.names writer may.rec.task names_kept in let same = put.same_task in omega (arith, past, within, same))

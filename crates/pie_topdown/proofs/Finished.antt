@@ -24,7 +24,6 @@ use Rattle.pie_core_laws.specs.Update.{Update}
 use Rattle.pie_task_laws.specs.Coming.{left_as}
 use Rattle.pie_topdown_laws.specs.Running.{DoneAbove, EndsAbove}
 use Rattle.pie_topdown.specs.declared.builder.Builder.{Builder}
-use Rattle.pie_topdown.specs.declared.ledger.Ledger.{Ledger}
 use Rattle.pie_topdown.specs.declared.hand.Hand.TheVariants as hands
 use Rattle.pie_topdown.specs.declared.hand.Turn.{Turn}
 use Rattle.pie_topdown.specs.declared.hand.Turn.TheVariants.{Goes}
@@ -89,6 +88,7 @@ module _ (b c : Builder) (n : Noted) (v : Value) (kept : HasKept b n.number (lef
     there = λ rested. let no_way : true ≡ false = sym h.ran ∙ rested in absurd (cc);
     fetched = λ path bytes rested staged. let no_way : true ≡ false = sym h.ran ∙ rested in absurd (cc);
     ran = λ path marked. D.right.staged path;
+    own = λ rested. let no_way : true ≡ false = sym h.ran ∙ rested in absurd (cc);
   }
 
   pub done_right : IsRight u done root c hands.Ended

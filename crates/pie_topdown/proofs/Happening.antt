@@ -137,8 +137,10 @@ write_turn b later new n w path bytes t turn is number left answered wrote told 
     let stays : (k : ℕ) → (k ≡ w.notes.number → ⊥) → StaysOf b c k =
     λ k apart. record { content = λ p. write_beside (is_out path) w b.stage later path bytes t wrote k apart p; flag = refl } in
     told u done root fs
-    (own_site u done root b fs R.frame w.notes.number w.notes.task s R.top R.means.task R.means.named c (stage_same b later) stays)
-    (own_waiting u done root b fs R.frame w.notes.number w.notes.task s R.top R.means.task R.means.named c (stage_same b later) stays is waiting)
+    (own_site u done root b fs R.frame w.notes.number w.notes.task s R.top R.means.task R.means.named c (stage_same b later) stays
+    (s.written.due w.notes.number))
+    (own_waiting u done root b fs R.frame w.notes.number w.notes.task s R.top R.means.task R.means.named c (stage_same b later) stays
+    (s.written.due w.notes.number) is waiting)
     (subst (λ k. IsToldRight u c root fs k t) (sym number) (record {
       task = w.notes.task;
       named = R.means.named;

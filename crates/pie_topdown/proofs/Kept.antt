@@ -34,6 +34,7 @@ use Rattle.pie_topdown.specs.declared.builder.Builder.{Builder}
 use Rattle.pie_topdown.specs.declared.hand.Check.{Check}
 use Rattle.pie_topdown.specs.declared.hand.Hand.TheVariants as hands
 use Rattle.pie_topdown.specs.declared.hand.Turn.{Turn}
+use Rattle.pie_topdown.specs.inner.Due.{IsDueBy}
 use Rattle.pie_topdown.specs.inner.Frames.{IsCheck}
 use Rattle.pie_topdown.specs.inner.Effects.{HasEnded}
 use Rattle.pie_topdown.specs.inner.Ledgers.{row_with}
@@ -104,6 +105,7 @@ module _ (b c : Builder) (check : Check) (kept : HasKept b check.no.0 check.rec 
         let none : Some bytes ≡ None = sym staged ∙ k.may.untouched.unstaged path in absurd (cc);
     ran = λ path marked.
         let no : true ≡ false = sym marked ∙ k.may.untouched.rested in absurd (cc);
+    own = λ rested. subst (IsDueBy u b.plan check.rec) own k.may.due;
   }
 
   output : Gave check.rec.outcome

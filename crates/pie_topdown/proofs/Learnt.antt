@@ -1,5 +1,5 @@
 -- More is known of the files, and nothing else changed: what was right is.
-use Rattle.std.proofs.Common.{◌≡◌, ℕ, List, sym, subst}
+use Rattle.std.proofs.Common.{◌≡◌, ℕ, List, refl, sym, subst}
 use Rattle.std.specs.Prelude.{slice_index_or}
 use Rattle.pie_code.specs.declared.code.Code.{Code}
 use Rattle.pie_named.specs.declared.named.Named.{Named}
@@ -11,6 +11,7 @@ use Rattle.pie_topdown.specs.declared.hand.Check.{Check}
 use Rattle.pie_topdown.specs.declared.hand.Frame.{Frame}
 use Rattle.pie_topdown.specs.declared.hand.Frame.TheVariants as frames
 use Rattle.pie_topdown.specs.inner.Right.{IsRightSite, IsUntouched, MayStillRun, IsBesides, AreWaiting, EntersRight, ChecksRight}
+use Rattle.pie_topdown.proofs.Lasting.{due_lasts}
 
 module _ (b : Builder) (n : Named) where
   abbrev after : Builder
@@ -21,7 +22,7 @@ module _ (b : Builder) (n : Named) where
     untouched k is = record { rested = is.rested; unstaged = is.unstaged }
 
     may : (c : Check) → MayStillRun u b c → MayStillRun u after c
-    may c is = record { untouched = untouched c.no.0 is.untouched; function = is.function; parts = is.parts; source = is.source; rest = is.rest }
+    may c is = record { untouched = untouched c.no.0 is.untouched; function = is.function; parts = is.parts; source = is.source; due = is.due; rest = is.rest }
 
     besides : (f : Frame) → IsBesides u b f → IsBesides u after f
     besides (frames.Checks d) is = may d.value is
@@ -30,7 +31,14 @@ module _ (b : Builder) (n : Named) where
     learnt_site : (done : List (List ℕ)) (root : List ℕ) → IsTrueOf u.directory n → IsRightSite u done root b → IsRightSite u done root after
     learnt_site done root known s = record {
       ledger = s.ledger;
-      written = record { there = s.written.there; fetched = s.written.fetched; ran = s.written.ran; beyond = s.written.beyond };
+      written = record {
+        there = s.written.there;
+        fetched = s.written.fetched;
+        ran = s.written.ran;
+        own = s.written.own;
+        due = λ k marked. due_lasts u b after k (λ t at. at) refl (s.written.due k marked);
+        beyond = s.written.beyond;
+      };
       outputs = s.outputs;
       known = known;
       calm = s.calm;

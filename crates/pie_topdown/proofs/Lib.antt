@@ -36,3 +36,13 @@ pub mod Reused
 pub mod Stepping
 pub mod Required
 pub mod Asked
+pub mod Lasting
+pub mod Stamped
+pub mod Agreeing
+pub mod Reasoning
+pub mod Differences
+pub mod Marking
+pub mod Totals
+pub mod Knowing
+pub mod Concluding
+pub mod Telling

@@ -1,5 +1,5 @@
 -- A check that goes on by one observation.
-use Rattle.std.proofs.Common.{◌≡◌, ℕ, ◌+◌, ◌<◌, ◌≤◌, Bool, true, false, not, ◌&&◌, List, [], ◌∷◌, ◌++◌, Option, Some, None, Vec, Result, Ok, Err, length, map, take, get_or, refl, sym, ap, subst, ◌∙◌}
+use Rattle.std.proofs.Common.{Contains, ◌≡◌, ℕ, ◌+◌, ◌<◌, ◌≤◌, Bool, true, false, not, ◌&&◌, List, [], ◌∷◌, ◌++◌, Option, Some, None, Vec, Result, Ok, Err, length, map, take, get_or, refl, sym, ap, subst, ◌∙◌, arith}
 use Rattle.std.specs.declared.alloc.Global.{Global}
 use Rattle.std.specs.Prelude.{slice_get, IfOk}
 use Rattle.std.specs.List.{All}
@@ -35,7 +35,7 @@ use Rattle.pie_topdown.specs.inner.Frames.{IsCheck}
 use Rattle.pie_files.specs.Directory.{Directory}
 use Rattle.pie_topdown.specs.declared.builder.Builder.{Builder}
 use Rattle.pie_topdown.specs.declared.checking.Place.TheVariants.{Stands, Differs}
-use Rattle.pie_topdown.specs.inner.Places.{beside, AsksSource, Finds, IsKnownOther, IsPassed}
+use Rattle.pie_topdown.specs.inner.Places.{beside, AsksSource, Finds, IsKnownOther, IsPassed, IsUnentered}
 use Rattle.pie_topdown.proofs.Growing.{tasks_push}
 
 file_path : (p q : List ℕ) → File p ≡ File q → p ≡ q
@@ -157,16 +157,53 @@ finds_standing held old new c r d stands at asked tells so = record {
   here = record { dep = d; next = at; stands = tells.only so; still = λ dir holds knew. asked.still dir holds knew refl };
 }
 
+one_dep : (x y : Dep) → Some x ≡ Some y → x ≡ y
+one_dep x y q = cc
+
+-- the task that the next observation is of was entered
+entered_next : (old new : Builder) (c : Check) (d : Dep) → new.ledger ≡ old.ledger → slice_get c.rec.deps c.at ≡ Some d → IsUnentered old.ledger d.what None
+    → (dep : Dep) (t : Task) → slice_get c.rec.deps c.at ≡ Some dep → c.at ≤ 1000000 → dep.what ≡ Called t → Contains new.ledger.tables.names t
+entered_next old new c d same at entered dep t next few what =
+    subst (λ (l : Ledger). Contains l.tables.names t) (sym same)
+    (entered t (ap (λ (x : Dep). x.what) (one_dep d dep (sym at ∙ next)) ∙ what))
+
 pub finds_other : (held : Option Directory) (old new : Builder) (c after : Check) (r : Vec TaskNo Global) (d : Dep) (stands : Bool)
-    → slice_get c.rec.deps c.at ≡ Some d → AsksSource held old.named new.named d false
+    → slice_get c.rec.deps c.at ≡ Some d → c.at < length c.rec.deps → new.ledger ≡ old.ledger → IsUnentered old.ledger d.what None
+    → AsksSource held old.named new.named d false
     → Tells (DepStands (beside new c.rec.writes) (numbers c.required.items) d) stands (numbers r.items) → stands ≡ false → Finds held old new c after Differs
-finds_other held old new c after r d stands at asked tells no_more = record {
+finds_other held old new c after r d stands at inside same entered asked tells no_more = record {
   known = asked.known;
-  here = λ e more next few h.
-      let same : e ≡ d = one_dep e d (sym next ∙ at) in
-      let told : stands ≡ true = (tells.each more (subst (λ (x : Dep). DepStands (beside new c.rec.writes) (numbers c.required.items) x more) same h)).0 in
-      absurd (cc);
+  here = record {
+    inside = inside;
+    cant = λ e more next few h.
+        let one : e ≡ d = one_dep e d (sym next ∙ at) in
+        let told : stands ≡ true = (tells.each more (subst (λ (x : Dep). DepStands (beside new c.rec.writes) (numbers c.required.items) x more) one h)).0 in
+        absurd (cc);
+    entered = entered_next old new c d same at entered;
+  };
 }
-  where
-    one_dep : (x y : Dep) → Some x ≡ Some y → x ≡ y
-    one_dep x y q = cc
+
+-- a source has another stamp
+pub finds_source : (held : Option Directory) (old new : Builder) (c after : Check) (d : Dep) → slice_get c.rec.deps c.at ≡ Some d → c.at < length c.rec.deps
+    → new.ledger ≡ old.ledger → IsUnentered old.ledger d.what None → AsksSource held old.named new.named d true → Finds held old new c after Differs
+finds_source held old new c after d at inside same entered asked = record {
+  known = asked.known;
+  here = record {
+    inside = inside;
+    cant = λ e more next few h.
+        other_fails new.named (beside new c.rec.writes) (numbers c.required.items) more d refl (asked.other refl)
+        (subst (λ (x : Dep). DepStands (beside new c.rec.writes) (numbers c.required.items) x more) (one_dep e d (sym next ∙ at)) h);
+    entered = entered_next old new c d same at entered;
+  };
+}
+
+-- a record has more observations than a task can make
+pub finds_past : (held : Option Directory) (b : Builder) (c after : Check) → c.at < length c.rec.deps → 1000000 < c.at → Finds held b b c after Differs
+finds_past held b c after inside past = record {
+  known = λ d holds known. known;
+  here = record {
+    inside = inside;
+    cant = λ dep more next few h. absurd (omega (arith, few, past));
+    entered = λ dep t next few what. absurd (omega (arith, few, past));
+  };
+}

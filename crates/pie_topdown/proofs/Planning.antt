@@ -1,5 +1,5 @@
 -- How a build without a list begins, in the words of the model.
-use Rattle.std.proofs.Common.{◌≡◌, ◌⊎◌, ℕ, zero, suc, ◌<◌, Bool, true, false, cond, List, [], ◌∷◌, Option, None, Some, length, map, get_or, refl, sym, ap, subst, ◌∙◌, inl, inr, arith, bytes_eq}
+use Rattle.std.proofs.Common.{◌≡◌, ℕ, zero, suc, ◌<◌, Bool, true, false, cond, List, [], ◌∷◌, Option, None, Some, length, map, get_or, refl, sym, ap, subst, ◌∙◌, inl, inr, arith, bytes_eq}
 use Rattle.std.specs.Prelude.{slice_get}
 use Rattle.std.specs.List.{All}
 use Rattle.std.proofs.lemmas.List.{get_or-map, length-map}
@@ -16,10 +16,8 @@ use Rattle.pie_record.specs.declared.task_record.TaskRecord.{TaskRecord}
 use Rattle.pie_record.specs.inner.Records.{record_of as kept_of}
 use Rattle.pie_store.specs.Canonical.{tasks_in}
 use Rattle.pie_store.specs.inner.Offers.{Offered}
-use Rattle.pie_tables.specs.declared.tables.Tables.{Tables}
 use Rattle.pie_old.specs.inner.Code.{digest_in, kept, is_same_code}
 use Rattle.pie_model.specs.Paths.{among}
-use Rattle.pie_model.specs.Records.{Record}
 use Rattle.pie_model.specs.Running.{IsDistinct}
 use Rattle.pie_model.proofs.Basics.{bytes_same, same_bytes, clash}
 use Rattle.pie_model_pipeline.specs.Rows.{record_of}
@@ -37,7 +35,7 @@ use Rattle.pie_topdown.proofs.Topmost.{never, one_some}
 
 -- ---- records of a store
 
-task_at : (rows : List TaskRecord) (n : ℕ) (rec : TaskRecord) → slice_get rows n ≡ Some rec → slice_get (tasks_in rows) n ≡ Some rec.task
+pub task_at : (rows : List TaskRecord) (n : ℕ) (rec : TaskRecord) → slice_get rows n ≡ Some rec → slice_get (tasks_in rows) n ≡ Some rec.task
 task_at [] n rec e = cc
 task_at (r ∷ rs) zero rec e = ap (λ (x : TaskRecord). Some x.task) (one_some r rec e)
 task_at (r ∷ rs) (suc n) rec e = task_at rs n rec e
@@ -92,7 +90,7 @@ module _ (fs : List FunctionTree) (codes : List Code) (funcs digests : List (Lis
     where
       by : AreOldTables rows p.earlier → (slice_get rows n ≡ Some rec) × (p.earlier.names ≡ tasks_in rows)
       by (inl t) = (sym (t.records n) ∙ have, t.names)
-      by (inr t) = absurd (never rec (sym (t.records n) ∙ have))
+      by (inr t) = absurd (never rec (sym (t.1.records n) ∙ have))
 
   module _ (u : Update) (held : Option Directory) (roots : List Task) (program : IsProgram fs codes rows) (storable : All IsStorable rows)
       (here : IsNowHere u held fs roots) (stored : IsFromStore u funcs digests rows) where
@@ -126,3 +124,12 @@ module _ (fs : List FunctionTree) (codes : List Code) (funcs digests : List (Lis
       plan = plan_now;
       honest = λ t digest found. honest t digest (sym (digests_same digests t.func) ∙ sym (is.digest t.func) ∙ found);
     }
+
+-- ---- too many rows
+
+tasks_length : (rows : List TaskRecord) → length (tasks_in rows) ≡ length rows
+tasks_length [] = refl
+tasks_length (r ∷ rs) = ap suc (tasks_length rs)
+
+pub many_rows : (rows : List TaskRecord) (t : Task) → slice_get (tasks_in rows) 50000 ≡ Some t → 50000 < length rows
+many_rows rows t e = let within = slice_get_within (tasks_in rows) 50000 t e in let size = tasks_length rows in omega (arith, within, size)

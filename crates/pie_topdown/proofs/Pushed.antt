@@ -1,5 +1,5 @@
 -- A task is entered above one that waits for it from then on, in the words of the model.
-use Rattle.std.proofs.Common.{◌≡◌, ◌⊎◌, ℕ, suc, ◌-◌, ◌<◌, ◌≤◌, Bool, true, false, List, [], ◌∷◌, ◌++◌, Option, None, Some, Bor, Box, Result, Ok, Err, Vec, length, map, refl, sym, ap, subst, ◌∙◌, inl, arith}
+use Rattle.std.proofs.Common.{◌≡◌, ℕ, suc, ◌-◌, ◌<◌, ◌≤◌, Bool, true, false, List, [], ◌∷◌, ◌++◌, Option, None, Some, Bor, Box, Result, Ok, Err, Vec, length, map, refl, sym, ap, subst, ◌∙◌, inl, arith}
 use Rattle.std.specs.declared.alloc.Global.{Global}
 use Rattle.std.specs.Prelude.{slice_get, slice_index_or, All, IfOk}
 use Rattle.std.specs.List.{Contains}
@@ -33,7 +33,7 @@ use Rattle.pie_step_laws.specs.Frames.{begun, set_aside}
 use Rattle.pie_settle_laws.proofs.Leaving.{required_has}
 use Rattle.pie_model_pipeline.specs.Rows.{how_by}
 use Rattle.pie_model_pipeline.specs.Words.{how_of}
-use Rattle.pie_model_pipeline.specs.World.{world, next}
+use Rattle.pie_model_pipeline.specs.World.{world}
 use Rattle.pie_builder_laws.specs.Names.{AreTasks, called_in}
 use Rattle.pie_builder_laws.proofs.Naming.{named_to}
 use Rattle.pie_core_laws.specs.Update.{Update, present}
@@ -63,6 +63,7 @@ use Rattle.pie_topdown.specs.inner.Right.{site_of, build_of, names_of, records_o
 use Rattle.pie_topdown.proofs.Entered.{entered_names, entered_records, entered_all, entered_beside, entered_busy, entered_number, canonical_at, flag_more}
 use Rattle.pie_topdown.proofs.Touched.{restacked_site, restacked_untouched, restacked_besides}
 use Rattle.pie_topdown.proofs.Waited.{entries_push}
+use Rattle.pie_topdown.proofs.Lasting.{by_lasts}
 
 -- a task that isn't among the entered ones has other bytes than they
 pub absent_among : (names : List Task) (t : Task) → AreTasks names → IsCanonicalTask t (enc_task t) → ¬ (Contains names t) → among (enc_task t) (map enc_task names) ≡ false
@@ -222,6 +223,7 @@ module _ (u : Update) (b c : Builder) (t : Task) (e : HasEntered b t c) (root : 
     function = subst (λ p. HasFunction u.functions p.code.now k.rec.task k.code.now) (sym (ap (λ x. x.plan) e.rest)) h.may.function;
     parts = h.may.parts;
     source = h.may.source;
+    due = by_lasts u b.plan c.plan k.rec k.contents (ap (λ x. x.plan) e.rest) h.may.due;
     rest = h.may.rest;
   }
 

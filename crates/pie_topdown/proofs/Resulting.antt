@@ -1,6 +1,6 @@
 -- What a build without a list makes, in the words of the model.
-use Rattle.std.proofs.Common.{◌≡◌, ◌⊎◌, ℕ, ◌<◌, true, List, [], ◌∷◌, Option, None, Some, length, map, refl, sym, ap, subst, ◌∙◌, inl, inr, arith}
-use Rattle.std.specs.Prelude.{slice_get, IfSome}
+use Rattle.std.proofs.Common.{◌≡◌, ℕ, true, List, [], ◌∷◌, Option, None, Some, length, map, refl, sym, ap, subst, ◌∙◌, inl, inr, arith, Bool, false}
+use Rattle.std.specs.Prelude.{IfSome}
 use Rattle.std.specs.List.{All}
 use Rattle.std.proofs.lemmas.List.Elements.{All-nil, All-contains}
 use Rattle.std.proofs.lemmas.Option.{slice_get_cases, slice_get_within}
@@ -11,6 +11,7 @@ use Rattle.pie_value.specs.Canonical.{enc_task, IsCanonicalTask}
 use Rattle.pie_code.specs.declared.code.Code.{Code}
 use Rattle.pie_parser.specs.FunctionTrees.{FunctionTree}
 use Rattle.pie_files.specs.Directory.{Directory}
+use Rattle.pie_graph.specs.Numbers.{IsMarked}
 use Rattle.pie_record.specs.Canonical.{IsStorable}
 use Rattle.pie_record.specs.declared.task_record.TaskRecord.{TaskRecord}
 use Rattle.pie_record.specs.inner.Records.{record_of as kept_of}
@@ -47,6 +48,11 @@ no_rows (x ∷ xs) e = absurd (omega (arith, e))
 no_tasks : AreTasks []
 no_tasks = record { distinct = λ i j d l m same. absurd (omega (arith, m)); canonical = All-nil (λ (t : Task). IsCanonicalTask t (enc_task t)) }
 
+-- no flag is set of none
+pub unmarked : (flags : List Bool) (n : ℕ) → length flags ≡ 0 → IsMarked flags n → ⊥
+unmarked [] n none marked = clash {A = ⊥} false marked refl
+unmarked (f ∷ fs) n none marked = omega (arith, none)
+
 module _ (b : Builder) (site : IsSite b) (is : IsUnbegun b) where
   none_kept : (n : ℕ) → kept_of b.ledger.tables.records n ≡ None
   none_kept n = by (kept_of b.ledger.tables.records n) refl (site.ledger.tables.records n)
@@ -79,6 +85,8 @@ module _ (b : Builder) (site : IsSite b) (is : IsUnbegun b) where
       there = λ n rec rested kept. no_record n rec kept;
       fetched = λ n rec path bytes rested kept staged. no_record n rec kept;
       ran = λ n rec path marked kept. no_record n rec kept;
+      own = λ n rec rested kept. no_record n rec kept;
+      due = λ n marked. absurd (unmarked b.ledger.tables.ran.items n (site.ledger.tables.flags ∙ ap length is.names) marked);
       beyond = λ n path past. ap (λ s. content s n path) is.stage;
     };
     outputs = λ n rec kept. no_record n rec kept;
@@ -129,7 +137,7 @@ made_settled b roots made settled makes stored u apart met are s =
 module _ (held : Option Directory) (fs : List FunctionTree) (codes : List Code) (funcs digests : List (List ℕ × List ℕ)) (rows : List TaskRecord)
     (told : Directory → Task → List ℕ → List Offered) (roots : List Task) (a b : Builder) (made : Built) (program : IsProgram fs codes rows)
     (storable : All IsStorable rows) (site : IsSite a) (plan : IsPlanOf fs codes funcs digests rows a.plan) (unbegun : IsUnbegun a) where
-  ends_so : (u : Update) (why : Option Refusal) → SettlesAllRight held told a roots b why → IsNowHere u held fs roots → IsFromStore u funcs digests rows
+  pub ends_so : (u : Update) (why : Option Refusal) → SettlesAllRight held told a roots b why → IsNowHere u held fs roots → IsFromStore u funcs digests rows
       → AreHonest u digests told → RootsEndRight u b why
   ends_so u why settles here stored honest =
       settles u (build_now fs codes funcs digests rows a.plan plan u held roots program storable here stored told honest) here.roots_are

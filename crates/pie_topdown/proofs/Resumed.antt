@@ -1,5 +1,5 @@
 -- What waits goes on, and tasks begin to run, in the words of the model.
-use Rattle.std.proofs.Common.{◌≡◌, ℕ, ◌<◌, true, false, List, [], ◌∷◌, ◌++◌, Some, Box, Vec, Result, Ok, Err, length, refl, sym, ap, subst, ◌∙◌, inl, arith}
+use Rattle.std.proofs.Common.{◌≡◌, ℕ, true, false, List, [], ◌∷◌, ◌++◌, Some, Box, Vec, Result, Ok, Err, length, refl, sym, ap, subst, ◌∙◌, inl, arith}
 use Rattle.std.specs.declared.alloc.Global.{Global}
 use Rattle.std.specs.Prelude.{slice_get, slice_index_or, All, IfOk}
 use Rattle.std.specs.Option.{option_to_list}
@@ -165,14 +165,14 @@ module _ (b c : Builder) (n : ℕ) (code : Code) (t : Task) (f : RunningTask) (l
       (let within = slice_get_within b.ledger.tables.names n t named in let flags = is.ledger.tables.flags in omega (arith, within, flags))
 
   pub starts_turn : StartsSo b n code c (Goes (hands.Runs f))
-  starts_turn = λ u done root fs s waiting e.
+  starts_turn = λ u done root fs s waiting e due.
       let one : e.task ≡ t = one_some e.task t (sym e.named ∙ named) in
       let top : IsTop (site_of u b) (build_of b) root fs (begun world (enc_task t)) =
       subst (λ (x : Task). IsTop (site_of u b) (build_of b) root fs (begun world (enc_task x))) one e.top in
       inl (record {
-        site = own_site u done root b fs (begun world (enc_task t)) n t s top refl named c start_same stays;
+        site = own_site u done root b fs (begun world (enc_task t)) n t s top refl named c start_same stays (λ so. due);
         fs = fs;
-        waiting = own_waiting u done root b fs (begun world (enc_task t)) n t s top refl named c start_same stays is waiting;
+        waiting = own_waiting u done root b fs (begun world (enc_task t)) n t s top refl named c start_same stays (λ so. due) is waiting;
         hand = record {
           runs = begins_above (site_of u c) (build_of c) root fs t n f
               (subst (λ (ts : List Task). slice_get ts n ≡ Some t) (sym ledger.names) named)

@@ -1,11 +1,10 @@
 -- An offered record stands: its task ends with it as one that ran, in the words of the model.
 use Rattle.std.proofs.Common.{◌≡◌, ℕ, ◌≤◌, true, false, List, [], ◌∷◌, Option, None, Some, Vec, Result, Ok, Err, length, map, refl, sym, ap, subst, ◌∙◌, inl, arith}
 use Rattle.std.specs.declared.alloc.Global.{Global}
-use Rattle.std.specs.Prelude.{slice_get, slice_index_or, IfOk}
+use Rattle.std.specs.Prelude.{slice_index_or, IfOk}
 use Rattle.std.specs.Option.{option_map, option_or}
 use Rattle.std.proofs.lemmas.List.{take_all, get_or-set_same, get_or-set_other}
 use Rattle.std.proofs.lemmas.Option.{slice_get_within}
-use Rattle.pie_value.specs.declared.task.Task.{Task}
 use Rattle.pie_value.specs.Values.{tree_of}
 use Rattle.pie_value.specs.Canonical.{enc_task, IsCanonicalTask, IsEncodable}
 use Rattle.pie_graph.specs.Numbers.{numbers, IsMarked}
@@ -41,6 +40,7 @@ use Rattle.pie_topdown.specs.declared.builder.Builder.{Builder}
 use Rattle.pie_topdown.specs.declared.hand.Check.{Check}
 use Rattle.pie_topdown.specs.declared.hand.Hand.TheVariants as hands
 use Rattle.pie_topdown.specs.declared.hand.Turn.{Turn}
+use Rattle.pie_topdown.specs.inner.Due.{IsDueAt, IsDueBy}
 use Rattle.pie_topdown.specs.inner.Frames.{IsCheck, IsSite}
 use Rattle.pie_topdown.specs.inner.Effects.{HasEnded}
 use Rattle.pie_topdown.specs.inner.Ledgers.{row_with}
@@ -155,12 +155,16 @@ module _ (b c : Builder) (check : Check) (contents : Vec (Vec ℕ Global) Global
       let size = ap length first.ran in
       omega (arith, within, flags, size))
 
+  its_due : IsMarked mid.ledger.tables.ran.items check.no.0 → IsDueAt u b check.no.0
+  its_due so = record { task = check.rec.task; named = checks.named; due = subst (IsDueBy u b.plan check.rec) own k.may.due }
+
   site : IsRightSite u done root mid
   site = own_site u done root b fs k.check.check.checked.frame check.no.0 check.rec.task s k.top k.check.check.checked.task checks.named mid same stays
+      its_due
 
   waiting_then : AreWaiting u mid root fs
   waiting_then = own_waiting u done root b fs k.check.check.checked.frame check.no.0 check.rec.task s k.top k.check.check.checked.task checks.named mid same
-      stays is waiting
+      stays its_due is waiting
 
   top : IsTop (site_of u mid) (build_of mid) root fs k.check.check.checked.frame
   top = touched_top b mid same u root fs k.check.check.checked.frame k.top
@@ -202,6 +206,7 @@ module _ (b c : Builder) (check : Check) (contents : Vec (Vec ℕ Global) Global
     there = λ rested. let no : true ≡ false = sym marked ∙ rested in absurd (cc);
     fetched = λ path bytes rested had. let no : true ≡ false = sym marked ∙ rested in absurd (cc);
     ran = λ path so. staged path;
+    own = λ rested. let no : true ≡ false = sym marked ∙ rested in absurd (cc);
   }
 
   output : Gave check.rec.outcome

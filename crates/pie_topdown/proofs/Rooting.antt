@@ -1,5 +1,5 @@
 -- Roots, one after another, in the words of the model.
-use Rattle.std.proofs.Common.{◌≡◌, ◌⊎◌, ℕ, ◌+◌, ◌<◌, ◌≤◌, Bool, true, false, List, [], ◌∷◌, ◌++◌, Option, None, Some, Bor, length, map, refl, sym, ap, subst, ◌∙◌, inl, inr, arith}
+use Rattle.std.proofs.Common.{◌≡◌, ◌⊎◌, ℕ, ◌<◌, ◌≤◌, Bool, true, false, List, [], ◌∷◌, ◌++◌, Option, None, Some, Bor, length, refl, sym, ap, subst, ◌∙◌, inl, inr, arith}
 use Rattle.std.specs.Prelude.{slice_get, option_map, All}
 use Rattle.std.specs.List.{Contains}
 use Rattle.std.proofs.lemmas.List.{length-map}
@@ -24,7 +24,6 @@ use Rattle.pie_model.specs.Paths.{among}
 use Rattle.pie_model.specs.Records.{Record}
 use Rattle.pie_model.specs.Trees.{is_done, HasTask}
 use Rattle.pie_model.specs.Evaluation.{evaluation}
-use Rattle.pie_model.specs.declared.words.Event.TheVariants.{Fail}
 use Rattle.pie_model.specs.declared.words.Outcome.TheVariants.{Failed}
 use Rattle.pie_model.proofs.Basics.{among_here, among_right, among_either, clash}
 use Rattle.pie_step_laws.specs.Frames.{begun}
@@ -59,6 +58,7 @@ use Rattle.pie_topdown.specs.inner.Turns.{Keeps}
 use Rattle.pie_topdown.proofs.Answering.{no_function}
 use Rattle.pie_topdown.proofs.Entered.{alone, canonical_at, entered_all, entered_busy, entered_number, entered_records, last_unrecorded}
 use Rattle.pie_topdown.proofs.Keeping.{named_more}
+use Rattle.pie_topdown.proofs.Lasting.{due_lasts}
 use Rattle.pie_topdown.proofs.Topmost.{never, one_some}
 use Rattle.pie_topdown.proofs.Turning.{build_then}
 
@@ -94,6 +94,8 @@ rest_settled u done root b is = record {
     there = is.site.written.there;
     fetched = is.site.written.fetched;
     ran = is.site.written.ran;
+    own = is.site.written.own;
+    due = λ k marked. due_lasts u b (record b { failure = None }) k (λ t at. at) refl (is.site.written.due k marked);
     beyond = is.site.written.beyond;
   };
   outputs = is.site.outputs;

@@ -1,5 +1,5 @@
 -- A step keeps a build right, or leaves why it failed, by what is in hand.
-use Rattle.std.proofs.Common.{◌≡◌, ◌⊎◌, ℕ, List, Option, Result, Ok, Err, Box, Bor, inl, inr}
+use Rattle.std.proofs.Common.{ℕ, List, Option, Result, Ok, Err, Box, Bor, inl, inr}
 use Rattle.std.specs.declared.alloc.Global.{Global}
 use Rattle.std.specs.Prelude.{IfOk, OnOk}
 use Rattle.pie_value.specs.declared.task.Task.{Task}

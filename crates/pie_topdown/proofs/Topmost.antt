@@ -1,5 +1,5 @@
 -- The task in hand is none of those that have ended or wait, so what is done for it changes nothing of them.
-use Rattle.std.proofs.Common.{◌≡◌, ℕ, ◌≤◌, true, List, ◌∷◌, None, Some, length, sym, ap, subst, ◌∙◌, arith}
+use Rattle.std.proofs.Common.{◌≡◌, ℕ, ◌≤◌, true, List, ◌∷◌, None, Some, length, sym, ap, subst, ◌∙◌, arith, ◌⊎◌, inl, inr}
 use Rattle.std.specs.Prelude.{slice_get}
 use Rattle.std.proofs.lemmas.Option.{slice_get_within}
 use Rattle.pie_value.specs.declared.task.Task.{Task}
@@ -13,8 +13,12 @@ use Rattle.pie_core_laws.specs.Update.{Update}
 use Rattle.pie_topdown_laws.specs.Checks.{AreUnderWay}
 use Rattle.pie_topdown_laws.specs.Running.{IsTop}
 use Rattle.pie_topdown.specs.declared.builder.Builder.{Builder}
+use Rattle.pie_topdown.specs.inner.Due.{IsDueAt}
 use Rattle.pie_topdown.specs.inner.Frames.{IsSite}
 use Rattle.pie_topdown.specs.inner.Right.{site_of, build_of, names_of, records_of, AreWritten, IsRightSite, AreWaiting}
+use Rattle.pie_core_laws.proofs.Exactly.{same_or_not}
+use Rattle.pie_graph.specs.Numbers.{IsMarked}
+use Rattle.pie_topdown.proofs.Lasting.{due_lasts, own_lasts}
 use Rattle.pie_topdown.proofs.Kept.{no_kept, not_recorded}
 use Rattle.pie_topdown.proofs.Touched.{IsSameBut, StaysOf, kept_is, touched_site, touched_waiting}
 
@@ -44,7 +48,7 @@ module _ (u : Update) (done : List (List ℕ)) (root : List ℕ) (b : Builder) (
       clash {A = ⊥} (among f.task (tasks_of fs)) (subst (λ z. among z (tasks_of fs) ≡ true) (ap enc_task one ∙ sym task) on) top.goes.once.0
 
   -- only of it was something staged, or it was marked
-  module _ (c : Builder) (e : IsSameBut b c) (stays : (n : ℕ) → (n ≡ k → ⊥) → StaysOf b c n) where
+  module _ (c : Builder) (e : IsSameBut b c) (stays : (n : ℕ) → (n ≡ k → ⊥) → StaysOf b c n) (its : IsMarked c.ledger.tables.ran.items k → IsDueAt u b k) where
     own_written : AreWritten u c
     own_written = record {
       there = λ n rec rested kept.
@@ -58,11 +62,19 @@ module _ (u : Update) (done : List (List ℕ)) (root : List ℕ) (b : Builder) (
           let was = sym (kept_is b c e n) ∙ kept in
           let same = stays n (kept_apart n rec was) in
           same.content path ∙ s.written.ran n rec path (sym same.flag ∙ marked) was;
+      own = λ n rec rested kept.
+          let was = sym (kept_is b c e n) ∙ kept in
+          own_lasts b.plan c.plan rec e.plan (s.written.own n rec (sym (stays n (kept_apart n rec was)).flag ∙ rested) was);
+      due = λ n marked. due_lasts u b c n (λ v at. subst (λ (ts : List Task). slice_get ts n ≡ Some v) (sym e.names) at) e.plan (due n marked (same_or_not k n));
       beyond = λ n path past.
           let here = subst (λ ts. length ts ≤ n) e.names past in
           (stays n (inside n here)).content path ∙ s.written.beyond n path here;
     }
       where
+        due : (n : ℕ) → IsMarked c.ledger.tables.ran.items n → (n ≡ k) ⊎ (n ≡ k → ⊥) → IsDueAt u b n
+        due n marked (inl same) = subst (IsDueAt u b) (sym same) (its (subst (IsMarked c.ledger.tables.ran.items) same marked))
+        due n marked (inr apart) = s.written.due n (sym (stays n apart).flag ∙ marked)
+
         inside : (n : ℕ) → length b.ledger.tables.names ≤ n → n ≡ k → ⊥
         inside n past same = let within = slice_get_within b.ledger.tables.names k t named in omega (arith, past, same, within)
 

@@ -1,5 +1,5 @@
 -- Nothing changed but what is staged and marked: what that leaves right.
-use Rattle.std.proofs.Common.{◌≡◌, ℕ, true, false, List, ◌∷◌, Option, None, Some, Vec, map, sym, ap, subst, ◌∙◌}
+use Rattle.std.proofs.Common.{◌≡◌, ℕ, true, false, List, Option, None, Some, Vec, map, sym, ap, subst, ◌∙◌, refl}
 use Rattle.std.specs.declared.alloc.Global.{Global}
 use Rattle.std.specs.Prelude.{slice_get, slice_index_or, All}
 use Rattle.pie_value.specs.declared.task.Task.{Task}
@@ -28,6 +28,7 @@ use Rattle.pie_topdown.specs.declared.hand.Frame.{Frame}
 use Rattle.pie_topdown.specs.declared.hand.Frame.TheVariants as frames
 use Rattle.pie_topdown.specs.inner.Frames.{IsFrame, IsSite}
 use Rattle.pie_topdown.specs.inner.Right.{site_of, build_of, names_of, records_of, entry_of, entries_up, AreWritten, IsRightSite, IsUntouched, MayStillRun, IsBesides, AreWaiting, AreTheBusy}
+use Rattle.pie_topdown.proofs.Lasting.{by_lasts, due_lasts}
 use Rattle.pie_topdown.proofs.Waited.{task_up, waits_among}
 
 -- all but what is staged and marked is as it was
@@ -91,6 +92,7 @@ module _ (b c : Builder) (e : IsSameBut b c) where
       function = subst (λ p. HasFunction u.functions p.code.now d.value.rec.task d.value.code.now) (sym e.plan) was.function;
       parts = was.parts;
       source = was.source;
+      due = by_lasts u b.plan c.plan d.value.rec d.value.contents e.plan was.due;
       rest = was.rest;
     }
     besides (frames.Waits d) on frame was = (stay d.waiting.notes.number d.waiting.notes.task frame.noted.task on).flag ∙ was
@@ -129,7 +131,14 @@ module _ (b c : Builder) (e : IsSameBut b c) where
 
 module _ (b : Builder) (v : Vec Frame Global) where
   pub restacked_written : (u : Update) → AreWritten u b → AreWritten u (record b { stack = v })
-  restacked_written u w = record { there = w.there; fetched = w.fetched; ran = w.ran; beyond = w.beyond }
+  restacked_written u w = record {
+    there = w.there;
+    fetched = w.fetched;
+    ran = w.ran;
+    own = w.own;
+    due = λ k marked. due_lasts u b (record b { stack = v }) k (λ t at. at) refl (w.due k marked);
+    beyond = w.beyond;
+  }
 
   pub restacked_site : (u : Update) (done : List (List ℕ)) (root : List ℕ) → IsRightSite u done root b → IsRightSite u done root (record b { stack = v })
   restacked_site u done root s = record {
@@ -152,6 +161,7 @@ module _ (b : Builder) (v : Vec Frame Global) where
     function = may.function;
     parts = may.parts;
     source = may.source;
+    due = may.due;
     rest = may.rest;
   }
 

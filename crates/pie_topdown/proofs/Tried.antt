@@ -1,7 +1,7 @@
 -- Offers are asked for, and the next of them is checked, in the words of the model.
 use Rattle.std.proofs.Common.{◌≡◌, ℕ, ◌<◌, List, [], ◌∷◌, ◌++◌, Option, Some, Box, Result, Ok, Err, Vec, length, map, take, sym, ap, subst, ◌∙◌, inl, arith, append_assoc}
 use Rattle.std.specs.declared.alloc.Global.{Global}
-use Rattle.std.specs.Prelude.{slice_index_or, IfOk, IfSome}
+use Rattle.std.specs.Prelude.{slice_get, slice_index_or, IfOk, IfSome}
 use Rattle.std.specs.List.{All, remove}
 use Rattle.std.specs.BTreeMap.{get_by_text}
 use Rattle.std.proofs.lemmas.List.Elements.{All-cons, All-head, All-tail, All-take}
@@ -27,8 +27,12 @@ use Rattle.pie_topdown.specs.declared.hand.Rest.TheVariants as rests
 use Rattle.pie_topdown.specs.declared.hand.Turn.{Turn}
 use Rattle.pie_topdown.specs.declared.hand.Turn.TheVariants.{Goes}
 use Rattle.pie_topdown.specs.inner.Calling.{StartsSo}
-use Rattle.pie_topdown.specs.inner.Offering.{BeginsSo, OffersSo, Takes, TriesSo, ChecksOffer}
+use Rattle.pie_topdown.specs.inner.Due.{IsDue}
+use Rattle.pie_topdown.specs.inner.Offering.{OffersOrRuns, OffersSo, Takes, TriesSo, ChecksOffer}
 use Rattle.pie_topdown.specs.inner.Right.{BeginsCheck}
+
+one_some : (x y : Task) → Some x ≡ Some y → x ≡ y
+one_some x y e = cc
 
 -- ---- what is offered
 
@@ -87,32 +91,35 @@ pub check_tries : {E : Type 0} (b new : Builder) (n : ℕ) (code : Code) (old af
 check_tries b new n code old after o (Err x) all takes checks = tt
 check_tries b new n code old after o (Ok t) all takes checks =
     let taken : All IsOffer (o.value ∷ after) = behind IsOffer takes.0 (o.value ∷ after) (subst (All IsOffer) takes.1 all) in
-    λ u done root fs honest s waiting e.
+    λ u done root fs honest s waiting e due.
     checks (All-head IsOffer o.value after taken).parts u done root fs
-    (behind (λ x. IsHonest u (offered x)) takes.0 (o.value ∷ after) (subst (All (λ x. IsHonest u (offered x))) takes.1 honest)) s waiting e
+    (behind (λ x. IsHonest u (offered x)) takes.0 (o.value ∷ after) (subst (All (λ x. IsHonest u (offered x))) takes.1 honest)) s waiting e due
 
 -- or it runs, where none is left
 pub start_tries : {E : Type 0} (b new : Builder) (n : ℕ) (code : Code) (old : List Offer) (r : Result Turn E) → IfOk r (StartsSo b n code new)
     → IfOk r (TriesSo b n code old new)
 start_tries b new n code old (Err x) starts = tt
-start_tries b new n code old (Ok t) starts = λ u done root fs honest s waiting e. starts u done root fs s waiting e
+start_tries b new n code old (Ok t) starts = λ u done root fs honest s waiting e due. starts u done root fs s waiting e due
 
 -- its check begins
 pub offer_checks : (b : Builder) (n : ℕ) (code : Code) (offer : Offer) (rest : Vec Offer Global) (c : Box Check Global)
+    → slice_get b.ledger.tables.names n ≡ Some offer.row.task
     → BeginsCheck b n code offer.row (Some offer.contents) (rests.Asked rest) c.value → ChecksOffer b n code offer rest.items b (Goes (hands.Checks c))
-offer_checks b n code offer rest c begins parts = λ u done root fs honest s waiting e.
+offer_checks b n code offer rest c named begins parts = λ u done root fs honest s waiting e due.
     let h : IsHonest u (offered offer) = All-head (λ x. IsHonest u (offered x)) offer rest.items honest in
     inl (record {
       site = s;
       fs = fs;
       waiting = waiting;
       hand = begins u done root fs h.before s e (honest_old u (offered offer) h) (honest_apart u (offered offer) h) parts h
+          (subst (IsDue u b.plan) (one_some due.task offer.row.task (sym due.named ∙ named)) due.due)
           (All-tail (λ x. IsHonest u (offered x)) offer rest.items honest);
     })
 
 -- they are asked for
 pub asks_begins : {E : Type 0} (held : Option Directory) (told : Directory → Task → List ℕ → List Offered) (b new : Builder) (n : ℕ) (code : Code)
-    (found : List Offer) (r : Result Turn E) → OffersSo held told b found → IfOk r (TriesSo b n code found new) → IfOk r (BeginsSo held told b n code new)
+    (found : List Offer) (r : Result Turn E) → OffersSo held told b found → IfOk r (TriesSo b n code found new)
+    → IfOk r (OffersOrRuns held told b n code new)
 asks_begins held told b new n code found (Err x) offers tries = tt
-asks_begins held told b new n code found (Ok t) offers tries = λ u done root fs holds plan honest s waiting e.
-    tries u done root fs (offers u holds honest) s waiting e
+asks_begins held told b new n code found (Ok t) offers tries = λ u done root fs holds plan honest s waiting e due.
+    tries u done root fs (offers u holds honest) s waiting e due

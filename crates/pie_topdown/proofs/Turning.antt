@@ -76,7 +76,7 @@ module _ (held mid : Option Directory) (told later : Directory → Task → List
   one_more =
       ap (map enc_task) (take_more roots i t inside ∙ ap (λ (x : Task). take i roots ++ x ∷ []) (sym at)) ∙ map-append enc_task (take i roots) (t ∷ [])
 
-  listed : (u : Update) → map enc_task roots ≡ u.roots → among (enc_task t) u.roots ≡ true
+  pub listed : (u : Update) → map enc_task roots ≡ u.roots → among (enc_task t) u.roots ≡ true
   listed u are =
       subst (λ ts. among (enc_task t) ts ≡ true) (split ∙ are)
       (among_right (enc_task t) (map enc_task (take i roots)) (enc_task t ∷ map enc_task (drop (i + 1) roots))

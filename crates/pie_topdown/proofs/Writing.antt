@@ -1,14 +1,15 @@
 -- What records wrote, one write after another.
-use Rattle.std.proofs.Common.{◌≡◌, ℕ, ◌+◌, ◌<◌, ◌≤◌, Bool, true, false, not, List, [], ◌∷◌, ◌++◌, Option, Some, length, take, get_or, refl, sym, ap, subst, ◌∙◌}
+use Rattle.std.proofs.Common.{◌≡◌, ℕ, zero, suc, ◌+◌, ◌<◌, ◌≤◌, Bool, true, false, not, List, [], ◌∷◌, ◌++◌, Option, Some, length, take, get_or, refl, sym, ap, subst, ◌∙◌, inl, inr, arith}
 use Rattle.std.specs.List.{All}
 use Rattle.std.proofs.lemmas.List.{take_more, take_all}
 use Rattle.std.proofs.lemmas.List.Elements.{All-push}
 use Rattle.pie_files.specs.Directory.{Directory}
 use Rattle.pie_named.specs.declared.named.Named.{Named}
+use Rattle.pie_named.specs.inner.Stamped.{stamp_in, differs_from}
 use Rattle.pie_value.specs.declared.stamp.Stamp.TheVariants.{Hash}
 use Rattle.pie_record.specs.declared.dep.DepKind.TheVariants.{ReadHash}
 use Rattle.pie_named.specs.inner.Known.{Compares, IsTrueOf}
-use Rattle.pie_topdown.specs.inner.Written.{IsThereIn, FindsThere}
+use Rattle.pie_topdown.specs.inner.Written.{IsThereIn, IsOneGone, FindsThere, FindsGone}
 
 -- so many of these writes are there, over files that hold a directory
 abbrev FoundSoFar : Option Directory → Named → Named → List (List ℕ × List ℕ) → ℕ → Type 0
@@ -56,3 +57,31 @@ wrote_there held old new w differs told = λ d holds so_far. record {
     no_more : (b : Bool) → not b ≡ true → b ≡ false
     no_more true e = absurd (cc)
     no_more false e = refl
+
+pub gone_here : (held : Option Directory) (old new : Named) (w : List ℕ × List ℕ) (differs : Bool) → Compares held old new ReadHash w.0 (Hash w.1) differs
+    → FindsGone held old (λ d. IsOneGone d (w ∷ [])) (not differs)
+gone_here held old new w differs told = λ d holds so_far lost. inl (sym (told d holds so_far).is ∙ so differs lost)
+  where
+    so : (b : Bool) → not b ≡ false → b ≡ true
+    so true e = refl
+    so false e = absurd (cc)
+
+-- ---- one of them is gone
+
+one_gone : (d : Directory) (ws : List (List ℕ × List ℕ)) (i : ℕ) (w : List ℕ × List ℕ) → i < length ws → w ≡ get_or ws i w → IsOneGone d (w ∷ []) → IsOneGone d ws
+one_gone d [] i w l e h = absurd (omega (arith, l))
+one_gone d (x ∷ xs) zero w l e h = by h
+  where
+    by : IsOneGone d (w ∷ []) → IsOneGone d (x ∷ xs)
+    by (inl so) = inl (subst (λ (z : List ℕ × List ℕ). differs_from (stamp_in d ReadHash z.0) (Hash z.1) ≡ true) e so)
+    by (inr none) = absurd none
+one_gone d (x ∷ xs) (suc i) w l e h = inr (one_gone d xs i w (omega (arith, l)) e h)
+
+pub found_gone : (held mid : Option Directory) (old now : Named) (writes : List (List ℕ × List ℕ)) (i : ℕ) (w : List ℕ × List ℕ) (stands : Bool) → mid ≡ held
+    → FoundSoFar held old now writes i → i < length writes → w ≡ get_or writes i w → stands ≡ false → FindsGone mid now (λ d. IsOneGone d (w ∷ [])) stands
+    → FindsGone held old (λ d. IsOneGone d writes) false
+found_gone held mid old now writes i w stands same before inside at lost one = λ d holds so_far lost_here.
+    one_gone d writes i w inside at (one d (same ∙ holds) (before d holds so_far).0 lost)
+
+pub none_gone : (held : Option Directory) (old : Named) (writes : List (List ℕ × List ℕ)) → FindsGone held old (λ d. IsOneGone d writes) true
+none_gone held old writes = λ d holds so_far lost_here. absurd (cc)

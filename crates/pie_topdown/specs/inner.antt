@@ -5,6 +5,7 @@ pub mod Turns
 pub mod Places
 pub mod Written
 pub mod Effects
+pub mod Due
 pub mod Right
 pub mod Entries
 pub mod Roots
@@ -14,3 +15,4 @@ pub mod Asking
 pub mod Calling
 pub mod Rooted
 pub mod Offering
+pub mod Ran

@@ -1,12 +1,14 @@
 //! Entered tasks that begin: with the check of an old record, with offers, or with a run.
-ghost use Rattle.std.specs.Prelude.{◌≡◌, ◌<◌, ◌≤◌, ◌+◌, length, Some, true, false, slice_get, slice_index_or, IfOk, IfSome, OnOk};
+ghost use Rattle.std.specs.Prelude.{◌≡◌, ◌<◌, ◌≤◌, ◌+◌, length, Some, None, true, false, slice_get, slice_index_or, IfOk, IfSome, OnOk};
 ghost use Rattle.pie_files.specs.Reading.{ReadsOnly};
 ghost use Rattle.pie_record.specs.Canonical.{IsStorable};
 ghost use Rattle.pie_results.specs.inner.Failures.{is_done as specs_is_done};
 ghost use Rattle.pie_topdown.specs.inner.Calling.{StartsSo};
+ghost use Rattle.pie_topdown.specs.inner.Due.{LacksOwn};
 ghost use Rattle.pie_topdown.specs.inner.Frames.{AreOffers, IsCheck, IsOwnRecord, MayStart, IsSite};
 ghost use Rattle.pie_topdown.specs.inner.Offering.{BeginsSo, BeginsWith};
 ghost use Rattle.pie_topdown.specs.inner.Right.{BeginsCheck};
+ghost use Rattle.pie_topdown.specs.inner.Ran.{Marks};
 ghost use Rattle.pie_topdown.specs.inner.Turns.{TurnsTo, check_mass, rest_mass, below, Nearer, room, Spends, StartsOne, Keeps};
 
 use crate::builder::Builder;
@@ -42,6 +44,7 @@ impl<'a> Builder<'a> {
         ensures starts { StartsOne runs.old runs.new }
         ensures few { length runs.new ≤ length runs.old + (room self.old + 1) }
         ensures kept { OnOk result (Keeps self.old self.new) }
+        ensures marks { OnOk result (Marks self.old no.0 self.new runs.old runs.new) }
         ensures reads { ReadsOnly F.holds F.moment F.left_since F.images F.faults files.old files.new result }
         ensures told { O.told offers.new ≡ O.told offers.old }
         ensures right { IfOk result (BeginsSo (F.holds files.old) (O.told offers.old) self.old no.0 code.now self.new) }
@@ -59,8 +62,10 @@ impl<'a> Builder<'a> {
         requires number { no.0 < length self.now.ledger.tables.names }
         ensures storable { IfOk result (λ found. IfSome found (λ rec. IsStorable rec.value × (slice_get self.now.ledger.tables.names no.0 ≡ Some rec.value.task))) }
         ensures own { IfOk result (λ found. IfSome found (λ rec. IsOwnRecord self.now.plan rec.value)) }
+        ensures none { IfOk result (LacksOwn self.now no.0) }
     {
         let _names = self.ledger.tables.names.as_slice();
+        let _earlier = self.plan.earlier.names.as_slice();
         let task = self.ledger.tables.names.task(no);
         let Some(old) = self.plan.earlier.names.number(task)? else {
             return Ok(None);
@@ -98,6 +103,7 @@ impl<'a> Builder<'a> {
         ensures starts { StartsOne runs.old runs.new }
         ensures few { length runs.new ≤ length runs.old + (room self.old + 1) }
         ensures kept { OnOk result (Keeps self.old self.new) }
+        ensures marks { OnOk result (Marks self.old no.0 self.new runs.old runs.new) }
         ensures reads { ReadsOnly F.holds F.moment F.left_since F.images F.faults files.old files.new result }
         ensures told { O.told offers.new ≡ O.told offers.old }
         ensures right { IfOk result (BeginsWith (F.holds files.old) (O.told offers.old) self.old no.0 code.now rec.value self.new) }
@@ -155,6 +161,7 @@ impl<'a> Builder<'a> {
         ensures starts { StartsOne runs.old runs.new }
         ensures few { length runs.new ≤ length runs.old + (room self.old + 1) }
         ensures kept { OnOk result (Keeps self.old self.new) }
+        ensures marks { OnOk result (Marks self.old no.0 self.new runs.old runs.new) }
         ensures right { IfOk result (StartsSo self.old no.0 code.now self.new) }
     {
         let _names = self.ledger.tables.names.as_slice();
@@ -172,7 +179,8 @@ impl<'a> Builder<'a> {
 
 // A record, if its task gave an output.
 fn copy_done(alloc: Global, rec: &TaskRecord) -> Result<Option<Box<TaskRecord>>, OutOfMemory>
-    ensures { IfOk result (λ found. IfSome found (λ r. (r.value ≡ rec.now) × (specs_is_done rec.now.outcome ≡ true))) }
+    ensures copy { IfOk result (λ found. IfSome found (λ r. (r.value ≡ rec.now) × (specs_is_done rec.now.outcome ≡ true))) }
+    ensures none { IfOk result (λ found. found ≡ None → specs_is_done rec.now.outcome ≡ false) }
 {
     if !is_done(&rec.outcome) {
         return Ok(None);

@@ -4,6 +4,7 @@ ghost use Rattle.pie_files.specs.Reading.{ReadsOnly};
 ghost use Rattle.pie_topdown.specs.inner.Calling.{ResumesSo};
 ghost use Rattle.pie_topdown.specs.inner.Frames.{IsSite};
 ghost use Rattle.pie_topdown.specs.inner.Right.{StepsRight};
+ghost use Rattle.pie_topdown.specs.inner.Ran.{StaysMarked, MarksBy};
 ghost use Rattle.pie_topdown.specs.inner.Turns.{Stands, TurnsTo, hand_mass, below, Nearer, hand_room, room, Fits, Spends, StartsOne, Keeps};
 
 use crate::hand::{Frame, Hand, Turn};
@@ -53,6 +54,7 @@ impl<'a> Builder<'a> {
         ensures starts { StartsOne runs.old runs.new }
         ensures few { length runs.new ≤ length runs.old + (room self.old + hand_room hand.entry) }
         ensures kept { OnOk result (Keeps self.old self.new) }
+        ensures marks { OnOk result (MarksBy self.old hand.entry self.new runs.old runs.new) }
         ensures reads { ReadsOnly F.holds F.moment F.left_since F.images F.faults files.old files.new result }
         ensures told { O.told offers.new ≡ O.told offers.old }
         ensures right { IfOk result (StepsRight (F.holds files.old) (O.told offers.old) self.old hand.entry self.new) }
@@ -72,6 +74,7 @@ impl<'a> Builder<'a> {
         ensures nearer { IfOk result (Nearer (below self.old) self.new) }
         ensures fits { IfOk result (Fits (room self.old) self.new) }
         ensures kept { OnOk result (Keeps self.old self.new) }
+        ensures marks { OnOk result (StaysMarked self.old self.new) }
         ensures right { IfOk result (ResumesSo self.old self.new) }
     {
         match self.stack.pop() {

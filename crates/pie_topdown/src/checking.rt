@@ -13,6 +13,7 @@ ghost use Rattle.pie_topdown.specs.inner.Frames.{IsCheck, IsSite};
 ghost use Rattle.pie_topdown.specs.inner.Offering.{ComparesSo, GoesOnSo, RequiresSo};
 ghost use Rattle.pie_topdown.specs.inner.Places.{beside, AsksSource, Finds, IsPassed, IsPlace, IsUnentered};
 ghost use Rattle.pie_topdown.specs.inner.Right.{PassesRight};
+ghost use Rattle.pie_topdown.specs.inner.Ran.{StaysMarked, Marks};
 ghost use Rattle.pie_topdown.specs.inner.Turns.{TurnsTo, check_mass, below, Nearer, room, Fits, Spends, StartsOne, Keeps};
 
 use crate::builder::Builder;
@@ -58,6 +59,7 @@ impl<'a> Builder<'a> {
         ensures starts { StartsOne runs.old runs.new }
         ensures few { length runs.new ≤ length runs.old + (room self.old + 1) }
         ensures kept { OnOk result (Keeps self.old self.new) }
+        ensures marks { OnOk result (Marks self.old check.entry.value.no.0 self.new runs.old runs.new) }
         ensures reads { ReadsOnly F.holds F.moment F.left_since F.images F.faults files.old files.new result }
         ensures told { O.told offers.new ≡ O.told offers.old }
         ensures right { IfOk result (ComparesSo (F.holds files.old) (O.told offers.old) self.old check.entry.value self.new) }
@@ -85,6 +87,7 @@ impl<'a> Builder<'a> {
         ensures starts { StartsOne runs.old runs.new }
         ensures few { length runs.new ≤ length runs.old + (room self.old + 1) }
         ensures kept { OnOk result (Keeps self.old self.new) }
+        ensures marks { OnOk result (Marks self.old check.entry.value.no.0 self.new runs.old runs.new) }
         ensures reads { ReadsOnly F.holds F.moment F.left_since F.images F.faults files.old files.new result }
         ensures told { O.told offers.new ≡ O.told offers.old }
         ensures right { IfOk result (GoesOnSo (F.holds files.old) (O.told offers.old) self.old check.entry.value place self.new) }
@@ -131,6 +134,7 @@ impl<'a> Builder<'a> {
         ensures starts { StartsOne runs.old runs.new }
         ensures few { length runs.new ≤ length runs.old + (room self.old + 1) }
         ensures kept { OnOk result (Keeps self.old self.new) }
+        ensures marks { OnOk result (Marks self.old check.entry.value.no.0 self.new runs.old runs.new) }
         ensures reads { ReadsOnly F.holds F.moment F.left_since F.images F.faults files.old files.new result }
         ensures told { O.told offers.new ≡ O.told offers.old }
         ensures right { IfOk result (RequiresSo (F.holds files.old) (O.told offers.old) self.old check.entry.value task self.new) }
@@ -158,6 +162,7 @@ impl<'a> Builder<'a> {
         ensures nearer { IfOk result (Nearer (below self.old + check_mass check.entry.value) self.new) }
         ensures fits { IfOk result (Fits (room self.old + 1) self.new) }
         ensures kept { OnOk result (Keeps self.old self.new) }
+        ensures marks { OnOk result (StaysMarked self.old self.new) }
         ensures right { IfOk result (ChecksSo self.old check.entry.value task self.new) }
     {
         let no = self.enter(task, code)?;

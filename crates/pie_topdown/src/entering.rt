@@ -6,6 +6,7 @@ ghost use Rattle.pie_value.specs.Canonical.{IsEncodableTask};
 ghost use Rattle.pie_topdown.specs.inner.Entries.{HasEntered, MayEnter};
 ghost use Rattle.pie_topdown.specs.inner.Frames.{MayStart, IsSite};
 ghost use Rattle.pie_topdown.specs.inner.Right.{EntersSite};
+ghost use Rattle.pie_topdown.specs.inner.Ran.{StaysMarked};
 ghost use Rattle.pie_topdown.specs.inner.Turns.{Keeps};
 
 use crate::builder::Builder;
@@ -54,6 +55,7 @@ impl<'a> Builder<'a> {
         ensures one { OnOk result (length self.new.ledger.tables.names ≡ length self.old.ledger.tables.names + 1) }
         ensures stack { self.new.stack ≡ self.old.stack }
         ensures kept { OnOk result (Keeps self.old self.new) }
+        ensures marks { OnOk result (StaysMarked self.old self.new) }
         ensures added { OnOk result (HasEntered self.old task self.new) }
         ensures right { OnOk result (EntersSite self.old task self.new) }
     {

@@ -5,6 +5,7 @@ ghost use Rattle.pie_running.specs.inner.Frames.{IsWaiting};
 ghost use Rattle.pie_value.specs.declared.event.Event.TheVariants as events;
 ghost use Rattle.pie_topdown.specs.inner.Asking.{ActsSo, AsksSo, LooksSo, RunsSo, ToldSo};
 ghost use Rattle.pie_topdown.specs.inner.Frames.{IsNoted, IsRunning, IsSite};
+ghost use Rattle.pie_topdown.specs.inner.Ran.{StaysMarked};
 ghost use Rattle.pie_topdown.specs.inner.Turns.{TurnsTo, below, Nearer, room, Fits, Keeps, MayGo, told_mass};
 
 use crate::builder::Builder;
@@ -29,6 +30,7 @@ impl<'a> Builder<'a> {
         ensures nearer { IfOk result (Nearer (below self.old + (2 * task.entry.notes.left + 1)) self.new) }
         ensures fits { IfOk result (Fits (room self.old) self.new) }
         ensures kept { OnOk result (Keeps self.old self.new) }
+        ensures marks { OnOk result (StaysMarked self.old self.new) }
         ensures reads { ReadsOnly F.holds F.moment F.left_since F.images F.faults files.old files.new result }
         ensures right { IfOk result (RunsSo (F.holds files.old) self.old task.entry self.new) }
     {
@@ -57,6 +59,7 @@ impl<'a> Builder<'a> {
         ensures nearer { IfOk result (Nearer (below self.old + (2 * waiting.entry.notes.left + 1)) self.new) }
         ensures fits { IfOk result (Fits (room self.old) self.new) }
         ensures kept { OnOk result (Keeps self.old self.new) }
+        ensures marks { OnOk result (StaysMarked self.old self.new) }
         ensures reads { ReadsOnly F.holds F.moment F.left_since F.images F.faults files.old files.new result }
         ensures right { IfOk result (AsksSo (F.holds files.old) self.old waiting.entry event self.new) }
     {
@@ -87,6 +90,7 @@ impl<'a> Builder<'a> {
         ensures nearer { IfOk result (Nearer (below self.old + (2 * waiting.entry.notes.left + 1)) self.new) }
         ensures fits { IfOk result (Fits (room self.old) self.new) }
         ensures kept { OnOk result (Keeps self.old self.new) }
+        ensures marks { OnOk result (StaysMarked self.old self.new) }
         ensures reads { ReadsOnly F.holds F.moment F.left_since F.images F.faults files.old files.new result }
         ensures right { IfOk result (AsksSo (F.holds files.old) self.old waiting.entry (events.Exists path) self.new) }
     {
@@ -110,6 +114,7 @@ impl<'a> Builder<'a> {
         ensures nearer { IfOk result (Nearer (below self.old + (2 * waiting.entry.notes.left + 1)) self.new) }
         ensures fits { IfOk result (Fits (room self.old) self.new) }
         ensures kept { OnOk result (Keeps self.old self.new) }
+        ensures marks { OnOk result (StaysMarked self.old self.new) }
         ensures reads { ReadsOnly F.holds F.moment F.left_since F.images F.faults files.old files.new result }
         ensures right { IfOk result (LooksSo (F.holds files.old) self.old waiting.entry (events.Exists path) path self.new) }
     {
@@ -134,6 +139,7 @@ impl<'a> Builder<'a> {
         ensures nearer { IfOk result (Nearer (below self.old + (2 * waiting.entry.notes.left + 1)) self.new) }
         ensures fits { IfOk result (Fits (room self.old) self.new) }
         ensures kept { OnOk result (Keeps self.old self.new) }
+        ensures marks { OnOk result (StaysMarked self.old self.new) }
         ensures reads { ReadsOnly F.holds F.moment F.left_since F.images F.faults files.old files.new result }
         ensures right { IfOk result (AsksSo (F.holds files.old) self.old waiting.entry (events.Read path by) self.new) }
     {
@@ -158,6 +164,7 @@ impl<'a> Builder<'a> {
         ensures nearer { IfOk result (Nearer (below self.old + (2 * waiting.entry.notes.left + 1)) self.new) }
         ensures fits { IfOk result (Fits (room self.old) self.new) }
         ensures kept { OnOk result (Keeps self.old self.new) }
+        ensures marks { OnOk result (StaysMarked self.old self.new) }
         ensures reads { ReadsOnly F.holds F.moment F.left_since F.images F.faults files.old files.new result }
         ensures right { IfOk result (LooksSo (F.holds files.old) self.old waiting.entry (events.Read path by) path self.new) }
     {
@@ -181,6 +188,7 @@ impl<'a> Builder<'a> {
         ensures nearer { IfOk result (Nearer (below self.old + (2 * waiting.entry.notes.left + 1)) self.new) }
         ensures fits { IfOk result (Fits (room self.old) self.new) }
         ensures kept { OnOk result (Keeps self.old self.new) }
+        ensures marks { OnOk result (StaysMarked self.old self.new) }
         ensures reads { ReadsOnly F.holds F.moment F.left_since F.images F.faults files.old files.new result }
         ensures right { IfOk result (AsksSo (F.holds files.old) self.old waiting.entry (events.Digest path) self.new) }
     {
@@ -204,6 +212,7 @@ impl<'a> Builder<'a> {
         ensures nearer { IfOk result (Nearer (below self.old + (2 * waiting.entry.notes.left + 1)) self.new) }
         ensures fits { IfOk result (Fits (room self.old) self.new) }
         ensures kept { OnOk result (Keeps self.old self.new) }
+        ensures marks { OnOk result (StaysMarked self.old self.new) }
         ensures reads { ReadsOnly F.holds F.moment F.left_since F.images F.faults files.old files.new result }
         ensures right { IfOk result (LooksSo (F.holds files.old) self.old waiting.entry (events.Digest path) path self.new) }
     {
@@ -227,6 +236,7 @@ impl<'a> Builder<'a> {
         ensures nearer { IfOk result (Nearer (below self.old + (2 * waiting.entry.notes.left + 1)) self.new) }
         ensures fits { IfOk result (Fits (room self.old) self.new) }
         ensures kept { OnOk result (Keeps self.old self.new) }
+        ensures marks { OnOk result (StaysMarked self.old self.new) }
         ensures reads { ReadsOnly F.holds F.moment F.left_since F.images F.faults files.old files.new result }
         ensures right { IfOk result (AsksSo (F.holds files.old) self.old waiting.entry (events.List dir) self.new) }
     {
@@ -249,6 +259,7 @@ impl<'a> Builder<'a> {
         ensures nearer { IfOk result (Nearer (below self.old + (2 * waiting.entry.notes.left + 1)) self.new) }
         ensures fits { IfOk result (Fits (room self.old) self.new) }
         ensures kept { OnOk result (Keeps self.old self.new) }
+        ensures marks { OnOk result (StaysMarked self.old self.new) }
         ensures right { IfOk result (ActsSo self.old waiting.entry (events.Write path bytes) self.new) }
     {
         let told = waiting.write(self.alloc, &mut self.stage, path, &bytes)?;
@@ -264,6 +275,7 @@ impl<'a> Builder<'a> {
         ensures nearer { IfOk result (Nearer (below self.old + told_mass told.entry) self.new) }
         ensures fits { IfOk result (Fits (room self.old) self.new) }
         ensures kept { OnOk result (Keeps self.old self.new) }
+        ensures marks { OnOk result (StaysMarked self.old self.new) }
         ensures right { IfOk result (ToldSo self.old no.0 told.entry self.new) }
     {
         match told {

@@ -108,6 +108,7 @@ impl Ledger {
         ensures grows { OnOk result (Grows self.old self.new) }
         ensures names { OnOk result (self.new.tables.names ≡ self.old.tables.names) }
         ensures ends { OnOk result (EndsIfNew self.old no.0 rec (numbers needs.items) self.new) }
+        ensures ran { OnOk result (self.new.tables.ran.items ≡ self.old.tables.ran.items) }
     {
         if self.has_ended(no) {
             return Ok(());
@@ -179,6 +180,7 @@ impl Ledger {
         ensures ledger { OnOk result (IsLedger self.new) }
         ensures grows { OnOk result (Grows self.old self.new) }
         ensures names { OnOk result (self.new.tables.names ≡ self.old.tables.names) }
+        ensures ran { OnOk result (self.new.tables.ran.items ≡ self.old.tables.ran.items) }
     {
         if self.has_ended(no) {
             return Ok(());
@@ -195,6 +197,7 @@ impl Ledger {
         ensures ledger { OnOk result (IsLedger self.new) }
         ensures grows { OnOk result (Grows self.old self.new) }
         ensures names { OnOk result (self.new.tables.names ≡ self.old.tables.names) }
+        ensures ran { OnOk result (self.new.tables.ran.items ≡ self.old.tables.ran.items) }
     {
         let rec = failed_record(self.alloc, self.tables.names.task(no), outcome)?;
         self.tables.put(no, rec)?;

@@ -4,8 +4,9 @@ ghost use Rattle.pie_files.specs.Reading.{ReadsOnly};
 ghost use Rattle.pie_record.specs.Canonical.{IsStorable};
 ghost use Rattle.pie_store.specs.inner.Offers.{IsOffer};
 ghost use Rattle.pie_topdown.specs.inner.Frames.{MayStart, IsSite};
-ghost use Rattle.pie_topdown.specs.inner.Offering.{BeginsSo, DiffersSo, OffersSo, Takes, TriesSo, ChecksOffer};
+ghost use Rattle.pie_topdown.specs.inner.Offering.{OffersOrRuns, DiffersSo, OffersSo, Takes, TriesSo, ChecksOffer};
 ghost use Rattle.pie_topdown.specs.inner.Places.{MayGiveWay};
+ghost use Rattle.pie_topdown.specs.inner.Ran.{Marks};
 ghost use Rattle.pie_topdown.specs.inner.Turns.{TurnsTo, check_mass, below, Nearer, room, Fits, Spends, StartsOne, Keeps};
 
 use crate::begin::is_done;
@@ -42,6 +43,7 @@ impl<'a> Builder<'a> {
         ensures starts { StartsOne runs.old runs.new }
         ensures few { length runs.new ≤ length runs.old + (room self.old + 1) }
         ensures kept { OnOk result (Keeps self.old self.new) }
+        ensures marks { OnOk result (Marks self.old check.entry.value.no.0 self.new runs.old runs.new) }
         ensures reads { ReadsOnly F.holds F.moment F.left_since F.images F.faults files.old files.new result }
         ensures told { O.told offers.new ≡ O.told offers.old }
         ensures right { IfOk result (DiffersSo (F.holds files.old) (O.told offers.old) self.old check.entry.value self.new) }
@@ -71,9 +73,10 @@ impl<'a> Builder<'a> {
         ensures starts { StartsOne runs.old runs.new }
         ensures few { length runs.new ≤ length runs.old + (room self.old + 1) }
         ensures kept { OnOk result (Keeps self.old self.new) }
+        ensures marks { OnOk result (Marks self.old no.0 self.new runs.old runs.new) }
         ensures reads { ReadsOnly F.holds F.moment F.left_since F.images F.faults files.old files.new result }
         ensures told { O.told offers.new ≡ O.told offers.old }
-        ensures right { IfOk result (BeginsSo (F.holds files.old) (O.told offers.old) self.old no.0 code.now self.new) }
+        ensures right { IfOk result (OffersOrRuns (F.holds files.old) (O.told offers.old) self.old no.0 code.now self.new) }
     {
         let rest = self.offered(no, offers, files)?;
         Ok(self.try_next(no, code, rest, runs)?)
@@ -121,6 +124,7 @@ impl<'a> Builder<'a> {
         ensures starts { StartsOne runs.old runs.new }
         ensures few { length runs.new ≤ length runs.old + (room self.old + 1) }
         ensures kept { OnOk result (Keeps self.old self.new) }
+        ensures marks { OnOk result (Marks self.old no.0 self.new runs.old runs.new) }
         ensures right { IfOk result (TriesSo self.old no.0 code.now rest.items self.new) }
     {
         let mut rest = rest;

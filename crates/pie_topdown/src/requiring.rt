@@ -11,6 +11,7 @@ ghost use Rattle.pie_topdown.specs.inner.Calling.{AnswersSo, CallsSo, DescendsSo
 ghost use Rattle.pie_topdown.specs.inner.Entries.{MayEnter};
 ghost use Rattle.pie_topdown.specs.inner.Frames.{IsNoted, IsCaller, IsSite};
 ghost use Rattle.pie_topdown.specs.inner.Ledgers.{HasOutput};
+ghost use Rattle.pie_topdown.specs.inner.Ran.{StaysMarked};
 ghost use Rattle.pie_topdown.specs.inner.Turns.{TurnsTo, below, Nearer, room, Fits, Keeps};
 
 use crate::builder::Builder;
@@ -40,6 +41,7 @@ impl<'a> Builder<'a> {
         ensures nearer { IfOk result (Nearer (below self.old + (2 * waiting.entry.notes.left + 1)) self.new) }
         ensures fits { IfOk result (Fits (room self.old) self.new) }
         ensures kept { OnOk result (Keeps self.old self.new) }
+        ensures marks { OnOk result (StaysMarked self.old self.new) }
         ensures right { IfOk result (ActsSo self.old waiting.entry (events.Require required how) self.new) }
     {
         if !required.is_small() {
@@ -64,6 +66,7 @@ impl<'a> Builder<'a> {
         ensures nearer { IfOk result (Nearer (below self.old + (2 * caller.entry.waiting.notes.left + 1)) self.new) }
         ensures fits { IfOk result (Fits (room self.old) self.new) }
         ensures kept { OnOk result (Keeps self.old self.new) }
+        ensures marks { OnOk result (StaysMarked self.old self.new) }
         ensures right { IfOk result (AnswersSo self.old caller.entry self.new) }
     {
         match self.ledger.tables.names.number(&caller.required)? {
@@ -81,6 +84,7 @@ impl<'a> Builder<'a> {
         ensures nearer { IfOk result (Nearer (below self.old + (2 * caller.entry.waiting.notes.left + 1)) self.new) }
         ensures fits { IfOk result (Fits (room self.old) self.new) }
         ensures kept { OnOk result (Keeps self.old self.new) }
+        ensures marks { OnOk result (StaysMarked self.old self.new) }
         ensures right { IfOk result (CallsSo self.old caller.entry self.new) }
     {
         let no = caller.waiting.notes.no();
@@ -135,6 +139,7 @@ impl<'a> Builder<'a> {
         ensures nearer { IfOk result (Nearer (below self.old + (2 * caller.entry.waiting.notes.left + 1)) self.new) }
         ensures fits { IfOk result (Fits (room self.old) self.new) }
         ensures kept { OnOk result (Keeps self.old self.new) }
+        ensures marks { OnOk result (StaysMarked self.old self.new) }
         ensures right { IfOk result (DescendsSo self.old caller.entry self.new) }
     {
         match self.entry(&caller.required) {
@@ -164,6 +169,7 @@ impl<'a> Builder<'a> {
         ensures nearer { IfOk result (Nearer (below self.old + (2 * caller.entry.waiting.notes.left + 1)) self.new) }
         ensures fits { IfOk result (Fits (room self.old) self.new) }
         ensures kept { OnOk result (Keeps self.old self.new) }
+        ensures marks { OnOk result (StaysMarked self.old self.new) }
         ensures right { IfOk result (DescendsSo self.old caller.entry self.new) }
     {
         let no = self.enter(caller.required.copy()?, code)?;
@@ -179,6 +185,7 @@ impl<'a> Builder<'a> {
         ensures nearer { IfOk result (Nearer (below self.old + (2 * caller.entry.waiting.notes.left + 1)) self.new) }
         ensures fits { IfOk result (Fits (room self.old) self.new) }
         ensures kept { OnOk result (Keeps self.old self.new) }
+        ensures marks { OnOk result (StaysMarked self.old self.new) }
         ensures right { IfOk result (LosesSo self.old caller.entry self.new) }
     {
         let no = caller.waiting.notes.no();

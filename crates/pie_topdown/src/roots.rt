@@ -7,6 +7,7 @@ ghost use Rattle.pie_results.specs.inner.Failures.{is_done as specs_is_done};
 ghost use Rattle.pie_value.specs.Canonical.{IsEncodableTask};
 ghost use Rattle.pie_topdown.specs.inner.Entries.{MayBe};
 ghost use Rattle.pie_topdown.specs.inner.Frames.{IsSite};
+ghost use Rattle.pie_topdown.specs.inner.Ran.{RansOn, SettlesRan, SettlesAllRan};
 ghost use Rattle.pie_topdown.specs.inner.Rooted.{lost, RunsOnRight, SettlesRight, SettlesAllRight};
 ghost use Rattle.pie_topdown.specs.inner.Roots.{IsSettledRoot, AreSettled, Started, Continues};
 ghost use Rattle.pie_topdown.specs.inner.Turns.{Stands, hand_room, room, Keeps};
@@ -25,7 +26,7 @@ use pie_vm::Runs;
 
 impl<'a> Builder<'a> {
     /// Settles the roots up to the first that fails; why it does.
-    #[tactic(auto, using(pie_files::proofs::Reading::reads, crate::proofs::Turning::none_settled))]
+    #[tactic(auto, using(pie_files::proofs::Reading::reads, crate::proofs::Turning::none_settled, crate::proofs::Totals::none_ran))]
     pub(crate) fn settle_all<F: Files, O: Offers>(
         &mut self,
         roots: &[Task],
@@ -43,6 +44,7 @@ impl<'a> Builder<'a> {
         ensures reads { ReadsOnly F.holds F.moment F.left_since F.images F.faults files.old files.new result }
         ensures told { O.told offers.new ≡ O.told offers.old }
         ensures right { IfOk result (SettlesAllRight (F.holds files.old) (O.told offers.old) self.old roots.now self.new) }
+        ensures ran { IfOk result (SettlesAllRan (F.holds files.old) (O.told offers.old) self.old roots.now self.new runs.old runs.new) }
     {
         for root in roots {
             match self.settle(root, offers, files, runs)? {
@@ -73,6 +75,7 @@ impl<'a> Builder<'a> {
         ensures reads { ReadsOnly F.holds F.moment F.left_since F.images F.faults files.old files.new result }
         ensures told { O.told offers.new ≡ O.told offers.old }
         ensures right { IfOk result (SettlesRight (F.holds files.old) (O.told offers.old) self.old root.now self.new) }
+        ensures ran { IfOk result (SettlesRan (F.holds files.old) (O.told offers.old) self.old root.now self.new runs.old runs.new) }
     {
         match self.ledger.tables.names.number(root)? {
             Some(_no) => Ok(self.unless_done(root)?),
@@ -101,6 +104,7 @@ impl<'a> Builder<'a> {
         ensures reads { ReadsOnly F.holds F.moment F.left_since F.images F.faults files.old files.new result }
         ensures told { O.told offers.new ≡ O.told offers.old }
         ensures right { IfOk result (SettlesRight (F.holds files.old) (O.told offers.old) self.old root.now self.new) }
+        ensures ran { IfOk result (SettlesRan (F.holds files.old) (O.told offers.old) self.old root.now self.new runs.old runs.new) }
     {
         // The model knows the root by its canonical bytes.
         let _bytes = encode_task(self.alloc, root)?;
@@ -134,6 +138,7 @@ impl<'a> Builder<'a> {
         ensures reads { ReadsOnly F.holds F.moment F.left_since F.images F.faults files.old files.new result }
         ensures told { O.told offers.new ≡ O.told offers.old }
         ensures right { IfOk result (SettlesRight (F.holds files.old) (O.told offers.old) self.old root.now self.new) }
+        ensures ran { IfOk result (SettlesRan (F.holds files.old) (O.told offers.old) self.old root.now self.new runs.old runs.new) }
     {
         let no = self.enter(root.copy()?, code)?;
         let rests = self.run(Hand::Enters(no, code), offers, files, runs)?;
@@ -147,7 +152,7 @@ impl<'a> Builder<'a> {
     }
 
     // Goes on until nothing waits, or one task more was to be entered than a build may have.
-    #[tactic(auto, using(pie_files::proofs::Reading::reads, crate::proofs::Turning::stays_first))]
+    #[tactic(auto, using(pie_files::proofs::Reading::reads, crate::proofs::Turning::stays_first, crate::proofs::Totals::ran_first))]
     fn run<F: Files, O: Offers>(
         &mut self,
         hand: Hand<'a>,
@@ -164,6 +169,7 @@ impl<'a> Builder<'a> {
         ensures reads { ReadsOnly F.holds F.moment F.left_since F.images F.faults files.old files.new result }
         ensures told { O.told offers.new ≡ O.told offers.old }
         ensures right { IfOk result (RunsOnRight (F.holds files.old) (O.told offers.old) self.old hand.entry self.new) }
+        ensures ran { OnOk result (RansOn (F.holds files.old) (O.told offers.old) self.old hand.entry self.new runs.old runs.new) }
     {
         let mut hand = hand;
         'steps: loop {

@@ -1,7 +1,8 @@
 //! The one call: from the roots and the records of the build before to what a build makes.
-ghost use Rattle.std.specs.Prelude.{◌≡◌, ◌≤◌, ◌+◌, length, All, IfOk};
+ghost use Rattle.std.specs.Prelude.{◌≡◌, ◌≤◌, ◌+◌, length, All, IfOk, OnOk};
 ghost use Rattle.pie_checks.specs.declared.built.Built.{Built};
 ghost use Rattle.pie_files.specs.Reading.{ReadsOnly};
+ghost use Rattle.pie_graph.specs.Numbers.{numbers};
 ghost use Rattle.pie_record.specs.Canonical.{IsStorable};
 ghost use Rattle.pie_results.specs.inner.Made.{IsEmptyWhereRefused, IsKept};
 ghost use Rattle.pie_store.specs.Canonical.{AreInOrder};
@@ -11,6 +12,7 @@ ghost use Rattle.pie_value.specs.declared.verdict.Verdict.TheVariants.{Refused};
 ghost use Rattle.pie_topdown_result_laws.specs.Builds.{MakesClean};
 ghost use Rattle.pie_topdown.specs.inner.Ended.{StoredIf};
 ghost use Rattle.pie_topdown.specs.inner.Frames.{IsSite};
+ghost use Rattle.pie_topdown.specs.inner.Ran.{AddsNamed, AddsOne, RunsForReasons};
 ghost use Rattle.pie_topdown.specs.inner.Rooted.{AreOldTables, IsPlanOf, IsProgram, IsUnbegun, MakesSettled};
 ghost use Rattle.pie_topdown.specs.inner.Roots.{AreSettled, Started};
 ghost use Rattle.pie_topdown.specs.inner.Turns.{room, StartsOne};
@@ -39,7 +41,7 @@ use std::alloc::Global;
 /// digests and what it wrote and observed is there as it was recorded; else the first of its offers that stands is kept, and the task is added to the
 /// reused ones; else its task runs. It changes no file. `Failed` comes only where the count of faults rose. The tasks that are started are added to
 /// the runs. The files are those of the live tasks that ran or were reused. What is made is what a clean build makes, where the records are those of an
-/// earlier build's store, and honest ones are offered.
+/// earlier build's store, and honest ones are offered; and in an accepted build exactly those run or are reused, each once, that have a reason to run.
 /// Rule: docs/BUILDING.md, "A build without a list".
 #[tactic(auto, using(pie_files::proofs::Reading::reads))]
 pub fn topdown<F: Files, O: Offers>(
@@ -66,6 +68,9 @@ pub fn topdown<F: Files, O: Offers>(
     ensures reads { ReadsOnly F.holds F.moment F.left_since F.images F.faults files.old files.new result }
     ensures clean { IsProgram typed.now code.now image.rows
         → IfOk result (MakesClean (F.holds files.old) typed.now image.funcs digests.now image.rows (O.told offers.old) roots.now) }
+    ensures ran { IsProgram typed.now code.now image.rows
+        → IfOk result (λ b. RunsForReasons (F.holds files.old) typed.now image.funcs digests.now image.rows (O.told offers.old) roots.now runs.old runs.new
+        reused.old.items reused.new.items b.verdict) }
 {
     let mut builder = begun(alloc, typed, code, digests, image)?;
     let why = builder.settle_all(roots, offers, files, runs)?;
@@ -161,7 +166,8 @@ fn earlier_of(alloc: Global, rows: Rows) -> Result<Tables, OutOfMemory>
 impl<'a> Builder<'a> {
     // Adds the tasks that were reused to a list.
     fn tell_reused(&self, reused: &mut Vec<Task>) -> Result<(), OutOfMemory>
-        ensures { Started reused.old.items reused.new.items }
+        ensures started { Started reused.old.items reused.new.items }
+        ensures named { OnOk result (AddsNamed self.now (numbers self.now.reused.items) reused.old.items reused.new.items) }
     {
         for no in &self.reused {
             self.tell(*no, reused)?;
@@ -172,7 +178,8 @@ impl<'a> Builder<'a> {
     // Adds an entered task to a list.
     #[tactic(auto, using(crate::proofs::Naming::named_encodable))]
     fn tell(&self, no: TaskNo, tasks: &mut Vec<Task>) -> Result<(), OutOfMemory>
-        ensures { StartsOne tasks.old.items tasks.new.items }
+        ensures started { StartsOne tasks.old.items tasks.new.items }
+        ensures named { OnOk result (AddsOne self.now no.0 tasks.old.items tasks.new.items) }
     {
         let names = self.ledger.tables.names.as_slice();
         if (no.0 as usize) < names.len() {

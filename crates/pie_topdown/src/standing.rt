@@ -1,5 +1,5 @@
 //! Records that stand: their tasks end with them.
-ghost use Rattle.std.specs.Prelude.{◌≡◌, ◌≤◌, ◌+◌, length, map, All, Some, slice_get, IfOk, OnOk};
+ghost use Rattle.std.specs.Prelude.{◌≡◌, ◌≤◌, ◌+◌, [], ◌∷◌, ◌++◌, length, map, All, Some, slice_get, IfOk, OnOk};
 ghost use Rattle.pie_graph.specs.Numbers.{numbers};
 ghost use Rattle.pie_old.specs.inner.Rows.{tasks_at};
 ghost use Rattle.pie_record.specs.Canonical.{IsStorable};
@@ -8,6 +8,7 @@ ghost use Rattle.pie_topdown.specs.inner.Frames.{IsCheck, IsSite};
 ghost use Rattle.pie_topdown.specs.inner.Ledgers.{HasOutput};
 ghost use Rattle.pie_topdown.specs.inner.Offering.{EndsReused, StagesAll};
 ghost use Rattle.pie_topdown.specs.inner.Right.{KeepsRight, EndsKept};
+ghost use Rattle.pie_topdown.specs.inner.Ran.{StaysMarked, ReusesOne, KeepsMarks};
 ghost use Rattle.pie_topdown.specs.inner.Turns.{TurnsTo, below, Nearer, room, Fits, Keeps};
 
 use crate::builder::Builder;
@@ -27,6 +28,7 @@ impl<'a> Builder<'a> {
         ensures nearer { IfOk result (Nearer (below self.old + 1) self.new) }
         ensures fits { IfOk result (Fits (room self.old) self.new) }
         ensures kept { OnOk result (Keeps self.old self.new) }
+        ensures marks { OnOk result (KeepsMarks self.old check.entry.value.no.0 self.new) }
         ensures right { IfOk result (KeepsRight self.old check.entry.value self.new) }
     {
         let Check {
@@ -58,6 +60,7 @@ impl<'a> Builder<'a> {
         ensures nearer { IfOk result (Nearer (below self.old + 1) self.new) }
         ensures fits { IfOk result (Fits (room self.old) self.new) }
         ensures kept { OnOk result (Keeps self.old self.new) }
+        ensures marks { OnOk result (StaysMarked self.old self.new) }
         ensures ended { IfOk result (EndsKept self.old no.0 rec (numbers required.items) self.new) }
     {
         self.ledger.end(no, rec, required)?;
@@ -81,6 +84,7 @@ impl<'a> Builder<'a> {
         ensures nearer { IfOk result (Nearer (below self.old + 1) self.new) }
         ensures fits { IfOk result (Fits (room self.old) self.new) }
         ensures kept { OnOk result (Keeps self.old self.new) }
+        ensures marks { OnOk result (ReusesOne self.old no.0 self.new) }
         ensures ended { IfOk result (EndsReused self.old no.0 rec (numbers required.items) (map (λ v. v.items) contents.items) self.new) }
     {
         self.reuse(no, rec.writes.as_slice(), contents)?;
@@ -98,6 +102,7 @@ impl<'a> Builder<'a> {
     ) -> Result<(), OutOfMemory>
         ensures same { self.new ≡ record self.old { stage = self.new.stage; reused = self.new.reused } }
         ensures staged { OnOk result (StagesAll self.old.stage self.new.stage no.0 writes.now (map (λ v. v.items) contents.items)) }
+        ensures one { OnOk result (numbers self.new.reused.items ≡ numbers self.old.reused.items ++ no.0 ∷ []) }
     {
         stage_all(&mut self.stage, no, writes, contents)?;
         self.reused.push(no)?;

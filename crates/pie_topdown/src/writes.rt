@@ -1,7 +1,7 @@
 //! Whether what a record wrote is there.
-ghost use Rattle.std.specs.Prelude.{All, IfOk};
+ghost use Rattle.std.specs.Prelude.{[], ◌∷◌, All, IfOk};
 ghost use Rattle.pie_files.specs.Reading.{ReadsOnly};
-ghost use Rattle.pie_topdown.specs.inner.Written.{IsThereIn, FindsThere};
+ghost use Rattle.pie_topdown.specs.inner.Written.{IsThereIn, IsOneGone, FindsThere, FindsGone};
 
 use pie_base::Path;
 use pie_files::{Files, FilesError};
@@ -15,6 +15,7 @@ pub(crate) fn writes_stand<F: Files>(
     files: &mut F,
 ) -> Result<bool, FilesError>
     ensures there { IfOk result (FindsThere (F.holds files.old) named.old named.new (λ d. All (IsThereIn d) writes.now)) }
+    ensures gone { IfOk result (FindsGone (F.holds files.old) named.old (λ d. IsOneGone d writes.now)) }
     ensures reads { ReadsOnly F.holds F.moment F.left_since F.images F.faults files.old files.new result }
 {
     for write in writes {
@@ -33,6 +34,7 @@ fn write_stands<F: Files>(
     files: &mut F,
 ) -> Result<bool, FilesError>
     ensures there { IfOk result (FindsThere (F.holds files.old) named.old named.new (λ d. IsThereIn d write.now)) }
+    ensures gone { IfOk result (FindsGone (F.holds files.old) named.old (λ d. IsOneGone d (write.now ∷ []))) }
     ensures reads { ReadsOnly F.holds F.moment F.left_since F.images F.faults files.old files.new result }
 {
     let differs = named.write_differs(&write.0, write.1, files)?;

@@ -25,6 +25,7 @@ use Rattle.pie_topdown.specs.declared.hand.Frame.{Frame}
 use Rattle.pie_topdown.specs.declared.hand.Frame.TheVariants as frames
 use Rattle.pie_topdown.specs.declared.hand.Turn.{Turn}
 use Rattle.pie_topdown.specs.inner.Asking.{ActsSo}
+use Rattle.pie_topdown.specs.inner.Due.{IsDueAt}
 use Rattle.pie_topdown.specs.inner.Places.{NeedsNext}
 use Rattle.pie_topdown.specs.inner.Right.{site_of, build_of, entries_up, CanGoOn, EndedRight, EntersRight, ChecksRight, IsPlanNow, IsRightSite, AreWaiting, AreTheBusy, TurnIsRight}
 use Rattle.pie_topdown_laws.specs.Whole.{waits}
@@ -109,11 +110,11 @@ ResumesSo old new t =
 
 -- ---- a task begins to run
 
--- an entered task that may begin runs
+-- an entered task that may begin, and has a reason to, runs
 abbrev pub StartsSo : Builder → ℕ → Code → Builder → Turn → Type 0
 StartsSo old n code new t =
     (u : Update) (done : List (List ℕ)) (root : List ℕ) (fs : List ModelFrame) → IsRightSite u done root old → AreWaiting u old root fs
-    → EntersRight u old root fs n code → TurnIsRight u done root new t
+    → EntersRight u old root fs n code → IsDueAt u old n → TurnIsRight u done root new t
 
 -- ---- a check requires a task
 

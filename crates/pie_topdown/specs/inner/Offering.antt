@@ -22,6 +22,7 @@ use Rattle.pie_topdown.specs.declared.hand.Hand.TheVariants as hands
 use Rattle.pie_topdown.specs.declared.hand.Turn.{Turn}
 use Rattle.pie_topdown.specs.declared.hand.Turn.TheVariants.{Goes}
 use Rattle.pie_topdown.specs.declared.checking.Place.{Place}
+use Rattle.pie_topdown.specs.inner.Due.{IsDueAt}
 use Rattle.pie_topdown.specs.inner.Effects.{EndsIfNew, HasStarted}
 use Rattle.pie_topdown.specs.inner.Frames.{IsOwnRecord}
 use Rattle.pie_topdown.specs.inner.Ledgers.{IsLedger}
@@ -41,6 +42,13 @@ BeginsSo held told old n code new t =
 abbrev pub BeginsWith : Option Directory → (Directory → Task → List ℕ → List Offered) → Builder → ℕ → Code → TaskRecord → Builder → Turn → Type 0
 BeginsWith held told old n code rec new t = IsOwnRecord old.plan rec → BeginsSo held told old n code new t
 
+-- so it does where it has a reason to run: its offers are asked for
+abbrev pub OffersOrRuns : Option Directory → (Directory → Task → List ℕ → List Offered) → Builder → ℕ → Code → Builder → Turn → Type 0
+OffersOrRuns held told old n code new t =
+    (u : Update) (done : List (List ℕ)) (root : List ℕ) (fs : List ModelFrame) → held ≡ Some u.directory → IsPlanNow u old.plan
+    → AreOffersHonest u old.plan told → IsRightSite u done root old → AreWaiting u old root fs → EntersRight u old root fs n code → IsDueAt u old n
+    → TurnIsRight u done root new t
+
 -- ---- offers
 
 -- what is offered to an entered task is honest, where offers are
@@ -52,22 +60,22 @@ abbrev pub Takes : List Offer → List Offer → Option (Box Offer Global) → T
 Takes old new None = Unit {0}
 Takes old new (Some o) = (over : List Offer) × (old ≡ over ++ o.value ∷ new)
 
--- an entered task is checked against one of these offers, where they are honest, or runs
+-- an entered task that has a reason to run is checked against one of these offers, where they are honest, or runs
 abbrev pub TriesSo : Builder → ℕ → Code → List Offer → Builder → Turn → Type 0
 TriesSo old n code offers new t =
     (u : Update) (done : List (List ℕ)) (root : List ℕ) (fs : List ModelFrame) → All (λ o. IsHonest u (offered o)) offers → IsRightSite u done root old
-    → AreWaiting u old root fs → EntersRight u old root fs n code → TurnIsRight u done root new t
+    → AreWaiting u old root fs → EntersRight u old root fs n code → IsDueAt u old n → TurnIsRight u done root new t
 
 -- so it is where the first of them has canonical parts
 abbrev pub ChecksOffer : Builder → ℕ → Code → Offer → List Offer → Builder → Turn → Type 0
 ChecksOffer old n code offer rest new t = IsTrueRecord offer.row → TriesSo old n code (offer ∷ rest) new t
 
--- a record of an entered task differs: another one is checked, or the task runs
+-- a record of an entered task differs, which has a reason to run: another one is checked, or the task runs
 abbrev pub DiffersSo : Option Directory → (Directory → Task → List ℕ → List Offered) → Builder → Check → Builder → Turn → Type 0
 DiffersSo held told old c new t =
     (u : Update) (done : List (List ℕ)) (root : List ℕ) (fs : List ModelFrame) → held ≡ Some u.directory → IsPlanNow u old.plan
     → AreOffersHonest u old.plan told → IsRightSite u done root old → AreWaiting u old root fs → EntersRight u old root fs c.no.0 c.code.now
-    → AreHonest u c.rest → TurnIsRight u done root new t
+    → IsDueAt u old c.no.0 → AreHonest u c.rest → TurnIsRight u done root new t
 
 -- ---- checks
 

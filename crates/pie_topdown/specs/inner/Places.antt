@@ -48,9 +48,9 @@ IsPlace l c (Needs t) = IsCheck l c × IsNew l t
 
 -- ---- whether it is so
 
--- an observation is of this task, which wasn't entered
+-- an observation is of this task, which wasn't entered; or of none that wasn't
 abbrev pub IsUnentered : Ledger → DepOn → Option Task → Type 0
-IsUnentered l what None = Unit {0}
+IsUnentered l what None = (t : Task) → what ≡ Called t → Contains l.tables.names t
 IsUnentered l what (Some t) = (what ≡ Called t) × IsNew l t
 
 -- an observation of a source has the stamp of a directory
@@ -87,6 +87,12 @@ CantStand new c =
     (dep : Dep) (after : List ℕ) → slice_get c.rec.deps c.at ≡ Some dep → c.at ≤ 1000000 → DepStands (beside new c.rec.writes) (numbers c.required.items) dep after
     → ⊥
 
+-- there is one, and it can't stand; if it is of a task, that was entered
+pub record DiffersHere (new : Builder) (c : Check) : Type 0 where
+  pub inside : c.at < length c.rec.deps
+  pub cant : CantStand new c
+  pub entered : (dep : Dep) (t : Task) → slice_get c.rec.deps c.at ≡ Some dep → c.at ≤ 1000000 → dep.what ≡ Called t → Contains new.ledger.tables.names t
+
 -- it is of this task, which wasn't entered
 pub record NeedsNext (c : Check) (t : Task) : Type 0 where
   pub dep : Dep
@@ -96,7 +102,7 @@ pub record NeedsNext (c : Check) (t : Task) : Type 0 where
 abbrev pub FindsHere : Option Directory → Builder → Builder → Check → Check → Place → Type 0
 FindsHere held old new c after Over = Unit {0}
 FindsHere held old new c after Stands = StandsNext held old new c after
-FindsHere held old new c after Differs = CantStand new c
+FindsHere held old new c after Differs = DiffersHere new c
 FindsHere held old new c after (Needs t) = NeedsNext c t
 
 -- what is found is so, and what is known stays true

@@ -58,7 +58,9 @@ use Rattle.pie_topdown.specs.declared.hand.Rest.TheVariants as rests
 use Rattle.pie_topdown.specs.declared.hand.Turn.{Turn}
 use Rattle.pie_topdown.specs.declared.hand.Turn.TheVariants.{Goes, Rests, Many}
 use Rattle.pie_topdown.specs.declared.plan.Plan.{Plan}
+use Rattle.pie_topdown.specs.inner.Due.{IsDueAt, IsDueBy}
 use Rattle.pie_topdown.specs.inner.Effects.{EndsIfNew}
+use Rattle.pie_topdown.specs.inner.Frames.{IsOwnRecord}
 use Rattle.pie_topdown.specs.inner.Ledgers.{IsLedger}
 use Rattle.pie_topdown.specs.inner.Places.{StandsNext}
 
@@ -108,7 +110,7 @@ entries_up es = reverse (map entry_of es)
 -- ---- the tasks that have ended
 
 -- what a task wrote that kept its own record is there, and what is staged of it is what its evaluation wrote first; of one that ran, or has an offered record,
--- all of that is staged; and nothing of tasks that weren't entered
+-- all of that is staged, and it has a reason to run; and nothing is staged of tasks that weren't entered
 pub record AreWritten (u : Update) (b : Builder) : Type 0 where
   pub there : (n : ℕ) (rec : TaskRecord) → slice_index_or b.ledger.tables.ran.items n false ≡ false → kept_of b.ledger.tables.records n ≡ Some rec
       → AreThere world u.directory rec.writes
@@ -116,6 +118,9 @@ pub record AreWritten (u : Update) (b : Builder) : Type 0 where
       → kept_of b.ledger.tables.records n ≡ Some rec → content b.stage n path ≡ Some bytes → written_now u rec.task path ≡ Some bytes
   pub ran : (n : ℕ) (rec : TaskRecord) (path : List ℕ) → IsMarked b.ledger.tables.ran.items n → kept_of b.ledger.tables.records n ≡ Some rec
       → content b.stage n path ≡ written_now u rec.task path
+  pub own : (n : ℕ) (rec : TaskRecord) → slice_index_or b.ledger.tables.ran.items n false ≡ false → kept_of b.ledger.tables.records n ≡ Some rec
+      → IsOwnRecord b.plan rec
+  pub due : (n : ℕ) → IsMarked b.ledger.tables.ran.items n → IsDueAt u b n
   pub beyond : (n : ℕ) (path : List ℕ) → length b.ledger.tables.names ≤ n → content b.stage n path ≡ None
 
 -- the roots before this one are recorded, and no task failed: records are right, and their outputs are values of the program; what they wrote is known; and each
@@ -153,6 +158,7 @@ pub record MayStillRun (u : Update) (b : Builder) (c : Check) : Type 0 where
   pub function : HasFunction u.functions b.plan.code.now c.rec.task c.code.now
   pub parts : IsTrueRecord c.rec
   pub source : IsSourced u c.rec c.contents
+  pub due : IsDueBy u b.plan c.rec c.contents
   pub rest : AreHonest u c.rest
 
 -- a check that waits may, and a task that waits is marked
@@ -287,7 +293,7 @@ abbrev pub BeginsCheck : Builder → ℕ → Code → TaskRecord → Option (Vec
 BeginsCheck b n code rec contents rest c =
     (u : Update) (done : List (List ℕ)) (root : List ℕ) (fs : List ModelFrame) (before : Project) → IsRightSite u done root b → EntersRight u b root fs n code
     → IsOldRecord (setting u) before (enc_task rec.task) (record_of rec) → TellsApart (setting u) before → IsTrueRecord rec → IsSourced u rec contents
-    → AreHonest u rest → ChecksRight u b root fs c
+    → IsDueBy u b.plan rec contents → AreHonest u rest → ChecksRight u b root fs c
 
 -- a check whose next observation was found to stand, with what it requires then, goes on by it
 abbrev pub PassesRight : Builder → Check → Turn → Type 0

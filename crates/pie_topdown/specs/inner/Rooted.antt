@@ -1,5 +1,5 @@
 -- A build without a list, as the model of building knows it, between two roots.
-use Rattle.std.specs.Prelude.{◌≡◌, ◌⊎◌, ℕ, Bool, true, false, List, [], ◌∷◌, ◌++◌, map, All, Option, Some, None}
+use Rattle.std.specs.Prelude.{◌≡◌, ◌⊎◌, ℕ, ◌<◌, Bool, true, false, List, [], ◌∷◌, ◌++◌, length, map, All, Option, Some, None}
 use Rattle.std.specs.BTreeMap.{get_by_text}
 use Rattle.pie_base.specs.declared.fault.FaultKind.TheVariants.{Unknown}
 use Rattle.pie_value.specs.declared.task.Task.{Task}
@@ -115,10 +115,11 @@ pub record IsUnbegun (b : Builder) : Type 0 where
   pub known : (d : Directory) → IsTrueOf d b.named
   pub stack : b.stack.items ≡ []
   pub calm : b.failure ≡ None
+  pub reused : b.reused.items ≡ []
 
 -- the tables of a store's records, or of none where these are too many
 abbrev pub AreOldTables : List TaskRecord → Tables → Type 0
-AreOldTables rows t = AreTablesOf rows t ⊎ AreTablesOf [] t
+AreOldTables rows t = AreTablesOf rows t ⊎ ((50000 < length rows) × AreTablesOf [] t)
 
 -- a plan is of these functions with this code, and its tables are of these records; it marks the tasks whose functions have one digest in both lists, and has the
 -- first digest of each name

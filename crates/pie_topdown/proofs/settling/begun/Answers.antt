@@ -9,4 +9,5 @@ returns-clause-unbegun c = subst IsUnbegun (sym c.in_ok-builder.ensures.ok) (rec
   known = c.new-3.ensures.right;
   stack = c.new-4.ensures.items;
   calm = refl;
+  reused = c.new-5.ensures.items;
 })

@@ -1,6 +1,6 @@
 use Rattle.std.proofs.Common.{◌∙◌}
 use Rattle.pie_files.proofs.Reading.{both_before}
-use Rattle.pie_topdown.proofs.Writing.{found_more, found_all, found_other}
+use Rattle.pie_topdown.proofs.Writing.{found_more, found_all, found_gone, found_other, none_gone}
 use Rattle.pie_topdown.proofs.writes.writes_stand.Goals as goal
 
 pub loop-write-preserved : goal.loop-write-preserved
@@ -25,3 +25,12 @@ pub returns-clause-there : goal.returns-clause-there
 returns-clause-there g c =
     found_all (g.F.Files.holds c.args.files.now) c.args.named.now c.loop-write.named c.args.writes.now c.loop-write.write-index c.loop-write-test.false
     c.loop-write.invariant.3
+
+pub returns-then-not-branch-clause-gone : goal.returns-then-not-branch-clause-gone
+returns-then-not-branch-clause-gone g c =
+    found_gone (g.F.Files.holds c.args.files.now) (g.F.Files.holds c.loop-write.files) c.args.named.now c.loop-write.named c.args.writes.now c.loop-write.write-index
+    c.write-item.result c.in_ok-write_stands.field-0 c.loop-write.invariant.0 c.loop-write.invariant.3 c.loop-write-test.true c.write-item.is c.if-not-branch.true
+    c.in_ok-write_stands.ensures.gone
+
+pub returns-clause-gone : goal.returns-clause-gone
+returns-clause-gone g c = none_gone (g.F.Files.holds c.args.files.now) c.args.named.now c.args.writes.now

@@ -1,8 +1,11 @@
-use Rattle.std.proofs.Common.{◌≡◌, ap, subst}
+use Rattle.std.proofs.Common.{◌≡◌, ℕ, ap, subst}
+use Rattle.std.specs.Prelude.{OnOk}
 use Rattle.pie_topdown.specs.declared.hand.Check.{Check}
 use Rattle.pie_topdown.specs.inner.Places.{Finds}
+use Rattle.pie_topdown.specs.inner.Ran.{Marks}
 use Rattle.pie_topdown.proofs.Twice.{reads_then}
 use Rattle.pie_topdown.proofs.Differing.{compares}
+use Rattle.pie_topdown.proofs.Marking.{marks_with, stays_same}
 use Rattle.pie_topdown.proofs.Stacking.{same_site}
 use Rattle.pie_topdown.proofs.builder.Builder.check.Goals as goal
 
@@ -25,3 +28,12 @@ returns-clause-right g c =
     (subst (λ (x : Check). c.look.new.check ≡ record x { required = c.look.new.check.required }) same c.look.ensures.check)
     (subst (λ (x : Check). Finds held c.args.self.now c.look.new.self x c.look.new.check c.in_ok-place.place) same c.in_ok-place.ensures.finds)
     c.go_on.ensures.right
+
+pub returns-clause-marks : goal.returns-clause-marks
+returns-clause-marks g c =
+    let e = c.look.ensures.same in
+    let one = subst (λ (x : Check). c.look.new.check ≡ record x { required = c.look.new.check.required }) c.deref_mut.ensures.value c.look.ensures.check in
+    marks_with c.go_on.result c.args.self.now c.look.new.self c.go_on.new.self c.args.check.value.no.0 c.args.runs.now c.go_on.new.runs
+    (stays_same c.args.self.now c.look.new.self (ap (λ b. b.ledger) e) (ap (λ b. b.reused) e)) (ap (λ b. b.ledger.tables.names) e)
+    (subst (λ (n : ℕ). OnOk c.go_on.result (Marks c.look.new.self n c.go_on.new.self c.args.runs.now c.go_on.new.runs)) (ap (λ (x : Check). x.no.0) one)
+    c.go_on.ensures.marks)

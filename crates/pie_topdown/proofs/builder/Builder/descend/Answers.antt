@@ -1,6 +1,6 @@
 use Rattle.std.proofs.Common.{Ok}
 use Rattle.pie_files.specs.declared.files.FilesError.{FilesError}
-use Rattle.pie_topdown.specs.declared.entering.Entry.TheVariants.{Full}
+use Rattle.pie_topdown.specs.declared.entering.Entry.TheVariants.{Full, Unknown}
 use Rattle.pie_topdown.specs.inner.Entries.{MayEnter}
 use Rattle.pie_topdown.proofs.Differing.{pushed_requires, lost_requires, full_requires}
 use Rattle.pie_topdown.proofs.builder.Builder.descend.Goals as goal
@@ -12,8 +12,9 @@ returns-in-May-clause-right g c =
 
 pub returns-in-Unknown-clause-right : goal.returns-in-Unknown-clause-right
 returns-in-Unknown-clause-right g c =
+    let may : MayEnter c.args.self.now c.args.task Unknown = rw c.in-Unknown.is at c.entry.ensures in
     lost_requires (g.F.Files.holds c.args.files.now) (g.O.Offers.told c.args.offers.now) c.args.self.now c.differs.new.self c.args.check.value c.args.task
-    c.differs.result c.requires.check.named c.differs.ensures.right
+    c.differs.result c.requires.check.named c.differs.ensures.right may c.requires.encodable c.requires.absent
 
 pub returns-clause-right : goal.returns-clause-right
 returns-clause-right g c =

@@ -2,7 +2,7 @@ use Rattle.std.proofs.Common.{Ok, sym, ap, subst, ◌∙◌}
 use Rattle.std.specs.Prelude.{IfOk}
 use Rattle.pie_files.specs.declared.files.FilesError.{FilesError}
 use Rattle.pie_topdown.specs.declared.hand.Check.{Check}
-use Rattle.pie_topdown.specs.inner.Offering.{BeginsSo, TriesSo}
+use Rattle.pie_topdown.specs.inner.Offering.{OffersOrRuns, TriesSo}
 use Rattle.pie_topdown.proofs.Differing.{unasked_differs, asked_differs}
 use Rattle.pie_topdown.proofs.builder.Builder.differs.Goals as goal
 
@@ -11,7 +11,7 @@ returns-in-Unasked-clause-right g c =
     let held = g.F.Files.holds c.args.files.now in
     let told = g.O.Offers.told c.args.offers.now in
     unasked_differs held told c.args.self.now c.ask.new.self c.args.check.value c.ask.result
-    (subst (λ (x : Check). IfOk c.ask.result (BeginsSo held told c.args.self.now x.no.0 x.code.now c.ask.new.self)) c.into_inner-rest.ensures c.ask.ensures.right)
+    (subst (λ (x : Check). IfOk c.ask.result (OffersOrRuns held told c.args.self.now x.no.0 x.code.now c.ask.new.self)) c.into_inner-rest.ensures c.ask.ensures.right)
 
 pub returns-in_ok-try_next-in-Asked-clause-right : goal.returns-in_ok-try_next-in-Asked-clause-right
 returns-in_ok-try_next-in-Asked-clause-right g c =

@@ -1,4 +1,4 @@
-use Rattle.std.proofs.Common.{ℕ, List, sym, ◌∙◌, subst}
+use Rattle.std.proofs.Common.{List, sym, ◌∙◌, subst}
 use Rattle.pie_graph.specs.Rows.{Row}
 use Rattle.pie_view.specs.Content.{Staged}
 use Rattle.pie_topdown.specs.inner.Sights.{Lacks, SeenIsStaged}

@@ -29,7 +29,7 @@ returns-in-Differs-clause-right g c =
     let told = g.O.Offers.told c.args.offers.now in
     let place = subst (IsPlace c.args.self.now.ledger c.args.check.value) c.in-Differs.is c.requires.place in
     subst (λ (p : Place). IfOk c.differs.result (GoesOnSo held told c.args.self.now c.args.check.value p c.differs.new.self)) (sym c.in-Differs.is)
-    (differs_goes held told c.args.self.now c.differs.new.self c.args.check.value c.differs.result place c.differs.ensures.right)
+    (differs_goes held told c.args.self.now c.differs.new.self c.args.check.value c.differs.result c.requires.site place c.differs.ensures.right)
 
 pub returns-in-Needs-clause-right : goal.returns-in-Needs-clause-right
 returns-in-Needs-clause-right g c =

@@ -4,7 +4,7 @@ use Rattle.std.proofs.lemmas.Option.{slice_get-get_or}
 use Rattle.pie_graph.specs.Numbers.{numbers, AllBelow}
 use Rattle.pie_topdown.specs.declared.builder.Builder.{Builder}
 use Rattle.pie_compare.specs.inner.Standing.{DepStands, Tells}
-use Rattle.pie_topdown.specs.inner.Places.{beside, AsksSource}
+use Rattle.pie_topdown.specs.inner.Places.{beside, AsksSource, IsUnentered}
 use Rattle.pie_topdown.proofs.Growing.{check_below}
 use Rattle.pie_topdown.proofs.Passing.{passes_by, finds_standing, finds_other}
 use Rattle.pie_topdown.proofs.Stacking.{same_site}
@@ -56,6 +56,8 @@ returns-clause-finds g c =
     subst (λ w. Tells (DepStands (beside c.source_differs.new.self w) (numbers k.required.items) d) c.in_ok-stands.field-0
     (numbers c.stands.new.required.items)) c.as_slice-own.ensures c.in_ok-stands.ensures in
     finds_other (g.F.Files.holds c.args.files.now) c.args.self.now c.source_differs.new.self k _ c.stands.new.required d c.in_ok-stands.field-0 at
+    c.requires.inside (ap (λ b. b.ledger) c.source_differs.ensures.same)
+    (subst (IsUnentered c.args.self.now.ledger d.what) c.in_default.is c.in_ok-task.ensures)
     (subst (AsksSource (g.F.Files.holds c.args.files.now) c.args.self.now.named c.source_differs.new.self.named d) c.if-branch.false
     c.in_ok-source_differs.ensures.asks)
     tells c.if-branch-2.false

@@ -2,6 +2,7 @@ use Rattle.std.proofs.Common.{◌∙◌, subst}
 use Rattle.pie_files.proofs.Reading.{both_before}
 use Rattle.pie_topdown.specs.inner.Rooted.{SettlesRight}
 use Rattle.pie_topdown.proofs.Going.{continues_then, settled_all, settled_more, started_then}
+use Rattle.pie_topdown.proofs.Totals.{all_ran, all_refused, ran_one_more}
 use Rattle.pie_topdown.proofs.Turning.{all_settled, refused_one, settled_one}
 use Rattle.pie_topdown.proofs.builder.Builder.settle_all.Goals as goal
 
@@ -24,6 +25,10 @@ loop-root-preserved g c =
           (subst (SettlesRight (g.F.Files.holds c.loop-root.files) (g.O.Offers.told c.loop-root.offers) c.loop-root.self c.root-item.result c.settle.new.self)
           c.in-None.is c.in_ok-refusal.ensures.right),
       c.settle.ensures.told ∙ before.8,
+      ran_one_more (g.F.Files.holds c.args.files.now) (g.F.Files.holds c.loop-root.files) (g.O.Offers.told c.args.offers.now) (g.O.Offers.told c.loop-root.offers)
+          c.args.self.now c.loop-root.self c.settle.new.self c.args.roots.now c.loop-root.root-index c.root-item.result c.args.runs.now c.loop-root.runs
+          c.settle.new.runs c.in_ok-refusal.field-0 c.loop-root-test.true c.root-item.is before.4 before.8 before.2.plan before.7 c.in_ok-refusal.ensures.ran
+          c.in-None.is before.9,
     )
 
 pub returns-clause-settled : goal.returns-clause-settled
@@ -51,3 +56,11 @@ returns-in-Some-clause-right g c =
     before.8 before.2.plan before.7 c.in-Some.refusal
     (subst (SettlesRight (g.F.Files.holds c.loop-root.files) (g.O.Offers.told c.loop-root.offers) c.loop-root.self c.root-item.result c.settle.new.self)
     c.in-Some.is c.in_ok-refusal.ensures.right)
+
+pub returns-clause-ran : goal.returns-clause-ran
+returns-clause-ran g c =
+    all_ran (g.F.Files.holds c.args.files.now) (g.O.Offers.told c.args.offers.now) c.args.self.now c.loop-root.self c.args.roots.now c.args.runs.now c.loop-root.runs c.loop-root.invariant.9
+
+pub returns-in-Some-clause-ran : goal.returns-in-Some-clause-ran
+returns-in-Some-clause-ran g c =
+    all_refused (g.F.Files.holds c.args.files.now) (g.O.Offers.told c.args.offers.now) c.args.self.now c.settle.new.self c.args.roots.now c.args.runs.now c.settle.new.runs c.in-Some.refusal

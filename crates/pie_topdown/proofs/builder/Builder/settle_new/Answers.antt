@@ -1,9 +1,11 @@
 use Rattle.std.proofs.Common.{sym, ap, subst, ◌∙◌}
 use Rattle.pie_value.specs.Canonical.{enc_task, IsCanonicalTask}
+use Rattle.pie_value.specs.declared.verdict.Refusal.TheVariants.{Many}
 use Rattle.pie_topdown.specs.inner.Entries.{MayEnter}
 use Rattle.pie_topdown.specs.inner.Right.{IsRefused}
 use Rattle.pie_topdown.specs.inner.Rooted.{lost}
 use Rattle.pie_topdown.proofs.Rooting.{full_refused, lost_refused}
+use Rattle.pie_topdown.proofs.Totals.{ran_refused}
 use Rattle.pie_topdown.proofs.builder.Builder.settle_new.Goals as goal
 
 pub returns-in-Unknown-clause-right : goal.returns-in-Unknown-clause-right
@@ -19,3 +21,10 @@ returns-clause-right g c = λ u done of listed s.
     let t = c.args.root.now in
     full_refused c.args.self.now t (subst (IsCanonicalTask t) c.in_ok-_bytes.ensures.bytes c.in_ok-_bytes.ensures.canonical) c.requires.absent u done s
     (subst (MayEnter c.args.self.now t) c.in-Full.is c.entry.ensures)
+
+pub returns-in-Unknown-clause-ran : goal.returns-in-Unknown-clause-ran
+returns-in-Unknown-clause-ran g c =
+    ran_refused (g.F.Files.holds c.args.files.now) (g.O.Offers.told c.args.offers.now) c.args.self.now c.args.root.now c.args.self.now c.args.runs.now c.args.runs.now c.unknown.result
+
+pub returns-clause-ran : goal.returns-clause-ran
+returns-clause-ran g c = ran_refused (g.F.Files.holds c.args.files.now) (g.O.Offers.told c.args.offers.now) c.args.self.now c.args.root.now c.args.self.now c.args.runs.now c.args.runs.now Many

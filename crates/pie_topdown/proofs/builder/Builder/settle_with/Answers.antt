@@ -1,9 +1,11 @@
 use Rattle.std.proofs.Common.{◌≡◌, ◌∙◌, None, Some, ap, subst, arith, rules}
+use Rattle.pie_value.specs.declared.verdict.Refusal.TheVariants.{Many}
 use Rattle.pie_topdown.specs.inner.Entries.{HasEntered}
 use Rattle.pie_topdown.specs.inner.Right.{EntersSite}
 use Rattle.pie_topdown.specs.inner.Turns.{stack_room}
 use Rattle.pie_topdown.proofs.Going.{grows_then}
 use Rattle.pie_topdown.proofs.Rooting.{with_failure, with_many, with_rest}
+use Rattle.pie_topdown.proofs.Totals.{ran_refused, ran_root}
 use Rattle.pie_topdown.proofs.builder.Builder.settle_with.Goals as goal
 
 pub returns-clause-continues : goal.returns-clause-continues
@@ -43,3 +45,23 @@ returns-clause-right g c =
     (subst (λ t. EntersSite a t c.enter.new.self) c.in_ok-copy.ensures c.in_ok-no.ensures.right) c.requires.may c.requires.site c.requires.absent
     c.in_ok-rests.ensures.kept c.in_ok-rests.rests c.in_ok-rests.ensures.right (record c.run.new.self { failure = c.take.new.self }) c.in_ok-unless_done.field-0
     (ap (λ f. record c.run.new.self { failure = f }) c.take.ensures.after) c.if-not-rests.false calm c.in_ok-unless_done.ensures.none
+
+pub returns-in-Some-clause-ran : goal.returns-in-Some-clause-ran
+returns-in-Some-clause-ran g c =
+    ran_refused (g.F.Files.holds c.args.files.now) (g.O.Offers.told c.args.offers.now) c.args.self.now c.args.root.now (record c.run.new.self { failure = c.take.new.self })
+    c.args.runs.now c.run.new.runs c.in-Some.why
+
+pub returns-then-not-rests-clause-ran : goal.returns-then-not-rests-clause-ran
+returns-then-not-rests-clause-ran g c =
+    ran_refused (g.F.Files.holds c.args.files.now) (g.O.Offers.told c.args.offers.now) c.args.self.now c.args.root.now (record c.run.new.self { failure = c.take.new.self })
+    c.args.runs.now c.run.new.runs Many
+
+pub returns-clause-ran : goal.returns-clause-ran
+returns-clause-ran g c =
+    let a = c.args.self.now in
+    let calm : c.run.new.self.failure ≡ None = search rules in
+    ran_root (g.F.Files.holds c.args.files.now) (g.O.Offers.told c.args.offers.now) a c.enter.new.self c.run.new.self c.args.root.now c.args.code c.in_ok-no.no
+    (record c.run.new.self { failure = c.take.new.self }) c.args.runs.now c.run.new.runs c.in_ok-unless_done.field-0 c.in_ok-no.ensures.number
+    (subst (λ t. HasEntered a t c.enter.new.self) c.in_ok-copy.ensures c.in_ok-no.ensures.added)
+    (subst (λ t. EntersSite a t c.enter.new.self) c.in_ok-copy.ensures c.in_ok-no.ensures.right) c.requires.may c.requires.site c.requires.absent
+    c.in_ok-no.ensures.kept c.in_ok-no.ensures.marks c.in_ok-rests.ensures.ran (ap (λ f. record c.run.new.self { failure = f }) c.take.ensures.after) calm

@@ -1,0 +1,333 @@
+-- A task whose own record differs in a place has a reason to run, unless a root fails.
+use Rattle.std.proofs.Common.{◌≡◌, ◌⊎◌, ℕ, zero, suc, ◌+◌, ◌<◌, ◌≤◌, Bool, true, false, List, [], ◌∷◌, Option, None, Some, length, map, refl, sym, ap, subst, ◌∙◌, inl, inr, arith, Vec}
+use Rattle.std.specs.declared.alloc.Global.{Global}
+use Rattle.std.specs.Prelude.{slice_get, take, drop, option_map, Contains, IfSome}
+use Rattle.std.proofs.lemmas.List.{length-map}
+use Rattle.std.proofs.lemmas.List.Elements.{All-contains}
+use Rattle.pie_value.specs.declared.task.Task.{Task}
+use Rattle.pie_value.specs.Values.{tree_of}
+use Rattle.pie_value.specs.Canonical.{enc_task, IsCanonicalTask, IsEncodable}
+use Rattle.pie_graph.specs.Numbers.{numbers}
+use Rattle.pie_record.specs.Canonical.{IsStorable, IsStorableDep, IsStorableOutcome, IsStorableStamp, IsTrueDep, IsTrueOutcome, IsTrueStamp}
+use Rattle.pie_record.specs.declared.dep.Dep.{Dep}
+use Rattle.pie_record.specs.declared.dep.DepKind.{DepKind}
+use Rattle.pie_record.specs.declared.dep.DepKind.TheVariants as kinds
+use Rattle.pie_record.specs.declared.dep.DepOn.{DepOn}
+use Rattle.pie_record.specs.declared.dep.DepOn.TheVariants.{File, Called}
+use Rattle.pie_record.specs.declared.task_record.TaskRecord.{TaskRecord}
+use Rattle.pie_record.specs.inner.Records.{record_of as kept_of}
+use Rattle.pie_tables.specs.Tabled.{HasFailed, IsKept, IsRecordAt}
+use Rattle.pie_walk.specs.States.{WalkState}
+use Rattle.pie_model.specs.declared.words.Kind.TheVariants.{Source}
+use Rattle.pie_model.specs.Paths.{Path, among, kind_of}
+use Rattle.pie_model.specs.Trees.{is_done, outcome_of as model_outcome}
+use Rattle.pie_model.specs.Evaluation.{evaluation}
+use Rattle.pie_model.specs.Records.{Record, needs_of, task_asked}
+use Rattle.pie_model.specs.StampNow.{Told, by_records, by_evaluation, stamp_now}
+use Rattle.pie_model.specs.Reasons.{Differs}
+use Rattle.pie_model.specs.Reasons.RunReason.{stamp}
+use Rattle.pie_model.specs.inner.Consistent.{IsRecorded}
+use Rattle.pie_model.specs.inner.CoreLaws.{TellsRight}
+use Rattle.pie_model.specs.inner.Stack.{Frame as ModelFrame, tasks_of}
+use Rattle.pie_model.proofs.Basics.{clash}
+use Rattle.pie_step_laws.proofs.Tables.{among_one}
+use Rattle.pie_check_laws.proofs.Members.{none_in, here_or_there}
+use Rattle.pie_model_pipeline.specs.Rows.{how_by, asked_of, query_of, stamp_of, observation_of, record_of}
+use Rattle.pie_model_pipeline.specs.World.{world}
+use Rattle.pie_builder_laws.specs.Names.{called_in}
+use Rattle.pie_builder_laws.proofs.Naming.{among_at, named_back, place, placed}
+use Rattle.pie_builder_laws.proofs.Tabled.{needs_called, record_by_number}
+use Rattle.pie_earlier_laws.specs.Telling.{told_by}
+use Rattle.pie_earlier_laws.proofs.OldRows.{old_row}
+use Rattle.pie_earlier_laws.proofs.Pipelines.{kind_source, manners_of}
+use Rattle.pie_earlier_laws.proofs.Unnamed.{ListSources, record_lists}
+use Rattle.pie_compare_laws.specs.Agreeing.{OutputsAreCanonical}
+use Rattle.pie_compare_laws.proofs.Ways.{task_of}
+use Rattle.pie_core_laws.specs.Update.{Update, earlier, present, old_record}
+use Rattle.pie_core_laws.specs.Exact.{is_done as is_ended, rank_by}
+use Rattle.pie_core_laws.proofs.Exactly.{tells}
+use Rattle.pie_core_laws.proofs.Kept.{done_settled, settled_done, are_present}
+use Rattle.pie_topdown_laws.specs.Checks.{AreUnderWay, IsChecked}
+use Rattle.pie_topdown_laws.specs.CheckLaws.{MayPass}
+use Rattle.pie_topdown_laws.specs.Ledgers.{setting, walk_of, IsAsExact}
+use Rattle.pie_topdown_laws.specs.Places.{ChecksAt, StandsAbove}
+use Rattle.pie_topdown_laws.proofs.Building.{closes, is_reason}
+use Rattle.pie_topdown_laws.proofs.Comparing.{drop_at, requires_at}
+use Rattle.pie_topdown_laws.proofs.Exactness.{as_exact, kept_settled, settled_kept}
+use Rattle.pie_topdown.specs.declared.builder.Builder.{Builder}
+use Rattle.pie_topdown.specs.declared.hand.Check.{Check}
+use Rattle.pie_topdown.specs.inner.Due.{NoneFails, IsDue, IsDueBy}
+use Rattle.pie_topdown.specs.inner.Frames.{IsOwnRecord, IsSite}
+use Rattle.pie_topdown.specs.inner.Places.{DiffersHere, NeedsNext}
+use Rattle.pie_topdown.specs.inner.Right.{names_of, records_of, IsPlanNow, IsRightSite, ChecksRight}
+use Rattle.pie_base.specs.declared.fault.FaultKind.TheVariants.{Unknown as UnknownTask}
+use Rattle.pie_model.specs.declared.words.Outcome.TheVariants.{Failed}
+use Rattle.pie_model.specs.declared.words.Event.TheVariants.{Fail}
+use Rattle.pie_topdown.specs.declared.entering.Entry.TheVariants.{Unknown}
+use Rattle.pie_topdown.specs.inner.Entries.{MayEnter}
+use Rattle.pie_topdown.proofs.Answering.{no_function}
+use Rattle.pie_topdown_laws.proofs.Sinking.{required_sinks, new_fails}
+use Rattle.pie_model_pipeline.specs.Words.{fault_of}
+use Rattle.pie_builder_laws.proofs.Coded.{unknown_fails}
+use Rattle.pie_topdown.proofs.Pushed.{absent_among}
+use Rattle.pie_step_laws.proofs.Tables.{no_more}
+use Rattle.pie_topdown.proofs.Agreeing.{IsPlainDep, dep_stands}
+use Rattle.pie_topdown.proofs.Reasoning.{evaluated_few}
+
+one_some : {A : Type 0} (x y : A) → Some x ≡ Some y → x ≡ y
+one_some x y e = cc
+
+-- there is an item inside a list
+slice_inside : {A : Type 0} (xs : List A) (i : ℕ) → i < length xs → (x : A) × (slice_get xs i ≡ Some x)
+slice_inside [] i l = absurd (omega (arith, l))
+slice_inside (x ∷ xs) zero l = (x, refl)
+slice_inside (x ∷ xs) (suc i) l = slice_inside xs i (omega (arith, l))
+
+-- ---- what is known of an own record
+
+-- the listings of an old record are of sources
+listed_source : (deps : List Dep) → ListSources (map observation_of deps) → (dep : Dep) (p : Path) → Contains deps dep → dep.kind ≡ kinds.List
+    → dep.what ≡ File p → kind_of p ≡ Source
+listed_source [] l dep p i k w = absurd (none_in dep i)
+listed_source (x ∷ deps) l dep p i k w = by (here_or_there x dep deps i) (λ j. listed_source deps l.1 dep p j k w)
+  where
+    by : (x ≡ dep) ⊎ Contains deps dep → (Contains deps dep → kind_of p ≡ Source) → kind_of p ≡ Source
+    by (inl e) f = l.0 p (ap (λ (z : Dep). query_of z.kind z.what) e ∙ ap (λ (k : DepKind). query_of k dep.what) k ∙ ap (query_of kinds.List) w)
+    by (inr j) f = f j
+
+module _ (u : Update) (b : Builder) (plan : IsPlanNow u b.plan) (rec : TaskRecord) (left : old_record u (enc_task rec.task) ≡ Some (record_of rec)) where
+  old_lists : ListSources (map observation_of rec.deps)
+  old_lists =
+      let q = old_row world (earlier u) u.old_roots plan.build.accepted (enc_task rec.task) (record_of rec) left in
+      subst (λ (z : Record). ListSources z.observations) (sym q.was)
+      (record_lists world (earlier u) (enc_task rec.task) ((manners_of u.old_functions u.built).lists (enc_task rec.task)))
+
+  -- it has no more observations than a task can make
+  few_observed : length rec.deps ≤ 1000001
+  unfolding world
+  few_observed =
+      let q = old_row world (earlier u) u.old_roots plan.build.accepted (enc_task rec.task) (record_of rec) left in
+      subst (λ n. n ≤ 1000001) (length-map rec.deps observation_of)
+      (subst (λ (z : Record). length z.observations ≤ 1000001) (sym q.was) (evaluated_few world (earlier u) 50000 [] (enc_task rec.task)))
+
+-- ---- the check of one
+
+module _ (u : Update) (done : List (List ℕ)) (root : List ℕ) (b : Builder) (fs : List ModelFrame) (c : Check) (plan : IsPlanNow u b.plan) (is : IsSite b)
+    (s : IsRightSite u done root b) (k : ChecksRight u b root fs c) (differs : DiffersHere b c) (own : IsOwnRecord b.plan c.rec)
+    (fine : NoneFails u) where
+  abbrev R : List ℕ → Option Record
+  R = records_of b
+
+  abbrev walk : WalkState
+  walk = walk_of b.ledger.tables.names b.ledger.tables.records b.ledger.rows b.ledger.places.items
+
+  abbrev told : List (List ℕ) → Path → Told
+  told = told_by R (rank_by b.ledger.tables.names b.ledger.places.items)
+
+  abbrev C : ChecksAt u k.check.before b.ledger.tables.names b.ledger.tables.records root fs c.rec c.at (numbers c.required.items)
+  C = k.check.check
+
+  left : old_record u (enc_task c.rec.task) ≡ Some (record_of c.rec)
+  left = (plan.old own.number c.rec own.kept).left
+
+  storable : IsStorable c.rec
+  storable = (plan.old own.number c.rec own.kept).storable
+
+  few : c.at ≤ 1000000
+  few = let size = few_observed u b plan c.rec left in let inside = differs.inside in omega (arith, size, inside)
+
+  exact : IsAsExact u b.ledger.tables.names b.ledger.tables.records b.ledger.rows b.ledger.places.items
+  exact = as_exact u b.ledger.tables.names b.ledger.tables.records b.ledger.rows b.ledger.places.items s.ledger
+
+  right_told : TellsRight R told
+  right_told = tells u b.ledger.tables.names b.ledger.tables.records walk exact.exact exact.stands.holds.agrees
+
+  above : StandsAbove b.ledger.tables.names b.ledger.tables.records fs c.rec
+  above = subst (λ x. AreUnderWay R (names_of b) (x ∷ tasks_of fs)) C.checked.task k.top.under_way
+
+  -- ---- tasks with records are settled, and have canonical outputs
+
+  settled_at : (n : ℕ) (rec : TaskRecord) → kept_of b.ledger.tables.records n ≡ Some rec → is_ended walk n ≡ true
+  settled_at n rec kept =
+      settled_done walk n (kept_settled u b.ledger.tables.names b.ledger.tables.records b.ledger.rows b.ledger.places.items s.ledger n rec kept)
+
+  outputs : OutputsAreCanonical b.ledger.tables.records (is_ended walk)
+  outputs n rec v settles kept gave = record {
+    encodable = by (subst (λ o. IfSome o (IsRecordAt b.ledger.tables.names n)) kept (is.ledger.tables.records n)).kept;
+    leaves = subst IsTrueOutcome gave (s.outputs n rec kept);
+    bytes = refl;
+  }
+    where
+      by : IsKept rec → IsEncodable (tree_of v)
+      by (inl so) = subst IsStorableOutcome gave so.outcome
+      by (inr failed) = absurd (subst HasFailed gave failed)
+
+  -- what was required so far is settled
+  required_settled : (n : ℕ) → Contains (numbers c.required.items) n → is_ended walk n ≡ true
+  required_settled n i =
+      let m = task_of b.ledger.tables.names (numbers c.required.items) (called_in (take c.at c.rec.deps)) n C.numbers i in
+      let need : among (enc_task m.task) (needs_of (map observation_of (take c.at c.rec.deps))) ≡ true =
+      subst (λ z. among (enc_task m.task) z ≡ true) (sym (needs_called (take c.at c.rec.deps))) (named_back (called_in (take c.at c.rec.deps)) m.task m.listed) in
+      by m.task m.named
+      (C.checked.goes.settled (enc_task m.task) (subst (λ z. among (enc_task m.task) (needs_of z) ≡ true) (sym C.checked.seen) need)).recorded
+    where
+      by : (v : Task) → slice_get b.ledger.tables.names n ≡ Some v → IsRecorded R (enc_task v) → is_ended walk n ≡ true
+      by v e r =
+          go (kept_of b.ledger.tables.records n) refl
+          (sym (record_by_number b.ledger.tables.names b.ledger.tables.records n v s.ledger.tasks e) ∙ r.is)
+        where
+          go : (o : Option TaskRecord) → kept_of b.ledger.tables.records n ≡ o → option_map record_of (kept_of b.ledger.tables.records n) ≡ Some r.kept
+              → is_ended walk n ≡ true
+          go None q h = absurd (never (sym (ap (option_map record_of) q) ∙ h))
+            where
+              never : None ≡ Some r.kept → ⊥
+              never z = cc
+          go (Some x) q h = settled_at n x q
+
+  -- ---- the next observation
+
+  module _ (dep : Dep) (next : slice_get c.rec.deps c.at ≡ Some dep) where
+    next_is : IsChecked (setting u) k.check.before R root fs (enc_task c.rec.task) (record_of c.rec) (map observation_of (take c.at c.rec.deps))
+        (observation_of dep ∷ map observation_of (drop (c.at + 1) c.rec.deps))
+    next_is =
+        subst (λ z. IsChecked (setting u) k.check.before R root fs (enc_task c.rec.task) (record_of c.rec) (map observation_of (take c.at c.rec.deps))
+        (map observation_of z)) (drop_at c.rec.deps c.at dep next) C.checked
+
+    among_deps : Contains c.rec.deps dep
+    among_deps = placed c.rec.deps c.at dep next
+
+    -- if what it requires has a record
+    module _ (ready : (v : Task) → dep.what ≡ Called v → (n : ℕ) × (slice_get b.ledger.tables.names n ≡ Some v) × (is_ended walk n ≡ true)) where
+      kept_at : (n : ℕ) → is_ended walk n ≡ true → (rec : TaskRecord) × (kept_of b.ledger.tables.records n ≡ Some rec)
+      kept_at n settles =
+          settled_kept u b.ledger.tables.names b.ledger.tables.records b.ledger.rows b.ledger.places.items s.ledger n (done_settled walk n settles)
+
+      asked_recorded : (x : List ℕ) → among x (task_asked (query_of dep.kind dep.what)) ≡ true → IsRecorded R x
+      asked_recorded x i = go dep.what refl i
+        where
+          file : (q : DepKind) (p : Path) → task_asked (asked_of q p) ≡ []
+          file kinds.Exists p = refl
+          file kinds.ReadHash p = refl
+          file kinds.ReadMark p = refl
+          file kinds.Digest p = refl
+          file kinds.List p = refl
+          file kinds.Require p = refl
+          file kinds.RequireHash p = refl
+          file kinds.Run p = refl
+
+          go : (w : DepOn) → dep.what ≡ w → among x (task_asked (query_of dep.kind w)) ≡ true → IsRecorded R x
+          go (File p) e j = clash (among x []) (subst (λ z. among x z ≡ true) (file dep.kind p) j) refl
+          go (Called v) e j =
+              let r = ready v e in
+              let q = kept_at r.0 r.2 in
+              record {
+                kept = record_of q.0;
+                is = ap R (among_one x (enc_task v) j) ∙ record_by_number b.ledger.tables.names b.ledger.tables.records r.0 v s.ledger.tasks r.1
+                    ∙ ap (option_map record_of) q.1;
+              }
+
+      may : MayPass (setting u) k.check.before R (names_of b) root fs (enc_task c.rec.task) (record_of c.rec) (map observation_of (take c.at c.rec.deps))
+          (map observation_of (drop (c.at + 1) c.rec.deps)) (observation_of dep)
+      may = record { apart = k.check.apart; old = C.old; table = s.ledger.table; under_way = above; checked = next_is; recorded = asked_recorded }
+
+      plain : IsPlainDep u.functions u.directory b.ledger.tables b.ledger.rows b.named (is_ended walk) told
+          (are_present u b.ledger.tables.names b.ledger.tables.records walk exact.exact exact.stands told right_told) s.known dep
+      plain = record {
+        allowed = (All-contains IsStorableDep c.rec.deps dep storable.deps among_deps).allowed;
+        whole = λ v e. record {
+          encodable = subst IsStorableStamp e (All-contains IsStorableDep c.rec.deps dep storable.deps among_deps).stamp;
+          leaves = subst IsTrueStamp e (All-contains IsTrueDep c.rec.deps dep k.may.parts.deps among_deps).1;
+          bytes = refl;
+        };
+        listed = λ p what kind. kind_source p (listed_source c.rec.deps (old_lists u b plan c.rec left) dep p among_deps kind what);
+        ready = ready;
+      }
+
+      hasnt : stamp_now world (present u) (by_records R told) c.rec.writes (needs_of (map observation_of (take c.at c.rec.deps))) (query_of dep.kind dep.what)
+          ≡ Some (stamp_of dep.stamp) → ⊥
+      hasnt h =
+          let stands = dep_stands u.functions u.directory b.ledger.tables b.ledger.rows b.named (is_ended walk) told
+          (are_present u b.ledger.tables.names b.ledger.tables.records walk exact.exact exact.stands told right_told) s.known outputs c.rec.writes dep
+          (numbers c.required.items) (called_in (take c.at c.rec.deps)) plain C.numbers required_settled
+          (subst (λ z. stamp_now world (present u) (by_records R told) c.rec.writes z (query_of dep.kind dep.what) ≡ Some (stamp_of dep.stamp))
+          (needs_called (take c.at c.rec.deps)) h) in
+          differs.cant dep stands.0 next few stands.1
+
+      differs_so : Differs world (present u) (by_evaluation world (present u)) c.rec.writes [] (record_of c.rec).observations
+      differs_so =
+          is_reason (setting u) k.check.before R root fs (enc_task c.rec.task) (record_of c.rec) (names_of b) (map observation_of (take c.at c.rec.deps))
+          (map observation_of (drop (c.at + 1) c.rec.deps)) (observation_of dep) may told right_told hasnt
+
+    -- a task without a record stands below it: the root ends in a cycle
+    in_cycle : (v : Task) (n : ℕ) → dep.what ≡ Called v → slice_get b.ledger.tables.names n ≡ Some v → kept_of b.ledger.tables.records n ≡ None → ⊥
+    in_cycle v n what named none =
+        let requires = requires_at u k.check.before b.ledger.tables.names b.ledger.tables.records root fs c.rec c.at (numbers c.required.items) C dep v next what in
+        let on : among (enc_task v) (enc_task c.rec.task ∷ tasks_of fs) ≡ true =
+        k.busy (enc_task v) (among_at b.ledger.tables.names n v named)
+        (record_by_number b.ledger.tables.names b.ledger.tables.records n v s.ledger.tasks named ∙ ap (option_map record_of) none) in
+        clash (is_done (model_outcome (evaluation world (present u) root))) (fine root s.listed)
+        (ap is_done (closes (setting u) R root fs C.checked.frame C.checked.goes requires.left (how_by dep.kind) (enc_task v) requires.is_left requires.next
+        (subst (λ x. among (enc_task v) (x ∷ tasks_of fs) ≡ true) (sym C.checked.task) on)))
+
+    ready_at : (v : Task) → dep.what ≡ Called v → (n : ℕ) × (slice_get b.ledger.tables.names n ≡ Some v) × (is_ended walk n ≡ true)
+    ready_at v what =
+        let m = differs.entered dep v next few what in
+        let named = place b.ledger.tables.names v m in
+        (m.0, named, by m.0 named (kept_of b.ledger.tables.records m.0) refl)
+      where
+        by : (n : ℕ) → slice_get b.ledger.tables.names n ≡ Some v → (o : Option TaskRecord) → kept_of b.ledger.tables.records n ≡ o → is_ended walk n ≡ true
+        by n named None e = absurd (in_cycle v n what named e)
+        by n named (Some rec) e = settled_at n rec e
+
+  differs_now : Differs world (present u) (by_evaluation world (present u)) c.rec.writes [] (record_of c.rec).observations
+  differs_now =
+      let dep = slice_inside c.rec.deps c.at differs.inside in
+      differs_so dep.0 dep.1 (ready_at dep.0 dep.1)
+
+-- ---- a check that differs
+
+pub differs_due : (u : Update) (done : List (List ℕ)) (root : List ℕ) (b : Builder) (fs : List ModelFrame) (c : Check) → IsPlanNow u b.plan → IsSite b
+    → IsRightSite u done root b → ChecksRight u b root fs c → DiffersHere b c → IsDue u b.plan c.rec.task
+differs_due u done root b fs c plan is s k differs = by c.contents k.may.due
+  where
+    by : (o : Option (Vec (Vec ℕ Global) Global)) → IsDueBy u b.plan c.rec o → IsDue u b.plan c.rec.task
+    by (Some contents) due = due
+    by None own = λ funcs digests knows fine.
+        stamp (record_of c.rec) (plan.old own.number c.rec own.kept).left (differs_now u done root b fs c plan is s k differs own fine)
+
+-- ---- its next observation is of a task of no function
+
+-- so it fails, and with it the root
+pub lost_due : (u : Update) (done : List (List ℕ)) (root : List ℕ) (b : Builder) (fs : List ModelFrame) (c : Check) (task : Task) → IsPlanNow u b.plan
+    → IsRightSite u done root b → ChecksRight u b root fs c → NeedsNext c task → MayEnter b task Unknown → IsCanonicalTask task (enc_task task)
+    → ¬ (Contains b.ledger.tables.names task) → IsDue u b.plan c.rec.task
+unfolding world
+lost_due u done root b fs c task plan s k needs may canonical absent funcs digests knows fine =
+    let C = k.check.check in
+    let f = C.checked.frame in
+    let requires = requires_at u k.check.before b.ledger.tables.names b.ledger.tables.records root fs c.rec c.at (numbers c.required.items) C needs.dep task needs.next
+    needs.what in
+    let fails : (present u).next (enc_task task) [] ≡ Fail (fault_of UnknownTask) =
+    unknown_fails u.functions task [] (no_function u b task plan may.1) canonical in
+    let new_one : among (enc_task task) (names_of b) ≡ false = absent_among b.ledger.tables.names task s.ledger.tasks canonical absent in
+    let size : length (names_of b) ≡ length b.ledger.tables.names = length-map b.ledger.tables.names enc_task in
+    let fewer = may.0 in
+    let few_names : length (names_of b) < 50000 = omega (arith, size, fewer) in
+    let above_few : length (tasks_of (f ∷ fs)) < 50000 =
+    less (length (tasks_of (f ∷ fs))) (length (names_of b)) (no_more (tasks_of (f ∷ fs)) (names_of b) k.top.goes.once k.top.under_way.counted) few_names in
+    let apart : among (enc_task task) (tasks_of (f ∷ fs)) ≡ false = apart_from (enc_task task) (tasks_of (f ∷ fs)) (names_of b) k.top.under_way.counted new_one in
+    let fallen : model_outcome (evaluation world (present u) root) ≡ Failed (enc_task task) (fault_of UnknownTask) =
+    required_sinks (setting u) (records_of b) root fs f k.top.goes requires.left (how_by needs.dep.kind) (enc_task task) requires.is_left requires.next
+    (Failed (enc_task task) (fault_of UnknownTask))
+    (ap model_outcome (new_fails world (present u) (tasks_of (f ∷ fs)) (enc_task task) (fault_of UnknownTask) apart above_few (omega arith) fails)) refl in
+    clash (is_done (model_outcome (evaluation world (present u) root))) (fine root s.listed) (ap is_done fallen)
+  where
+    less : (x y : ℕ) → x ≤ y → y < 50000 → x < 50000
+    less x y p q = omega (arith, p, q)
+
+    apart_from : (x : List ℕ) (ts xs : List (List ℕ)) → ((t : List ℕ) → among t ts ≡ true → among t xs ≡ true) → among x xs ≡ false → among x ts ≡ false
+    apart_from x ts xs counted off = by (among x ts) refl
+      where
+        by : (z : Bool) → among x ts ≡ z → among x ts ≡ false
+        by true on = clash (among x xs) (counted x on) off
+        by false q = q

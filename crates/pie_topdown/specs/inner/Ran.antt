@@ -1,0 +1,153 @@
+-- Which tasks a build without a list runs and reuses.
+use Rattle.std.specs.Prelude.{◌≡◌, ◌≢◌, ◌⊎◌, ℕ, Bool, true, false, List, [], ◌∷◌, ◌++◌, map, All, Option, None, Some, slice_get, slice_index_or}
+use Rattle.std.specs.List.{AllPairs, Contains}
+use Rattle.pie_value.specs.declared.task.Task.{Task}
+use Rattle.pie_value.specs.declared.verdict.Refusal.{Refusal}
+use Rattle.pie_value.specs.declared.verdict.Verdict.{Verdict}
+use Rattle.pie_value.specs.declared.verdict.Verdict.TheVariants.{Accepted}
+use Rattle.pie_value.specs.Canonical.{enc_task, IsCanonicalTask}
+use Rattle.pie_parser.specs.FunctionTrees.{FunctionTree}
+use Rattle.pie_files.specs.Directory.{Directory}
+use Rattle.pie_graph.specs.Numbers.{numbers, IsMarked}
+use Rattle.pie_old.specs.inner.Rows.{tasks_at}
+use Rattle.pie_record.specs.declared.task_record.TaskRecord.{TaskRecord}
+use Rattle.pie_store.specs.inner.Offers.{Offered}
+use Rattle.pie_model.specs.Forest.{entered_tasks}
+use Rattle.pie_model.specs.Paths.{among}
+use Rattle.pie_model_pipeline.specs.World.{world}
+use Rattle.pie_core_laws.specs.Update.{Update, present}
+use Rattle.pie_topdown_result_laws.specs.Builds.{IsNowHere, IsFromStore, AreHonest}
+use Rattle.pie_topdown.specs.declared.builder.Builder.{Builder}
+use Rattle.pie_topdown.specs.declared.hand.Hand.{Hand}
+use Rattle.pie_topdown.specs.declared.hand.Hand.TheVariants as hands
+use Rattle.pie_topdown.specs.inner.Due.{HasReason}
+use Rattle.pie_topdown.specs.inner.Right.{IsRightOrFailed}
+use Rattle.pie_topdown.specs.inner.Rooted.{IsBuildOf, IsSettledSoFar}
+
+-- ---- what a step marks
+
+-- whether the task with a number ran, or was reused
+abbrev pub flag : Builder → ℕ → Bool
+flag b n = slice_index_or b.ledger.tables.ran.items n false
+
+-- no task was marked, and none counts as reused that didn't
+pub record StaysMarked (old new : Builder) : Type 0 where
+  pub flags : (n : ℕ) → flag new n ≡ flag old n
+  pub reused : new.reused.items ≡ old.reused.items
+
+-- one task was marked
+pub record MarksOne (old : Builder) (n : ℕ) (new : Builder) : Type 0 where
+  pub task : Task
+  pub named : slice_get old.ledger.tables.names n ≡ Some task
+  pub here : IsMarked new.ledger.tables.ran.items n
+  pub others : (k : ℕ) → (k ≡ n → ⊥) → flag new k ≡ flag old k
+
+-- it counts as reused
+pub record ReusesOne (old : Builder) (n : ℕ) (new : Builder) : Type 0 where
+  pub marks : MarksOne old n new
+  pub numbers_are : numbers new.reused.items ≡ numbers old.reused.items ++ n ∷ []
+
+-- it was started
+pub record RunsOne (old : Builder) (n : ℕ) (new : Builder) (before after : List Task) : Type 0 where
+  pub marks : MarksOne old n new
+  pub added : after ≡ before ++ marks.task ∷ []
+  pub reused : new.reused.items ≡ old.reused.items
+
+-- a record that stands may be an offered one
+abbrev pub KeepsMarks : Builder → ℕ → Builder → Type 0
+KeepsMarks old n new = StaysMarked old new ⊎ ReusesOne old n new
+
+-- at most this one was marked: it was reused, or started
+abbrev pub Marks : Builder → ℕ → Builder → List Task → List Task → Type 0
+Marks old n new before after = ((after ≡ before) × KeepsMarks old n new) ⊎ RunsOne old n new before after
+
+-- so it is in a step, with the task in hand
+abbrev pub MarksBy : Builder → Hand → Builder → List Task → List Task → Type 0
+MarksBy old (hands.Enters n code) new before after = Marks old n.0 new before after
+MarksBy old (hands.Checks c) new before after = Marks old c.value.no.0 new before after
+MarksBy old (hands.Runs f) new before after = (after ≡ before) × StaysMarked old new
+MarksBy old hands.Ended new before after = (after ≡ before) × StaysMarked old new
+
+-- ---- what is marked
+
+-- a task has run, or was reused, under its number
+pub record HasRunAs (b : Builder) (t : Task) : Type 0 where
+  pub number : ℕ
+  pub named : slice_get b.ledger.tables.names number ≡ Some t
+  pub marked : IsMarked b.ledger.tables.ran.items number
+
+-- the task with a number is among these
+pub record IsOneOf (b : Builder) (tasks : List Task) (n : ℕ) : Type 0 where
+  pub task : Task
+  pub named : slice_get b.ledger.tables.names n ≡ Some task
+  pub listed : Contains tasks task
+
+-- since the beginning some were started and some were reused, each once, none both, and no others are marked
+pub record HasRunSo (b : Builder) (before after : List Task) : Type 0 where
+  pub gained : List Task
+  pub is : after ≡ before ++ gained
+  pub once : AllPairs (λ t v. t ≢ v) gained
+  pub marked : All (HasRunAs b) gained
+  pub reused : List Task
+  pub reused_are : tasks_at b.ledger.tables.names (numbers b.reused.items) ≡ map Some reused
+  pub reused_once : AllPairs (λ t v. t ≢ v) reused
+  pub reused_marked : All (HasRunAs b) reused
+  pub apart : (t : Task) → Contains gained t → Contains reused t → ⊥
+  pub only : (n : ℕ) → IsMarked b.ledger.tables.ran.items n → IsOneOf b gained n ⊎ IsOneOf b reused n
+
+-- so it is still where no task failed
+abbrev pub RansOn : Option Directory → (Directory → Task → List ℕ → List Offered) → Builder → Hand → Builder → List Task → List Task → Type 0
+RansOn held told old h new before after =
+    (u : Update) (done : List (List ℕ)) (root : List ℕ) → IsBuildOf u held told old.plan → IsRightOrFailed u done root old h → (first : List Task)
+    → HasRunSo old first before → new.failure ≡ None → HasRunSo new first after
+
+-- and with a root that has an output
+abbrev pub SettlesRan : Option Directory → (Directory → Task → List ℕ → List Offered) → Builder → Task → Builder → List Task → List Task → Option Refusal → Type 0
+SettlesRan held told old root new before after why =
+    (u : Update) (done : List (List ℕ)) → IsBuildOf u held told old.plan → among (enc_task root) u.roots ≡ true → IsSettledSoFar u done old
+    → (first : List Task) → HasRunSo old first before → why ≡ None → HasRunSo new first after
+
+-- and with some roots
+abbrev pub HasSettledRan : Option Directory → (Directory → Task → List ℕ → List Offered) → Builder → List Task → Builder → List Task → List Task → Type 0
+HasSettledRan held told old roots new before after =
+    (u : Update) → IsBuildOf u held told old.plan → map enc_task roots ≡ u.roots → IsSettledSoFar u [] old → (first : List Task) → HasRunSo old first before
+    → HasRunSo new first after
+
+-- and with all, where each has an output
+abbrev pub SettlesAllRan : Option Directory → (Directory → Task → List ℕ → List Offered) → Builder → List Task → Builder → List Task → List Task → Option Refusal
+    → Type 0
+SettlesAllRan held told old roots new before after why = why ≡ None → HasSettledRan held told old roots new before after
+
+-- ---- the whole build
+
+-- tasks with these numbers were added to a list, if all have a name
+abbrev pub AddsNamed : Builder → List ℕ → List Task → List Task → Type 0
+AddsNamed b ns old new = (ts : List Task) → tasks_at b.ledger.tables.names ns ≡ map Some ts → new ≡ old ++ ts
+
+-- the task with this number was added
+abbrev pub AddsOne : Builder → ℕ → List Task → List Task → Type 0
+AddsOne b n old new = (t : Task) → slice_get b.ledger.tables.names n ≡ Some t → new ≡ old ++ t ∷ []
+
+-- a clean build enters a task
+pub record IsEntered (u : Update) (t : Task) : Type 0 where
+  pub canonical : IsCanonicalTask t (enc_task t)
+  pub entered : among (enc_task t) (entered_tasks world (present u) u.roots) ≡ true
+
+-- these tasks were started and those reused, each once, none both, each for a reason; and each that a clean build enters and that has one is among them
+pub record RanFor (u : Update) (funcs digests : List (List ℕ × List ℕ)) (before after old new : List Task) : Type 0 where
+  pub ran : List Task
+  pub ran_are : after ≡ before ++ ran
+  pub reused : List Task
+  pub reused_are : new ≡ old ++ reused
+  pub once : AllPairs (λ t v. t ≢ v) ran
+  pub reused_once : AllPairs (λ t v. t ≢ v) reused
+  pub apart : (t : Task) → Contains ran t → Contains reused t → ⊥
+  pub reasons : All (HasReason u funcs digests) ran
+  pub reused_reasons : All (HasReason u funcs digests) reused
+  pub all : (t : Task) → IsEntered u t → HasReason u funcs digests t → Contains ran t ⊎ Contains reused t
+
+-- so it is with each update to what the files hold, from the store of its earlier build and where offers are honest, if the build is accepted
+pub record RunsForReasons (held : Option Directory) (fs : List FunctionTree) (funcs digests : List (List ℕ × List ℕ)) (rows : List TaskRecord)
+    (told : Directory → Task → List ℕ → List Offered) (roots before after old new : List Task) (v : Verdict) : Type 0 where
+  pub each : v ≡ Accepted → (u : Update) → IsNowHere u held fs roots → IsFromStore u funcs digests rows → AreHonest u digests told
+      → RanFor u funcs digests before after old new
