@@ -1,3 +1,4 @@
+pub mod ByBytes
 pub mod Cleanly
 pub mod Contents
 pub mod Holding

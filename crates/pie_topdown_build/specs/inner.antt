@@ -3,3 +3,4 @@ pub mod Bases
 pub mod Clean
 pub mod Cleaned
 pub mod Offered
+pub mod Reused
