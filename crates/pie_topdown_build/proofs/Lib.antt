@@ -1,6 +1,7 @@
 pub mod ByBytes
 pub mod Cleanly
 pub mod Contents
+pub mod Finding
 pub mod Holding
 pub mod Leaving
 pub mod Making
@@ -9,3 +10,4 @@ pub mod Placing
 pub mod Refusing
 pub mod Running
 pub mod Starting
+pub mod Telling

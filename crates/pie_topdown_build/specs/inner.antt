@@ -2,5 +2,6 @@
 pub mod Bases
 pub mod Clean
 pub mod Cleaned
+pub mod News
 pub mod Offered
 pub mod Reused

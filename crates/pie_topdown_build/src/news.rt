@@ -1,14 +1,26 @@
 //! The records of tasks that ran, with what they wrote, as later builds may be offered them.
-ghost use Rattle.std.specs.Prelude.{◌≡◌, ◌<◌, ◌^◌, length, map, All, IfOk, IfSome, OnOk};
+ghost use Rattle.std.specs.Prelude.{◌≡◌, ◌<◌, ◌^◌, ◌++◌, ℕ, List, Some, length, map, cond, All, IfOk, IfSome, OnOk};
+ghost use Rattle.std.specs.BTreeMap.{get, get_by_text};
+ghost use Rattle.std.specs.BTreeSet.{insert_key};
+ghost use Rattle.std.specs.Cmp.Lexicographic.{slice_cmp};
+ghost use Rattle.std.specs.List.{filter_map};
+ghost use Rattle.std.specs.Option.{option_and_then, option_copied, option_map, option_to_list};
+ghost use Rattle.std.specs.Ordering.{nat_cmp};
 ghost use Rattle.sha2.specs.Sha256.{sha256};
 ghost use Rattle.pie_cache.specs.inner.Texts.{AreContents};
+ghost use Rattle.pie_cache.specs.inner.Keeping.{is_at};
 ghost use Rattle.pie_record.specs.Canonical.{IsStorable};
-ghost use Rattle.pie_value.specs.Canonical.{IsEncodableTask};
+ghost use Rattle.pie_results.specs.inner.Files.{contents_in};
+ghost use Rattle.pie_store.specs.Pending.{in_order};
+ghost use Rattle.pie_value.specs.Canonical.{IsEncodableTask, enc_task};
+ghost use Rattle.pie_value.specs.Order.{byte_order};
+ghost use Rattle.pie_topdown_build.specs.inner.News.{as_told, bytes_by, bytes_in, contents_of, keys_in, news_in, told_by, told_with, with_hash};
 ghost use Rattle.pie_topdown_build.specs.inner.Offered.{IsNew};
 
 use crate::offered::NewOffer;
 use pie_base::{OutOfMemory, Path, Text};
 use pie_checks::Built;
+use pie_old::digests_of;
 use pie_record::TaskRecord;
 use pie_stamp::hash_of;
 use pie_store::Offer;
@@ -39,7 +51,8 @@ pub(crate) fn news_of(
 ) -> Result<Vec<NewOffer>, OutOfMemory>
     requires ran { All IsEncodableTask ran.now }
     requires rows { All IsStorable built.now.rows.items }
-    ensures { IfOk result (λ found. All IsNew found.items) }
+    ensures new { IfOk result (λ found. All IsNew found.items) }
+    ensures told { IfOk result (λ found. map as_told found.items ≡ news_in funcs.now built.now ran.now) }
 {
     let lookup = Lookup {
         alloc,
@@ -55,7 +68,8 @@ impl<'b> Lookup<'b> {
     // The same of these records.
     fn all_of(&self, rows: &[TaskRecord]) -> Result<Vec<NewOffer>, OutOfMemory>
         requires { All IsStorable rows.now }
-        ensures { IfOk result (λ found. All IsNew found.items) }
+        ensures new { IfOk result (λ found. All IsNew found.items) }
+        ensures told { IfOk result (λ found. map as_told found.items ≡ filter_map (told_by self.now) rows.now) }
     {
         let mut found = Vec::new(self.alloc);
         for row in rows {
@@ -68,7 +82,8 @@ impl<'b> Lookup<'b> {
     fn add(&self, row: &TaskRecord, found: &mut Vec<NewOffer>) -> Result<(), OutOfMemory>
         requires row { IsStorable row.now }
         requires found { All IsNew found.old.items }
-        ensures { OnOk result (All IsNew found.new.items) }
+        ensures new { OnOk result (All IsNew found.new.items) }
+        ensures told { OnOk result (map as_told found.new.items ≡ map as_told found.old.items ++ option_to_list (told_by self.now row.now)) }
     {
         let bytes = encode_task(self.alloc, &row.task)?;
         if !self.ran.contains(&bytes) {
@@ -87,7 +102,9 @@ impl<'b> Lookup<'b> {
     // neither of which happens.
     fn new_of(&self, row: &TaskRecord) -> Result<Option<Box<NewOffer>>, OutOfMemory>
         requires { IsStorable row.now }
-        ensures { IfOk result (λ found. IfSome found (λ n. IsNew n.value)) }
+        ensures new { IfOk result (λ found. IfSome found (λ n. IsNew n.value)) }
+        ensures told { IfOk result (λ found. option_map (λ n. as_told n.value) found
+            ≡ told_with row.now (get_by_text self.now.digests row.now.task.func) (contents_of (bytes_by self.now.files.now self.now.places) row.now.writes)) }
     {
         let Some(digest) = self.digests.get(row.task.func.as_str()) else {
             return Ok(None);
@@ -107,7 +124,9 @@ impl<'b> Lookup<'b> {
     // The contents of these writes, if each is there.
     #[tactic(auto, using(crate::proofs::Contents::first_none, crate::proofs::Contents::first_more, crate::proofs::Contents::first_all))]
     fn contents_of(&self, writes: &[(Path, [u8; 32])]) -> Result<Option<Vec<Vec<u8>>>, OutOfMemory>
-        ensures { IfOk result (λ found. IfSome found (λ cs. AreContents writes.now (map (λ c. c.items) cs.items))) }
+        ensures are { IfOk result (λ found. IfSome found (λ cs. AreContents writes.now (map (λ c. c.items) cs.items))) }
+        ensures told { IfOk result (λ found. option_map (λ cs. map (λ c. c.items) cs.items) found
+            ≡ contents_of (bytes_by self.now.files.now self.now.places) writes.now) }
     {
         let mut contents = Vec::new(self.alloc);
         for (path, hash) in writes {
@@ -121,7 +140,9 @@ impl<'b> Lookup<'b> {
 
     // The content of a file, if it has this hash.
     fn content_of(&self, path: &Path, hash: &[u8; 32]) -> Result<Option<Vec<u8>>, OutOfMemory>
-        ensures { IfOk result (λ found. IfSome found (λ c. (sha256 c.items ≡ hash.now) × (length c.items < 2 ^ 32))) }
+        ensures is { IfOk result (λ found. IfSome found (λ c. (sha256 c.items ≡ hash.now) × (length c.items < 2 ^ 32))) }
+        ensures told { IfOk result (λ found. option_map (λ c. c.items) found
+            ≡ option_and_then (with_hash hash.now) (bytes_by self.now.files.now self.now.places path.now)) }
     {
         match self.file_at(path) {
             Some(content) => {
@@ -136,46 +157,61 @@ impl<'b> Lookup<'b> {
     }
 
     // The content at a path.
-    fn file_at(&self, path: &Path) -> Option<&[u8]> {
+    fn file_at(&self, path: &Path) -> Option<&[u8]>
+        ensures { option_copied result ≡ bytes_by self.now.files.now self.now.places path.now }
+    {
         let place = self.places.get(path)?;
         let file = self.files.get(*place)?;
         Some(file.1.as_slice())
     }
 }
 
-// Where each file stands.
+// Where each file stands: of those at one path, the last.
 fn places_of(
     alloc: Global,
     files: &[(Path, Vec<u8>)],
-) -> Result<BTreeMap<Path, usize>, OutOfMemory> {
+) -> Result<BTreeMap<Path, usize>, OutOfMemory>
+    ensures { IfOk result (λ places. (q : List ℕ) → bytes_by files.now places q ≡ bytes_in (contents_in files.now) q) }
+{
     let mut places = BTreeMap::new(alloc);
-    for (i, (path, _)) in files.iter().enumerate() {
-        places.insert(path.copy()?, i)?;
+    for i in 0..files.len() {
+        put_place(&mut places, &files[i].0, i)?;
     }
     Ok(places)
+}
+
+fn put_place(
+    places: &mut BTreeMap<Path, usize>,
+    path: &Path,
+    place: usize,
+) -> Result<(), OutOfMemory>
+    ensures { OnOk result ((q : List ℕ) → get (slice_cmp nat_cmp) places.new q ≡ cond (is_at path.now q) (Some place) (get (slice_cmp nat_cmp) places.old q)) }
+{
+    let _old = places.insert(path.copy()?, place)?;
+    Ok(())
 }
 
 // The canonical bytes of tasks.
 fn bytes_of(alloc: Global, tasks: &[Task]) -> Result<BTreeSet<Vec<u8>>, OutOfMemory>
     requires { All IsEncodableTask tasks.now }
+    ensures { IfOk result (λ found. keys_in found.keys ≡ in_order (map enc_task tasks.now)) }
 {
     let mut found = BTreeSet::new(alloc);
     for task in tasks {
-        let bytes = encode_task(alloc, task)?;
-        found.insert(bytes)?;
+        put_bytes(alloc, &mut found, task)?;
     }
     Ok(found)
 }
 
-// The digests of functions by their names.
-fn digests_of(
+fn put_bytes(
     alloc: Global,
-    funcs: &[(Text, [u8; 32])],
-) -> Result<BTreeMap<String, [u8; 32]>, OutOfMemory> {
-    let mut digests = BTreeMap::new(alloc);
-    for (name, digest) in funcs {
-        let name = String::from_str(alloc, name.as_str())?;
-        digests.insert(name, *digest)?;
-    }
-    Ok(digests)
+    found: &mut BTreeSet<Vec<u8>>,
+    task: &Task,
+) -> Result<(), OutOfMemory>
+    requires { IsEncodableTask task.now }
+    ensures { OnOk result (keys_in found.new.keys ≡ insert_key byte_order (keys_in found.old.keys) (enc_task task.now)) }
+{
+    let bytes = encode_task(alloc, task)?;
+    let _new = found.insert(bytes)?;
+    Ok(())
 }

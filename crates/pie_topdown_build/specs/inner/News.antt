@@ -1,0 +1,77 @@
+-- Which records a build tells as new offers.
+use Rattle.std.specs.Prelude.{ℕ, nat_le, Bool, ◌&&◌, cond, List, [], ◌∷◌, map, length, Option, None, Some, Vec, slice_get}
+use Rattle.std.specs.Global.{Global}
+use Rattle.std.specs.BTreeMap.{BTreeMap, get, get_by_text}
+use Rattle.std.specs.Cmp.Lexicographic.{slice_cmp}
+use Rattle.std.specs.List.{filter_map}
+use Rattle.std.specs.Option.{option_and_then, option_map, option_or}
+use Rattle.std.specs.Ordering.{nat_cmp}
+use Rattle.sha2.specs.Sha256.{sha256}
+use Rattle.pie_base.specs.Path.{same_text}
+use Rattle.pie_checks.specs.declared.built.Built.{Built}
+use Rattle.pie_files.specs.inner.Held.{is_among}
+use Rattle.pie_old.specs.inner.Code.{digest_in}
+use Rattle.pie_record.specs.declared.task_record.TaskRecord.{TaskRecord}
+use Rattle.pie_results.specs.inner.Files.{contents_in}
+use Rattle.pie_store.specs.inner.Offers.{Offered, offered}
+use Rattle.pie_value.specs.Canonical.{enc_task}
+use Rattle.pie_value.specs.declared.task.Task.{Task}
+use Rattle.pie_topdown_build.specs.declared.news.Lookup.{Lookup}
+use Rattle.pie_topdown_build.specs.declared.offered.NewOffer.{NewOffer}
+
+-- what is told: the digest of a function, a record of a task of it, and the content of each of its writes
+abbrev pub Told : Type 0
+Told = List ℕ × Offered
+
+-- a new offer of the program, as such a one
+abbrev pub as_told : NewOffer → Told
+as_told n = (n.digest, offered n.offer)
+
+-- the bytes of the last one of these files that is at a path
+abbrev pub bytes_in : List (List ℕ × List ℕ) → List ℕ → Option (List ℕ)
+bytes_in [] path = None
+bytes_in (f ∷ files) path = option_or (bytes_in files path) (cond (same_text path f.0) (Some f.1) None)
+
+-- a content, if it has this hash, and is short enough for its length to fit
+abbrev pub with_hash : List ℕ → List ℕ → Option (List ℕ)
+with_hash hash content = cond (same_text (sha256 content) hash && nat_le (length content) 4294967295) (Some content) None
+
+-- a content in front of others, if all are there
+abbrev pub with_more : Option (List ℕ) → Option (List (List ℕ)) → Option (List (List ℕ))
+with_more None more = None
+with_more (Some c) None = None
+with_more (Some c) (Some more) = Some (c ∷ more)
+
+-- the content of each write, if the bytes at each path have the hash that was recorded
+abbrev pub contents_of : (List ℕ → Option (List ℕ)) → List (List ℕ × List ℕ) → Option (List (List ℕ))
+contents_of at [] = Some []
+contents_of at (w ∷ writes) = with_more (option_and_then (with_hash w.1) (at w.0)) (contents_of at writes)
+
+-- a record with a digest and contents, if both are there
+abbrev pub told_with : TaskRecord → Option (List ℕ) → Option (List (List ℕ)) → Option Told
+told_with row None contents = None
+told_with row (Some digest) None = None
+told_with row (Some digest) (Some contents) = Some (digest, (row, contents))
+
+-- what is told of a record whose task ran, by the digests of functions and the bytes at paths
+abbrev pub told_where : (List ℕ → Bool) → (List ℕ → Option (List ℕ)) → (List ℕ → Option (List ℕ)) → TaskRecord → Option Told
+told_where has_run digest at row = cond (has_run (enc_task row.task)) (told_with row (digest row.task.func) (contents_of at row.writes)) None
+
+-- what a build tells: in the order of its records those whose tasks ran, by the first digest of each function and by the build's files; but none of a
+-- function without a digest, nor where a file is absent, has another hash than the one recorded, or is too long
+abbrev pub news_in : List (List ℕ × List ℕ) → Built → List Task → List Told
+news_in funcs b ran = filter_map (told_where (λ bytes. is_among bytes (map enc_task ran)) (digest_in funcs) (bytes_in (contents_in b.files.items))) b.rows.items
+
+-- ---- what the parts say to each other
+
+-- the bytes of the file whose place is held for a path
+abbrev pub bytes_by : List (List ℕ × Vec ℕ Global) → BTreeMap (List ℕ) ℕ → List ℕ → Option (List ℕ)
+bytes_by files places path = option_and_then (λ i. option_map (λ f. f.1.items) (slice_get files i)) (get (slice_cmp nat_cmp) places path)
+
+-- the keys of a set, as bytes
+abbrev pub keys_in : List (Vec ℕ Global) → List (List ℕ)
+keys_in keys = map (λ k. k.items) keys
+
+-- what is told of a record by what is looked up
+abbrev pub told_by : Lookup → TaskRecord → Option Told
+told_by l = told_where (λ bytes. is_among bytes (keys_in l.ran.keys)) (get_by_text l.digests) (bytes_by l.files.now l.places)
