@@ -14,7 +14,6 @@ use Rattle.std.proofs.lemmas.Map.Lookups.{exact_bytes}
 use Rattle.pie_base.specs.Path.{same_text}
 use Rattle.pie_cache.proofs.Kept.{tied}
 use Rattle.pie_cache.specs.inner.Keeping.{is_at}
-use Rattle.pie_checks.specs.declared.built.Built.{Built}
 use Rattle.pie_files.specs.inner.Held.{is_among}
 use Rattle.pie_old.specs.inner.Code.{digest_in}
 use Rattle.pie_record.specs.declared.task_record.TaskRecord.{TaskRecord}
@@ -156,12 +155,11 @@ same_functions : {A B : Type 0} (f g : A → B) → ((a : A) → f a ≡ g a) �
 same_functions f g h = λ i a. h a i
 
 -- what is told by what was looked up is what the build tells
-pub told_so : {Z : Type 0} (funcs : List (List ℕ × List ℕ)) (b : Built) (ran : List Task) (keys : List (Vec ℕ Global)) (digests : BTreeMap (String Z) (List ℕ))
-    (files : Files) (places : BTreeMap (List ℕ) ℕ) (rows : List TaskRecord) → keys_in keys ≡ in_order (map enc_task ran)
+pub told_so : {Z : Type 0} (funcs : List (List ℕ × List ℕ)) (rows : List TaskRecord) (files : Files) (ran : List Task) (keys : List (Vec ℕ Global))
+    (digests : BTreeMap (String Z) (List ℕ)) (places : BTreeMap (List ℕ) ℕ) → keys_in keys ≡ in_order (map enc_task ran)
     → ((q : List ℕ) → get_by_text digests q ≡ digest_in funcs q) → ((q : List ℕ) → bytes_by files places q ≡ bytes_in (contents_in files) q)
-    → files ≡ b.files.items → rows ≡ b.rows.items
-    → filter_map (told_where (λ bytes. is_among bytes (keys_in keys)) (get_by_text digests) (bytes_by files places)) rows ≡ news_in funcs b ran
-told_so funcs b ran keys digests files places rows ran_are digest_is bytes_are files_are rows_are =
+    → filter_map (told_where (λ bytes. is_among bytes (keys_in keys)) (get_by_text digests) (bytes_by files places)) rows ≡ news_in funcs rows (contents_in files) ran
+told_so funcs rows files ran keys digests places ran_are digest_is bytes_are =
     let has : (λ (q : List ℕ). is_among q (keys_in keys)) ≡ (λ (q : List ℕ). is_among q (map enc_task ran)) =
     same_functions (λ (q : List ℕ). is_among q (keys_in keys)) (λ (q : List ℕ). is_among q (map enc_task ran))
     (λ q. ap (is_among q) ran_are ∙ among_order q (map enc_task ran)) in
@@ -170,5 +168,3 @@ told_so funcs b ran keys digests files places rows ran_are digest_is bytes_are f
     ap (λ (h : List ℕ → Bool). filter_map (told_where h (get_by_text digests) (bytes_by files places)) rows) has
     ∙ ap (λ (d : List ℕ → Option (List ℕ)). filter_map (told_where (λ q. is_among q (map enc_task ran)) d (bytes_by files places)) rows) digest
     ∙ ap (λ (a : List ℕ → Option (List ℕ)). filter_map (told_where (λ q. is_among q (map enc_task ran)) (digest_in funcs) a) rows) at
-    ∙ ap (λ (fs : Files). filter_map (told_where (λ q. is_among q (map enc_task ran)) (digest_in funcs) (bytes_in (contents_in fs))) rows) files_are
-    ∙ ap (filter_map (told_where (λ q. is_among q (map enc_task ran)) (digest_in funcs) (bytes_in (contents_in b.files.items)))) rows_are

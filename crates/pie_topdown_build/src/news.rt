@@ -52,7 +52,7 @@ pub(crate) fn news_of(
     requires ran { All IsEncodableTask ran.now }
     requires rows { All IsStorable built.now.rows.items }
     ensures new { IfOk result (λ found. All IsNew found.items) }
-    ensures told { IfOk result (λ found. map as_told found.items ≡ news_in funcs.now built.now ran.now) }
+    ensures told { IfOk result (λ found. map as_told found.items ≡ news_in funcs.now built.now.rows.items (contents_in built.now.files.items) ran.now) }
 {
     let lookup = Lookup {
         alloc,

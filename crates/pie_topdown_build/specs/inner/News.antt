@@ -8,11 +8,9 @@ use Rattle.std.specs.Option.{option_and_then, option_map, option_or}
 use Rattle.std.specs.Ordering.{nat_cmp}
 use Rattle.sha2.specs.Sha256.{sha256}
 use Rattle.pie_base.specs.Path.{same_text}
-use Rattle.pie_checks.specs.declared.built.Built.{Built}
 use Rattle.pie_files.specs.inner.Held.{is_among}
 use Rattle.pie_old.specs.inner.Code.{digest_in}
 use Rattle.pie_record.specs.declared.task_record.TaskRecord.{TaskRecord}
-use Rattle.pie_results.specs.inner.Files.{contents_in}
 use Rattle.pie_store.specs.inner.Offers.{Offered, offered}
 use Rattle.pie_value.specs.Canonical.{enc_task}
 use Rattle.pie_value.specs.declared.task.Task.{Task}
@@ -59,8 +57,8 @@ told_where has_run digest at row = cond (has_run (enc_task row.task)) (told_with
 
 -- what a build tells: in the order of its records those whose tasks ran, by the first digest of each function and by the build's files; but none of a
 -- function without a digest, nor where a file is absent, has another hash than the one recorded, or is too long
-abbrev pub news_in : List (List ℕ × List ℕ) → Built → List Task → List Told
-news_in funcs b ran = filter_map (told_where (λ bytes. is_among bytes (map enc_task ran)) (digest_in funcs) (bytes_in (contents_in b.files.items))) b.rows.items
+abbrev pub news_in : List (List ℕ × List ℕ) → List TaskRecord → List (List ℕ × List ℕ) → List Task → List Told
+news_in funcs rows files ran = filter_map (told_where (λ bytes. is_among bytes (map enc_task ran)) (digest_in funcs) (bytes_in files)) rows
 
 -- ---- what the parts say to each other
 
