@@ -1,5 +1,6 @@
 pub mod ByBytes
 pub mod Cleanly
+pub mod Complete
 pub mod Contents
 pub mod Finding
 pub mod Holding

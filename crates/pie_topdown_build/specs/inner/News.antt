@@ -1,5 +1,5 @@
 -- Which records a build tells as new offers.
-use Rattle.std.specs.Prelude.{ℕ, nat_le, Bool, ◌&&◌, cond, List, [], ◌∷◌, map, length, Option, None, Some, Vec, slice_get}
+use Rattle.std.specs.Prelude.{◌≡◌, ℕ, nat_le, ◌<◌, ◌^◌, Bool, ◌&&◌, cond, List, [], ◌∷◌, map, length, All, Option, None, Some, IsSome, Vec, slice_get}
 use Rattle.std.specs.Global.{Global}
 use Rattle.std.specs.BTreeMap.{BTreeMap, get, get_by_text}
 use Rattle.std.specs.Cmp.Lexicographic.{slice_cmp}
@@ -59,6 +59,15 @@ told_where has_run digest at row = cond (has_run (enc_task row.task)) (told_with
 -- function without a digest, nor where a file is absent, has another hash than the one recorded, or is too long
 abbrev pub news_in : List (List ℕ × List ℕ) → List TaskRecord → List (List ℕ × List ℕ) → List Task → List Told
 news_in funcs rows files ran = filter_map (told_where (λ bytes. is_among bytes (map enc_task ran)) (digest_in funcs) (bytes_in files)) rows
+
+-- the file of a write is there: the bytes at its path have the hash that was recorded, and are short enough for their length to fit
+abbrev pub IsThere : List (List ℕ × List ℕ) → List ℕ × List ℕ → Type 0
+IsThere files w = (bytes : List ℕ) × (bytes_in files w.0 ≡ Some bytes) × (sha256 bytes ≡ w.1) × (length bytes < 2 ^ 32)
+
+-- nothing of a record is missing: its function has a digest, and the file of each write is there
+pub record IsComplete (funcs files : List (List ℕ × List ℕ)) (row : TaskRecord) : Type 0 where
+  pub digest : IsSome (digest_in funcs row.task.func)
+  pub writes : All (IsThere files) row.writes
 
 -- ---- what the parts say to each other
 
