@@ -1,13 +1,17 @@
 //! A build with the record cache.
-ghost use Rattle.std.specs.Prelude.{◌≡◌, ◌≤◌, ◌+◌, ◌++◌, length, All, IfOk, IfSome, OnOk};
+ghost use Rattle.std.specs.Prelude.{◌≡◌, ◌≤◌, ◌+◌, ◌++◌, ◌∷◌, [], None, length, map, All, IfOk, IfSome, OnOk};
 ghost use Rattle.pie_build.specs.inner.Rebuilt.{IsRefusal, Tells};
 ghost use Rattle.pie_cache.specs.inner.Contents.{IsNews};
+ghost use Rattle.pie_cache.specs.inner.Places.{cache_path as specs_cache_path, gate};
 ghost use Rattle.pie_cache.specs.inner.Texts.{IsKept};
+ghost use Rattle.pie_files.specs.Directory.{file_at};
 ghost use Rattle.pie_files.specs.Streams.{Counted};
 ghost use Rattle.pie_incremental.specs.inner.Refused.{RefusesRight};
 ghost use Rattle.pie_store.specs.inner.Offers.{offered as offer_of};
 ghost use Rattle.pie_value.specs.Canonical.{IsEncodableTask};
 ghost use Rattle.pie_cached.specs.Cached.{KeepsAllButCache, KeepsOthers, StaysIfRefused};
+ghost use Rattle.pie_cached.specs.inner.News.{kept_of, placed, KeepsTold, LeavesCache, LeavesNews};
+ghost use Rattle.pie_topdown_build.specs.inner.News.{as_told};
 ghost use Rattle.pie_topdown_build.specs.inner.Offered.{IsNew};
 
 use pie_base::{OutOfMemory, Path};
@@ -34,6 +38,7 @@ pub fn build_cached<F: Files>(
     ensures rest { KeepsOthers (F.holds files.old) (F.holds files.new) }
     ensures refused { IsRefusal result → KeepsAllButCache (F.holds files.old) (F.holds files.new) }
     ensures kept { IfOk result (λ r. StaysIfRefused r.0.verdict (F.holds files.old) (F.holds files.new)) }
+    ensures cache { IfSome (F.holds files.old) (λ d. IfOk result (λ r. LeavesCache d r.0 (F.holds files.new))) }
     ensures ran { IfOk result (λ r. runs.new ≡ runs.old ++ r.0.ran.items) }
     ensures few { length runs.new ≤ length runs.old + 50000 }
     ensures encodable { IfOk result (λ r. All IsEncodableTask r.0.ran.items) }
@@ -59,6 +64,7 @@ fn with_cache<F: Files>(
     ensures rest { KeepsOthers (F.holds files.old) (F.holds files.new) }
     ensures refused { IsRefusal result → KeepsAllButCache (F.holds files.old) (F.holds files.new) }
     ensures kept { IfOk result (λ r. StaysIfRefused r.0.verdict (F.holds files.old) (F.holds files.new)) }
+    ensures cache { IfSome (F.holds files.old) (λ d. file_at d gate ≡ None → IfOk result (λ r. LeavesNews (file_at d) r.0 (F.holds files.new))) }
     ensures ran { IfOk result (λ r. runs.new ≡ runs.old ++ r.0.ran.items) }
     ensures few { length runs.new ≤ length runs.old + 50000 }
     ensures encodable { IfOk result (λ r. All IsEncodableTask r.0.ran.items) }
@@ -85,6 +91,7 @@ fn finish<F: Files>(
     ensures report { IfOk result (λ r. r.0 ≡ offered.report.value) }
     ensures reused { IfOk result (λ r. r.1 ≡ offered.reused) }
     ensures rest { KeepsAllButCache (F.holds files.old) (F.holds files.new) }
+    ensures cache { OnOk result (KeepsTold (kept_of offered.report.value.verdict (map as_told offered.new.items)) (F.holds files.old) (F.holds files.new)) }
     ensures accepted { IsRefusal result → ⊥ }
     ensures told { Tells F.faults files.old files.new result }
 {
@@ -110,6 +117,7 @@ fn keep_if_accepted<F: Files>(
 ) -> Result<(), FilesError>
     requires { All IsNew new.items }
     ensures rest { KeepsAllButCache (F.holds files.old) (F.holds files.new) }
+    ensures cache { OnOk result (KeepsTold (kept_of verdict.now (map as_told new.items)) (F.holds files.old) (F.holds files.new)) }
     ensures counted { Counted F.faults FilesError.Failed files.old files.new result }
 {
     match verdict {
@@ -127,6 +135,7 @@ fn keep<F: Files>(
 ) -> Result<(), FilesError>
     requires { All IsNew new.items }
     ensures rest { KeepsAllButCache (F.holds files.old) (F.holds files.new) }
+    ensures cache { OnOk result (KeepsTold (map as_told new.items) (F.holds files.old) (F.holds files.new)) }
     ensures counted { Counted F.faults FilesError.Failed files.old files.new result }
 {
     let mut cache = cache;
@@ -137,7 +146,8 @@ fn keep<F: Files>(
 // What is to be kept, with the paths of its files.
 fn with_paths(alloc: Global, new: Vec<NewOffer>) -> Result<Vec<(Path, Offer)>, OutOfMemory>
     requires { All IsNew new.items }
-    ensures { IfOk result (λ fresh. All IsNews fresh.items) }
+    ensures news { IfOk result (λ fresh. All IsNews fresh.items) }
+    ensures placed { IfOk result (λ fresh. fresh.items ≡ map placed new.items) }
 {
     let mut fresh = Vec::new(alloc);
     for NewOffer { digest, offer } in new {
@@ -154,7 +164,8 @@ fn push_new(
 ) -> Result<(), OutOfMemory>
     requires new { IsKept (offer_of offer) }
     requires fresh { All IsNews fresh.old.items }
-    ensures { OnOk result (All IsNews fresh.new.items) }
+    ensures news { OnOk result (All IsNews fresh.new.items) }
+    ensures placed { OnOk result (fresh.new.items ≡ fresh.old.items ++ (specs_cache_path offer.row.task digest.now, offer) ∷ []) }
 {
     let path = cache_path(alloc, &offer.row.task, digest)?;
     fresh.push((path, offer))?;

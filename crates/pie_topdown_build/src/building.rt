@@ -1,11 +1,12 @@
 //! A build that needs no list of changes.
-ghost use Rattle.std.specs.Prelude.{◌≡◌, ◌≤◌, ◌+◌, ◌++◌, [], Some, length, All, IfOk, IfSome};
+ghost use Rattle.std.specs.Prelude.{◌≡◌, ◌≤◌, ◌+◌, ◌++◌, [], Some, length, map, All, IfOk, IfSome};
 ghost use Rattle.pie_build.specs.Left.{KeepsRest};
 ghost use Rattle.pie_build.specs.inner.Rebuilt.{IsRefusal, Tells};
 ghost use Rattle.pie_incremental.specs.inner.Refused.{RefusesRight};
 ghost use Rattle.pie_incremental.specs.inner.Joined.{IsImage};
 ghost use Rattle.pie_incremental.specs.inner.Updated.{IsAfreshAfter};
 ghost use Rattle.pie_value.specs.Canonical.{IsEncodableTask};
+ghost use Rattle.pie_topdown_build.specs.inner.News.{as_told, AreNews};
 ghost use Rattle.pie_topdown_build.specs.inner.Offered.{IsNew};
 ghost use Rattle.pie_topdown_build.specs.Clean.{BuildsAsClean};
 ghost use Rattle.pie_topdown_build.specs.inner.Clean.{FromAsClean, OffersClean};
@@ -70,6 +71,7 @@ pub fn build_offered<F: Files, O: Offers>(
     ensures encodable { IfOk result (λ o. All IsEncodableTask o.report.value.ran.items) }
     ensures reused { IfOk result (λ o. All IsEncodableTask o.reused.items) }
     ensures new { IfOk result (λ o. All IsNew o.new.items) }
+    ensures news { IfOk result (λ o. AreNews o.report.value.ran.items (map as_told o.new.items)) }
     ensures says { IfSome (F.holds files.old) (λ d. RefusesRight d result) }
     ensures told { Tells F.faults files.old files.new result }
 {
@@ -152,6 +154,7 @@ fn anew<F: Files, O: Offers>(
     ensures encodable { IfOk result (λ o. All IsEncodableTask o.report.value.ran.items) }
     ensures reused { IfOk result (λ o. All IsEncodableTask o.reused.items) }
     ensures new { IfOk result (λ o. All IsNew o.new.items) }
+    ensures news { IfOk result (λ o. AreNews o.report.value.ran.items (map as_told o.new.items)) }
     ensures says { IfSome (F.holds files.old) (λ d. RefusesRight d result) }
     ensures told { Tells F.faults files.old files.new result }
 {
@@ -181,6 +184,7 @@ fn anew_from<F: Files, O: Offers>(
     ensures encodable { IfOk result (λ o. All IsEncodableTask o.report.value.ran.items) }
     ensures reused { IfOk result (λ o. All IsEncodableTask o.reused.items) }
     ensures new { IfOk result (λ o. All IsNew o.new.items) }
+    ensures news { IfOk result (λ o. AreNews o.report.value.ran.items (map as_told o.new.items)) }
     ensures says { IfSome (F.holds files.old) (λ d. RefusesRight d result) }
     ensures told { Tells F.faults files.old files.new result }
 {

@@ -1,5 +1,5 @@
 //! A build from a base, from its project to its report.
-ghost use Rattle.std.specs.Prelude.{◌≡◌, ◌≤◌, ◌+◌, ◌++◌, length, All, IfOk, IfSome};
+ghost use Rattle.std.specs.Prelude.{◌≡◌, ◌≤◌, ◌+◌, ◌++◌, length, map, All, IfOk, IfSome};
 ghost use Rattle.pie_build.specs.Left.{KeepsRest};
 ghost use Rattle.pie_build.specs.inner.Rebuilt.{IsRefusal, Tells};
 ghost use Rattle.pie_digest.specs.Digests.{HasNames};
@@ -9,6 +9,7 @@ ghost use Rattle.pie_incremental.specs.inner.Joined.{IsImage};
 ghost use Rattle.pie_record.specs.Canonical.{IsStorable};
 ghost use Rattle.pie_store.specs.Canonical.{AreFuncs};
 ghost use Rattle.pie_value.specs.Canonical.{IsEncodableTask};
+ghost use Rattle.pie_topdown_build.specs.inner.News.{as_told, AreNews};
 ghost use Rattle.pie_topdown_build.specs.inner.Offered.{IsNew};
 ghost use Rattle.pie_topdown_build.specs.Refusals.{KeepsRefused};
 ghost use Rattle.pie_topdown_build.specs.inner.Bases.{Quiet};
@@ -50,6 +51,7 @@ pub(crate) fn from<F: Files, O: Offers>(
     ensures encodable { IfOk result (λ o. All IsEncodableTask o.report.value.ran.items) }
     ensures reused { IfOk result (λ o. All IsEncodableTask o.reused.items) }
     ensures new { IfOk result (λ o. All IsNew o.new.items) }
+    ensures news { IfOk result (λ o. AreNews o.report.value.ran.items (map as_told o.new.items)) }
     ensures says { IfSome (F.holds files.old) (λ d. RefusesRight d result) }
     ensures told { Tells F.faults files.old files.new result }
 {
@@ -82,6 +84,7 @@ fn with_project<F: Files, O: Offers>(
     ensures encodable { IfOk result (λ o. All IsEncodableTask o.report.value.ran.items) }
     ensures reused { IfOk result (λ o. All IsEncodableTask o.reused.items) }
     ensures new { IfOk result (λ o. All IsNew o.new.items) }
+    ensures news { IfOk result (λ o. AreNews o.report.value.ran.items (map as_told o.new.items)) }
     ensures says { IfSome (F.holds files.old) (λ d. RefusesRight d result) }
     ensures told { Tells F.faults files.old files.new result }
 {
@@ -106,6 +109,7 @@ fn rebuilt<F: Files>(alloc: Global, files: &mut F, runs: &mut Runs) -> Result<Of
     ensures encodable { IfOk result (λ o. All IsEncodableTask o.report.value.ran.items) }
     ensures reused { IfOk result (λ o. All IsEncodableTask o.reused.items) }
     ensures new { IfOk result (λ o. All IsNew o.new.items) }
+    ensures news { IfOk result (λ o. AreNews o.report.value.ran.items (map as_told o.new.items)) }
     ensures says { IfSome (F.holds files.old) (λ d. RefusesRight d result) }
     ensures told { Tells F.faults files.old files.new result }
 {
@@ -145,6 +149,7 @@ fn run<F: Files, O: Offers>(
     ensures encodable { IfOk result (λ o. All IsEncodableTask o.report.value.ran.items) }
     ensures reused { IfOk result (λ o. All IsEncodableTask o.reused.items) }
     ensures new { IfOk result (λ o. All IsNew o.new.items) }
+    ensures news { IfOk result (λ o. AreNews o.report.value.ran.items (map as_told o.new.items)) }
     ensures counted { Counted F.faults FilesError.Failed files.old files.new result }
 {
     let Base { image, store } = Box::into_inner(base);
@@ -173,7 +178,8 @@ fn news_if(
 ) -> Result<Vec<NewOffer>, OutOfMemory>
     requires ran { All IsEncodableTask ran.now }
     requires rows { All IsStorable built.now.rows.items }
-    ensures { IfOk result (λ found. All IsNew found.items) }
+    ensures new { IfOk result (λ found. All IsNew found.items) }
+    ensures news { IfOk result (λ found. AreNews ran.now (map as_told found.items)) }
 {
     if tells {
         return news_of(alloc, project.digests.as_slice(), built, ran);

@@ -69,6 +69,13 @@ pub record IsComplete (funcs files : List (List ℕ × List ℕ)) (row : TaskRec
   pub digest : IsSome (digest_in funcs row.task.func)
   pub writes : All (IsThere files) row.writes
 
+-- new offers are what is told of some records whose tasks ran, by some digests of functions and some files
+pub record AreNews (ran : List Task) (told : List Told) : Type 0 where
+  pub funcs : List (List ℕ × List ℕ)
+  pub rows : List TaskRecord
+  pub files : List (List ℕ × List ℕ)
+  pub tells : told ≡ news_in funcs rows files ran
+
 -- ---- what the parts say to each other
 
 -- the bytes of the file whose place is held for a path

@@ -1,12 +1,15 @@
-use Rattle.std.proofs.Common.{◌≡◌, ◌++◌, sym, subst}
+use Rattle.std.proofs.Common.{◌≡◌, ◌++◌, map, sym, subst}
 use Rattle.std.specs.Prelude.{All, Vec}
 use Rattle.std.proofs.lemmas.Result.{IfOk-weaker}
 use Rattle.std.specs.declared.alloc.Global.{Global}
+use Rattle.pie_project.specs.declared.fault.BuildError.{BuildError}
 use Rattle.pie_report.specs.declared.report.Report.{Report}
 use Rattle.pie_topdown_build.specs.declared.offered.Offered.{Offered}
+use Rattle.pie_topdown_build.specs.inner.News.{as_told}
 use Rattle.pie_value.specs.declared.task.Task.{Task}
 use Rattle.pie_value.specs.Canonical.{IsEncodableTask}
 use Rattle.pie_cached.specs.Cached.{StaysIfRefused}
+use Rattle.pie_cached.proofs.Keeping.{after_build}
 use Rattle.pie_cached.proofs.Others.{both, if_refused, of_build, of_cache}
 use Rattle.pie_cached.proofs.Refusing.{handed_on, never}
 use Rattle.pie_cached.proofs.building.with_cache.Goals as goal
@@ -27,6 +30,12 @@ returns-in-Ok-clause-kept g c =
     IfOk-weaker c.finish.result _ _
     (λ r is. subst (λ (p : Report). StaysIfRefused p.verdict before after) (sym is)
     (if_refused made.verdict before mid after c.in-Ok.ensures.kept c.finish.ensures.rest)) c.finish.ensures.report
+
+pub returns-in-Ok-clause-cache : goal.returns-in-Ok-clause-cache
+returns-in-Ok-clause-cache g c =
+    let made = c.in-Ok.offered.report.value in
+    after_build (Vec Task Global) BuildError (g.F.Files.holds c.args.files.now) (g.F.Files.holds c.build_offered.new.files) (g.F.Files.holds c.finish.new.files)
+    made (map as_told c.in-Ok.offered.new.items) c.finish.result c.in-Ok.ensures.news c.in-Ok.ensures.rest c.finish.ensures.report c.finish.ensures.cache
 
 pub returns-in-Ok-clause-ran : goal.returns-in-Ok-clause-ran
 returns-in-Ok-clause-ran g c =

@@ -1,0 +1,2 @@
+-- Definitions that no clause of `pie_cli::run` rests on: what functions say to each other.
+pub mod News
