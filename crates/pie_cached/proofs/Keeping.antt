@@ -1,27 +1,33 @@
 -- What the cache has kept after a build.
 use Rattle.std.proofs.Common.{◌≡◌, ℕ, Bool, true, false, cond, List, [], ◌∷◌, ◌++◌, append_assoc, append-nil, map, refl, sym, ap, subst, ◌∙◌}
-use Rattle.std.specs.Prelude.{◌||◌, All, Option, None, Some, Result, Ok, Err, IfOk, IfSome, OnOk, codes, is_some}
+use Rattle.std.specs.Option.{option_map}
+use Rattle.std.specs.Prelude.{All, Option, None, Some, Result, Ok, Err, IfOk, IfSome, OnOk, codes, is_some}
 use Rattle.std.proofs.lemmas.Bool.{false≢true}
 use Rattle.std.proofs.lemmas.List.Elements.{All-head, All-tail}
 use Rattle.pie_base.proofs.Fronts.{below_is}
-use Rattle.pie_base.specs.Path.{is_out, rest_below, same_text}
+use Rattle.pie_base.specs.Path.{rest_below, same_text}
 use Rattle.pie_build.specs.Left.{may_change, KeepsRest}
 use Rattle.pie_cache.proofs.Gating.{gate_apart}
-use Rattle.pie_cache.specs.inner.Clearing.{IsOpened}
+use Rattle.pie_cache.specs.inner.Clearing.{HasCleared, IsOpened}
 use Rattle.pie_cache.specs.inner.Contents.{IsNews}
 use Rattle.pie_cache.specs.inner.Keeping.{kept, last_for, or_else, HasKept}
 use Rattle.pie_cache.specs.inner.Places.{cache_path, gate}
-use Rattle.pie_commit.proofs.Standing.{same_itself, same_path}
-use Rattle.pie_commit.specs.inner.Plans.{Gone, Meets, Same, Wanted, at, is_none, later}
+use Rattle.pie_commit.proofs.Standing.{same_path}
+use Rattle.pie_commit.specs.inner.Plans.{Gone, Meets, Same, at, is_none, later}
 use Rattle.pie_files.specs.Directory.{Directory, file_at}
 use Rattle.pie_files.specs.declared.files.FilesError.{FilesError}
+use Rattle.pie_incremental.specs.Own.{bytes_at, open_path, store_path, IsClosed}
+use Rattle.pie_project.specs.Looking.{pipeline_path}
 use Rattle.pie_report.specs.declared.report.Report.{Report}
 use Rattle.pie_store.specs.declared.offers.Offer.{Offer}
 use Rattle.pie_store.specs.inner.Offers.{Offered, offered}
 use Rattle.pie_topdown_build.specs.declared.offered.NewOffer.{NewOffer}
 use Rattle.pie_topdown_build.specs.inner.News.{AreNews, Told, as_told}
+use Rattle.pie_topdown_build.specs.inner.Stored.{LeavesRowsIf}
+use Rattle.pie_value.specs.declared.task.Task.{Task}
 use Rattle.pie_value.specs.declared.verdict.Verdict.{Verdict}
-use Rattle.pie_cached.specs.Cached.{is_cached}
+use Rattle.pie_value.specs.declared.verdict.Verdict.TheVariants.{Accepted, Refused}
+use Rattle.pie_cached.specs.Cached.{is_cached, KeepsAllButCache}
 use Rattle.pie_cached.specs.inner.News.{kept_of, last_told, opened_at, placed, KeepsIn, KeepsTold, LeavesCache, LeavesNews}
 
 -- ---- the last offer of each path
@@ -85,9 +91,12 @@ none_kept (Some d) after same = λ free. (d, same, λ q on. refl)
 
 -- ---- a build before it
 
-pair : (a b c d : Bool) → a ≡ false → b ≡ false → c ≡ false → d ≡ false → (a || b || c || d) ≡ false
-pair a b c d p q r s =
-    ap (λ x. x || b || c || d) p ∙ ap (λ x. false || x || c || d) q ∙ ap (λ x. false || false || x || d) r ∙ ap (λ x. false || false || false || x) s
+-- outside the cache two directories have the same files
+abbrev AlikeButCache : Directory → Directory → Type 0
+AlikeButCache d e = (q : List ℕ) → is_cached q ≡ false → file_at e q ≡ file_at d q
+
+some_same : (d e : Directory) → Some d ≡ Some e → d ≡ e
+some_same d e is = cc
 
 -- a build changes no file of the cache
 cache_stays : (q : List ℕ) → is_cached q ≡ true → may_change q ≡ false
@@ -97,24 +106,76 @@ cache_stays q on = by (rest_below (codes ".pie/cache") q) refl on
     by None e some = absurd (false≢true some)
     by (Some rest) e some = ap may_change (below_is (codes ".pie/cache") q rest e)
 
+-- ---- what is told of new offers, where a change of the cache came before or behind
+
+off_cache : (d e : Directory) (q : List ℕ) → AlikeButCache d e → is_cached q ≡ false → bytes_at e q ≡ bytes_at d q
+off_cache d e q alike off = ap (option_map (λ (f : List ℕ × ℕ). f.0)) (alike q off)
+
+-- files of the cache changed behind it
+news_behind : (d e x : Directory) (before mid after : Option Directory) (v : Verdict) (ran : List Task) (told : List Told) → before ≡ Some d → mid ≡ Some e
+    → after ≡ Some x → AlikeButCache e x → AreNews IsClosed before mid v ran told → AreNews IsClosed (Some d) after v ran told
+news_behind d e x before mid after v ran told here is then alike n = record {
+  funcs = n.funcs;
+  digests = λ a same. n.digests a (here ∙ same);
+  news = record {
+    rows = n.news.rows;
+    files = n.news.files;
+    tells = n.news.tells;
+    stored = λ a same closed. by v (n.news.stored a (here ∙ same) closed);
+  };
+}
+  where
+    one : (left : Directory) → mid ≡ Some left → left ≡ e
+    one left told_left = some_same left e (sym told_left ∙ is)
+
+    by : (w : Verdict) → LeavesRowsIf w n.funcs n.news.rows mid → LeavesRowsIf w n.funcs n.news.rows after
+    by Accepted s = record {
+      left = x;
+      told = then;
+      text = s.text;
+      there = off_cache e x store_path alike refl ∙ ap (λ (a : Directory). bytes_at a store_path) (sym (one s.left s.told)) ∙ s.there;
+      roots = s.roots;
+      says = s.says;
+    }
+    by (Refused r) s = tt
+
+-- files of the cache changed before it
+news_before : (d e : Directory) (after : Option Directory) (v : Verdict) (ran : List Task) (told : List Told) → AlikeButCache d e
+    → AreNews IsClosed (Some e) after v ran told → AreNews IsClosed (Some d) after v ran told
+news_before d e after v ran told alike n = record {
+  funcs = n.funcs;
+  digests = λ a same text there.
+      n.digests e refl text
+      (off_cache d e pipeline_path alike refl ∙ ap (λ (x : Directory). bytes_at x pipeline_path) (some_same d a same) ∙ there);
+  news = record {
+    rows = n.news.rows;
+    files = n.news.files;
+    tells = n.news.tells;
+    stored = λ a same closed.
+        n.news.stored e refl (off_cache d e open_path alike refl ∙ ap (λ (x : Directory). bytes_at x open_path) (some_same d a same) ∙ closed);
+  };
+}
+
 -- ---- together
 
 module _ (V : Type 0) (E : Type 0) where
   -- what is kept after a build
-  pub after_build : (before mid after : Option Directory) (r : Report) (told : List Told) (result : Result (Report × V) E) → AreNews r.ran.items told
-      → KeepsRest before mid → IfOk result (λ x. x.0 ≡ r) → OnOk result (KeepsTold (kept_of r.verdict told) mid after)
-      → IfSome before (λ d. file_at d gate ≡ None → IfOk result (λ x. LeavesNews (file_at d) x.0 after))
-  after_build None mid after r told result news rest is kept_so = tt
-  after_build (Some d) mid after r told (Err e) news rest is kept_so = λ free. tt
-  after_build (Some d) mid after r told (Ok x) news rest is kept_so = λ free.
+  pub after_build : (before mid after : Option Directory) (r : Report) (told : List Told) (result : Result (Report × V) E)
+      → AreNews IsClosed before mid r.verdict r.ran.items told → KeepsRest before mid → IfOk result (λ x. x.0 ≡ r) → KeepsAllButCache mid after
+      → OnOk result (KeepsTold (kept_of r.verdict told) mid after)
+      → IfSome before (λ d. file_at d gate ≡ None → IfOk result (λ x. LeavesNews d (file_at d) x.0 after))
+  after_build None mid after r told result news rest is others kept_so = tt
+  after_build (Some d) mid after r told (Err e) news rest is others kept_so = λ free. tt
+  after_build (Some d) mid after r told (Ok x) news rest is others kept_so = λ free.
       let e = rest.kept.0 in
       let same : (q : List ℕ) → is_cached q ≡ true → file_at e q ≡ file_at d q = λ q on. rest.kept.2 q (cache_stays q on) in
       let then : file_at e gate ≡ None → (left : Directory) × (after ≡ Some left) × KeepsIn (file_at e) (kept_of r.verdict told) left =
       subst (KeepsTold_at (kept_of r.verdict told)) rest.kept.1 kept_so in
       let left = then (same gate refl ∙ free) in
-      subst (λ (y : Report). LeavesNews (file_at d) y after) (sym is) (record {
+      let alike : (a : Directory) × (after ≡ Some a) × AlikeButCache e a = subst (λ (o : Option Directory). KeepsAllButCache o after) rest.kept.1 others in
+      subst (λ (y : Report). LeavesNews d (file_at d) y after) (sym is) (record {
         told = told;
-        news = news;
+        news = news_behind d e alike.0 (Some d) mid after r.verdict r.ran.items told refl rest.kept.1 alike.1 alike.2 news;
         left = left.0;
         is = left.1;
         keeps = λ q on. subst (λ (o : Option (List ℕ × ℕ)). Meets (kept (last_told (kept_of r.verdict told) q) o) o (file_at left.0 q)) (same q on)
@@ -126,21 +187,22 @@ module _ (V : Type 0) (E : Type 0) where
 
   -- once the cache was opened
   pub after_open : (before mid after : Option Directory) (result : Result (Report × V) E) → IfSome before (λ d. IsOpened d mid)
-      → IfSome mid (λ d. file_at d gate ≡ None → IfOk result (λ x. LeavesNews (file_at d) x.0 after))
+      → KeepsAllButCache before mid → IfSome mid (λ d. file_at d gate ≡ None → IfOk result (λ x. LeavesNews d (file_at d) x.0 after))
       → IfSome before (λ d. IfOk result (λ x. LeavesCache d x.0 after))
-  after_open None mid after result opened then = tt
-  after_open (Some d) mid after (Err e) opened then = tt
-  after_open (Some d) mid after (Ok x) opened then = by (is_some (file_at d gate)) refl opened
+  after_open None mid after result opened others then = tt
+  after_open (Some d) mid after (Err e) opened others then = tt
+  after_open (Some d) mid after (Ok x) opened others then = by (is_some (file_at d gate)) refl opened
     where
       through : (e : Directory) → mid ≡ Some e → file_at e gate ≡ None → ((q : List ℕ) → is_cached q ≡ true → file_at e q ≡ opened_at d q)
-          → LeavesNews (opened_at d) x.0 after
+          → LeavesNews d (opened_at d) x.0 after
       through e is free same =
-          let at_mid : file_at e gate ≡ None → LeavesNews (file_at e) x.0 after =
-          subst (λ (o : Option Directory). IfSome o (λ a. file_at a gate ≡ None → LeavesNews (file_at a) x.0 after)) is then in
+          let at_mid : file_at e gate ≡ None → LeavesNews e (file_at e) x.0 after =
+          subst (λ (o : Option Directory). IfSome o (λ a. file_at a gate ≡ None → LeavesNews a (file_at a) x.0 after)) is then in
           let h = at_mid free in
+          let alike : AlikeButCache d e = subst (AlikeButCache d) (some_same others.0 e (sym others.1 ∙ is)) others.2 in
           record {
             told = h.told;
-            news = h.news;
+            news = news_before d e after x.0.verdict x.0.ran.items h.told alike h.news;
             left = h.left;
             is = h.is;
             keeps = λ q on. subst (λ (o : Option (List ℕ × ℕ)). Meets (kept (last_told (kept_of x.0.verdict h.told) q) o) o (file_at h.left q)) (same q on)
@@ -151,13 +213,13 @@ module _ (V : Type 0) (E : Type 0) where
       no_gate None n = refl
       no_gate (Some f) n = absurd (false≢true (sym n))
 
-      by : (b : Bool) → is_some (file_at d gate) ≡ b → IsOpened d mid → LeavesNews (opened_at d) x.0 after
+      by : (b : Bool) → is_some (file_at d gate) ≡ b → IsOpened d mid → LeavesNews d (opened_at d) x.0 after
       by true e o =
-          let cleared = subst (λ (b : Bool). cond b ((a : Directory) × (mid ≡ Some a) × ((q : List ℕ) → is_cached q ≡ true → file_at a q ≡ None)) (mid ≡ Some d)) e o in
+          let cleared = subst (λ (b : Bool). cond b (HasCleared mid) (mid ≡ Some d)) e o in
           through cleared.0 cleared.1 (cleared.2 gate refl)
           (λ q on. cleared.2 q on ∙ ap (λ (b : Bool). cond b None (file_at d q)) (sym e))
       by false e o =
-          let same = subst (λ (b : Bool). cond b ((a : Directory) × (mid ≡ Some a) × ((q : List ℕ) → is_cached q ≡ true → file_at a q ≡ None)) (mid ≡ Some d)) e o in
+          let same = subst (λ (b : Bool). cond b (HasCleared mid) (mid ≡ Some d)) e o in
           through d same (no_gate (file_at d gate) e) (λ q on. ap (λ (b : Bool). cond b None (file_at d q)) (sym e))
 
 -- ---- offers with the paths of their files

@@ -64,7 +64,7 @@ fn with_cache<F: Files>(
     ensures rest { KeepsOthers (F.holds files.old) (F.holds files.new) }
     ensures refused { IsRefusal result → KeepsAllButCache (F.holds files.old) (F.holds files.new) }
     ensures kept { IfOk result (λ r. StaysIfRefused r.0.verdict (F.holds files.old) (F.holds files.new)) }
-    ensures cache { IfSome (F.holds files.old) (λ d. file_at d gate ≡ None → IfOk result (λ r. LeavesNews (file_at d) r.0 (F.holds files.new))) }
+    ensures cache { IfSome (F.holds files.old) (λ d. file_at d gate ≡ None → IfOk result (λ r. LeavesNews d (file_at d) r.0 (F.holds files.new))) }
     ensures ran { IfOk result (λ r. runs.new ≡ runs.old ++ r.0.ran.items) }
     ensures few { length runs.new ≤ length runs.old + 50000 }
     ensures encodable { IfOk result (λ r. All IsEncodableTask r.0.ran.items) }

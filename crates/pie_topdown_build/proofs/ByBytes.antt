@@ -27,12 +27,11 @@ pub put_there : (es : List (Vec ℕ Global × Task)) (k : Vec ℕ Global) (t : T
 put_there [] k t = refl
 put_there (e ∷ es) k t = by (byte_order k.items e.0.items) (put_there es k t)
   where
-    one : Vec ℕ Global → Vec ℕ Global → Ordering
-    one a b = byte_order a.items b.items
-
-    by : (o : Ordering) → map by_key (insert_entry (λ (a b : Vec ℕ Global). byte_order a.items b.items) es k t) ≡ insert_entry byte_order (map by_key es) k.items t
+    by : (o : Ordering)
+        → map by_key (insert_entry (λ (a b : Vec ℕ Global). byte_order a.items b.items) es k t) ≡ insert_entry byte_order (map by_key es) k.items t
         → map by_key (match_ordering o ((k, t) ∷ e ∷ es) ((e.0, t) ∷ es) (e ∷ insert_entry (λ (a b : Vec ℕ Global). byte_order a.items b.items) es k t))
-        ≡ match_ordering o ((k.items, t) ∷ by_key e ∷ map by_key es) ((e.0.items, t) ∷ map by_key es) (by_key e ∷ insert_entry byte_order (map by_key es) k.items t)
+        ≡ match_ordering o ((k.items, t) ∷ by_key e ∷ map by_key es) ((e.0.items, t) ∷ map by_key es)
+        (by_key e ∷ insert_entry byte_order (map by_key es) k.items t)
     by Less more = refl
     by Equal more = refl
     by Greater more = ap (λ (xs : List (List ℕ × Task)). by_key e ∷ xs) more
@@ -68,9 +67,6 @@ one_at [] t at = All-cons (λ (e : List ℕ × Task). e.0 ≡ enc_task e.1) (enc
 one_at (e ∷ held) t at =
     by (byte_order (enc_task t) e.0) refl (one_at held t (All-tail (λ (x : List ℕ × Task). x.0 ≡ enc_task x.1) e held at))
   where
-    At : List ℕ × Task → Type 0
-    At x = x.0 ≡ enc_task x.1
-
     by : (o : Ordering) → byte_order (enc_task t) e.0 ≡ o → AtBytes (put_task held t)
         → AtBytes (match_ordering o ((enc_task t, t) ∷ e ∷ held) ((e.0, t) ∷ held) (e ∷ put_task held t))
     by Less is more = All-cons (λ (x : List ℕ × Task). x.0 ≡ enc_task x.1) (enc_task t, t) (e ∷ held) refl at
@@ -143,7 +139,8 @@ module _ (tasks found : List Task) (es : List (Vec ℕ Global × Task)) (held : 
       let order = in_path_order (map enc_task tasks) in
       record {
         ascending = subst (IsStrictlySortedBy byte_order) (sym bytes_of)
-            (sorted_from_all_adjacent nat_list_cmp_total (in_order (map enc_task tasks)) [] (λ k lt. rises (in_order (map enc_task tasks)) order.ascending k lt));
+            (sorted_from_all_adjacent nat_list_cmp_total (in_order (map enc_task tasks)) []
+            (λ k lt. rises (in_order (map enc_task tasks)) order.ascending k lt));
         same = λ b. (
           λ i. All-contains (λ (p : List ℕ). Contains (map enc_task tasks) p) (in_order (map enc_task tasks)) b order.named
               (subst (λ (bs : List (List ℕ)). Contains bs b) bytes_of i),

@@ -1,6 +1,6 @@
 -- Where nothing of a record is missing, it is told if its task ran.
 use Rattle.std.proofs.Common.{◌≡◌, ℕ, zero, suc, ◌<◌, ◌≤◌, ◌^◌, Bool, true, false, ◌&&◌, cond, List, [], ◌∷◌, length, map, refl, sym, ap, subst, ◌∙◌, arith}
-use Rattle.std.specs.Prelude.{All, Contains, IsSome, Option, None, Some, nat_le}
+use Rattle.std.specs.Prelude.{All, Contains, IsSome, Option, None, Some, bytes_eq, is_some, nat_le}
 use Rattle.std.specs.Cmp.Lexicographic.{slice_cmp}
 use Rattle.std.specs.List.{AllByRecursion, cons_option, filter}
 use Rattle.std.specs.List.Sorted.{IsStrictlySortedBy}
@@ -9,14 +9,18 @@ use Rattle.std.specs.Ordering.{nat_cmp, ordering_reverse}
 use Rattle.std.specs.declared.cmp.Ordering.TheVariants.{Less, Greater}
 use Rattle.std.proofs.lemmas.Bool.{false≢true}
 use Rattle.std.proofs.lemmas.Cmp.{nat_list_cmp_total}
-use Rattle.std.proofs.lemmas.List.Elements.{All-head, All-tail}
+use Rattle.std.proofs.lemmas.List.Elements.{All-head, All-tail, All-weaker}
 use Rattle.std.proofs.lemmas.Map.Keys.{sorted_head, sorted_tail}
+use Rattle.std.proofs.lemmas.Slice.Eq.{bytes_eq-Decides}
 use Rattle.sha2.specs.Sha256.{sha256}
 use Rattle.pie_base.specs.Path.{same_text}
+use Rattle.pie_build.specs.Stored.{IsStoreOf}
 use Rattle.pie_commit.proofs.Standing.{same_itself, same_path}
 use Rattle.pie_files.specs.inner.Held.{is_among}
-use Rattle.pie_old.specs.inner.Code.{digest_in}
+use Rattle.pie_old.specs.inner.Code.{digest_in, kept as first_of}
 use Rattle.pie_record.specs.declared.task_record.TaskRecord.{TaskRecord}
+use Rattle.pie_store.specs.Canonical.{names_of}
+use Rattle.pie_store.specs.Texts.{AreKnown}
 use Rattle.pie_value.specs.Canonical.{enc_task}
 use Rattle.pie_value.specs.declared.task.Task.{Task}
 use Rattle.pie_topdown_build.specs.inner.News.{Told, bytes_in, contents_of, news_in, told_with, with_hash, with_more, IsComplete, IsThere}
@@ -85,8 +89,10 @@ pub none_left_out : (funcs files : Pairs) (rows : List TaskRecord) (ran : List T
     → map (λ (t : Told). t.1.0) (news_in funcs rows files ran) ≡ filter (λ (row : TaskRecord). is_among (enc_task row.task) (map enc_task ran)) rows
 none_left_out funcs files [] ran all = refl
 none_left_out funcs files (row ∷ rows) ran all =
-    by (is_among (enc_task row.task) (map enc_task ran)) (All-head (λ (r : TaskRecord). is_among (enc_task r.task) (map enc_task ran) ≡ true → IsComplete funcs files r) row rows all)
-    (none_left_out funcs files rows ran (All-tail (λ (r : TaskRecord). is_among (enc_task r.task) (map enc_task ran) ≡ true → IsComplete funcs files r) row rows all))
+    by (is_among (enc_task row.task) (map enc_task ran))
+    (All-head (λ (r : TaskRecord). is_among (enc_task r.task) (map enc_task ran) ≡ true → IsComplete funcs files r) row rows all)
+    (none_left_out funcs files rows ran
+    (All-tail (λ (r : TaskRecord). is_among (enc_task r.task) (map enc_task ran) ≡ true → IsComplete funcs files r) row rows all))
   where
     row_of : Told → TaskRecord
     row_of t = t.1.0
@@ -100,7 +106,8 @@ none_left_out funcs files (row ∷ rows) ran all =
     some : (o : Option (List ℕ)) (p : Option (List (List ℕ))) (cs : List (List ℕ)) → IsSome o → p ≡ Some cs
         → map row_of (cons_option (told_with row o p) (news_in funcs rows files ran)) ≡ row ∷ map row_of (news_in funcs rows files ran)
     some None p cs s is = absurd (false≢true s)
-    some (Some digest) p cs s is = ap (λ (q : Option (List (List ℕ))). map row_of (cons_option (told_with row (Some digest) q) (news_in funcs rows files ran))) is
+    some (Some digest) p cs s is =
+        ap (λ (q : Option (List (List ℕ))). map row_of (cons_option (told_with row (Some digest) q) (news_in funcs rows files ran))) is
 
     by : (b : Bool) → (b ≡ true → IsComplete funcs files row) → map row_of (news_in funcs rows files ran) ≡ kept
         → map row_of (cons_option (cond b told None) (news_in funcs rows files ran)) ≡ cond b (row ∷ kept) kept
@@ -109,3 +116,28 @@ none_left_out funcs files (row ∷ rows) ran all =
         let c = complete refl in
         let cs = all_there files row.writes c.writes in
         some (digest_in funcs row.task.func) (contents_of (bytes_in files) row.writes) cs.0 c.digest cs.1 ∙ ap (λ (rs : List TaskRecord). row ∷ rs) rest
+
+-- ---- the functions of a store
+
+-- a function in the table has a digest
+has_digest : (funcs : Pairs) (name : List ℕ) → Contains (names_of funcs) name → IsSome (digest_in funcs name)
+has_digest [] name i = absurd (omega (arith, i.1))
+has_digest (f ∷ funcs) name (zero, lt, is) =
+    let here : bytes_eq name f.0 ≡ true = (bytes_eq-Decides name f.0).1 (sym is) in
+    ap (λ (b : Bool). is_some (first_of (cond b (Some f.1) None) (digest_in funcs name))) here
+has_digest (f ∷ funcs) name (suc i, lt, is) = by (bytes_eq name f.0) (has_digest funcs name (i, omega (arith, lt), is))
+  where
+    by : (b : Bool) → IsSome (digest_in funcs name) → IsSome (first_of (cond b (Some f.1) None) (digest_in funcs name))
+    by true there = refl
+    by false there = there
+
+-- so each record of a store has one
+pub all_have_digests : (funcs : Pairs) (roots : List Task) (rows : List TaskRecord) (text : List ℕ) → IsStoreOf funcs roots rows text
+    → All (λ (row : TaskRecord). IsSome (digest_in funcs row.task.func)) rows
+all_have_digests funcs roots rows text s =
+    let known : AreKnown None s.image.funcs s.image.rows =
+    subst (λ (o : Option (List ℕ)). AreKnown o s.image.funcs s.image.rows) s.no_digest s.text.store.known in
+    All-weaker (λ (row : TaskRecord). Contains (names_of funcs) row.task.func) (λ (row : TaskRecord). IsSome (digest_in funcs row.task.func))
+    (λ row i. has_digest funcs row.task.func i) rows
+    (subst (λ (rs : List TaskRecord). All (λ (row : TaskRecord). Contains (names_of funcs) row.task.func) rs) s.rows
+    (subst (λ (fs : Pairs). All (λ (row : TaskRecord). Contains (names_of fs) row.task.func) s.image.rows) s.funcs known))

@@ -1,5 +1,6 @@
 -- What is looked up for the records of a build: which tasks ran, and the bytes at paths.
-use Rattle.std.proofs.Common.{◌≡◌, ℕ, zero, suc, ◌+◌, ◌<◌, ◌≤◌, Bool, true, false, cond, List, [], ◌∷◌, ◌++◌, length, get_or, map, take, Vec, Global, refl, sym, ap, subst, ◌∙◌, arith}
+use Rattle.std.proofs.Common.{◌≡◌, ℕ, zero, suc, ◌+◌, ◌<◌, ◌≤◌, Bool, true, false, cond, List, [], ◌∷◌, ◌++◌, length, get_or}
+use Rattle.std.proofs.Common.{map, take, Vec, Global, refl, sym, ap, ◌∙◌, arith}
 use Rattle.std.specs.Prelude.{◌||◌, Option, None, Some, String, slice_get}
 use Rattle.std.specs.BTreeMap.{BTreeMap, get, get_by_text}
 use Rattle.std.specs.BTreeSet.{insert_key}
@@ -158,7 +159,8 @@ same_functions f g h = λ i a. h a i
 pub told_so : {Z : Type 0} (funcs : List (List ℕ × List ℕ)) (rows : List TaskRecord) (files : Files) (ran : List Task) (keys : List (Vec ℕ Global))
     (digests : BTreeMap (String Z) (List ℕ)) (places : BTreeMap (List ℕ) ℕ) → keys_in keys ≡ in_order (map enc_task ran)
     → ((q : List ℕ) → get_by_text digests q ≡ digest_in funcs q) → ((q : List ℕ) → bytes_by files places q ≡ bytes_in (contents_in files) q)
-    → filter_map (told_where (λ bytes. is_among bytes (keys_in keys)) (get_by_text digests) (bytes_by files places)) rows ≡ news_in funcs rows (contents_in files) ran
+    → filter_map (told_where (λ bytes. is_among bytes (keys_in keys)) (get_by_text digests) (bytes_by files places)) rows
+    ≡ news_in funcs rows (contents_in files) ran
 told_so funcs rows files ran keys digests places ran_are digest_is bytes_are =
     let has : (λ (q : List ℕ). is_among q (keys_in keys)) ≡ (λ (q : List ℕ). is_among q (map enc_task ran)) =
     same_functions (λ (q : List ℕ). is_among q (keys_in keys)) (λ (q : List ℕ). is_among q (map enc_task ran))

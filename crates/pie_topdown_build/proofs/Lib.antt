@@ -3,6 +3,7 @@ pub mod Cleanly
 pub mod Complete
 pub mod Contents
 pub mod Finding
+pub mod Handing
 pub mod Holding
 pub mod Leaving
 pub mod Making
@@ -11,4 +12,5 @@ pub mod Placing
 pub mod Refusing
 pub mod Running
 pub mod Starting
+pub mod Storing
 pub mod Telling

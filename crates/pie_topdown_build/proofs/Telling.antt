@@ -1,5 +1,6 @@
 -- What is told of the records of a build, one after another.
-use Rattle.std.proofs.Common.{◌≡◌, ℕ, zero, suc, ◌+◌, ◌<◌, ◌≤◌, Bool, true, false, cond, List, [], ◌∷◌, ◌++◌, length, get_or, drop, map, Vec, Global, refl, sym, ap, subst, ◌∙◌, arith}
+use Rattle.std.proofs.Common.{◌≡◌, ℕ, zero, suc, ◌+◌, ◌<◌, ◌≤◌, Bool, true, false, cond, List, [], ◌∷◌, ◌++◌, length, get_or}
+use Rattle.std.proofs.Common.{drop, map, Vec, Global, refl, sym, ap, ◌∙◌, arith}
 use Rattle.std.proofs.Common.{append_assoc, append-nil}
 use Rattle.std.proofs.lemmas.List.{drop_more}
 use Rattle.std.specs.Prelude.{Option, None, Some}
@@ -7,8 +8,7 @@ use Rattle.std.specs.List.{cons_option, filter_map}
 use Rattle.std.specs.Option.{option_and_then, option_map, option_to_list}
 use Rattle.pie_record.specs.declared.task_record.TaskRecord.{TaskRecord}
 use Rattle.pie_value.specs.Canonical.{enc_task}
-use Rattle.pie_value.specs.declared.task.Task.{Task}
-use Rattle.pie_topdown_build.specs.inner.News.{AreNews, Told, contents_of, told_where, told_with, with_hash, with_more}
+use Rattle.pie_topdown_build.specs.inner.News.{Told, contents_of, told_where, told_with, with_hash, with_more}
 
 -- ---- the contents of writes
 
@@ -129,8 +129,3 @@ one_pushed {A} {B} f old new x y is more = ap (map f) more ∙ pushed old ∙ ap
     pushed : (xs : List A) → map f (xs ++ x ∷ []) ≡ map f xs ++ f x ∷ []
     pushed [] = refl
     pushed (z ∷ xs) = ap (λ (l : List B). f z ∷ l) (pushed xs)
-
--- ---- a build that tells nothing
-
-pub none_told : (ran : List Task) (told : List Told) → told ≡ [] → AreNews ran told
-none_told ran told none = record { funcs = []; rows = []; files = []; tells = none }

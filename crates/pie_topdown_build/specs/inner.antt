@@ -5,3 +5,4 @@ pub mod Cleaned
 pub mod News
 pub mod Offered
 pub mod Reused
+pub mod Stored

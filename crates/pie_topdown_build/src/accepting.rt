@@ -1,5 +1,5 @@
 //! An accepted build put into place.
-ghost use Rattle.std.specs.Prelude.{◌≡◌, true, None, is_some, IfOk, IfSome, OnOk};
+ghost use Rattle.std.specs.Prelude.{◌≡◌, [], true, None, is_some, IfNone, IfOk, IfSome, OnOk};
 ghost use Rattle.pie_build.specs.Left.{KeepsRest};
 ghost use Rattle.pie_build.specs.Stored.{MayStand};
 ghost use Rattle.pie_commit.specs.inner.Plans.{is_sound};
@@ -13,6 +13,7 @@ ghost use Rattle.pie_results.specs.inner.Files.{InPathOrder};
 ghost use Rattle.pie_store.specs.Texts.{IsStoreText};
 ghost use Rattle.pie_value.specs.declared.verdict.Verdict.TheVariants as verdicts;
 ghost use Rattle.pie_topdown_build.specs.inner.Cleaned.{HoldsBy, IsOwnOf, LeavesWhere, PutsWhere};
+ghost use Rattle.pie_topdown_build.specs.inner.Stored.{IsBegunFrom, IsStoreOrNone, LeavesRows};
 
 use crate::held::{held_beside, held_under_out, is_pending};
 use pie_base::{OutOfMemory, Path, Text};
@@ -54,6 +55,7 @@ pub(crate) fn accept<F: Files>(
     requires contents { InPathOrder made.contents.items }
     ensures rest { KeepsRest (F.holds files.old) (F.holds files.new) }
     ensures left { IfSome (F.holds files.old) (λ d. IfOk result (λ r. LeavesWhere store project.now.digests.items project.now.roots.items made.rows.items made.contents.items made.outputs.items d r.value (F.holds files.new))) }
+    ensures stored { IfSome (F.holds files.old) (λ d. IsBegunFrom store d → OnOk result (LeavesRows project.now.digests.items made.rows.items (F.holds files.new))) }
     ensures verdict { IfOk result (λ r. r.value.verdict ≡ verdicts.Accepted) }
     ensures fresh { IfOk result (λ r. r.value.fresh ≡ None) }
     ensures ran { IfOk result (λ r. r.value.ran ≡ ran) }
@@ -89,6 +91,8 @@ fn own_files<F: Files>(
     store: Option<Vec<u8>>,
 ) -> Result<OwnFiles, FilesError>
     ensures own { IfSome (F.holds files.old) (λ d. IfOk result (IsOwnOf store d)) }
+    ensures some { IfOk result (λ own. IfSome store (λ text. own.store ≡ text)) }
+    ensures none { IfOk result (λ own. IfNone store (own.store.items ≡ [])) }
     ensures reads { ReadsOnly F.holds F.moment F.left_since F.images F.faults files.old files.new result }
 {
     let pending = is_pending(alloc, files)?;
@@ -98,6 +102,7 @@ fn own_files<F: Files>(
 // The same, where it is known whether names are pending. Their bytes aren't asked for.
 fn own_with(alloc: Global, store: Option<Vec<u8>>, pending: bool) -> OwnFiles
     ensures store { IfSome store (λ text. result.store ≡ text) }
+    ensures none { IfNone store (result.store.items ≡ []) }
     ensures pending { is_some result.pending ≡ pending }
 {
     let store = match store {
@@ -123,6 +128,7 @@ fn put_into_place<F: Files>(
     requires contents { InPathOrder made.contents.items }
     ensures rest { KeepsRest (F.holds files.old) (F.holds files.new) }
     ensures left { IfSome (F.holds files.old) (λ d. IfOk result (λ r. PutsWhere own.now held.now project.now.digests.items project.now.roots.items made.rows.items made.contents.items made.outputs.items d r.value (F.holds files.new))) }
+    ensures stored { IfSome (F.holds files.old) (λ d. IsStoreOrNone own.now.store.items d → OnOk result (LeavesRows project.now.digests.items made.rows.items (F.holds files.new))) }
     ensures verdict { IfOk result (λ r. r.value.verdict ≡ verdicts.Accepted) }
     ensures fresh { IfOk result (λ r. r.value.fresh ≡ None) }
     ensures ran { IfOk result (λ r. r.value.ran ≡ ran) }

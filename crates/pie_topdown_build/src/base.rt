@@ -1,5 +1,5 @@
 //! What a build without a list begins from.
-ghost use Rattle.std.specs.Prelude.{IfOk, IfSome};
+ghost use Rattle.std.specs.Prelude.{◌≡◌, None, IfOk, IfSome};
 ghost use Rattle.pie_files.specs.Reading.{ReadsOnly};
 ghost use Rattle.pie_incremental.specs.inner.Joined.{IsImage};
 ghost use Rattle.pie_topdown_build.specs.inner.Bases.{IsWhole, StartsAt, StartsBy};
@@ -49,7 +49,8 @@ pub(crate) fn find_base<F: Files>(alloc: Global, files: &mut F) -> Result<Start,
 /// The store of nothing, for a build that has nothing to build from.
 #[tactic(auto, using(crate::proofs::Making::empty_image))]
 pub(crate) fn no_base(alloc: Global) -> Result<Box<Base>, OutOfMemory>
-    ensures { IfOk result (λ b. IsImage b.value.image) }
+    ensures image { IfOk result (λ b. IsImage b.value.image) }
+    ensures none { IfOk result (λ b. b.value.store ≡ None) }
 {
     let image = StoreImage {
         version: 2,

@@ -1,14 +1,16 @@
 //! A build that needs no list of changes.
-ghost use Rattle.std.specs.Prelude.{◌≡◌, ◌≤◌, ◌+◌, ◌++◌, [], Some, length, map, All, IfOk, IfSome};
+ghost use Rattle.std.specs.Prelude.{◌≡◌, ◌≤◌, ◌+◌, ◌++◌, [], Some, length, All, IfOk, IfSome};
 ghost use Rattle.pie_build.specs.Left.{KeepsRest};
 ghost use Rattle.pie_build.specs.inner.Rebuilt.{IsRefusal, Tells};
+ghost use Rattle.pie_incremental.specs.Own.{IsClosed};
 ghost use Rattle.pie_incremental.specs.inner.Refused.{RefusesRight};
 ghost use Rattle.pie_incremental.specs.inner.Joined.{IsImage};
 ghost use Rattle.pie_incremental.specs.inner.Updated.{IsAfreshAfter};
 ghost use Rattle.pie_value.specs.Canonical.{IsEncodableTask};
-ghost use Rattle.pie_topdown_build.specs.inner.News.{as_told, AreNews};
+ghost use Rattle.pie_topdown_build.specs.inner.News.{AreNewsOf};
 ghost use Rattle.pie_topdown_build.specs.inner.Offered.{IsNew};
 ghost use Rattle.pie_topdown_build.specs.Clean.{BuildsAsClean};
+ghost use Rattle.pie_topdown_build.specs.inner.Stored.{IsBegunFrom};
 ghost use Rattle.pie_topdown_build.specs.inner.Clean.{FromAsClean, OffersClean};
 ghost use Rattle.pie_topdown_build.specs.Refusals.{KeepsRefused};
 
@@ -71,7 +73,7 @@ pub fn build_offered<F: Files, O: Offers>(
     ensures encodable { IfOk result (λ o. All IsEncodableTask o.report.value.ran.items) }
     ensures reused { IfOk result (λ o. All IsEncodableTask o.reused.items) }
     ensures new { IfOk result (λ o. All IsNew o.new.items) }
-    ensures news { IfOk result (λ o. AreNews o.report.value.ran.items (map as_told o.new.items)) }
+    ensures news { IfOk result (λ o. AreNewsOf IsClosed (F.holds files.old) (F.holds files.new) o) }
     ensures says { IfSome (F.holds files.old) (λ d. RefusesRight d result) }
     ensures told { Tells F.faults files.old files.new result }
 {
@@ -154,7 +156,7 @@ fn anew<F: Files, O: Offers>(
     ensures encodable { IfOk result (λ o. All IsEncodableTask o.report.value.ran.items) }
     ensures reused { IfOk result (λ o. All IsEncodableTask o.reused.items) }
     ensures new { IfOk result (λ o. All IsNew o.new.items) }
-    ensures news { IfOk result (λ o. AreNews o.report.value.ran.items (map as_told o.new.items)) }
+    ensures news { IfOk result (λ o. AreNewsOf IsClosed (F.holds files.old) (F.holds files.new) o) }
     ensures says { IfSome (F.holds files.old) (λ d. RefusesRight d result) }
     ensures told { Tells F.faults files.old files.new result }
 {
@@ -184,7 +186,7 @@ fn anew_from<F: Files, O: Offers>(
     ensures encodable { IfOk result (λ o. All IsEncodableTask o.report.value.ran.items) }
     ensures reused { IfOk result (λ o. All IsEncodableTask o.reused.items) }
     ensures new { IfOk result (λ o. All IsNew o.new.items) }
-    ensures news { IfOk result (λ o. AreNews o.report.value.ran.items (map as_told o.new.items)) }
+    ensures news { IfOk result (λ o. AreNewsOf (IsBegunFrom base.value.store) (F.holds files.old) (F.holds files.new) o) }
     ensures says { IfSome (F.holds files.old) (λ d. RefusesRight d result) }
     ensures told { Tells F.faults files.old files.new result }
 {

@@ -1,5 +1,5 @@
 //! A build from a base, from its project to its report.
-ghost use Rattle.std.specs.Prelude.{◌≡◌, ◌≤◌, ◌+◌, ◌++◌, length, map, All, IfOk, IfSome};
+ghost use Rattle.std.specs.Prelude.{◌≡◌, ◌≤◌, ◌+◌, ◌++◌, [], true, length, map, All, IfOk, IfSome};
 ghost use Rattle.pie_build.specs.Left.{KeepsRest};
 ghost use Rattle.pie_build.specs.inner.Rebuilt.{IsRefusal, Tells};
 ghost use Rattle.pie_digest.specs.Digests.{HasNames};
@@ -7,12 +7,14 @@ ghost use Rattle.pie_files.specs.Streams.{Counted};
 ghost use Rattle.pie_incremental.specs.inner.Refused.{RefusesRight};
 ghost use Rattle.pie_incremental.specs.inner.Joined.{IsImage};
 ghost use Rattle.pie_record.specs.Canonical.{IsStorable};
+ghost use Rattle.pie_results.specs.inner.Files.{contents_in};
 ghost use Rattle.pie_store.specs.Canonical.{AreFuncs};
 ghost use Rattle.pie_value.specs.Canonical.{IsEncodableTask};
-ghost use Rattle.pie_topdown_build.specs.inner.News.{as_told, AreNews};
+ghost use Rattle.pie_topdown_build.specs.inner.News.{as_told, news_in, AreNewsOf, IsReadyFrom, TellsNewsOf};
 ghost use Rattle.pie_topdown_build.specs.inner.Offered.{IsNew};
 ghost use Rattle.pie_topdown_build.specs.Refusals.{KeepsRefused};
 ghost use Rattle.pie_topdown_build.specs.inner.Bases.{Quiet};
+ghost use Rattle.pie_topdown_build.specs.inner.Stored.{IsBegunFrom};
 ghost use Rattle.pie_topdown_build.specs.inner.Clean.{FromAsClean, RunsAsClean, RunsIfTold};
 
 use crate::base::Base;
@@ -51,7 +53,7 @@ pub(crate) fn from<F: Files, O: Offers>(
     ensures encodable { IfOk result (λ o. All IsEncodableTask o.report.value.ran.items) }
     ensures reused { IfOk result (λ o. All IsEncodableTask o.reused.items) }
     ensures new { IfOk result (λ o. All IsNew o.new.items) }
-    ensures news { IfOk result (λ o. AreNews o.report.value.ran.items (map as_told o.new.items)) }
+    ensures news { tells ≡ true → IfOk result (λ o. AreNewsOf (IsBegunFrom base.value.store) (F.holds files.old) (F.holds files.new) o) }
     ensures says { IfSome (F.holds files.old) (λ d. RefusesRight d result) }
     ensures told { Tells F.faults files.old files.new result }
 {
@@ -84,7 +86,7 @@ fn with_project<F: Files, O: Offers>(
     ensures encodable { IfOk result (λ o. All IsEncodableTask o.report.value.ran.items) }
     ensures reused { IfOk result (λ o. All IsEncodableTask o.reused.items) }
     ensures new { IfOk result (λ o. All IsNew o.new.items) }
-    ensures news { IfOk result (λ o. AreNews o.report.value.ran.items (map as_told o.new.items)) }
+    ensures news { tells ≡ true → IfOk result (λ o. TellsNewsOf (IsReadyFrom project.now base.value.store) project.now.digests.items (F.holds files.old) (F.holds files.new) o) }
     ensures says { IfSome (F.holds files.old) (λ d. RefusesRight d result) }
     ensures told { Tells F.faults files.old files.new result }
 {
@@ -109,7 +111,7 @@ fn rebuilt<F: Files>(alloc: Global, files: &mut F, runs: &mut Runs) -> Result<Of
     ensures encodable { IfOk result (λ o. All IsEncodableTask o.report.value.ran.items) }
     ensures reused { IfOk result (λ o. All IsEncodableTask o.reused.items) }
     ensures new { IfOk result (λ o. All IsNew o.new.items) }
-    ensures news { IfOk result (λ o. AreNews o.report.value.ran.items (map as_told o.new.items)) }
+    ensures none { IfOk result (λ o. o.new.items ≡ []) }
     ensures says { IfSome (F.holds files.old) (λ d. RefusesRight d result) }
     ensures told { Tells F.faults files.old files.new result }
 {
@@ -149,7 +151,7 @@ fn run<F: Files, O: Offers>(
     ensures encodable { IfOk result (λ o. All IsEncodableTask o.report.value.ran.items) }
     ensures reused { IfOk result (λ o. All IsEncodableTask o.reused.items) }
     ensures new { IfOk result (λ o. All IsNew o.new.items) }
-    ensures news { IfOk result (λ o. AreNews o.report.value.ran.items (map as_told o.new.items)) }
+    ensures news { tells ≡ true → IfOk result (λ o. TellsNewsOf (IsBegunFrom base.value.store) project.now.digests.items (F.holds files.old) (F.holds files.new) o) }
     ensures counted { Counted F.faults FilesError.Failed files.old files.new result }
 {
     let Base { image, store } = Box::into_inner(base);
@@ -179,7 +181,7 @@ fn news_if(
     requires ran { All IsEncodableTask ran.now }
     requires rows { All IsStorable built.now.rows.items }
     ensures new { IfOk result (λ found. All IsNew found.items) }
-    ensures news { IfOk result (λ found. AreNews ran.now (map as_told found.items)) }
+    ensures news { tells ≡ true → IfOk result (λ found. map as_told found.items ≡ news_in project.now.digests.items built.now.rows.items (contents_in built.now.files.items) ran.now) }
 {
     if tells {
         return news_of(alloc, project.digests.as_slice(), built, ran);

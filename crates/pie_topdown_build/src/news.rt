@@ -167,10 +167,7 @@ impl<'b> Lookup<'b> {
 }
 
 // Where each file stands: of those at one path, the last.
-fn places_of(
-    alloc: Global,
-    files: &[(Path, Vec<u8>)],
-) -> Result<BTreeMap<Path, usize>, OutOfMemory>
+fn places_of(alloc: Global, files: &[(Path, Vec<u8>)]) -> Result<BTreeMap<Path, usize>, OutOfMemory>
     ensures { IfOk result (λ places. (q : List ℕ) → bytes_by files.now places q ≡ bytes_in (contents_in files.now) q) }
 {
     let mut places = BTreeMap::new(alloc);
@@ -203,11 +200,7 @@ fn bytes_of(alloc: Global, tasks: &[Task]) -> Result<BTreeSet<Vec<u8>>, OutOfMem
     Ok(found)
 }
 
-fn put_bytes(
-    alloc: Global,
-    found: &mut BTreeSet<Vec<u8>>,
-    task: &Task,
-) -> Result<(), OutOfMemory>
+fn put_bytes(alloc: Global, found: &mut BTreeSet<Vec<u8>>, task: &Task) -> Result<(), OutOfMemory>
     requires { IsEncodableTask task.now }
     ensures { OnOk result (keys_in found.new.keys ≡ insert_key byte_order (keys_in found.old.keys) (enc_task task.now)) }
 {

@@ -1,10 +1,11 @@
 -- What a build with the record cache leaves in the cache.
-use Rattle.std.specs.Prelude.{◌≡◌, ℕ, true, cond, List, [], ◌∷◌, map, Option, None, Some, IfSome, is_some}
+use Rattle.std.specs.Prelude.{◌≡◌, ℕ, true, cond, List, [], ◌∷◌, Option, None, Some, IfSome, is_some}
 use Rattle.pie_base.specs.Path.{same_text}
 use Rattle.pie_cache.specs.inner.Keeping.{kept, or_else}
 use Rattle.pie_cache.specs.inner.Places.{cache_path, gate}
 use Rattle.pie_commit.specs.inner.Plans.{Meets}
 use Rattle.pie_files.specs.Directory.{Directory, file_at}
+use Rattle.pie_incremental.specs.Own.{IsClosed}
 use Rattle.pie_report.specs.declared.report.Report.{Report}
 use Rattle.pie_store.specs.declared.offers.Offer.{Offer}
 use Rattle.pie_store.specs.inner.Offers.{Offered}
@@ -32,10 +33,10 @@ abbrev pub kept_of : Verdict → List Told → List Told
 kept_of Accepted told = told
 kept_of (Refused x) told = []
 
--- there are new offers of tasks that ran, and the cache has kept them by the files that there were
-pub record LeavesNews (was : List ℕ → Option (List ℕ × ℕ)) (r : Report) (after : Option Directory) : Type 0 where
+-- a build of a directory with this report tells new offers, and the cache has kept them by the files that there were
+pub record LeavesNews (d : Directory) (was : List ℕ → Option (List ℕ × ℕ)) (r : Report) (after : Option Directory) : Type 0 where
   pub told : List Told
-  pub news : AreNews r.ran.items told
+  pub news : AreNews IsClosed (Some d) after r.verdict r.ran.items told
   pub left : Directory
   pub is : after ≡ Some left
   pub keeps : KeepsIn was (kept_of r.verdict told) left
@@ -46,7 +47,7 @@ opened_at d path = cond (is_some (file_at d gate)) None (file_at d path)
 
 -- what a build with the record cache leaves in it
 abbrev pub LeavesCache : Directory → Report → Option Directory → Type 0
-LeavesCache d r after = LeavesNews (opened_at d) r after
+LeavesCache d r after = LeavesNews d (opened_at d) r after
 
 -- ---- what the parts say to each other
 

@@ -8,14 +8,21 @@ use Rattle.std.specs.Option.{option_and_then, option_map, option_or}
 use Rattle.std.specs.Ordering.{nat_cmp}
 use Rattle.sha2.specs.Sha256.{sha256}
 use Rattle.pie_base.specs.Path.{same_text}
+use Rattle.pie_files.specs.Directory.{Directory}
 use Rattle.pie_files.specs.inner.Held.{is_among}
 use Rattle.pie_old.specs.inner.Code.{digest_in}
+use Rattle.pie_build.specs.inner.Projects.{IsReady}
+use Rattle.pie_project.specs.Digested.{HasDigests}
+use Rattle.pie_project.specs.declared.project.Project.{Project}
 use Rattle.pie_record.specs.declared.task_record.TaskRecord.{TaskRecord}
 use Rattle.pie_store.specs.inner.Offers.{Offered, offered}
 use Rattle.pie_value.specs.Canonical.{enc_task}
 use Rattle.pie_value.specs.declared.task.Task.{Task}
+use Rattle.pie_value.specs.declared.verdict.Verdict.{Verdict}
 use Rattle.pie_topdown_build.specs.declared.news.Lookup.{Lookup}
 use Rattle.pie_topdown_build.specs.declared.offered.NewOffer.{NewOffer}
+use Rattle.pie_topdown_build.specs.declared.offered.Offered.{Offered as Answered}
+use Rattle.pie_topdown_build.specs.inner.Stored.{IsBegunFrom, LeavesRowsIf}
 
 -- what is told: the digest of a function, a record of a task of it, and the content of each of its writes
 abbrev pub Told : Type 0
@@ -69,14 +76,33 @@ pub record IsComplete (funcs files : List (List ℕ × List ℕ)) (row : TaskRec
   pub digest : IsSome (digest_in funcs row.task.func)
   pub writes : All (IsThere files) row.writes
 
--- new offers are what is told of some records whose tasks ran, by some digests of functions and some files
-pub record AreNews (ran : List Task) (told : List Told) : Type 0 where
-  pub funcs : List (List ℕ × List ℕ)
+-- new offers are what is told of records whose tasks ran, by these digests and some files; where what was there before is known to be so, and this verdict
+-- accepts, the records are those of the store that is left
+pub record TellsNews (Known : Directory → Type 0) (funcs : List (List ℕ × List ℕ)) (before after : Option Directory) (v : Verdict) (ran : List Task)
+    (told : List Told) : Type 0 where
   pub rows : List TaskRecord
   pub files : List (List ℕ × List ℕ)
   pub tells : told ≡ news_in funcs rows files ran
+  pub stored : (d : Directory) → before ≡ Some d → Known d → LeavesRowsIf v funcs rows after
+
+-- so it is by the digests of the functions that the directory before has
+pub record AreNews (Known : Directory → Type 0) (before after : Option Directory) (v : Verdict) (ran : List Task) (told : List Told) : Type 0 where
+  pub funcs : List (List ℕ × List ℕ)
+  pub digests : (d : Directory) → before ≡ Some d → HasDigests d funcs
+  pub news : TellsNews Known funcs before after v ran told
+
+-- the same of what a build with offers answers
+abbrev pub TellsNewsOf : (Directory → Type 0) → List (List ℕ × List ℕ) → Option Directory → Option Directory → Answered → Type 0
+TellsNewsOf Known funcs before after o = TellsNews Known funcs before after o.report.value.verdict o.report.value.ran.items (map as_told o.new.items)
+
+abbrev pub AreNewsOf : (Directory → Type 0) → Option Directory → Option Directory → Answered → Type 0
+AreNewsOf Known before after o = AreNews Known before after o.report.value.verdict o.report.value.ran.items (map as_told o.new.items)
 
 -- ---- what the parts say to each other
+
+-- a project whose functions are typed and whose roots are tasks of them, in a directory that a build began from so
+abbrev pub IsReadyFrom : Project → Option (Vec ℕ Global) → Directory → Type 0
+IsReadyFrom p store d = IsReady p.typed p.roots.items × IsBegunFrom store d
 
 -- the bytes of the file whose place is held for a path
 abbrev pub bytes_by : List (List ℕ × Vec ℕ Global) → BTreeMap (List ℕ) ℕ → List ℕ → Option (List ℕ)

@@ -28,7 +28,7 @@ returns-in-Ok-clause-kept g c =
 pub returns-in-Ok-clause-cache : goal.returns-in-Ok-clause-cache
 returns-in-Ok-clause-cache g c =
     after_open (Vec Task Global) BuildError (g.F.Files.holds c.args.files.now) (g.F.Files.holds c.open.new.files) (g.F.Files.holds c.with_cache.new.files)
-    c.with_cache.result c.in-Ok.ensures.cleared c.with_cache.ensures.cache
+    c.with_cache.result c.in-Ok.ensures.cleared c.in-Ok.ensures.kept c.with_cache.ensures.cache
 
 pub returns-in-Ok-clause-says : goal.returns-in-Ok-clause-says
 returns-in-Ok-clause-says g c =

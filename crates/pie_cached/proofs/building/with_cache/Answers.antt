@@ -35,7 +35,8 @@ pub returns-in-Ok-clause-cache : goal.returns-in-Ok-clause-cache
 returns-in-Ok-clause-cache g c =
     let made = c.in-Ok.offered.report.value in
     after_build (Vec Task Global) BuildError (g.F.Files.holds c.args.files.now) (g.F.Files.holds c.build_offered.new.files) (g.F.Files.holds c.finish.new.files)
-    made (map as_told c.in-Ok.offered.new.items) c.finish.result c.in-Ok.ensures.news c.in-Ok.ensures.rest c.finish.ensures.report c.finish.ensures.cache
+    made (map as_told c.in-Ok.offered.new.items) c.finish.result c.in-Ok.ensures.news c.in-Ok.ensures.rest c.finish.ensures.report
+    c.finish.ensures.rest c.finish.ensures.cache
 
 pub returns-in-Ok-clause-ran : goal.returns-in-Ok-clause-ran
 returns-in-Ok-clause-ran g c =

@@ -1,4 +1,5 @@
 use Rattle.pie_topdown_build.proofs.Leaving.{looked_leaves}
+use Rattle.pie_topdown_build.proofs.Storing.{rows_from}
 use Rattle.pie_topdown_build.proofs.accepting.accept.Goals as goal
 
 pub returns-clause-left : goal.returns-clause-left
@@ -7,3 +8,9 @@ returns-clause-left g c =
     c.args.made.contents.items c.args.made.outputs.items (g.F.Files.holds c.args.files.now) (g.F.Files.holds c.held_now.new.files)
     (g.F.Files.holds c.own_files.new.files) (g.F.Files.holds c.put_into_place.new.files) c.put_into_place.result c.in_ok-held.ensures.reads.same
     c.in_ok-own.ensures.reads.same c.in_ok-held.ensures.held c.in_ok-own.ensures.own c.put_into_place.ensures.left
+
+pub returns-clause-stored : goal.returns-clause-stored
+returns-clause-stored g c =
+    rows_from c.args.store c.in_ok-own.own c.args.project.now.digests.items c.args.made.rows.items (g.F.Files.holds c.args.files.now)
+    (g.F.Files.holds c.held_now.new.files) (g.F.Files.holds c.own_files.new.files) (g.F.Files.holds c.put_into_place.new.files) c.put_into_place.result
+    c.in_ok-held.ensures.reads.same c.in_ok-own.ensures.reads.same c.in_ok-own.ensures.some c.in_ok-own.ensures.none c.put_into_place.ensures.stored

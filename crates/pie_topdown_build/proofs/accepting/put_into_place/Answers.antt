@@ -5,6 +5,7 @@ use Rattle.pie_incremental.specs.Own.{IsClosed}
 use Rattle.pie_incremental.specs.inner.Cleaned.{IsPlanFor, TellsPlan}
 use Rattle.pie_incremental.specs.inner.Plans.{HasChanged}
 use Rattle.pie_topdown_build.proofs.Leaving.{leaves_by}
+use Rattle.pie_topdown_build.proofs.Storing.{leaves_rows}
 use Rattle.pie_topdown_build.proofs.accepting.put_into_place.Goals as goal
 
 pub returns-clause-left : goal.returns-clause-left
@@ -24,5 +25,19 @@ returns-clause-left g c =
     (subst (λ x. IsPlanFor own held x c.args.made.contents.items p) image c.in_ok-plan.ensures.plan)
     (subst (λ (n : ℕ). TellsPlan p n outputs r) live (subst (λ (x : Plan). TellsPlan x c.len-live.result outputs r) plan c.in_ok-report.ensures.tells))
     (g.F.Files.holds c.args.files.now) (g.F.Files.holds c.commit_then.new.files) c.in_ok-report.report c.commit_then.result refl c.commit_then.ensures.report
+    (subst (λ (x : Plan). IfSome (g.F.Files.holds c.args.files.now)
+    (λ d. IsClosed d → OnOk c.commit_then.result (HasChanged x d (g.F.Files.holds c.commit_then.new.files)))) again c.commit_then.ensures.done)
+
+pub returns-clause-stored : goal.returns-clause-stored
+returns-clause-stored g c =
+    let own = c.args.own.now in
+    let held = c.args.held.now in
+    let s = c.in_ok-image.image.value in
+    let p = c.in_ok-plan.plan.value in
+    let image : c.deref.result.now ≡ s = search rules in
+    let again : c.deref-3.result.now ≡ p = search rules in
+    leaves_rows own held c.args.project.now.digests.items c.args.project.now.roots.items c.args.made.rows.items c.args.made.contents.items s p
+    c.in_ok-image.ensures.parts (subst (λ x. IsPlanFor own held x c.args.made.contents.items p) image c.in_ok-plan.ensures.plan)
+    (g.F.Files.holds c.args.files.now) (g.F.Files.holds c.commit_then.new.files) c.in_ok-report.report c.commit_then.result
     (subst (λ (x : Plan). IfSome (g.F.Files.holds c.args.files.now)
     (λ d. IsClosed d → OnOk c.commit_then.result (HasChanged x d (g.F.Files.holds c.commit_then.new.files)))) again c.commit_then.ensures.done)

@@ -1,4 +1,5 @@
 use Rattle.pie_topdown_build.proofs.Cleanly.{from_project}
+use Rattle.pie_topdown_build.proofs.Handing.{told_of_project}
 use Rattle.pie_topdown_build.proofs.joining.from.Goals as goal
 
 pub returns-in-Ok-clause-clean : goal.returns-in-Ok-clause-clean
@@ -7,3 +8,9 @@ returns-in-Ok-clause-clean g c =
     from_project c.args.base.value c.in-Ok.project (g.O.Offers.told c.args.offers.now) (g.F.Files.holds c.args.files.now)
     (g.F.Files.holds c.read_project.new.files) (g.F.Files.holds c.with_project.new.files) c.with_project.result e.looks.same e.found e.digests e.names e.funcs
     c.with_project.ensures.clean
+
+pub returns-in-Ok-clause-news : goal.returns-in-Ok-clause-news
+returns-in-Ok-clause-news g c =
+    let e = c.in-Ok.ensures in
+    told_of_project c.in-Ok.project c.args.base.value.store (g.F.Files.holds c.args.files.now) (g.F.Files.holds c.read_project.new.files)
+    (g.F.Files.holds c.with_project.new.files) c.args.tells c.with_project.result e.looks.same e.found e.digests c.with_project.ensures.news

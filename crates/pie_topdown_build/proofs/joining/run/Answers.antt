@@ -1,6 +1,12 @@
-use Rattle.std.proofs.Common.{subst}
+use Rattle.std.proofs.Common.{◌≡◌, ◌∙◌, Vec, Global, ap, map, rules, subst}
+use Rattle.pie_checks.specs.declared.built.Built.{Built}
+use Rattle.pie_results.specs.inner.Files.{contents_in}
+use Rattle.pie_value.specs.declared.task.Task.{Task}
 use Rattle.pie_topdown_build.specs.declared.base.Base.{Base}
 use Rattle.pie_topdown_build.specs.inner.Clean.{RunsAsClean}
+use Rattle.pie_topdown_build.specs.inner.News.{as_told, news_in, TellsNews}
+use Rattle.pie_topdown_build.specs.inner.Stored.{IsBegunFrom}
+use Rattle.pie_topdown_build.proofs.Handing.{told_of_made}
 use Rattle.pie_topdown_build.proofs.Running.{runs_clean}
 use Rattle.pie_topdown_build.proofs.joining.run.Goals as goal
 
@@ -15,3 +21,21 @@ returns-in-Ok-clause-clean g c =
     subst (λ (b : Base). RunsAsClean b p told before after r) c.into_inner-image.ensures
     (runs_clean c.into_inner-image.result p told before (g.F.Files.holds c.evaluate.new.files) after made.field-0.built.value r made.ensures.reads.same
     made.ensures.clean c.in-Ok.ensures.left c.in-Ok.ensures.verdict c.in-Ok.ensures.fresh)
+
+pub returns-in-Ok-clause-news : goal.returns-in-Ok-clause-news
+returns-in-Ok-clause-news g c = λ on.
+    let funcs = c.args.project.now.digests.items in
+    let before = g.F.Files.holds c.args.files.now in
+    let after = g.F.Files.holds c.finish.new.files in
+    let b = c.in_ok-built.field-0.built.value in
+    let r = c.in-Ok.report.value in
+    let ran = c.in_ok-ran.ran.items in
+    let told = map as_told c.in_ok-new.new.items in
+    let made : c.deref.result.now ≡ b = search rules in
+    let tells : told ≡ news_in funcs b.rows.items (contents_in b.files.items) ran =
+    c.in_ok-new.ensures.news on
+    ∙ ap (λ (x : Built). news_in funcs x.rows.items (contents_in x.files.items) c.as_slice-2.result.now) made
+    ∙ ap (news_in funcs b.rows.items (contents_in b.files.items)) c.as_slice-2.ensures.value in
+    subst (λ (x : Base). TellsNews (IsBegunFrom x.store) funcs before after r.verdict r.ran.items told) c.into_inner-image.ensures
+    (told_of_made funcs c.into_inner-image.result.store b r ran before (g.F.Files.holds c.evaluate.new.files) after told tells
+    (ap (λ (v : Vec Task Global). v.items) c.in-Ok.ensures.ran) c.in-Ok.ensures.verdict c.in_ok-built.ensures.reads.same c.in-Ok.ensures.stored)

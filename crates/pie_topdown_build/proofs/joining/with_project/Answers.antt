@@ -1,7 +1,9 @@
-use Rattle.std.proofs.Common.{◌≡◌, true, List, subst}
+use Rattle.std.proofs.Common.{◌≡◌, true, List, map, subst}
 use Rattle.std.specs.List.{All}
 use Rattle.pie_value.specs.Limits.{is_small_task}
 use Rattle.pie_value.specs.declared.task.Task.{Task}
+use Rattle.pie_topdown_build.specs.inner.News.{as_told}
+use Rattle.pie_topdown_build.proofs.Handing.{told_if_large, told_if_ready}
 use Rattle.pie_topdown_build.proofs.Running.{large_ok, runs_ok}
 use Rattle.pie_topdown_build.proofs.joining.with_project.Goals as goal
 
@@ -16,3 +18,16 @@ pub returns-in-Ok-clause-clean : goal.returns-in-Ok-clause-clean
 returns-in-Ok-clause-clean g c =
     runs_ok c.args.base.value c.args.project.now (g.O.Offers.told c.args.offers.now) (g.F.Files.holds c.args.files.now) (g.F.Files.holds c.run.new.files)
     c.in-Ok.offered c.in-Ok.ensures.clean
+
+pub returns-then-not-are_small-clause-news : goal.returns-then-not-are_small-clause-news
+returns-then-not-are_small-clause-news g c =
+    told_if_large c.args.project.now c.args.base.value.store c.args.project.now.digests.items (g.F.Files.holds c.args.files.now)
+    (g.F.Files.holds c.rebuilt.new.files) c.args.tells c.rebuilt.result
+    (subst (λ (roots : List Task). ¬ (All (λ (t : Task). is_small_task t ≡ true) roots)) c.as_slice.ensures.value
+    (c.are_small.ensures.large c.if-not-are_small.true)) c.rebuilt.ensures.none
+
+pub returns-in-Ok-clause-news : goal.returns-in-Ok-clause-news
+returns-in-Ok-clause-news g c = λ on.
+    let o = c.in-Ok.offered in
+    told_if_ready c.args.project.now c.args.base.value.store c.args.project.now.digests.items (g.F.Files.holds c.args.files.now)
+    (g.F.Files.holds c.run.new.files) o.report.value.verdict o.report.value.ran.items (map as_told o.new.items) (c.in-Ok.ensures.news on)

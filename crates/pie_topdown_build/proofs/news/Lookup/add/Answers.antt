@@ -1,4 +1,4 @@
-use Rattle.std.proofs.Common.{◌≡◌, ◌∙◌, List, Option, None, Some, Box, Global, ap, append-nil, map, sym, subst}
+use Rattle.std.proofs.Common.{◌≡◌, ◌∙◌, None, Some, Box, Global, ap, append-nil, map, sym, subst}
 use Rattle.std.specs.Prelude.{IfSome}
 use Rattle.std.specs.BTreeMap.{get_by_text}
 use Rattle.std.specs.List.{All}
@@ -7,7 +7,7 @@ use Rattle.std.proofs.lemmas.List.Elements.{All-push}
 use Rattle.pie_files.specs.inner.Held.{is_among}
 use Rattle.pie_value.specs.Canonical.{enc_task}
 use Rattle.pie_topdown_build.specs.declared.offered.NewOffer.{NewOffer}
-use Rattle.pie_topdown_build.specs.inner.News.{Told, as_told, bytes_by, contents_of, keys_in, told_with}
+use Rattle.pie_topdown_build.specs.inner.News.{as_told, bytes_by, contents_of, keys_in, told_with}
 use Rattle.pie_topdown_build.specs.inner.Offered.{IsNew}
 use Rattle.pie_topdown_build.proofs.Finding.{asked}
 use Rattle.pie_topdown_build.proofs.Telling.{is_told, not_told, one_pushed}
@@ -25,7 +25,8 @@ returns-in-Some-clause-told c =
     let row = c.args.row.now in
     let old = c.args.found.now.items in
     let ran = asked c.in_ok-bytes.bytes.items (enc_task row.task) l.ran.keys c.contains.result c.in_ok-bytes.ensures.bytes c.contains.ensures in
-    let told : Some (as_told c.in-Some.new.value) ≡ told_with row (get_by_text l.digests row.task.func) (contents_of (bytes_by l.files.now l.places) row.writes) =
+    let told : Some (as_told c.in-Some.new.value)
+    ≡ told_with row (get_by_text l.digests row.task.func) (contents_of (bytes_by l.files.now l.places) row.writes) =
     sym (ap (option_map (λ (n : Box NewOffer Global). as_told n.value)) c.in-Some.is) ∙ c.in_ok-new.ensures.told in
     is_told (λ bytes. is_among bytes (keys_in l.ran.keys)) (get_by_text l.digests) (bytes_by l.files.now l.places) row (map as_told old)
     (map as_told c.push.new.self.items) (Some (as_told c.in-Some.new.value)) (ran ∙ c.if-not-contains.false) told
