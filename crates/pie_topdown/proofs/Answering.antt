@@ -207,6 +207,11 @@ lost_turn b new c t (Ok turn) same left first = λ fewer absent none canonical s
           (Failed (enc_task c.required) (fault_of Unknown))
           (ap outcome_of (new_fails world (present u) (tasks_of (f ∷ fs)) (enc_task c.required) (fault_of Unknown) apart above_few (omega arith) fails)) refl)
           ∙ ap (λ (z : Task). ModelFault (enc_task z) (fault_of Unknown)) (sym same);
+      ends =
+          ap is_done
+          (required_sinks (setting u) (records_of b) root fs f R.top.goes (c.waiting.notes.left - 1) (how_of c.how) (enc_task c.required) l Q.requires.next
+          (Failed (enc_task c.required) (fault_of Unknown))
+          (ap outcome_of (new_fails world (present u) (tasks_of (f ∷ fs)) (enc_task c.required) (fault_of Unknown) apart above_few (omega arith) fails)) refl);
     })
   where
     less : (x y : ℕ) → x ≤ y → y < 50000 → x < 50000

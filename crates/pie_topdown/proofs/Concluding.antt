@@ -35,10 +35,11 @@ use Rattle.pie_core_laws.specs.Update.{Update, present, old_record}
 use Rattle.pie_core_laws.proofs.Joined.{same_codes}
 use Rattle.pie_topdown_laws.specs.Ledgers.{setting}
 use Rattle.pie_topdown_laws.proofs.Sinking.{base_among, recorded_done}
+use Rattle.pie_topdown_result_laws.specs.Builds.{AreHonest, IsFromStore, IsNowHere}
 use Rattle.pie_topdown.specs.declared.builder.Builder.{Builder}
 use Rattle.pie_topdown.specs.inner.Due.{HasReason, NoneFails, KnowsCode}
 use Rattle.pie_topdown.specs.inner.Frames.{IsOwnRecord, IsSite}
-use Rattle.pie_topdown.specs.inner.Ran.{AddsNamed, HasRunAs, HasRunSo, IsEntered, IsOneOf, RanFor, RunsForReasons, SettlesAllRan}
+use Rattle.pie_topdown.specs.inner.Ran.{AddsNamed, HasRunAs, HasRunFull, HasRunSo, IsEntered, IsOneOf, RanFor, RunsForReasons, SettlesAllRan, StopsAllRan}
 use Rattle.pie_topdown.specs.inner.Right.{names_of, records_of, IsPlanNow}
 use Rattle.pie_topdown.specs.inner.Rooted.{IsPlanOf, IsProgram, IsSettledSoFar, IsUnbegun, SettlesAllRight, RootsEndRight}
 use Rattle.pie_topdown.proofs.Knowing.{knows_code}
@@ -140,9 +141,9 @@ module _ (u : Update) (funcs digests : List (List ℕ × List ℕ)) (b : Builder
         by n named (inl o) = inl (one n h.gained named o)
         by n named (inr o) = inr (one n h.reused named o)
 
-  pub settled_ran : (before after old new : List Task) → HasRunSo b before after → AddsNamed b (numbers b.reused.items) old new
-      → RanFor u funcs digests before after old new
-  settled_ran before after old new h adds = record {
+  pub settled_ran : (v : Verdict) (before after old new : List Task) → HasRunSo b before after → AddsNamed b (numbers b.reused.items) old new
+      → RanFor u funcs digests before after old new v
+  settled_ran v before after old new h adds = record {
     ran = h.gained;
     ran_are = h.is;
     reused = h.reused;
@@ -152,8 +153,31 @@ module _ (u : Update) (funcs digests : List (List ℕ × List ℕ)) (b : Builder
     apart = h.apart;
     reasons = All-weaker (HasRunAs b) (HasReason u funcs digests) marked_due h.gained h.marked;
     reused_reasons = All-weaker (HasRunAs b) (HasReason u funcs digests) marked_due h.reused h.reused_marked;
-    all = λ t is reason. has_run t is reason before after h;
+    all = λ fewer t is reason. has_run t is reason before after h;
   }
+
+-- ---- too many tasks
+
+pub full_ran : (u : Update) (funcs digests : List (List ℕ × List ℕ)) (b : Builder) → KnowsCode u funcs digests b.plan → NoneFails u → (v : Verdict) (r : Refusal)
+    → v ≡ Refused r → (before after old new : List Task) → HasRunFull u b before after r → AddsNamed b (numbers b.reused.items) old new
+    → RanFor u funcs digests before after old new v
+full_ran u funcs digests b knows fine v r is before after old new f adds = record {
+  ran = f.ran.gained;
+  ran_are = f.ran.is;
+  reused = f.ran.reused;
+  reused_are = adds f.ran.reused f.ran.reused_are;
+  once = f.ran.once;
+  reused_once = f.ran.reused_once;
+  apart = f.ran.apart;
+  reasons = All-weaker (HasRunAs b) (HasReason u funcs digests) due f.ran.gained f.ran.marked;
+  reused_reasons = All-weaker (HasRunAs b) (HasReason u funcs digests) due f.ran.reused f.ran.reused_marked;
+  all = λ fewer. absurd (fewer (is ∙ ap Refused f.full));
+}
+  where
+    due : (t : Task) → HasRunAs b t → HasReason u funcs digests t
+    due t run =
+        let d = f.written.due run.number run.marked in
+        subst (HasReason u funcs digests) (one_some d.task t (sym d.named ∙ run.named)) (d.due funcs digests knows fine)
 
 -- ---- the whole build
 
@@ -164,22 +188,32 @@ module _ (held : Option Directory) (fs : List FunctionTree) (codes : List Code) 
       → SettlesAllRan held told a roots b before after why → AddsNamed b (numbers b.reused.items) old new
       → RunsForReasons held fs funcs digests rows told roots before after old new made.verdict
   build_ran why none there same settles ran adds = record {
-    each = λ accepted u here stored honest.
+    each = λ u here stored honest well.
         let s : IsSettledSoFar u u.roots b =
         subst (RootsEndRight u b) none
         (ends_so held fs codes funcs digests rows told roots a b made program storable site plan unbegun u why settles here stored honest) in
         settled_ran u funcs digests b
         (subst (IsPlanNow u) (sym same) (plan_now fs codes funcs digests rows a.plan plan u held roots program storable here stored))
-        (subst (KnowsCode u funcs digests) (sym same) (knows_code fs codes funcs digests rows a.plan plan u held roots here stored)) there s before after old new
+        (subst (KnowsCode u funcs digests) (sym same) (knows_code fs codes funcs digests rows a.plan plan u held roots here stored)) there s made.verdict before after old new
         (ran none u (build_now fs codes funcs digests rows a.plan plan u held roots program storable here stored told honest) here.roots_are
         (unbegun_settled a site unbegun u) before (begun_ran a site unbegun before)) adds;
   }
 
--- a refused one isn't accepted
-pub refused_ran : (held : Option Directory) (fs : List FunctionTree) (funcs digests : List (List ℕ × List ℕ)) (rows : List TaskRecord)
-    (told : Directory → Task → List ℕ → List Offered) (roots before after old new : List Task) (v : Verdict) (r : Refusal) → v ≡ Refused r
-    → RunsForReasons held fs funcs digests rows told roots before after old new v
-refused_ran held fs funcs digests rows told roots before after old new v r is = record { each = λ accepted. absurd (never (sym is ∙ accepted)) }
-  where
-    never : Refused r ≡ Accepted → ⊥
-    never e = cc
+  -- one of them isn't settled: where none fails, there are too many tasks
+  pub refused_ran : (why : Option Refusal) (r : Refusal) → why ≡ Some r → made.verdict ≡ Refused r → b.plan ≡ a.plan
+      → StopsAllRan held told a roots b before after why → AddsNamed b (numbers b.reused.items) old new
+      → RunsForReasons held fs funcs digests rows told roots before after old new made.verdict
+  refused_ran why r some is same stops adds = record { each = λ u here stored honest well. by u here stored honest well }
+    where
+      never : Refused r ≡ Accepted → ⊥
+      never e = cc
+
+      by : (u : Update) → IsNowHere u held fs roots → IsFromStore u funcs digests rows → AreHonest u digests told → (made.verdict ≡ Accepted) ⊎ NoneFails u
+          → RanFor u funcs digests before after old new made.verdict
+      by u here stored honest (inl accepted) = absurd (never (sym is ∙ accepted))
+      by u here stored honest (inr fine) =
+          let f = stops u (build_now fs codes funcs digests rows a.plan plan u held roots program storable here stored told honest) here.roots_are
+          (unbegun_settled a site unbegun u) before (begun_ran a site unbegun before) fine r some in
+          full_ran u funcs digests b
+          (subst (KnowsCode u funcs digests) (sym same) (knows_code fs codes funcs digests rows a.plan plan u held roots here stored)) fine made.verdict r is
+          before after old new f adds

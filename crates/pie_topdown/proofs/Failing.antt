@@ -5,6 +5,7 @@ use Rattle.pie_base.specs.declared.fault.FaultKind.{FaultKind}
 use Rattle.pie_value.specs.declared.task.Task.{Task}
 use Rattle.pie_value.specs.declared.verdict.Refusal.TheVariants.{Fault}
 use Rattle.pie_value.specs.Canonical.{enc_task}
+use Rattle.pie_model.specs.Trees.{is_done}
 use Rattle.pie_model.specs.declared.words.Outcome.TheVariants.{Failed}
 use Rattle.pie_model.specs.inner.Stack.{Frame as ModelFrame}
 use Rattle.pie_model_pipeline.specs.Words.{fault_of}
@@ -37,6 +38,7 @@ fails_so u done root b c fs t k s F kept = record {
   why = Fault (record { task = t; kind = k });
   kept = kept;
   refused = refused_so u done root b fs t k s F;
+  ends = ap is_done (failure_sinks (setting u) (records_of b) root fs F.frame F.top.goes F.last (Failed F.frame.task (fault_of k)) F.ends refl);
 }
 
 -- then a step may end as it does

@@ -177,6 +177,7 @@ full_turn b w full absent left = λ canonical small u done root fs plan s waitin
     let Q = requirer_waits (site_of u b) (build_of b) root fs w.waiting w.required w.how a.asks left small canonical in
     inl (record {
       calm = s.calm;
+      written = s.written;
       refused = λ rest.
           too_many (setting u) (records_of b) (names_of b) s.ledger.table done rest root (enc_task w.required) s.recorded (whole s.ledger.table.few) s.stand
           (absent_among b.ledger.tables.names w.required s.ledger.tasks canonical absent)
@@ -248,6 +249,7 @@ check_full b k t full canonical absent = λ u done root fs plan s waiting h need
     let C = h.check.check in
     inl (record {
       calm = s.calm;
+      written = s.written;
       refused = λ rest.
           too_many (setting u) (records_of b) (names_of b) s.ledger.table done rest root (enc_task t) s.recorded (whole s.ledger.table.few) s.stand
           (absent_among b.ledger.tables.names t s.ledger.tasks canonical absent)

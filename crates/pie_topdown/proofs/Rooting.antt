@@ -20,6 +20,7 @@ use Rattle.pie_record.specs.inner.Records.{record_of as kept_of}
 use Rattle.pie_results.specs.inner.Failures.{is_done as has_output}
 use Rattle.pie_running.specs.inner.Coded.{HasFunction, IsCodeFor}
 use Rattle.pie_store.specs.inner.Offers.{Offered}
+use Rattle.pie_model.specs.Trees.{is_done as is_ended, outcome_of as outcome_of_root}
 use Rattle.pie_model.specs.Paths.{among}
 use Rattle.pie_model.specs.Records.{Record}
 use Rattle.pie_model.specs.Trees.{is_done, HasTask}
@@ -51,7 +52,7 @@ use Rattle.pie_topdown.specs.declared.hand.Hand.TheVariants as hands
 use Rattle.pie_topdown.specs.inner.Entries.{HasEntered, MayBe}
 use Rattle.pie_topdown.specs.inner.Frames.{IsSite}
 use Rattle.pie_topdown.specs.inner.Ledgers.{HasOutput}
-use Rattle.pie_topdown.specs.inner.Right.{site_of, build_of, names_of, records_of, entries_up, EntersSite, IsAtRest, IsBesides, IsPlanNow, IsRefused, IsRight, IsRightSite, IsUntouched, AreWaiting}
+use Rattle.pie_topdown.specs.inner.Right.{AreWritten, site_of, build_of, names_of, records_of, entries_up, EntersSite, IsAtRest, IsBesides, IsPlanNow, IsRefused, IsRight, IsRightSite, IsUntouched, AreWaiting}
 use Rattle.pie_topdown.specs.inner.Rooted.{lost, IsBuildOf, IsSettledSoFar, RootEndsRight, RunsOnRight, SettlesRight, StopsRight}
 use Rattle.pie_topdown.specs.inner.Roots.{IsSettledRoot}
 use Rattle.pie_topdown.specs.inner.Turns.{Keeps}
@@ -85,19 +86,23 @@ both_recorded R ts more h k t on = by (among_either t ts more on)
     by (inl i) = h t i
     by (inr i) = k t i
 
+-- why tasks fail is no matter of what is known of others
+pub unfailed_written : (u : Update) (b : Builder) → AreWritten u b → AreWritten u (record b { failure = None })
+unfailed_written u b w = record {
+  there = w.there;
+  fetched = w.fetched;
+  ran = w.ran;
+  own = w.own;
+  due = λ k marked. due_lasts u b (record b { failure = None }) k (λ t at. at) refl (w.due k marked);
+  beyond = w.beyond;
+}
+
 -- a root at rest is settled
 pub rest_settled : (u : Update) (done : List (List ℕ)) (root : List ℕ) (b : Builder) → IsAtRest u done root b
     → IsSettledSoFar u (done ++ root ∷ []) (record b { failure = None })
 rest_settled u done root b is = record {
   ledger = is.site.ledger;
-  written = record {
-    there = is.site.written.there;
-    fetched = is.site.written.fetched;
-    ran = is.site.written.ran;
-    own = is.site.written.own;
-    due = λ k marked. due_lasts u b (record b { failure = None }) k (λ t at. at) refl (is.site.written.due k marked);
-    beyond = is.site.written.beyond;
-  };
+  written = unfailed_written u b is.site.written;
   outputs = is.site.outputs;
   known = is.site.known;
   calm = refl;
@@ -257,6 +262,23 @@ module _ (b : Builder) (t : Task) (canonical : IsCanonicalTask t (enc_task t)) (
       ends : Ends world (present u) (begun world (enc_task t)) [] (Failed (enc_task t) (fault_of Unknown))
       ends = failing 1000000 (fault_of Unknown) refl (unknown_fails u.functions t [] (no_function u b t plan none) canonical)
 
+  -- so it doesn't end with a value
+  pub lost_ends : IsPlanNow u b.plan → length b.ledger.tables.names < 50000 → IsCodeFor b.plan.typed.now b.plan.code.now t None
+      → is_ended (outcome_of_root (evaluation world (present u) (enc_task t))) ≡ false
+  unfolding world
+  lost_ends plan fewer none =
+      ap is_ended
+      (failure_sinks (setting u) (records_of b) (enc_task t) [] (begun world (enc_task t)) stack.goes [] (Failed (enc_task t) (fault_of Unknown)) ends refl)
+    where
+      few_names : length (names_of b) < 50000
+      few_names = let size = size_is in omega (arith, size, fewer)
+
+      stack : IsStack (setting u) (records_of b) (names_of b ++ enc_task t ∷ []) (enc_task t) [] (begun world (enc_task t))
+      stack = begins (setting u) (records_of b) (names_of b) (enc_task t) s.ledger.table not_entered few_names
+
+      ends : Ends world (present u) (begun world (enc_task t)) [] (Failed (enc_task t) (fault_of Unknown))
+      ends = failing 1000000 (fault_of Unknown) refl (unknown_fails u.functions t [] (no_function u b t plan none) canonical)
+
 -- ---- how the steps of a root end
 
 module _ (u : Update) (done : List (List ℕ)) (root : List ℕ) (b : Builder) where
@@ -285,7 +307,7 @@ module _ (held : Option Directory) (told : Directory → Task → List ℕ → L
   same_plan : b.plan ≡ a.plan
   same_plan = ap (λ x. x.plan) e.rest
 
-  stops : (u : Update) (done : List (List ℕ)) → IsBuildOf u held told a.plan → among (enc_task t) u.roots ≡ true → IsSettledSoFar u done a
+  pub stops : (u : Update) (done : List (List ℕ)) → IsBuildOf u held told a.plan → among (enc_task t) u.roots ≡ true → IsSettledSoFar u done a
       → StopsRight u done (enc_task t) c rests
   stops u done of listed s =
       runs u done (enc_task t) (build_then u held held told told a.plan b.plan refl refl same_plan of)
@@ -304,6 +326,17 @@ module _ (held : Option Directory) (told : Directory → Task → List ℕ → L
   named =
       subst (λ (ts : List Task). slice_get ts (length a.ledger.tables.names) ≡ Some t) (sym kept.grows.names)
       (named_more b.ledger.tables.names kept.grows.rest t (length a.ledger.tables.names) (entered_number a b t e fresh))
+
+  -- where nothing waits any more, and no task failed, it has an output
+  pub rest_is_none : (new : Builder) (why : Option Refusal) → new ≡ record c { failure = None } → rests ≡ true → c.failure ≡ None
+      → (IsSettledRoot new.ledger t → why ≡ None) → (u : Update) (done : List (List ℕ)) → IsBuildOf u held told a.plan → among (enc_task t) u.roots ≡ true
+      → IsSettledSoFar u done a → why ≡ None
+  rest_is_none new why is rest calm none u done of listed s =
+      let after : IsSettledSoFar u (done ++ enc_task t ∷ []) new =
+      subst (IsSettledSoFar u (done ++ enc_task t ∷ [])) (sym is)
+      (stops_settled u done (enc_task t) c (subst (StopsRight u done (enc_task t) c) rest (stops u done of listed s)) calm) in
+      none (is_settled u (done ++ enc_task t ∷ []) new after (length a.ledger.tables.names) t
+      (subst (λ (x : Builder). slice_get x.ledger.tables.names (length a.ledger.tables.names) ≡ Some t) (sym is) named))
 
   -- it has an output
   pub with_rest : (new : Builder) (why : Option Refusal) → new ≡ record c { failure = None } → rests ≡ true → c.failure ≡ None

@@ -12,6 +12,7 @@ use Rattle.pie_record.specs.declared.task_record.Outcome.TheVariants as outcomes
 use Rattle.pie_record.specs.declared.task_record.TaskRecord.{TaskRecord}
 use Rattle.pie_record.specs.inner.Records.{record_of as kept_of}
 use Rattle.pie_running.specs.declared.frame.Caller.{Caller}
+use Rattle.pie_model.specs.Trees.{is_done}
 use Rattle.pie_model.specs.Paths.{among}
 use Rattle.pie_model.specs.Evaluation.{round}
 use Rattle.pie_model.specs.Running.{IsDistinct}
@@ -299,6 +300,8 @@ closes_turn b mid new c callee top ts (Ok turn) is same named none closed first 
           (ap (λ t. round (enc_task c.required) (t ∷ tasks_of fs) []) h.caller.frame.task
           ∙ round_is u done root b fs c callee s waiting is h named on
           ∙ ap (λ t. map enc_task (tasks_from callee b.stack.items ++ t ∷ [])) (sym same));
+      ends = ap is_done
+          (closes (setting u) (records_of b) root fs f h.top.goes h.aside.left (how_of c.how) (enc_task c.required) refl h.caller.waits above);
     })
   where
     no_outcome : (o : Option TaskRecord) → None ≡ option_map (λ (x : TaskRecord). x.outcome) o → o ≡ None

@@ -23,7 +23,7 @@ use Rattle.pie_topdown.proofs.Failing.{failed_turn}
 -- a build that failed has failed for the same reason after a step
 still_failed : (u : Update) (done : List (List ℕ)) (root : List ℕ) (old new : Builder) (t : Turn) → Keeps old new → FailsRight u done root old
     → TurnIsRight u done root new t
-still_failed u done root old new t kept f = failed_turn u done root new t (record { why = f.why; kept = kept.failed f.why f.kept; refused = f.refused })
+still_failed u done root old new t kept f = failed_turn u done root new t (record { why = f.why; kept = kept.failed f.why f.kept; refused = f.refused; ends = f.ends })
 
 module _ (held : Option Directory) (told : Directory → Task → List ℕ → List Offered) (old new : Builder) {E : Type 0} (r : Result Turn E) where
   -- an entered task begins

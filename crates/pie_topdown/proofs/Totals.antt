@@ -1,31 +1,45 @@
 -- What was started and reused since the beginning, from step to step and from root to root.
-use Rattle.std.proofs.Common.{◌≡◌, ℕ, ◌<◌, List, Option, None, Some, Bor, length, map, take, get_or, refl, sym, ap, subst, ◌∙◌, inl, inr}
-use Rattle.std.specs.Prelude.{Contains}
+use Rattle.std.proofs.Common.{◌≡◌, ◌⊎◌, ℕ, ◌<◌, Bool, true, false, List, [], ◌∷◌, ◌++◌, Option, None, Some, Bor, length, map, take, get_or, refl, sym, ap, subst, ◌∙◌, inl, inr}
+use Rattle.std.specs.Prelude.{slice_get, Contains}
 use Rattle.pie_value.specs.declared.task.Task.{Task}
 use Rattle.pie_value.specs.declared.verdict.Refusal.{Refusal}
-use Rattle.pie_value.specs.Canonical.{enc_task}
+use Rattle.pie_value.specs.declared.verdict.Refusal.TheVariants.{Many}
+use Rattle.pie_value.specs.Canonical.{enc_task, IsCanonicalTask}
 use Rattle.pie_code.specs.declared.code.Code.{Code}
 use Rattle.pie_files.specs.Directory.{Directory}
 use Rattle.pie_graph.specs.declared.edges.TaskNo.{TaskNo}
 use Rattle.pie_store.specs.inner.Offers.{Offered}
-use Rattle.pie_core_laws.specs.Update.{Update}
+use Rattle.pie_model.specs.Paths.{among}
+use Rattle.pie_model.specs.Trees.{is_done, outcome_of}
+use Rattle.pie_model.specs.Evaluation.{evaluation}
+use Rattle.pie_model.proofs.Basics.{clash}
+use Rattle.pie_model_pipeline.specs.World.{world}
+use Rattle.pie_core_laws.specs.Update.{Update, present}
+use Rattle.pie_topdown.specs.declared.entering.Entry.TheVariants.{Unknown}
 use Rattle.pie_topdown.specs.declared.builder.Builder.{Builder}
 use Rattle.pie_topdown.specs.declared.hand.Hand.{Hand}
 use Rattle.pie_topdown.specs.declared.hand.Hand.TheVariants as hands
-use Rattle.pie_topdown.specs.inner.Entries.{HasEntered, MayBe}
+use Rattle.pie_topdown.specs.inner.Entries.{HasEntered, MayBe, MayEnter}
 use Rattle.pie_topdown.specs.inner.Frames.{IsSite}
-use Rattle.pie_topdown.specs.inner.Ran.{StaysMarked, MarksBy, HasRunSo, RansOn, SettlesRan, HasSettledRan, SettlesAllRan}
-use Rattle.pie_topdown.specs.inner.Right.{EntersSite, IsRight, IsRightOrFailed}
-use Rattle.pie_topdown.specs.inner.Rooted.{HasSettledRight, StaysRight}
+use Rattle.pie_topdown.specs.inner.Ran.{StaysMarked, MarksBy, HasRunSo, HasRunFull, RansOn, SettlesRan, StopsRan, HasSettledRan, SettlesAllRan, StopsAllRan}
+use Rattle.pie_topdown.specs.inner.Roots.{IsSettledRoot}
+use Rattle.pie_topdown.specs.inner.Right.{AreWritten, EntersSite, IsRight, IsRightOrFailed}
+use Rattle.pie_topdown.specs.inner.Rooted.{HasSettledRight, IsBuildOf, IsSettledSoFar, RunsOnRight, StaysRight, StopsRight}
 use Rattle.pie_topdown.specs.inner.Turns.{Keeps}
 use Rattle.pie_topdown.proofs.Entered.{last_unrecorded}
 use Rattle.pie_topdown.proofs.Keeping.{same_grows}
 use Rattle.pie_topdown.proofs.Marking.{marks_one, ran_stays, stays_same}
-use Rattle.pie_topdown.proofs.Rooting.{root_begins}
+use Rattle.pie_topdown.proofs.Rooting.{is_settled, lost_ends, rest_is_none, root_begins, stops, unfailed_written}
 use Rattle.pie_topdown.proofs.Turning.{build_then, listed}
 
 never : {A : Type 0} (x : A) → None ≡ Some x → ⊥
 never x e = cc
+
+one_refusal : (w : Refusal) → Some Many ≡ Some w → w ≡ Many
+one_refusal w e = by (Many) w e
+  where
+    by : (x y : Refusal) → Some x ≡ Some y → y ≡ x
+    by x y q = cc
 
 -- ---- the steps of a root
 
@@ -70,16 +84,74 @@ pub ran_refused : (held : Option Directory) (told : Directory → Task → List 
     (why : Refusal) → SettlesRan held told a root new before after (Some why)
 ran_refused held told a root new before after why u done of listed s first so none = absurd (never why (sym none))
 
-pub ran_root : (held : Option Directory) (told : Directory → Task → List ℕ → List Offered) (a b c : Builder) (t : Task) (code : Bor Code) (at : TaskNo)
-    (new : Builder) (before after : List Task) (why : Option Refusal) → at.0 ≡ length a.ledger.tables.names → HasEntered a t b → EntersSite a t b
-    → MayBe a t code.now → IsSite a → ¬ (Contains a.ledger.tables.names t) → Keeps a b → StaysMarked a b → RansOn held told b (hands.Enters at code) c before after
-    → new ≡ record c { failure = None } → c.failure ≡ None → SettlesRan held told a t new before after why
-ran_root held told a b c t code at new before after why number e enters may site absent kept marks runs is calm u done of here s first so none =
-    subst (λ x. HasRunSo x first after) (sym is)
-    (ran_stays c (record c { failure = None }) first after (same_grows c.ledger c.ledger refl refl) (stays_same c (record c { failure = None }) refl refl)
-    (runs u done (enc_task t) (build_then u held held told told a.plan b.plan refl refl (ap (λ x. x.plan) e.rest) of)
-    (inl (root_begins a b t code at number e enters may (last_unrecorded a.ledger site.ledger) absent u done of.plan here s)) first
-    (ran_stays a b first before kept.grows marks so) calm))
+-- the steps of a root that began
+module _ (held : Option Directory) (told : Directory → Task → List ℕ → List Offered) (a b c : Builder) (t : Task) (code : Bor Code) (at : TaskNo)
+    (new : Builder) (before after : List Task) (rests : Bool) (number : at.0 ≡ length a.ledger.tables.names) (e : HasEntered a t b) (enters : EntersSite a t b)
+    (may : MayBe a t code.now) (site : IsSite a) (absent : ¬ (Contains a.ledger.tables.names t)) (kept : Keeps a b) (marks : StaysMarked a b)
+    (went : Keeps b c) (right : RunsOnRight held told b (hands.Enters at code) c rests) (runs : RansOn held told b (hands.Enters at code) c before after) where
+  ends_so : (u : Update) (done : List (List ℕ)) → IsBuildOf u held told a.plan → among (enc_task t) u.roots ≡ true → IsSettledSoFar u done a
+      → StopsRight u done (enc_task t) c rests
+  ends_so = stops held told a b c t code at number e enters may site absent went rests right
+
+  -- what ran until no task failed
+  ran_there : new ≡ record c { failure = None } → c.failure ≡ None → (u : Update) (done : List (List ℕ)) → IsBuildOf u held told a.plan
+      → among (enc_task t) u.roots ≡ true → IsSettledSoFar u done a → (first : List Task) → HasRunSo a first before → HasRunSo new first after
+  ran_there is calm u done of here s first so =
+      subst (λ x. HasRunSo x first after) (sym is)
+      (ran_stays c (record c { failure = None }) first after (same_grows c.ledger c.ledger refl refl) (stays_same c (record c { failure = None }) refl refl)
+      (runs u done (enc_task t) (build_then u held held told told a.plan b.plan refl refl (ap (λ x. x.plan) e.rest) of)
+      (inl (root_begins a b t code at number e enters may (last_unrecorded a.ledger site.ledger) absent u done of.plan here s)) first
+      (ran_stays a b first before kept.grows marks so) calm))
+
+  pub ran_root : (why : Option Refusal) → new ≡ record c { failure = None } → c.failure ≡ None → SettlesRan held told a t new before after why
+  ran_root why is calm u done of here s first so none = ran_there is calm u done of here s first so
+
+  -- it fails, where some root does
+  pub root_fails : (why : Refusal) → c.failure ≡ Some why → StopsRan held told a t new before after (Some why)
+  root_fails why failed u done of here s first so fine w is = absurd (by rests (ends_so u done of here s))
+    where
+      by : (r : Bool) → StopsRight u done (enc_task t) c r → ⊥
+      by true (inl rest) = never why (sym rest.site.calm ∙ failed)
+      by true (inr f) = clash (is_done (outcome_of (evaluation world (present u) (enc_task t)))) (fine (enc_task t) here) f.ends
+      by false (inl full) = never why (sym full.calm ∙ failed)
+      by false (inr f) = clash (is_done (outcome_of (evaluation world (present u) (enc_task t)))) (fine (enc_task t) here) f.ends
+
+  -- one task more was to be entered than may be
+  pub root_full : new ≡ record c { failure = None } → rests ≡ false → c.failure ≡ None → StopsRan held told a t new before after (Some Many)
+  root_full is no_rest calm u done of here s first so fine w some = record {
+    full = one_refusal w some;
+    ran = ran_there is calm u done of here s first so;
+    written = subst (AreWritten u) (sym is) (unfailed_written u c (by (subst (StopsRight u done (enc_task t) c) no_rest (ends_so u done of here s))));
+  }
+    where
+      by : StopsRight u done (enc_task t) c false → AreWritten u c
+      by (inl full) = full.written
+      by (inr f) = absurd (never f.why (sym calm ∙ f.kept))
+
+  -- it has an output
+  pub root_ends : (why : Option Refusal) → new ≡ record c { failure = None } → rests ≡ true → c.failure ≡ None → (IsSettledRoot new.ledger t → why ≡ None)
+      → StopsRan held told a t new before after why
+  root_ends why is rest calm none u done of here s first so fine w some =
+      absurd (never w
+      (sym (rest_is_none held told a b c t code at number e enters may site absent went rests right new why is rest calm none u done of here s) ∙ some))
+
+-- a root that is entered has an output
+pub root_entered : (held : Option Directory) (told : Directory → Task → List ℕ → List Offered) (b : Builder) (n : ℕ) (t : Task) (runs : List Task) (why : Option Refusal)
+    → slice_get b.ledger.tables.names n ≡ Some t → (IsSettledRoot b.ledger t → why ≡ None) → StopsRan held told b t b runs runs why
+root_entered held told b n t runs why named none u done of here s first so fine w some =
+    absurd (never w (sym (none (is_settled u done b s n t named)) ∙ some))
+
+-- one of no function fails
+pub root_lost : (held : Option Directory) (told : Directory → Task → List ℕ → List Offered) (b : Builder) (t : Task) (runs : List Task) (why : Refusal)
+    → IsCanonicalTask t (enc_task t) → ¬ (Contains b.ledger.tables.names t) → MayEnter b t Unknown → StopsRan held told b t b runs runs (Some why)
+root_lost held told b t runs why canonical absent may u done of here s first so fine w some =
+    clash (is_done (outcome_of (evaluation world (present u) (enc_task t)))) (fine (enc_task t) here)
+    (lost_ends b t canonical absent u done s of.plan may.0 may.1)
+
+-- none more may be entered
+pub root_over : (held : Option Directory) (told : Directory → Task → List ℕ → List Offered) (b : Builder) (t : Task) (runs : List Task)
+    → StopsRan held told b t b runs runs (Some Many)
+root_over held told b t runs u done of here s first so fine w some = record { full = one_refusal w some; ran = so; written = s.written }
 
 -- ---- the roots
 
@@ -102,3 +174,16 @@ pub ran_one_more : (held mid : Option Directory) (told later : Directory → Tas
 ran_one_more held mid told later a b c roots i t before now after why inside at same offers plan right settles none sofar u of are begun first so =
     settles u (map enc_task (take i roots)) (build_then u held mid told later a.plan b.plan same offers plan of)
     (listed held mid told later a b c roots i t inside at same offers plan right u are) (right u of are begun) first (sofar u of are begun first so) none
+
+-- a root isn't settled
+pub stops_one_more : (held mid : Option Directory) (told later : Directory → Task → List ℕ → List Offered) (a b c : Builder) (roots : List Task) (i : ℕ) (t : Task)
+    (before now after : List Task) (why : Refusal) → (inside : i < length roots) → (at : t ≡ get_or roots i t) → (same : mid ≡ held)
+    → (offers : later ≡ told) → (plan : b.plan ≡ a.plan) → (right : HasSettledRight held told a roots (take i roots) b)
+    → StopsRan mid later b t c now after (Some why) → HasSettledRan held told a roots b before now → StopsAllRan held told a roots c before after (Some why)
+stops_one_more held mid told later a b c roots i t before now after why inside at same offers plan right stops sofar u of are begun first so fine w some =
+    stops u (map enc_task (take i roots)) (build_then u held mid told later a.plan b.plan same offers plan of)
+    (listed held mid told later a b c roots i t inside at same offers plan right u are) (right u of are begun) first (sofar u of are begun first so) fine w some
+
+pub stops_none : (held : Option Directory) (told : Directory → Task → List ℕ → List Offered) (a b : Builder) (roots before after : List Task)
+    → StopsAllRan held told a roots b before after None
+stops_none held told a b roots before after u of are begun first so fine w some = absurd (never w some)

@@ -7,7 +7,7 @@ ghost use Rattle.pie_results.specs.inner.Failures.{is_done as specs_is_done};
 ghost use Rattle.pie_value.specs.Canonical.{IsEncodableTask};
 ghost use Rattle.pie_topdown.specs.inner.Entries.{MayBe};
 ghost use Rattle.pie_topdown.specs.inner.Frames.{IsSite};
-ghost use Rattle.pie_topdown.specs.inner.Ran.{RansOn, SettlesRan, SettlesAllRan};
+ghost use Rattle.pie_topdown.specs.inner.Ran.{RansOn, SettlesRan, StopsRan, SettlesAllRan, StopsAllRan};
 ghost use Rattle.pie_topdown.specs.inner.Rooted.{lost, RunsOnRight, SettlesRight, SettlesAllRight};
 ghost use Rattle.pie_topdown.specs.inner.Roots.{IsSettledRoot, AreSettled, Started, Continues};
 ghost use Rattle.pie_topdown.specs.inner.Turns.{Stands, hand_room, room, Keeps};
@@ -45,6 +45,7 @@ impl<'a> Builder<'a> {
         ensures told { O.told offers.new ≡ O.told offers.old }
         ensures right { IfOk result (SettlesAllRight (F.holds files.old) (O.told offers.old) self.old roots.now self.new) }
         ensures ran { IfOk result (SettlesAllRan (F.holds files.old) (O.told offers.old) self.old roots.now self.new runs.old runs.new) }
+        ensures full { IfOk result (StopsAllRan (F.holds files.old) (O.told offers.old) self.old roots.now self.new runs.old runs.new) }
     {
         for root in roots {
             match self.settle(root, offers, files, runs)? {
@@ -76,6 +77,7 @@ impl<'a> Builder<'a> {
         ensures told { O.told offers.new ≡ O.told offers.old }
         ensures right { IfOk result (SettlesRight (F.holds files.old) (O.told offers.old) self.old root.now self.new) }
         ensures ran { IfOk result (SettlesRan (F.holds files.old) (O.told offers.old) self.old root.now self.new runs.old runs.new) }
+        ensures full { IfOk result (StopsRan (F.holds files.old) (O.told offers.old) self.old root.now self.new runs.old runs.new) }
     {
         match self.ledger.tables.names.number(root)? {
             Some(_no) => Ok(self.unless_done(root)?),
@@ -105,6 +107,7 @@ impl<'a> Builder<'a> {
         ensures told { O.told offers.new ≡ O.told offers.old }
         ensures right { IfOk result (SettlesRight (F.holds files.old) (O.told offers.old) self.old root.now self.new) }
         ensures ran { IfOk result (SettlesRan (F.holds files.old) (O.told offers.old) self.old root.now self.new runs.old runs.new) }
+        ensures full { IfOk result (StopsRan (F.holds files.old) (O.told offers.old) self.old root.now self.new runs.old runs.new) }
     {
         // The model knows the root by its canonical bytes.
         let _bytes = encode_task(self.alloc, root)?;
@@ -139,6 +142,7 @@ impl<'a> Builder<'a> {
         ensures told { O.told offers.new ≡ O.told offers.old }
         ensures right { IfOk result (SettlesRight (F.holds files.old) (O.told offers.old) self.old root.now self.new) }
         ensures ran { IfOk result (SettlesRan (F.holds files.old) (O.told offers.old) self.old root.now self.new runs.old runs.new) }
+        ensures full { IfOk result (StopsRan (F.holds files.old) (O.told offers.old) self.old root.now self.new runs.old runs.new) }
     {
         let no = self.enter(root.copy()?, code)?;
         let rests = self.run(Hand::Enters(no, code), offers, files, runs)?;

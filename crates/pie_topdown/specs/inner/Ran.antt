@@ -3,8 +3,9 @@ use Rattle.std.specs.Prelude.{◌≡◌, ◌≢◌, ◌⊎◌, ℕ, Bool, true, 
 use Rattle.std.specs.List.{AllPairs, Contains}
 use Rattle.pie_value.specs.declared.task.Task.{Task}
 use Rattle.pie_value.specs.declared.verdict.Refusal.{Refusal}
+use Rattle.pie_value.specs.declared.verdict.Refusal.TheVariants.{Many}
 use Rattle.pie_value.specs.declared.verdict.Verdict.{Verdict}
-use Rattle.pie_value.specs.declared.verdict.Verdict.TheVariants.{Accepted}
+use Rattle.pie_value.specs.declared.verdict.Verdict.TheVariants.{Accepted, Refused}
 use Rattle.pie_value.specs.Canonical.{enc_task, IsCanonicalTask}
 use Rattle.pie_parser.specs.FunctionTrees.{FunctionTree}
 use Rattle.pie_files.specs.Directory.{Directory}
@@ -20,8 +21,8 @@ use Rattle.pie_topdown_result_laws.specs.Builds.{IsNowHere, IsFromStore, AreHone
 use Rattle.pie_topdown.specs.declared.builder.Builder.{Builder}
 use Rattle.pie_topdown.specs.declared.hand.Hand.{Hand}
 use Rattle.pie_topdown.specs.declared.hand.Hand.TheVariants as hands
-use Rattle.pie_topdown.specs.inner.Due.{HasReason}
-use Rattle.pie_topdown.specs.inner.Right.{IsRightOrFailed}
+use Rattle.pie_topdown.specs.inner.Due.{HasReason, NoneFails}
+use Rattle.pie_topdown.specs.inner.Right.{AreWritten, IsRightOrFailed}
 use Rattle.pie_topdown.specs.inner.Rooted.{IsBuildOf, IsSettledSoFar}
 
 -- ---- what a step marks
@@ -102,10 +103,30 @@ RansOn held told old h new before after =
     → HasRunSo old first before → new.failure ≡ None → HasRunSo new first after
 
 -- and with a root that has an output
-abbrev pub SettlesRan : Option Directory → (Directory → Task → List ℕ → List Offered) → Builder → Task → Builder → List Task → List Task → Option Refusal → Type 0
+abbrev pub SettlesRan : Option Directory → (Directory → Task → List ℕ → List Offered) → Builder → Task → Builder → List Task → List Task → Option Refusal
+    → Type 0
 SettlesRan held told old root new before after why =
     (u : Update) (done : List (List ℕ)) → IsBuildOf u held told old.plan → among (enc_task root) u.roots ≡ true → IsSettledSoFar u done old
     → (first : List Task) → HasRunSo old first before → why ≡ None → HasRunSo new first after
+
+-- a build is refused for too many tasks: so far what ran did for a reason
+pub record HasRunFull (u : Update) (b : Builder) (first after : List Task) (why : Refusal) : Type 0 where
+  pub full : why ≡ Many
+  pub ran : HasRunSo b first after
+  pub written : AreWritten u b
+
+-- so it is where a root isn't settled, though none fails
+abbrev pub StopsRan : Option Directory → (Directory → Task → List ℕ → List Offered) → Builder → Task → Builder → List Task → List Task → Option Refusal → Type 0
+StopsRan held told old root new before after why =
+    (u : Update) (done : List (List ℕ)) → IsBuildOf u held told old.plan → among (enc_task root) u.roots ≡ true → IsSettledSoFar u done old
+    → (first : List Task) → HasRunSo old first before → NoneFails u → (w : Refusal) → why ≡ Some w → HasRunFull u new first after w
+
+-- and where some root isn't
+abbrev pub StopsAllRan : Option Directory → (Directory → Task → List ℕ → List Offered) → Builder → List Task → Builder → List Task → List Task
+    → Option Refusal → Type 0
+StopsAllRan held told old roots new before after why =
+    (u : Update) → IsBuildOf u held told old.plan → map enc_task roots ≡ u.roots → IsSettledSoFar u [] old → (first : List Task) → HasRunSo old first before
+    → NoneFails u → (w : Refusal) → why ≡ Some w → HasRunFull u new first after w
 
 -- and with some roots
 abbrev pub HasSettledRan : Option Directory → (Directory → Task → List ℕ → List Offered) → Builder → List Task → Builder → List Task → List Task → Type 0
@@ -114,8 +135,8 @@ HasSettledRan held told old roots new before after =
     → HasRunSo new first after
 
 -- and with all, where each has an output
-abbrev pub SettlesAllRan : Option Directory → (Directory → Task → List ℕ → List Offered) → Builder → List Task → Builder → List Task → List Task → Option Refusal
-    → Type 0
+abbrev pub SettlesAllRan : Option Directory → (Directory → Task → List ℕ → List Offered) → Builder → List Task → Builder → List Task → List Task
+    → Option Refusal → Type 0
 SettlesAllRan held told old roots new before after why = why ≡ None → HasSettledRan held told old roots new before after
 
 -- ---- the whole build
@@ -133,8 +154,9 @@ pub record IsEntered (u : Update) (t : Task) : Type 0 where
   pub canonical : IsCanonicalTask t (enc_task t)
   pub entered : among (enc_task t) (entered_tasks world (present u) u.roots) ≡ true
 
--- these tasks were started and those reused, each once, none both, each for a reason; and each that a clean build enters and that has one is among them
-pub record RanFor (u : Update) (funcs digests : List (List ℕ × List ℕ)) (before after old new : List Task) : Type 0 where
+-- these tasks were started and those reused, each once, none both, each for a reason; and each that a clean build enters and that has one is among them,
+-- unless there are too many
+pub record RanFor (u : Update) (funcs digests : List (List ℕ × List ℕ)) (before after old new : List Task) (v : Verdict) : Type 0 where
   pub ran : List Task
   pub ran_are : after ≡ before ++ ran
   pub reused : List Task
@@ -144,10 +166,10 @@ pub record RanFor (u : Update) (funcs digests : List (List ℕ × List ℕ)) (be
   pub apart : (t : Task) → Contains ran t → Contains reused t → ⊥
   pub reasons : All (HasReason u funcs digests) ran
   pub reused_reasons : All (HasReason u funcs digests) reused
-  pub all : (t : Task) → IsEntered u t → HasReason u funcs digests t → Contains ran t ⊎ Contains reused t
+  pub all : (v ≡ Refused Many → ⊥) → (t : Task) → IsEntered u t → HasReason u funcs digests t → Contains ran t ⊎ Contains reused t
 
--- so it is with each update to what the files hold, from the store of its earlier build and where offers are honest, if the build is accepted
+-- so it is with each update to what the files hold, from the store of its earlier build and where offers are honest, if the build is accepted or no root fails
 pub record RunsForReasons (held : Option Directory) (fs : List FunctionTree) (funcs digests : List (List ℕ × List ℕ)) (rows : List TaskRecord)
     (told : Directory → Task → List ℕ → List Offered) (roots before after old new : List Task) (v : Verdict) : Type 0 where
-  pub each : v ≡ Accepted → (u : Update) → IsNowHere u held fs roots → IsFromStore u funcs digests rows → AreHonest u digests told
-      → RanFor u funcs digests before after old new
+  pub each : (u : Update) → IsNowHere u held fs roots → IsFromStore u funcs digests rows → AreHonest u digests told → (v ≡ Accepted) ⊎ NoneFails u
+      → RanFor u funcs digests before after old new v

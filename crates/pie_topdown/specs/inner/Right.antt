@@ -22,7 +22,7 @@ use Rattle.pie_running.specs.inner.Coded.{HasFunction}
 use Rattle.pie_model.specs.Paths.{among}
 use Rattle.pie_model.specs.Evaluation.{Project, evaluation}
 use Rattle.pie_model.specs.Records.{Record}
-use Rattle.pie_model.specs.Trees.{HasTask}
+use Rattle.pie_model.specs.Trees.{HasTask, is_done, outcome_of}
 use Rattle.pie_model.specs.Verdict.{verdict}
 use Rattle.pie_model.specs.declared.words.Verdict.TheVariants.{Many as TooMany}
 use Rattle.pie_model.specs.inner.Stack.{Frame as ModelFrame, tasks_of}
@@ -238,11 +238,12 @@ pub record IsRight (u : Update) (done : List (List ℕ)) (root : List ℕ) (b : 
 abbrev pub IsRefused : Update → List (List ℕ) → List ℕ → Refusal → Type 0
 IsRefused u done root why = (rest : List (List ℕ)) → verdict world (present u) (done ++ root ∷ rest) ≡ refusal_of why
 
--- a task failed, and that is why the build does: what stands in the tables then doesn't matter
+-- a task failed, and with it this root, and that is why the build does: what stands in the tables then doesn't matter
 pub record FailsRight (u : Update) (done : List (List ℕ)) (root : List ℕ) (b : Builder) : Type 0 where
   pub why : Refusal
   pub kept : b.failure ≡ Some why
   pub refused : IsRefused u done root why
+  pub ends : is_done (outcome_of (evaluation world (present u) root)) ≡ false
 
 abbrev pub IsRightOrFailed : Update → List (List ℕ) → List ℕ → Builder → Hand → Type 0
 IsRightOrFailed u done root b h = IsRight u done root b h ⊎ FailsRight u done root b
@@ -258,6 +259,7 @@ pub record IsAtRest (u : Update) (done : List (List ℕ)) (root : List ℕ) (b :
 pub record IsFull (u : Update) (done : List (List ℕ)) (root : List ℕ) (b : Builder) : Type 0 where
   pub calm : b.failure ≡ None
   pub refused : (rest : List (List ℕ)) → verdict world (present u) (done ++ root ∷ rest) ≡ TooMany
+  pub written : AreWritten u b
 
 -- what a step leaves of it
 abbrev pub TurnIsRight : Update → List (List ℕ) → List ℕ → Builder → Turn → Type 0

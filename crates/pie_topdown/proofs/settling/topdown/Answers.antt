@@ -32,9 +32,17 @@ returns-clause-clean g c = λ program.
 
 pub returns-in-Some-clause-ran : goal.returns-in-Some-clause-ran
 returns-in-Some-clause-ran g c = λ program.
-    refused_ran (g.F.Files.holds c.args.files.now) c.args.typed.now c.args.image.funcs c.args.digests.now c.args.image.rows
-    (g.O.Offers.told c.args.offers.now) c.args.roots.now c.args.runs.now c.settle_all.new.runs c.args.reused.now.items c.tell_reused.new.reused.items
-    c.refused.result.verdict c.in-Some.refusal c.refused.ensures.verdict
+    let old = c.deref_mut.result.now in
+    let first : old ≡ c.in_ok-builder.builder.value = search rules in
+    let there : c.deref.result.now ≡ c.settle_all.new.self = search rules in
+    let adds : AddsNamed c.settle_all.new.self (numbers c.settle_all.new.self.reused.items) c.args.reused.now.items c.tell_reused.new.reused.items =
+    subst (λ (b : Builder). AddsNamed b (numbers b.reused.items) c.args.reused.now.items c.tell_reused.new.reused.items) there c.in_ok-tell_reused.ensures.named in
+    refused_ran (g.F.Files.holds c.args.files.now) c.args.typed.now c.args.code.now c.args.image.funcs c.args.digests.now c.args.image.rows
+    (g.O.Offers.told c.args.offers.now) c.args.roots.now old c.settle_all.new.self c.refused.result c.args.runs.now c.settle_all.new.runs c.args.reused.now.items
+    c.tell_reused.new.reused.items program c.requires.storable (subst IsSite (sym first) c.in_ok-builder.ensures.site)
+    (subst (λ (b : Builder). IsPlanOf c.args.typed.now c.args.code.now c.args.image.funcs c.args.digests.now c.args.image.rows b.plan) (sym first)
+    c.in_ok-builder.ensures.plan) (subst IsUnbegun (sym first) c.in_ok-builder.ensures.unbegun) c.in_ok-why.why c.in-Some.refusal c.in-Some.is
+    c.refused.ensures.verdict c.in_ok-why.ensures.plan c.in_ok-why.ensures.full adds
 
 pub returns-clause-ran : goal.returns-clause-ran
 returns-clause-ran g c = λ program.

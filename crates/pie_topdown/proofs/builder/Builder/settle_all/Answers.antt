@@ -1,8 +1,9 @@
 use Rattle.std.proofs.Common.{◌∙◌, subst}
 use Rattle.pie_files.proofs.Reading.{both_before}
+use Rattle.pie_topdown.specs.inner.Ran.{StopsRan}
 use Rattle.pie_topdown.specs.inner.Rooted.{SettlesRight}
 use Rattle.pie_topdown.proofs.Going.{continues_then, settled_all, settled_more, started_then}
-use Rattle.pie_topdown.proofs.Totals.{all_ran, all_refused, ran_one_more}
+use Rattle.pie_topdown.proofs.Totals.{all_ran, all_refused, ran_one_more, stops_none, stops_one_more}
 use Rattle.pie_topdown.proofs.Turning.{all_settled, refused_one, settled_one}
 use Rattle.pie_topdown.proofs.builder.Builder.settle_all.Goals as goal
 
@@ -64,3 +65,16 @@ returns-clause-ran g c =
 pub returns-in-Some-clause-ran : goal.returns-in-Some-clause-ran
 returns-in-Some-clause-ran g c =
     all_refused (g.F.Files.holds c.args.files.now) (g.O.Offers.told c.args.offers.now) c.args.self.now c.settle.new.self c.args.roots.now c.args.runs.now c.settle.new.runs c.in-Some.refusal
+
+pub returns-clause-full : goal.returns-clause-full
+returns-clause-full g c =
+    stops_none (g.F.Files.holds c.args.files.now) (g.O.Offers.told c.args.offers.now) c.args.self.now c.loop-root.self c.args.roots.now c.args.runs.now c.loop-root.runs
+
+pub returns-in-Some-clause-full : goal.returns-in-Some-clause-full
+returns-in-Some-clause-full g c =
+    let before = c.loop-root.invariant in
+    stops_one_more (g.F.Files.holds c.args.files.now) (g.F.Files.holds c.loop-root.files) (g.O.Offers.told c.args.offers.now) (g.O.Offers.told c.loop-root.offers)
+    c.args.self.now c.loop-root.self c.settle.new.self c.args.roots.now c.loop-root.root-index c.root-item.result c.args.runs.now c.loop-root.runs
+    c.settle.new.runs c.in-Some.refusal c.loop-root-test.true c.root-item.is before.4 before.8 before.2.plan before.7
+    (subst (StopsRan (g.F.Files.holds c.loop-root.files) (g.O.Offers.told c.loop-root.offers) c.loop-root.self c.root-item.result c.settle.new.self
+    c.loop-root.runs c.settle.new.runs) c.in-Some.is c.in_ok-refusal.ensures.full) before.9

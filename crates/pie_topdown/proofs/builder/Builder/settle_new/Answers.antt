@@ -5,7 +5,7 @@ use Rattle.pie_topdown.specs.inner.Entries.{MayEnter}
 use Rattle.pie_topdown.specs.inner.Right.{IsRefused}
 use Rattle.pie_topdown.specs.inner.Rooted.{lost}
 use Rattle.pie_topdown.proofs.Rooting.{full_refused, lost_refused}
-use Rattle.pie_topdown.proofs.Totals.{ran_refused}
+use Rattle.pie_topdown.proofs.Totals.{ran_refused, root_lost, root_over}
 use Rattle.pie_topdown.proofs.builder.Builder.settle_new.Goals as goal
 
 pub returns-in-Unknown-clause-right : goal.returns-in-Unknown-clause-right
@@ -28,3 +28,13 @@ returns-in-Unknown-clause-ran g c =
 
 pub returns-clause-ran : goal.returns-clause-ran
 returns-clause-ran g c = ran_refused (g.F.Files.holds c.args.files.now) (g.O.Offers.told c.args.offers.now) c.args.self.now c.args.root.now c.args.self.now c.args.runs.now c.args.runs.now Many
+
+pub returns-in-Unknown-clause-full : goal.returns-in-Unknown-clause-full
+returns-in-Unknown-clause-full g c =
+    let t = c.args.root.now in
+    root_lost (g.F.Files.holds c.args.files.now) (g.O.Offers.told c.args.offers.now) c.args.self.now t c.args.runs.now c.unknown.result
+    (subst (IsCanonicalTask t) c.in_ok-_bytes.ensures.bytes c.in_ok-_bytes.ensures.canonical) c.requires.absent
+    (subst (MayEnter c.args.self.now t) c.in-Unknown.is c.entry.ensures)
+
+pub returns-clause-full : goal.returns-clause-full
+returns-clause-full g c = root_over (g.F.Files.holds c.args.files.now) (g.O.Offers.told c.args.offers.now) c.args.self.now c.args.root.now c.args.runs.now

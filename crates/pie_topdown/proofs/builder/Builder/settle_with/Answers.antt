@@ -5,7 +5,7 @@ use Rattle.pie_topdown.specs.inner.Right.{EntersSite}
 use Rattle.pie_topdown.specs.inner.Turns.{stack_room}
 use Rattle.pie_topdown.proofs.Going.{grows_then}
 use Rattle.pie_topdown.proofs.Rooting.{with_failure, with_many, with_rest}
-use Rattle.pie_topdown.proofs.Totals.{ran_refused, ran_root}
+use Rattle.pie_topdown.proofs.Totals.{ran_refused, ran_root, root_ends, root_fails, root_full}
 use Rattle.pie_topdown.proofs.builder.Builder.settle_with.Goals as goal
 
 pub returns-clause-continues : goal.returns-clause-continues
@@ -61,7 +61,42 @@ returns-clause-ran g c =
     let a = c.args.self.now in
     let calm : c.run.new.self.failure ≡ None = search rules in
     ran_root (g.F.Files.holds c.args.files.now) (g.O.Offers.told c.args.offers.now) a c.enter.new.self c.run.new.self c.args.root.now c.args.code c.in_ok-no.no
-    (record c.run.new.self { failure = c.take.new.self }) c.args.runs.now c.run.new.runs c.in_ok-unless_done.field-0 c.in_ok-no.ensures.number
+    (record c.run.new.self { failure = c.take.new.self }) c.args.runs.now c.run.new.runs c.in_ok-rests.rests c.in_ok-no.ensures.number
     (subst (λ t. HasEntered a t c.enter.new.self) c.in_ok-copy.ensures c.in_ok-no.ensures.added)
     (subst (λ t. EntersSite a t c.enter.new.self) c.in_ok-copy.ensures c.in_ok-no.ensures.right) c.requires.may c.requires.site c.requires.absent
-    c.in_ok-no.ensures.kept c.in_ok-no.ensures.marks c.in_ok-rests.ensures.ran (ap (λ f. record c.run.new.self { failure = f }) c.take.ensures.after) calm
+    c.in_ok-no.ensures.kept c.in_ok-no.ensures.marks c.in_ok-rests.ensures.kept c.in_ok-rests.ensures.right c.in_ok-rests.ensures.ran
+    c.in_ok-unless_done.field-0 (ap (λ f. record c.run.new.self { failure = f }) c.take.ensures.after) calm
+
+pub returns-in-Some-clause-full : goal.returns-in-Some-clause-full
+returns-in-Some-clause-full g c =
+    let a = c.args.self.now in
+    let failed : c.run.new.self.failure ≡ Some c.in-Some.why = search rules in
+    root_fails (g.F.Files.holds c.args.files.now) (g.O.Offers.told c.args.offers.now) a c.enter.new.self c.run.new.self c.args.root.now c.args.code c.in_ok-no.no
+    (record c.run.new.self { failure = c.take.new.self }) c.args.runs.now c.run.new.runs c.in_ok-rests.rests c.in_ok-no.ensures.number
+    (subst (λ t. HasEntered a t c.enter.new.self) c.in_ok-copy.ensures c.in_ok-no.ensures.added)
+    (subst (λ t. EntersSite a t c.enter.new.self) c.in_ok-copy.ensures c.in_ok-no.ensures.right) c.requires.may c.requires.site c.requires.absent
+    c.in_ok-no.ensures.kept c.in_ok-no.ensures.marks c.in_ok-rests.ensures.kept c.in_ok-rests.ensures.right c.in_ok-rests.ensures.ran
+    c.in-Some.why failed
+
+pub returns-then-not-rests-clause-full : goal.returns-then-not-rests-clause-full
+returns-then-not-rests-clause-full g c =
+    let a = c.args.self.now in
+    let calm : c.run.new.self.failure ≡ None = search rules in
+    root_full (g.F.Files.holds c.args.files.now) (g.O.Offers.told c.args.offers.now) a c.enter.new.self c.run.new.self c.args.root.now c.args.code c.in_ok-no.no
+    (record c.run.new.self { failure = c.take.new.self }) c.args.runs.now c.run.new.runs c.in_ok-rests.rests c.in_ok-no.ensures.number
+    (subst (λ t. HasEntered a t c.enter.new.self) c.in_ok-copy.ensures c.in_ok-no.ensures.added)
+    (subst (λ t. EntersSite a t c.enter.new.self) c.in_ok-copy.ensures c.in_ok-no.ensures.right) c.requires.may c.requires.site c.requires.absent
+    c.in_ok-no.ensures.kept c.in_ok-no.ensures.marks c.in_ok-rests.ensures.kept c.in_ok-rests.ensures.right c.in_ok-rests.ensures.ran
+    (ap (λ f. record c.run.new.self { failure = f }) c.take.ensures.after) c.if-not-rests.true calm
+
+pub returns-clause-full : goal.returns-clause-full
+returns-clause-full g c =
+    let a = c.args.self.now in
+    let calm : c.run.new.self.failure ≡ None = search rules in
+    root_ends (g.F.Files.holds c.args.files.now) (g.O.Offers.told c.args.offers.now) a c.enter.new.self c.run.new.self c.args.root.now c.args.code c.in_ok-no.no
+    (record c.run.new.self { failure = c.take.new.self }) c.args.runs.now c.run.new.runs c.in_ok-rests.rests c.in_ok-no.ensures.number
+    (subst (λ t. HasEntered a t c.enter.new.self) c.in_ok-copy.ensures c.in_ok-no.ensures.added)
+    (subst (λ t. EntersSite a t c.enter.new.self) c.in_ok-copy.ensures c.in_ok-no.ensures.right) c.requires.may c.requires.site c.requires.absent
+    c.in_ok-no.ensures.kept c.in_ok-no.ensures.marks c.in_ok-rests.ensures.kept c.in_ok-rests.ensures.right c.in_ok-rests.ensures.ran
+    c.in_ok-unless_done.field-0 (ap (λ f. record c.run.new.self { failure = f }) c.take.ensures.after) c.if-not-rests.false calm
+    c.in_ok-unless_done.ensures.none
