@@ -1,3 +1,4 @@
 pub mod Keeping
 pub mod Others
 pub mod Refusing
+pub mod Staying

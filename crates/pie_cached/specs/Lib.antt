@@ -1,3 +1,4 @@
 pub mod Cached
+pub mod Kept
 pub mod Lines
 pub mod inner

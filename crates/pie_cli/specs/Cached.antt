@@ -3,6 +3,7 @@ use Rattle.std.specs.Prelude.{◌≡◌, ◌⊎◌, ◌≤◌, ℕ, List, length
 use Rattle.pie_base.specs.declared.status.Status.{Status}
 use Rattle.pie_base.specs.declared.status.Status.TheVariants as status
 use Rattle.pie_cached.specs.Cached.{KeepsAllButCache, KeepsOthers, StaysIfRefused}
+use Rattle.pie_cached.specs.Kept.{KeepsCached}
 use Rattle.pie_cached.specs.Lines.{IsCachedText}
 use Rattle.pie_files.specs.Directory.{Directory}
 use Rattle.pie_project.specs.Fronts.{ProjectSays}
@@ -18,13 +19,14 @@ abbrev pub RefusesOutsideCache : Option Directory → Option Directory → List 
 RefusesOutsideCache before after text ended = (e : Refusal) × IfSome before (λ d. ProjectSays d (Err e)) × KeepsAllButCache before after
     × (text ≡ refusal_line e) × (ended ≡ status.Pipeline)
 
--- there is a report of at most 50,000 tasks, with the tasks whose records came from the cache; the text is that of both; and where the build is refused
--- every file outside the cache is as it was
+-- there is a report of at most 50,000 tasks, with the tasks whose records came from the cache; the text is that of both; where the build is refused every file
+-- outside the cache is as it was; and each file of the cache is as once it was opened, but for those of tasks that ran in an accepted build
 pub record TellsCached (before after : Option Directory) (text : List ℕ) (ended : Status) : Type 0 where
   pub report : Report
   pub reused : List Task
   pub few : length report.ran.items ≤ 50000
   pub kept : StaysIfRefused report.verdict before after
+  pub cache : KeepsCached report.verdict report.ran.items before after
   pub is : IsCachedText report reused text
   pub status : ended ≡ verdict_status report.verdict
 

@@ -9,6 +9,7 @@ pub mod Leaving
 pub mod Making
 pub mod Meaning
 pub mod Placing
+pub mod Ran
 pub mod Refusing
 pub mod Running
 pub mod Starting

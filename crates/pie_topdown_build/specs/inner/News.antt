@@ -95,6 +95,7 @@ pub record AreNews (Known : Directory → Type 0) (before after : Option Directo
 abbrev pub TellsNewsOf : (Directory → Type 0) → List (List ℕ × List ℕ) → Option Directory → Option Directory → Answered → Type 0
 TellsNewsOf Known funcs before after o = TellsNews Known funcs before after o.report.value.verdict o.report.value.ran.items (map as_told o.new.items)
 
+-- and so with the digests of the directory
 abbrev pub AreNewsOf : (Directory → Type 0) → Option Directory → Option Directory → Answered → Type 0
 AreNewsOf Known before after o = AreNews Known before after o.report.value.verdict o.report.value.ran.items (map as_told o.new.items)
 

@@ -40,6 +40,7 @@ returns-in-Ok-clause-says g c =
       reused = c.as_slice.result.now;
       few = few_of 50000 c.new-runs.result c.build_cached.new.runs report.ran.items c.in-Ok.ensures.ran c.in-Ok.ensures.few;
       kept = c.in-Ok.ensures.kept;
+      cache = c.in-Ok.ensures.others;
       is = told.ensures.text;
       status = told.ensures.status;
     })
