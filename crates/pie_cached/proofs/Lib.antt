@@ -1,3 +1,5 @@
+pub mod Cleanly
+pub mod Entries
 pub mod Keeping
 pub mod Others
 pub mod Refusing

@@ -1,4 +1,5 @@
 pub mod Cached
 pub mod Kept
+pub mod Clean
 pub mod Lines
 pub mod inner

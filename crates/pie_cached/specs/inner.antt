@@ -1,2 +1,3 @@
 -- Definitions that no clause of `pie_cli::run` rests on: what functions say to each other.
+pub mod Clean
 pub mod News

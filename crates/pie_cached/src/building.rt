@@ -13,6 +13,7 @@ ghost use Rattle.pie_cached.specs.Cached.{KeepsAllButCache, KeepsOthers, StaysIf
 ghost use Rattle.pie_cached.specs.Kept.{KeepsCached};
 ghost use Rattle.pie_cached.specs.inner.News.{kept_of, placed, KeepsTold, LeavesCache, LeavesNews};
 ghost use Rattle.pie_topdown_build.specs.inner.News.{as_told};
+ghost use Rattle.pie_cached.specs.inner.Clean.{CachesCleanBy, OpenedClean};
 ghost use Rattle.pie_topdown_build.specs.inner.Offered.{IsNew};
 
 use pie_base::{OutOfMemory, Path};
@@ -41,6 +42,7 @@ pub fn build_cached<F: Files>(
     ensures kept { IfOk result (λ r. StaysIfRefused r.0.verdict (F.holds files.old) (F.holds files.new)) }
     ensures cache { IfSome (F.holds files.old) (λ d. IfOk result (λ r. LeavesCache d r.0 (F.holds files.new))) }
     ensures others { IfOk result (λ r. KeepsCached r.0.verdict r.0.ran.items (F.holds files.old) (F.holds files.new)) }
+    ensures clean { IfSome (F.holds files.old) (λ d. IfOk result (λ r. CachesCleanBy d r.0 (F.holds files.new))) }
     ensures ran { IfOk result (λ r. runs.new ≡ runs.old ++ r.0.ran.items) }
     ensures few { length runs.new ≤ length runs.old + 50000 }
     ensures encodable { IfOk result (λ r. All IsEncodableTask r.0.ran.items) }
@@ -67,6 +69,7 @@ fn with_cache<F: Files>(
     ensures refused { IsRefusal result → KeepsAllButCache (F.holds files.old) (F.holds files.new) }
     ensures kept { IfOk result (λ r. StaysIfRefused r.0.verdict (F.holds files.old) (F.holds files.new)) }
     ensures cache { IfSome (F.holds files.old) (λ d. file_at d gate ≡ None → IfOk result (λ r. LeavesNews d (file_at d) r.0 (F.holds files.new))) }
+    ensures clean { IfSome (F.holds files.old) (λ d. IfOk result (λ r. OpenedClean d r.0 (F.holds files.new))) }
     ensures ran { IfOk result (λ r. runs.new ≡ runs.old ++ r.0.ran.items) }
     ensures few { length runs.new ≤ length runs.old + 50000 }
     ensures encodable { IfOk result (λ r. All IsEncodableTask r.0.ran.items) }

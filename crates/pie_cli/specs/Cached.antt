@@ -4,6 +4,7 @@ use Rattle.pie_base.specs.declared.status.Status.{Status}
 use Rattle.pie_base.specs.declared.status.Status.TheVariants as status
 use Rattle.pie_cached.specs.Cached.{KeepsAllButCache, KeepsOthers, StaysIfRefused}
 use Rattle.pie_cached.specs.Kept.{KeepsCached}
+use Rattle.pie_cached.specs.Clean.{CachesClean}
 use Rattle.pie_cached.specs.Lines.{IsCachedText}
 use Rattle.pie_files.specs.Directory.{Directory}
 use Rattle.pie_project.specs.Fronts.{ProjectSays}
@@ -20,13 +21,15 @@ RefusesOutsideCache before after text ended = (e : Refusal) × IfSome before (λ
     × (text ≡ refusal_line e) × (ended ≡ status.Pipeline)
 
 -- there is a report of at most 50,000 tasks, with the tasks whose records came from the cache; the text is that of both; where the build is refused every file
--- outside the cache is as it was; and each file of the cache is as once it was opened, but for those of tasks that ran in an accepted build
+-- outside the cache is as it was; each file of the cache is as once it was opened, but for those of tasks that ran in an accepted build; and the report and what
+-- is left are those of a clean build
 pub record TellsCached (before after : Option Directory) (text : List ℕ) (ended : Status) : Type 0 where
   pub report : Report
   pub reused : List Task
   pub few : length report.ran.items ≤ 50000
   pub kept : StaysIfRefused report.verdict before after
   pub cache : KeepsCached report.verdict report.ran.items before after
+  pub clean : IfSome before (λ d. CachesClean d report after)
   pub is : IsCachedText report reused text
   pub status : ended ≡ verdict_status report.verdict
 

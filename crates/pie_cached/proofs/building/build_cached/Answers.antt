@@ -5,6 +5,7 @@ use Rattle.pie_project.specs.declared.fault.BuildError.{BuildError}
 use Rattle.pie_value.specs.declared.task.Task.{Task}
 use Rattle.pie_cached.proofs.Keeping.{after_open}
 use Rattle.pie_cached.proofs.Staying.{keeps_cached}
+use Rattle.pie_cached.proofs.Cleanly.{opened_clean}
 use Rattle.pie_cached.proofs.Others.{both, cache_both, of_cache, refused_then}
 use Rattle.pie_cached.proofs.Refusing.{opened, without}
 use Rattle.pie_cached.proofs.building.build_cached.Goals as goal
@@ -35,6 +36,11 @@ pub returns-in-Ok-clause-others : goal.returns-in-Ok-clause-others
 returns-in-Ok-clause-others g c =
     keeps_cached (Vec Task Global) BuildError (g.F.Files.holds c.args.files.now) (g.F.Files.holds c.with_cache.new.files) c.with_cache.result
     (returns-in-Ok-clause-cache g c)
+
+pub returns-in-Ok-clause-clean : goal.returns-in-Ok-clause-clean
+returns-in-Ok-clause-clean g c =
+    opened_clean c.with_cache.result (g.F.Files.holds c.args.files.now) (g.F.Files.holds c.open.new.files) (g.F.Files.holds c.with_cache.new.files)
+    c.in-Ok.ensures.cleared c.in-Ok.ensures.kept c.with_cache.ensures.clean
 
 pub returns-in-Ok-clause-says : goal.returns-in-Ok-clause-says
 returns-in-Ok-clause-says g c =

@@ -10,6 +10,7 @@ use Rattle.pie_value.specs.declared.task.Task.{Task}
 use Rattle.pie_value.specs.Canonical.{IsEncodableTask}
 use Rattle.pie_cached.specs.Cached.{StaysIfRefused}
 use Rattle.pie_cached.proofs.Keeping.{after_build}
+use Rattle.pie_cached.proofs.Cleanly.{finished_clean}
 use Rattle.pie_cached.proofs.Others.{both, if_refused, of_build, of_cache}
 use Rattle.pie_cached.proofs.Refusing.{handed_on, never}
 use Rattle.pie_cached.proofs.building.with_cache.Goals as goal
@@ -37,6 +38,11 @@ returns-in-Ok-clause-cache g c =
     after_build (Vec Task Global) BuildError (g.F.Files.holds c.args.files.now) (g.F.Files.holds c.build_offered.new.files) (g.F.Files.holds c.finish.new.files)
     made (map as_told c.in-Ok.offered.new.items) c.finish.result c.in-Ok.ensures.news c.in-Ok.ensures.rest c.finish.ensures.report
     c.finish.ensures.rest c.finish.ensures.cache
+
+pub returns-in-Ok-clause-clean : goal.returns-in-Ok-clause-clean
+returns-in-Ok-clause-clean g c =
+    finished_clean c.in-Ok.offered.report.value c.finish.result (g.F.Files.holds c.args.files.now) (g.F.Files.holds c.build_offered.new.files)
+    (g.F.Files.holds c.finish.new.files) c.in-Ok.ensures.rest c.in-Ok.ensures.clean c.finish.ensures.rest c.finish.ensures.report
 
 pub returns-in-Ok-clause-ran : goal.returns-in-Ok-clause-ran
 returns-in-Ok-clause-ran g c =

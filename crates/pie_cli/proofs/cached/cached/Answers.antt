@@ -1,6 +1,10 @@
 use Rattle.std.proofs.Common.{inl, inr}
 use Rattle.std.specs.Prelude.{Vec}
 use Rattle.std.specs.declared.alloc.Global.{Global}
+use Rattle.pie_cached.proofs.Entries.{clean_of}
+use Rattle.pie_cached.specs.Clean.{CachesClean}
+use Rattle.pie_cached.specs.inner.Clean.{CachesCleanBy}
+use Rattle.pie_files.proofs.Reading.{if_each}
 use Rattle.pie_project.specs.Refusals.{OfPipeline, OfRoots, plain}
 use Rattle.pie_report.specs.declared.report.Report.{Report}
 use Rattle.pie_value.specs.declared.task.Task.{Task}
@@ -35,12 +39,15 @@ pub returns-in-Ok-clause-says : goal.returns-in-Ok-clause-says
 returns-in-Ok-clause-says g c =
     let told = c.in_ok-of_cached-in-Ok in
     let report = c.in-Ok.report in
+    let before = g.F.Files.holds c.args.files.now in
+    let after = g.F.Files.holds c.build_cached.new.files in
     inr (record {
       report = report;
       reused = c.as_slice.result.now;
       few = few_of 50000 c.new-runs.result c.build_cached.new.runs report.ran.items c.in-Ok.ensures.ran c.in-Ok.ensures.few;
       kept = c.in-Ok.ensures.kept;
       cache = c.in-Ok.ensures.others;
+      clean = if_each (λ d. CachesCleanBy d report after) (λ d. CachesClean d report after) before (λ d by. clean_of d report after by) c.in-Ok.ensures.clean;
       is = told.ensures.text;
       status = told.ensures.status;
     })
