@@ -43,16 +43,16 @@ use Rattle.pie_topdown_build.proofs.Running.{Told}
 module _ (e : Earlier) (d : Directory) (s : StoreImage) (text : List ℕ) (p : Project) (from : HasStoreOf e d) (readable : IsReadable d s text)
     (says : ProjectSays d (Ok (front_of p))) (has : HasDigests d p.digests.items) (names : HasNames p.typed p.digests.items)
     (funcs : AreFuncs p.digests.items) where
-  abbrev now : Update
+  abbrev pub now : Update
   now = update_of e from.strings d p.typed p.roots.items
 
-  abbrev found : IsProjectOf d p.digests.items p.roots.items
+  abbrev pub found : IsProjectOf d p.digests.items p.roots.items
   found = record { functions = p.typed; says = says; names = names; digests = has }
 
   separate : AreSeparate e from.strings d p.typed p.roots.items
   separate = from.now p.typed p.roots.items says
 
-  here : (held : Option Directory) → held ≡ Some d → IsNowHere now held p.typed p.roots.items
+  pub here : (held : Option Directory) → held ≡ Some d → IsNowHere now held p.typed p.roots.items
   here held holds = record {
     build = record { accepted = sym e.accepted; sources = e.sources; provided = e.provided };
     holds = holds;
@@ -62,7 +62,7 @@ module _ (e : Earlier) (d : Directory) (s : StoreImage) (text : List ℕ) (p : P
     met = from.out;
   }
 
-  stored : IsFromStore now (digested d p.digests.items s).funcs p.digests.items s.rows
+  pub stored : IsFromStore now (digested d p.digests.items s).funcs p.digests.items s.rows
   stored = record { rows_are = (from.stored s text readable).rows; meaning = means_same e d s text p from readable says has names funcs }
 
   other_of : (path : List ℕ) → IsOtherOf now path → IsOther (live_of p.typed d p.roots.items) d path
@@ -148,12 +148,12 @@ from_project b p told before mid after (Ok o) same says has names funcs runs =
 -- ---- the whole build
 
 -- nothing is offered by nobody
-nothing_offered : (e : Earlier) (strings : List (List ℕ)) (d : Directory) → OffersHonest e strings d (λ x t digest. [])
+pub nothing_offered : (e : Earlier) (strings : List (List ℕ)) (d : Directory) → OffersHonest e strings d (λ x t digest. [])
 nothing_offered e strings d = record {
   each = λ funcs roots found t digest has. All-nil (IsHonest (update_of e strings d found.functions roots));
 }
 
-differs : (c : Cause) (o : Option Cause) → o ≡ Some c → o ≡ None → ⊥
+pub differs : (c : Cause) (o : Option Cause) → o ≡ Some c → o ≡ None → ⊥
 differs c o is none = let f : ⊥ = cc in f
 
 one_cause : (c x : Cause) (o : Option Cause) → o ≡ Some c → o ≡ Some x → c ≡ x

@@ -10,6 +10,7 @@ pub mod Making
 pub mod Meaning
 pub mod Placing
 pub mod Ran
+pub mod Reasons
 pub mod Refusing
 pub mod Running
 pub mod Starting

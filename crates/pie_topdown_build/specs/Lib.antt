@@ -1,3 +1,4 @@
 pub mod Clean
+pub mod Ran
 pub mod Refusals
 pub mod inner

@@ -4,5 +4,6 @@ pub mod Clean
 pub mod Cleaned
 pub mod News
 pub mod Offered
+pub mod Ran
 pub mod Reused
 pub mod Stored

@@ -11,7 +11,9 @@ ghost use Rattle.pie_topdown_build.specs.inner.News.{AreNewsOf};
 ghost use Rattle.pie_topdown_build.specs.inner.Offered.{IsNew};
 ghost use Rattle.pie_topdown_build.specs.Clean.{BuildsAsClean};
 ghost use Rattle.pie_topdown_build.specs.inner.Stored.{IsBegunFrom};
+ghost use Rattle.pie_topdown_build.specs.Ran.{RunsForReasons};
 ghost use Rattle.pie_topdown_build.specs.inner.Clean.{FromAsClean, OffersClean};
+ghost use Rattle.pie_topdown_build.specs.inner.Ran.{FromRuns};
 ghost use Rattle.pie_topdown_build.specs.Refusals.{KeepsRefused};
 
 use crate::base::{Base, Start, find_base, no_base};
@@ -40,6 +42,7 @@ pub fn build_topdown<F: Files>(
     ensures refused { IsRefusal result → F.holds files.new ≡ F.holds files.old }
     ensures kept { IfSome (F.holds files.old) (λ d. IfOk result (λ r. KeepsRefused r.verdict d (F.holds files.new))) }
     ensures clean { IfSome (F.holds files.old) (λ d. IfOk result (λ r. BuildsAsClean d r (F.holds files.new))) }
+    ensures runs { IfSome (F.holds files.old) (λ d. IfOk result (RunsForReasons d)) }
     ensures ran { IfOk result (λ r. runs.new ≡ runs.old ++ r.ran.items) }
     ensures few { length runs.new ≤ length runs.old + 50000 }
     ensures encodable { IfOk result (λ r. All IsEncodableTask r.ran.items) }
@@ -98,6 +101,7 @@ fn from_store<F: Files>(
     ensures refused { IsRefusal result → F.holds files.new ≡ F.holds files.old }
     ensures kept { IfSome (F.holds files.old) (λ d. IfOk result (λ r. KeepsRefused r.verdict d (F.holds files.new))) }
     ensures clean { IfOk result (FromAsClean base.value (λ d t digest. []) (F.holds files.old) (F.holds files.new)) }
+    ensures runs { IfOk result (FromRuns base.value (λ d t digest. []) (F.holds files.old)) }
     ensures ran { IfOk result (λ r. runs.new ≡ runs.old ++ r.ran.items) }
     ensures few { length runs.new ≤ length runs.old + 50000 }
     ensures encodable { IfOk result (λ r. All IsEncodableTask r.ran.items) }

@@ -16,6 +16,7 @@ ghost use Rattle.pie_topdown_build.specs.Refusals.{KeepsRefused};
 ghost use Rattle.pie_topdown_build.specs.inner.Bases.{Quiet};
 ghost use Rattle.pie_topdown_build.specs.inner.Stored.{IsBegunFrom};
 ghost use Rattle.pie_topdown_build.specs.inner.Clean.{FromAsClean, RunsAsClean, RunsIfTold};
+ghost use Rattle.pie_topdown_build.specs.inner.Ran.{FromRuns, RunsBy, RunsByIfTold};
 
 use crate::base::Base;
 use crate::evaluating::{Evaluated, evaluate};
@@ -48,6 +49,7 @@ pub(crate) fn from<F: Files, O: Offers>(
     ensures refused { IsRefusal result → F.holds files.new ≡ F.holds files.old }
     ensures kept { IfSome (F.holds files.old) (λ d. IfOk result (λ o. KeepsRefused o.report.value.verdict d (F.holds files.new))) }
     ensures clean { IfOk result (λ o. FromAsClean base.value (O.told offers.old) (F.holds files.old) (F.holds files.new) o.report.value) }
+    ensures runs { IfOk result (λ o. FromRuns base.value (O.told offers.old) (F.holds files.old) o.report.value) }
     ensures ran { IfOk result (λ o. runs.new ≡ runs.old ++ o.report.value.ran.items) }
     ensures few { length runs.new ≤ length runs.old + 50000 }
     ensures encodable { IfOk result (λ o. All IsEncodableTask o.report.value.ran.items) }
@@ -81,6 +83,7 @@ fn with_project<F: Files, O: Offers>(
     ensures refused { IsRefusal result → F.holds files.new ≡ F.holds files.old }
     ensures kept { IfSome (F.holds files.old) (λ d. IfOk result (λ o. KeepsRefused o.report.value.verdict d (F.holds files.new))) }
     ensures clean { IfOk result (λ o. RunsIfTold base.value project.now (O.told offers.old) (F.holds files.old) (F.holds files.new) o.report.value) }
+    ensures runs { IfOk result (λ o. RunsByIfTold base.value project.now (O.told offers.old) (F.holds files.old) o.report.value) }
     ensures ran { IfOk result (λ o. runs.new ≡ runs.old ++ o.report.value.ran.items) }
     ensures few { length runs.new ≤ length runs.old + 50000 }
     ensures encodable { IfOk result (λ o. All IsEncodableTask o.report.value.ran.items) }
@@ -146,6 +149,7 @@ fn run<F: Files, O: Offers>(
     ensures rest { KeepsRest (F.holds files.old) (F.holds files.new) }
     ensures quiet { IfOk result (λ o. Quiet o.report.value.verdict (F.holds files.old) (F.holds files.new)) }
     ensures clean { IfOk result (λ o. RunsAsClean base.value project.now (O.told offers.old) (F.holds files.old) (F.holds files.new) o.report.value) }
+    ensures runs { IfOk result (λ o. RunsBy base.value project.now (O.told offers.old) (F.holds files.old) o.report.value) }
     ensures ran { IfOk result (λ o. runs.new ≡ runs.old ++ o.report.value.ran.items) }
     ensures few { length runs.new ≤ length runs.old + 50000 }
     ensures encodable { IfOk result (λ o. All IsEncodableTask o.report.value.ran.items) }

@@ -1,5 +1,6 @@
 use Rattle.pie_topdown_build.proofs.Cleanly.{from_project}
 use Rattle.pie_topdown_build.proofs.Handing.{told_of_project}
+use Rattle.pie_topdown_build.proofs.Reasons.{project_runs}
 use Rattle.pie_topdown_build.proofs.joining.from.Goals as goal
 
 pub returns-in-Ok-clause-clean : goal.returns-in-Ok-clause-clean
@@ -14,3 +15,9 @@ returns-in-Ok-clause-news g c =
     let e = c.in-Ok.ensures in
     told_of_project c.in-Ok.project c.args.base.value.store (g.F.Files.holds c.args.files.now) (g.F.Files.holds c.read_project.new.files)
     (g.F.Files.holds c.with_project.new.files) c.args.tells c.with_project.result e.looks.same e.found e.digests c.with_project.ensures.news
+
+pub returns-in-Ok-clause-runs : goal.returns-in-Ok-clause-runs
+returns-in-Ok-clause-runs g c =
+    let e = c.in-Ok.ensures in
+    project_runs c.args.base.value c.in-Ok.project (g.O.Offers.told c.args.offers.now) (g.F.Files.holds c.args.files.now)
+    (g.F.Files.holds c.read_project.new.files) c.with_project.result e.looks.same e.found e.digests e.names e.funcs c.with_project.ensures.runs

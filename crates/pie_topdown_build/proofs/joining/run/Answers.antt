@@ -1,4 +1,4 @@
-use Rattle.std.proofs.Common.{◌≡◌, ◌∙◌, Vec, Global, ap, map, rules, subst}
+use Rattle.std.proofs.Common.{◌≡◌, ◌++◌, ◌∙◌, Vec, Global, ap, map, rules, subst}
 use Rattle.pie_checks.specs.declared.built.Built.{Built}
 use Rattle.pie_results.specs.inner.Files.{contents_in}
 use Rattle.pie_value.specs.declared.task.Task.{Task}
@@ -7,7 +7,10 @@ use Rattle.pie_topdown_build.specs.inner.Clean.{RunsAsClean}
 use Rattle.pie_topdown_build.specs.inner.News.{as_told, news_in, TellsNews}
 use Rattle.pie_topdown_build.specs.inner.Stored.{IsBegunFrom}
 use Rattle.pie_topdown_build.proofs.Handing.{told_of_made}
+use Rattle.pie_incremental.proofs.Joining.{told_report}
+use Rattle.pie_topdown_build.specs.inner.Ran.{RunsBy}
 use Rattle.pie_topdown_build.proofs.Running.{runs_clean}
+use Rattle.pie_topdown_build.proofs.Reasons.{runs_ran}
 use Rattle.pie_topdown_build.proofs.joining.run.Goals as goal
 
 pub returns-in-Ok-clause-clean : goal.returns-in-Ok-clause-clean
@@ -39,3 +42,18 @@ returns-in-Ok-clause-news g c = λ on.
     subst (λ (x : Base). TellsNews (IsBegunFrom x.store) funcs before after r.verdict r.ran.items told) c.into_inner-image.ensures
     (told_of_made funcs c.into_inner-image.result.store b r ran before (g.F.Files.holds c.evaluate.new.files) after told tells
     (ap (λ (v : Vec Task Global). v.items) c.in-Ok.ensures.ran) c.in-Ok.ensures.verdict c.in_ok-built.ensures.reads.same c.in-Ok.ensures.stored)
+
+pub returns-in-Ok-clause-runs : goal.returns-in-Ok-clause-runs
+returns-in-Ok-clause-runs g c =
+    let p = c.args.project.now in
+    let told = g.O.Offers.told c.args.offers.now in
+    let before = g.F.Files.holds c.args.files.now in
+    let made = c.in_ok-built in
+    let r = c.in-Ok.report.value in
+    let gained : c.evaluate.new.runs ≡ c.args.runs.now ++ r.ran.items =
+    (let started = made.ensures.started in
+    told_report c.count-before.result c.args.runs.now c.evaluate.new.runs c.in_ok-ran.ran r c.count-before.ensures
+    (record { gained = started.gained; is = started.is; encodable = started.encodable }) c.in_ok-ran.ensures c.in-Ok.ensures.ran).0 in
+    subst (λ (b : Base). RunsBy b p told before r) c.into_inner-image.ensures
+    (runs_ran c.into_inner-image.result p told before c.args.runs.now c.evaluate.new.runs made.field-0.reused.items made.field-0.built.value r made.ensures.runs
+    c.in-Ok.ensures.verdict gained)

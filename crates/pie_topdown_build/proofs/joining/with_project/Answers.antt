@@ -5,6 +5,7 @@ use Rattle.pie_value.specs.declared.task.Task.{Task}
 use Rattle.pie_topdown_build.specs.inner.News.{as_told}
 use Rattle.pie_topdown_build.proofs.Handing.{told_if_large, told_if_ready}
 use Rattle.pie_topdown_build.proofs.Running.{large_ok, runs_ok}
+use Rattle.pie_topdown_build.proofs.Reasons.{large_ran, ran_ok}
 use Rattle.pie_topdown_build.proofs.joining.with_project.Goals as goal
 
 pub returns-then-not-are_small-clause-clean : goal.returns-then-not-are_small-clause-clean
@@ -31,3 +32,13 @@ returns-in-Ok-clause-news g c = λ on.
     let o = c.in-Ok.offered in
     told_if_ready c.args.project.now c.args.base.value.store c.args.project.now.digests.items (g.F.Files.holds c.args.files.now)
     (g.F.Files.holds c.run.new.files) o.report.value.verdict o.report.value.ran.items (map as_told o.new.items) (c.in-Ok.ensures.news on)
+
+pub returns-then-not-are_small-clause-runs : goal.returns-then-not-are_small-clause-runs
+returns-then-not-are_small-clause-runs g c =
+    large_ran c.args.base.value c.args.project.now (g.O.Offers.told c.args.offers.now) (g.F.Files.holds c.args.files.now) c.rebuilt.result
+    (subst (λ (roots : List Task). ¬ (All (λ (t : Task). is_small_task t ≡ true) roots)) c.as_slice.ensures.value
+    (c.are_small.ensures.large c.if-not-are_small.true))
+
+pub returns-in-Ok-clause-runs : goal.returns-in-Ok-clause-runs
+returns-in-Ok-clause-runs g c =
+    ran_ok c.args.base.value c.args.project.now (g.O.Offers.told c.args.offers.now) (g.F.Files.holds c.args.files.now) c.in-Ok.offered c.in-Ok.ensures.runs

@@ -1,0 +1,248 @@
+-- Which tasks a build without a list ran, from its evaluation to the earlier build.
+use Rattle.std.proofs.Common.{◌≡◌, ℕ, true, false, Bool, cond, List, [], ◌∷◌, ◌++◌, map, Option, None, Some, Result, Ok, Err, Vec, Global, refl, sym, ap, subst, ◌∙◌, inl}
+use Rattle.std.specs.Prelude.{All, Box, IfOk, IfSome, bytes_eq}
+use Rattle.std.specs.Option.{option_map}
+use Rattle.std.proofs.lemmas.List.Elements.{All-weaker, All-nil}
+use Rattle.sha2.specs.Sha256.{sha256}
+use Rattle.pie_build.specs.inner.Projects.{IsReady}
+use Rattle.pie_build.proofs.Cleaning.{is_ready}
+use Rattle.pie_builder_laws.specs.Events.{AreCompiled}
+use Rattle.pie_checks.specs.declared.built.Built.{Built}
+use Rattle.pie_code.specs.declared.code.Code.{Code}
+use Rattle.pie_core_laws.specs.Update.{Update}
+use Rattle.pie_diff.specs.Hashes.{is_hash}
+use Rattle.pie_digest.specs.Digests.{HasNames}
+use Rattle.pie_earlier_laws.specs.Functions.{digest_under}
+use Rattle.pie_earlier_laws.specs.Rows.{record_among}
+use Rattle.pie_files.proofs.Reading.{if_always}
+use Rattle.pie_files.specs.Directory.{Directory, file_at}
+use Rattle.pie_files.specs.declared.files.FilesError.{FilesError}
+use Rattle.pie_fresh.specs.Cleans.{IsRootOf}
+use Rattle.pie_incremental.specs.Earlier.{Earlier}
+use Rattle.pie_incremental.specs.Ran.{HasReason, digest_in, digests_by, earlier_rows, is_hash_of, kept_digests, record_in}
+use Rattle.pie_incremental.specs.Starts.{IsReadable}
+use Rattle.pie_incremental.specs.inner.Digested.{digested, with_digests}
+use Rattle.pie_incremental.specs.inner.Joined.{IsImage}
+use Rattle.pie_model.specs.Reasons.{RunReason}
+use Rattle.pie_model.specs.Records.{Record}
+use Rattle.pie_model_pipeline.specs.World.{world, project}
+use Rattle.pie_project.specs.Digested.{HasDigests}
+use Rattle.pie_project.specs.Fronts.{ProjectSays}
+use Rattle.pie_project.specs.Looking.{file_bytes, pipeline_path}
+use Rattle.pie_project.specs.declared.fault.BuildError.{BuildError}
+use Rattle.pie_project.specs.declared.project.Project.{Project}
+use Rattle.pie_project.specs.inner.Projects.{front_of}
+use Rattle.pie_record.specs.Canonical.{IsTrueRecord}
+use Rattle.pie_record.specs.declared.task_record.TaskRecord.{TaskRecord}
+use Rattle.pie_report.specs.declared.report.Report.{Report}
+use Rattle.pie_store.specs.Canonical.{AreFuncs}
+use Rattle.pie_store.specs.declared.cause.Cause.{Cause}
+use Rattle.pie_store.specs.declared.image.StoreImage.{StoreImage}
+use Rattle.pie_topdown.specs.inner.Due.{HasReason as HasReasonOf}
+use Rattle.pie_topdown.specs.inner.Ran.{RanFor as StartedFor, RunsForReasons as StartsForReasons}
+use Rattle.pie_topdown.specs.inner.Rooted.{IsProgram}
+use Rattle.pie_topdown_result_laws.specs.Builds.{AreHonest, IsFromStore, IsHonest, IsNowHere}
+use Rattle.pie_value.specs.Canonical.{enc_task}
+use Rattle.pie_value.specs.Limits.{is_small_task}
+use Rattle.pie_value.specs.declared.task.Task.{Task}
+use Rattle.pie_value.specs.declared.verdict.Verdict.{Verdict}
+use Rattle.pie_value.specs.declared.verdict.Verdict.TheVariants.{Accepted}
+use Rattle.pie_topdown_build.specs.declared.base.Base.{Base}
+use Rattle.pie_topdown_build.specs.declared.base.Start.{Start}
+use Rattle.pie_topdown_build.specs.declared.base.Start.TheVariants.{Afresh, From}
+use Rattle.pie_topdown_build.specs.declared.evaluating.Evaluated.{Evaluated}
+use Rattle.pie_topdown_build.specs.declared.offered.Offered.{Offered}
+use Rattle.pie_topdown_build.specs.Clean.{HasStoreOf}
+use Rattle.pie_topdown_build.specs.Ran.{RanFor, RunsForReasons}
+use Rattle.pie_topdown_build.specs.inner.Bases.{HasBase, IsReadFrom, StartsAt}
+use Rattle.pie_topdown_build.specs.inner.Clean.{update_of, OffersHonest}
+use Rattle.pie_topdown_build.specs.inner.Ran.{FromRuns, HaveReasons, RunsBy, RunsByIfTold, RunsFrom}
+use Rattle.pie_topdown_build.proofs.Cleanly.{differs, found, here, nothing_offered, stored}
+use Rattle.pie_topdown_build.proofs.Running.{Told}
+
+-- ---- the evaluation
+
+runs_from : (before mid : Option Directory) (p : Project) (codes : List Code) (s t : StoreImage) (told : Told) (first after reused : List Task) (v : Verdict)
+    → mid ≡ before → AreCompiled p.typed codes → IsImage s → t.rows ≡ s.rows → IfSome before (λ d. t ≡ digested d p.digests.items s)
+    → (IsProgram p.typed codes t.rows
+    → StartsForReasons mid p.typed t.funcs p.digests.items t.rows told p.roots.items first after [] reused v)
+    → RunsFrom before p s told first after reused v
+runs_from before mid p codes s t told first after reused v same compiled image rows put starts = record {
+  each = λ accepted u here stored honest. by accepted u here stored honest (is u here);
+}
+  where
+    is : (u : Update) → IsNowHere u before p.typed p.roots.items → t ≡ digested u.directory p.digests.items s
+    is u here = subst (λ o. IfSome o (λ d. t ≡ digested d p.digests.items s)) here.holds put
+
+    by : v ≡ Accepted → (u : Update) → IsNowHere u before p.typed p.roots.items
+        → IsFromStore u (digested u.directory p.digests.items s).funcs p.digests.items s.rows → AreHonest u p.digests.items told
+        → t ≡ digested u.directory p.digests.items s
+        → StartedFor u (digested u.directory p.digests.items s).funcs p.digests.items first after [] reused v
+    by accepted u here stored honest put =
+        subst (λ (x : StoreImage). StartedFor u x.funcs p.digests.items first after [] reused v) put
+        ((starts (record { compiled = compiled; parts = subst (All IsTrueRecord) (sym rows) image.parts })).each u
+        (subst (λ m. IsNowHere u m p.typed p.roots.items) (sym same) here)
+        (subst (λ (x : List TaskRecord). IsFromStore u t.funcs p.digests.items x) (sym rows)
+        (subst (λ (x : StoreImage). IsFromStore u x.funcs p.digests.items s.rows) (sym put) stored)) honest (inl accepted))
+
+pub evaluates_ran : (before mid : Option Directory) (p : Project) (codes : List Code) (s t : StoreImage) (told : Told) (first after : List Task)
+    (result : Result Evaluated FilesError) → mid ≡ before → AreCompiled p.typed codes → IsImage s → t.rows ≡ s.rows
+    → IfSome before (λ d. t ≡ digested d p.digests.items s)
+    → (IsProgram p.typed codes t.rows
+    → IfOk result (λ e. StartsForReasons mid p.typed t.funcs p.digests.items t.rows told p.roots.items first after [] e.reused.items e.built.value.verdict))
+    → IfOk result (λ e. RunsFrom before p s told first after e.reused.items e.built.value.verdict)
+evaluates_ran before mid p codes s t told first after (Ok e) same compiled image rows put starts =
+    runs_from before mid p codes s t told first after e.reused.items e.built.value.verdict same compiled image rows put starts
+evaluates_ran before mid p codes s t told first after (Err x) same compiled image rows put starts = tt
+
+-- ---- its end
+
+-- what is behind a list is one
+one_behind : (xs ys zs : List Task) → xs ++ ys ≡ xs ++ zs → ys ≡ zs
+one_behind [] ys zs e = e
+one_behind (x ∷ xs) ys zs e = one_behind xs ys zs (let f : xs ++ ys ≡ xs ++ zs = cc in f)
+
+retold : (u : Update) (kept digests : List (List ℕ × List ℕ)) (first after ran reused : List Task) (v : Verdict) → after ≡ first ++ ran
+    → StartedFor u kept digests first after [] reused v → HaveReasons u kept digests ran
+retold u kept digests first after ran reused v gained s =
+    subst (HaveReasons u kept digests) (sym (one_behind first ran s.ran (sym gained ∙ s.ran_are))) (record { once = s.once; reasons = s.reasons })
+
+pub runs_ran : (b : Base) (p : Project) (told : Told) (before : Option Directory) (first after reused : List Task) (made : Built) (r : Report)
+    → RunsFrom before p b.image told first after reused made.verdict → r.verdict ≡ made.verdict → after ≡ first ++ r.ran.items → RunsBy b p told before r
+runs_ran b p told before first after reused made r runs is gained = record {
+  each = λ accepted u from honest.
+      retold u (digested u.directory p.digests.items b.image).funcs p.digests.items first after r.ran.items reused made.verdict gained
+      (runs.each (sym is ∙ accepted) u from.here from.stored honest);
+}
+
+-- ---- the build of a project
+
+pub ran_ok : (b : Base) (p : Project) (told : Told) (before : Option Directory) (o : Offered) → RunsBy b p told before o.report.value
+    → RunsByIfTold b p told before o.report.value
+ran_ok b p told before o runs = record { of = λ d is ready. runs }
+
+-- roots of a project that is observable are within the limits of values
+pub large_ran : (b : Base) (p : Project) (told : Told) (before : Option Directory) (result : Result Offered BuildError)
+    → ¬ (All (λ t. is_small_task t ≡ true) p.roots.items) → IfOk result (λ o. RunsByIfTold b p told before o.report.value)
+large_ran b p told before (Err e) large = tt
+large_ran b p told before (Ok o) large = record { of = λ d is ready. absurd (never ready) }
+  where
+    never : IsReady p.typed p.roots.items → ⊥
+    never ready = large (All-weaker (IsRootOf p.typed) (λ t. is_small_task t ≡ true) (λ t root. root.small) p.roots.items ready.roots)
+
+-- ---- records, digests and hashes of one, by both their definitions
+
+same_record : (rows : List Record) (t : List ℕ) → record_among rows t ≡ record_in rows t
+same_record [] t = refl
+same_record (r ∷ rows) t = ap (λ o. cond (bytes_eq t r.task) (Some r) o) (same_record rows t)
+
+same_digest : (rows : List (List ℕ × List ℕ)) (n : List ℕ) → digest_under rows n ≡ digest_in rows n
+same_digest [] n = refl
+same_digest (row ∷ rows) n = ap (λ o. cond (bytes_eq n row.0) (Some row.1) o) (same_digest rows n)
+
+same_hash : (file : Option (List ℕ × ℕ)) (hash : List ℕ)
+    → is_hash (option_map (λ f. sha256 f.0) file) hash ≡ is_hash_of (option_map (λ f. f.0) file) hash
+same_hash None hash = refl
+same_hash (Some file) hash = refl
+
+-- the digests by which it goes
+kept_is : (d : Directory) (digests : List (List ℕ × List ℕ)) (s : StoreImage) → (digested d digests s).funcs ≡ kept_digests d digests s
+kept_is d digests s = by s.pipeline
+  where
+    either : (t : Bool) → (cond t (record s { funcs = digests }) s).funcs ≡ cond t digests s.funcs
+    either true = refl
+    either false = refl
+
+    by : (o : Option (List ℕ)) → (with_digests d digests s o).funcs ≡ digests_by d digests s.funcs o
+    by None = refl
+    by (Some hash) =
+        ap (λ (t : Bool). (cond t (record s { funcs = digests }) s).funcs) (same_hash (file_at d pipeline_path) hash)
+        ∙ either (is_hash_of (file_bytes d pipeline_path) hash)
+
+-- ---- from the store of an earlier build
+
+module _ (e : Earlier) (d : Directory) (s : StoreImage) (text : List ℕ) (p : Project) (from : HasStoreOf e d) (readable : IsReadable d s text)
+    (says : ProjectSays d (Ok (front_of p))) (has : HasDigests d p.digests.items) (names : HasNames p.typed p.digests.items)
+    (funcs : AreFuncs p.digests.items) where
+  -- a reason, in the words of the earlier build
+  reason_of : (kept : List (List ℕ × List ℕ)) (t : Task) → HasReasonOf (update_of e from.strings d p.typed p.roots.items) kept p.digests.items t
+      → HasReason e d p.typed kept p.digests.items t
+  reason_of kept t r =
+      let before = earlier_rows e in
+      subst (λ o. RunReason world (project p.typed d) d o (digest_in kept t.func) (digest_in p.digests.items t.func)) (same_record before (enc_task t))
+      (subst (λ o. RunReason world (project p.typed d) d (record_among before (enc_task t)) o (digest_in p.digests.items t.func)) (same_digest kept t.func)
+      (subst (λ o. RunReason world (project p.typed d) d (record_among before (enc_task t)) (digest_under kept t.func) o) (same_digest p.digests.items t.func) r))
+
+  ran_for : (ran : List Task) → HaveReasons (update_of e from.strings d p.typed p.roots.items) (digested d p.digests.items s).funcs p.digests.items ran
+      → RanFor e d ran
+  ran_for ran have =
+      let kept = (digested d p.digests.items s).funcs in
+      record {
+        funcs = p.digests.items;
+        roots = p.roots.items;
+        found = found e d s text p from readable says has names funcs;
+        image = s;
+        text = text;
+        is = readable;
+        once = have.once;
+        reasons = subst (λ k. All (HasReason e d p.typed k p.digests.items) ran) (kept_is d p.digests.items s)
+            (All-weaker (HasReasonOf (update_of e from.strings d p.typed p.roots.items) kept p.digests.items) (HasReason e d p.typed kept p.digests.items)
+            (λ t r. reason_of kept t r) ran have.reasons);
+      }
+
+from_runs : (b : Base) (p : Project) (told : Told) (before mid : Option Directory) (r : Report) → mid ≡ before
+    → IfSome before (λ d. ProjectSays d (Ok (front_of p))) → IfSome before (λ d. HasDigests d p.digests.items) → HasNames p.typed p.digests.items
+    → AreFuncs p.digests.items → RunsByIfTold b p told mid r → FromRuns b told before r
+from_runs b p told before mid r same says has names funcs runs = record { each = λ accepted d is base e from honest. by accepted d is e from honest b.store refl base }
+  where
+    project_is : (d : Directory) → before ≡ Some d → ProjectSays d (Ok (front_of p))
+    project_is d is = subst (λ o. IfSome o (λ x. ProjectSays x (Ok (front_of p)))) is says
+
+    digests : (d : Directory) → before ≡ Some d → HasDigests d p.digests.items
+    digests d is = subst (λ o. IfSome o (λ x. HasDigests x p.digests.items)) is has
+
+    ran : (d : Directory) → before ≡ Some d → RunsBy b p told mid r
+    ran d is = runs.of d (same ∙ is) (is_ready (Some d) (Some d) p (project_is d is) refl)
+
+    by : r.verdict ≡ Accepted → (d : Directory) → before ≡ Some d → (e : Earlier) (from : HasStoreOf e d) → OffersHonest e from.strings d told
+        → (o : Option (Vec ℕ Global)) → b.store ≡ o → IsReadFrom d b.image o → RanFor e d r.ran.items
+    by accepted d is e from honest None at readable = absurd readable
+    by accepted d is e from honest (Some text) at readable =
+        let says = project_is d is in
+        let has = digests d is in
+        ran_for e d b.image text.items p from readable says has names funcs r.ran.items
+        ((ran d is).each accepted (update_of e from.strings d p.typed p.roots.items)
+        (record {
+          here = here e d b.image text.items p from readable says has names funcs mid (same ∙ is);
+          stored = stored e d b.image text.items p from readable says has names funcs;
+          base = subst (IsReadFrom d b.image) (sym at) readable;
+        })
+        (honest.each p.digests.items p.roots.items (found e d b.image text.items p from readable says has names funcs)))
+
+pub project_runs : (b : Base) (p : Project) (told : Told) (before mid : Option Directory) (result : Result Offered BuildError) → mid ≡ before
+    → IfSome before (λ d. ProjectSays d (Ok (front_of p))) → IfSome before (λ d. HasDigests d p.digests.items) → HasNames p.typed p.digests.items
+    → AreFuncs p.digests.items → IfOk result (λ o. RunsByIfTold b p told mid o.report.value) → IfOk result (λ o. FromRuns b told before o.report.value)
+project_runs b p told before mid (Err e) same says has names funcs runs = tt
+project_runs b p told before mid (Ok o) same says has names funcs runs = from_runs b p told before mid o.report.value same says has names funcs runs
+
+-- ---- the whole build
+
+-- one that starts afresh tells the cause
+pub afresh_runs : (cause : Cause) (before : Option Directory) (result : Result Report BuildError) → IfOk result (λ r. r.fresh ≡ Some cause)
+    → IfSome before (λ d. IfOk result (RunsForReasons d))
+afresh_runs cause before (Err e) why = if_always before (tt {0})
+afresh_runs cause None (Ok r) why = tt
+afresh_runs cause (Some d) (Ok r) why = record { each = λ none accepted e from. absurd (differs cause r.fresh why none) }
+
+-- one from a store
+pub store_runs : (start : Start) (b : Box Base Global) (before mid : Option Directory) (result : Result Report BuildError) → start ≡ From b
+    → IfSome before (λ d. StartsAt d start) → mid ≡ before → IfOk result (FromRuns b.value (λ x t digest. []) mid)
+    → IfSome before (λ d. IfOk result (RunsForReasons d))
+store_runs start b before mid (Err e) is begins same h = if_always before (tt {0})
+store_runs start b before mid (Ok r) is begins same h = by before same begins
+  where
+    by : (o : Option Directory) → mid ≡ o → IfSome o (λ d. StartsAt d start) → IfSome o (λ d. RunsForReasons d r)
+    by None told begun = tt
+    by (Some d) told begun = record {
+      each = λ none accepted e from. h.each accepted d told (subst (StartsAt d) is begun) e from (nothing_offered e from.strings d);
+    }
