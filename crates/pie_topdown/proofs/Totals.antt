@@ -1,5 +1,5 @@
 -- What was started and reused since the beginning, from step to step and from root to root.
-use Rattle.std.proofs.Common.{◌≡◌, ◌⊎◌, ℕ, ◌<◌, Bool, true, false, List, [], ◌∷◌, ◌++◌, Option, None, Some, Bor, length, map, take, get_or, refl, sym, ap, subst, ◌∙◌, inl, inr}
+use Rattle.std.proofs.Common.{◌≡◌, ℕ, ◌<◌, Bool, true, false, List, Option, None, Some, Bor, length, map, take, get_or, refl, sym, ap, subst, ◌∙◌, inl, inr}
 use Rattle.std.specs.Prelude.{slice_get, Contains}
 use Rattle.pie_value.specs.declared.task.Task.{Task}
 use Rattle.pie_value.specs.declared.verdict.Refusal.{Refusal}
@@ -21,7 +21,7 @@ use Rattle.pie_topdown.specs.declared.hand.Hand.{Hand}
 use Rattle.pie_topdown.specs.declared.hand.Hand.TheVariants as hands
 use Rattle.pie_topdown.specs.inner.Entries.{HasEntered, MayBe, MayEnter}
 use Rattle.pie_topdown.specs.inner.Frames.{IsSite}
-use Rattle.pie_topdown.specs.inner.Ran.{StaysMarked, MarksBy, HasRunSo, HasRunFull, RansOn, SettlesRan, StopsRan, HasSettledRan, SettlesAllRan, StopsAllRan}
+use Rattle.pie_topdown.specs.inner.Ran.{StaysMarked, MarksBy, HasRunSo, RansOn, SettlesRan, StopsRan, HasSettledRan, SettlesAllRan, StopsAllRan}
 use Rattle.pie_topdown.specs.inner.Roots.{IsSettledRoot}
 use Rattle.pie_topdown.specs.inner.Right.{AreWritten, EntersSite, IsRight, IsRightOrFailed}
 use Rattle.pie_topdown.specs.inner.Rooted.{HasSettledRight, IsBuildOf, IsSettledSoFar, RunsOnRight, StaysRight, StopsRight}
