@@ -4,18 +4,20 @@ use Rattle.pie_base.specs.declared.status.Status.{Status}
 use Rattle.pie_files.specs.Directory.{Directory}
 use Rattle.pie_report.specs.declared.report.Report.{Report}
 use Rattle.pie_topdown_build.specs.Clean.{BuildsAsClean}
+use Rattle.pie_topdown_build.specs.Ran.{RunsForReasons}
 use Rattle.pie_topdown_build.specs.Refusals.{KeepsRefused}
 use Rattle.pie_cli.specs.Build.{RefusesProject}
 use Rattle.pie_cli.specs.Fresh.{IsPrinted, verdict_status}
 use Rattle.pie_cli.specs.Listed.{RunsSaying}
 
--- there is a report of at most 50,000 tasks, a refused build left the directory as it was, the report and what is left are those of a clean build, and the text
--- is that of the report
+-- there is a report of at most 50,000 tasks, a refused build left the directory as it was, the report and what is left are those of a clean build, no task of an
+-- accepted one from an earlier store ran twice, and each for a reason, and the text is that of the report
 pub record TellsTopdown (json : Bool) (before after : Option Directory) (text : List ℕ) (ended : Status) : Type 0 where
   pub report : Report
   pub few : length report.ran.items ≤ 50000
   pub kept : IfSome before (λ d. KeepsRefused report.verdict d after)
   pub clean : IfSome before (λ d. BuildsAsClean d report after)
+  pub runs : IfSome before (λ d. RunsForReasons d report)
   pub is : IsPrinted json report text
   pub status : ended ≡ verdict_status report.verdict
 

@@ -25,6 +25,7 @@ returns-in-Ok-clause-says g c =
       few = few_of 50000 c.new-runs.result c.build_topdown.new.runs report.ran.items c.in-Ok.ensures.ran c.in-Ok.ensures.few;
       kept = c.in-Ok.ensures.kept;
       clean = c.in-Ok.ensures.clean;
+      runs = c.in-Ok.ensures.runs;
       is = told.ensures.text;
       status = told.ensures.status;
     })
