@@ -1,8 +1,8 @@
 -- Which tasks a build without a list ran, from its evaluation to the earlier build.
-use Rattle.std.proofs.Common.{◌≡◌, ℕ, true, false, Bool, cond, List, [], ◌∷◌, ◌++◌, map, Option, None, Some, Result, Ok, Err, Vec, Global, refl, sym, ap, subst, ◌∙◌, inl}
+use Rattle.std.proofs.Common.{◌≡◌, ℕ, true, false, Bool, cond, List, [], ◌∷◌, ◌++◌, Option, None, Some, Result, Ok, Err, Vec, Global, refl, sym, ap, subst, ◌∙◌, inl}
 use Rattle.std.specs.Prelude.{All, Box, IfOk, IfSome, bytes_eq}
 use Rattle.std.specs.Option.{option_map}
-use Rattle.std.proofs.lemmas.List.Elements.{All-weaker, All-nil}
+use Rattle.std.proofs.lemmas.List.Elements.{All-weaker}
 use Rattle.sha2.specs.Sha256.{sha256}
 use Rattle.pie_build.specs.inner.Projects.{IsReady}
 use Rattle.pie_build.proofs.Cleaning.{is_ready}
@@ -41,7 +41,7 @@ use Rattle.pie_store.specs.declared.image.StoreImage.{StoreImage}
 use Rattle.pie_topdown.specs.inner.Due.{HasReason as HasReasonOf}
 use Rattle.pie_topdown.specs.inner.Ran.{RanFor as StartedFor, RunsForReasons as StartsForReasons}
 use Rattle.pie_topdown.specs.inner.Rooted.{IsProgram}
-use Rattle.pie_topdown_result_laws.specs.Builds.{AreHonest, IsFromStore, IsHonest, IsNowHere}
+use Rattle.pie_topdown_result_laws.specs.Builds.{AreHonest, IsFromStore, IsNowHere}
 use Rattle.pie_value.specs.Canonical.{enc_task}
 use Rattle.pie_value.specs.Limits.{is_small_task}
 use Rattle.pie_value.specs.declared.task.Task.{Task}
@@ -62,6 +62,7 @@ use Rattle.pie_topdown_build.proofs.Running.{Told}
 
 -- ---- the evaluation
 
+-- of each update from the store, by the digests that were put in
 runs_from : (before mid : Option Directory) (p : Project) (codes : List Code) (s t : StoreImage) (told : Told) (first after reused : List Task) (v : Verdict)
     → mid ≡ before → AreCompiled p.typed codes → IsImage s → t.rows ≡ s.rows → IfSome before (λ d. t ≡ digested d p.digests.items s)
     → (IsProgram p.typed codes t.rows
@@ -85,6 +86,7 @@ runs_from before mid p codes s t told first after reused v same compiled image r
         (subst (λ (x : List TaskRecord). IsFromStore u t.funcs p.digests.items x) (sym rows)
         (subst (λ (x : StoreImage). IsFromStore u x.funcs p.digests.items s.rows) (sym put) stored)) honest (inl accepted))
 
+-- so it is with an evaluation that succeeds
 pub evaluates_ran : (before mid : Option Directory) (p : Project) (codes : List Code) (s t : StoreImage) (told : Told) (first after : List Task)
     (result : Result Evaluated FilesError) → mid ≡ before → AreCompiled p.typed codes → IsImage s → t.rows ≡ s.rows
     → IfSome before (λ d. t ≡ digested d p.digests.items s)
@@ -102,11 +104,13 @@ one_behind : (xs ys zs : List Task) → xs ++ ys ≡ xs ++ zs → ys ≡ zs
 one_behind [] ys zs e = e
 one_behind (x ∷ xs) ys zs e = one_behind xs ys zs (let f : xs ++ ys ≡ xs ++ zs = cc in f)
 
+-- what was started since a list is what a report tells
 retold : (u : Update) (kept digests : List (List ℕ × List ℕ)) (first after ran reused : List Task) (v : Verdict) → after ≡ first ++ ran
     → StartedFor u kept digests first after [] reused v → HaveReasons u kept digests ran
 retold u kept digests first after ran reused v gained s =
     subst (HaveReasons u kept digests) (sym (one_behind first ran s.ran (sym gained ∙ s.ran_are))) (record { once = s.once; reasons = s.reasons })
 
+-- a report of the tasks that were started, with the verdict of what was made
 pub runs_ran : (b : Base) (p : Project) (told : Told) (before : Option Directory) (first after reused : List Task) (made : Built) (r : Report)
     → RunsFrom before p b.image told first after reused made.verdict → r.verdict ≡ made.verdict → after ≡ first ++ r.ran.items → RunsBy b p told before r
 runs_ran b p told before first after reused made r runs is gained = record {
@@ -171,8 +175,10 @@ module _ (e : Earlier) (d : Directory) (s : StoreImage) (text : List ℕ) (p : P
       let before = earlier_rows e in
       subst (λ o. RunReason world (project p.typed d) d o (digest_in kept t.func) (digest_in p.digests.items t.func)) (same_record before (enc_task t))
       (subst (λ o. RunReason world (project p.typed d) d (record_among before (enc_task t)) o (digest_in p.digests.items t.func)) (same_digest kept t.func)
-      (subst (λ o. RunReason world (project p.typed d) d (record_among before (enc_task t)) (digest_under kept t.func) o) (same_digest p.digests.items t.func) r))
+      (subst (λ o. RunReason world (project p.typed d) d (record_among before (enc_task t)) (digest_under kept t.func) o)
+      (same_digest p.digests.items t.func) r))
 
+  -- tasks that ran for reasons in the update did so by the earlier build
   ran_for : (ran : List Task) → HaveReasons (update_of e from.strings d p.typed p.roots.items) (digested d p.digests.items s).funcs p.digests.items ran
       → RanFor e d ran
   ran_for ran have =
@@ -190,10 +196,13 @@ module _ (e : Earlier) (d : Directory) (s : StoreImage) (text : List ℕ) (p : P
             (λ t r. reason_of kept t r) ran have.reasons);
       }
 
+-- a build from a base, whatever the project of the directory is
 from_runs : (b : Base) (p : Project) (told : Told) (before mid : Option Directory) (r : Report) → mid ≡ before
     → IfSome before (λ d. ProjectSays d (Ok (front_of p))) → IfSome before (λ d. HasDigests d p.digests.items) → HasNames p.typed p.digests.items
     → AreFuncs p.digests.items → RunsByIfTold b p told mid r → FromRuns b told before r
-from_runs b p told before mid r same says has names funcs runs = record { each = λ accepted d is base e from honest. by accepted d is e from honest b.store refl base }
+from_runs b p told before mid r same says has names funcs runs = record {
+  each = λ accepted d is base e from honest. by accepted d is e from honest b.store refl base;
+}
   where
     project_is : (d : Directory) → before ≡ Some d → ProjectSays d (Ok (front_of p))
     project_is d is = subst (λ o. IfSome o (λ x. ProjectSays x (Ok (front_of p)))) is says
@@ -219,6 +228,7 @@ from_runs b p told before mid r same says has names funcs runs = record { each =
         })
         (honest.each p.digests.items p.roots.items (found e d b.image text.items p from readable says has names funcs)))
 
+-- a build that succeeds, of a project that was read
 pub project_runs : (b : Base) (p : Project) (told : Told) (before mid : Option Directory) (result : Result Offered BuildError) → mid ≡ before
     → IfSome before (λ d. ProjectSays d (Ok (front_of p))) → IfSome before (λ d. HasDigests d p.digests.items) → HasNames p.typed p.digests.items
     → AreFuncs p.digests.items → IfOk result (λ o. RunsByIfTold b p told mid o.report.value) → IfOk result (λ o. FromRuns b told before o.report.value)
