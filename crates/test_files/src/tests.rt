@@ -193,7 +193,10 @@ fn failed_write(alloc: Global, files: &mut MemFiles) -> Result<String, Fail> {
     files.write(&page, b"three")?;
     let after = shown(alloc, files, "out/page")?;
     let things = files.log().len();
-    let told = matches!(files.log().get(2), Some(Logged::Failed(Call::Write(_, None))));
+    let told = matches!(
+        files.log().get(2),
+        Some(Logged::Failed(Call::Write(_, None)))
+    );
     Ok(format!(in alloc; "{failed} {before} {after} {things} {told}")?)
 }
 
