@@ -3,7 +3,9 @@ pub mod FileLemmas
 pub mod Giving
 pub mod Heights
 pub mod MadeLemmas
+pub mod Numbering
 pub mod Ordering
 pub mod Placing
+pub mod Standing
 pub mod Starting
 pub mod Storing

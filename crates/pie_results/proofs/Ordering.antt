@@ -1,6 +1,6 @@
--- The records at places are those of live tasks, in order.
-use Rattle.std.proofs.Common.{◌≡◌, ℕ, suc, ◌<◌, true, List, [], ◌∷◌, ◌++◌, length, get_or, Some, sym, ap, subst, refl, ◌∙◌, arith, inl, inr}
-use Rattle.std.specs.Prelude.{All, Contains, Option, Vec, IfSome, slice_get}
+-- The records of numbers in order are those of live tasks, in order.
+use Rattle.std.proofs.Common.{◌≡◌, ℕ, zero, suc, ◌<◌, true, List, [], ◌∷◌, ◌++◌, length, get_or, Some, sym, ap, subst, refl, ◌∙◌, arith, inl, inr}
+use Rattle.std.specs.Prelude.{All, Contains, Option, IfSome}
 use Rattle.std.specs.List.{AllByRecursion, AllPairs, AllZip}
 use Rattle.std.specs.List.Sorted.{IsStrictlySortedBy}
 use Rattle.std.specs.Option.{option_to_list}
@@ -9,28 +9,22 @@ use Rattle.std.specs.declared.cmp.Ordering.TheVariants.{Less, Equal, Greater}
 use Rattle.std.specs.Ordering.{nat_cmp, ordering_then, MatchOrdering}
 use Rattle.std.specs.Cmp.{ranks}
 use Rattle.std.specs.Cmp.Lexicographic.{slice_cmp}
-use Rattle.std.proofs.lemmas.Bool.{cases_lt}
 use Rattle.std.proofs.lemmas.List.Elements.{All-nil, All-cons}
 use Rattle.std.proofs.lemmas.List.Kept.{AllPairs-cons}
-use Rattle.std.proofs.lemmas.Option.{slice_get_within, get_or_from_slice_get}
 use Rattle.pie_value.specs.declared.task.Task.{Task}
-use Rattle.pie_value.specs.Canonical.{enc_task, IsCanonicalTask}
+use Rattle.pie_value.specs.Canonical.{enc_task}
 use Rattle.pie_value.specs.Order.{byte_order}
 use Rattle.pie_record.specs.Canonical.{IsStorable}
+use Rattle.pie_record.specs.declared.records.Records.{Records}
 use Rattle.pie_record.specs.declared.task_record.Outcome.{Outcome}
 use Rattle.pie_record.specs.declared.task_record.Outcome.TheVariants as ends
 use Rattle.pie_record.specs.declared.task_record.TaskRecord.{TaskRecord}
-use Rattle.pie_record.specs.inner.Names.{AreDistinct}
 use Rattle.pie_record.specs.inner.Records.{record_of}
-use Rattle.pie_record.proofs.Naming.{bytes_tell}
 use Rattle.pie_store.specs.Canonical.{RowBefore}
 use Rattle.pie_tables.specs.declared.tables.Tables.{Tables}
 use Rattle.pie_tables.specs.Tabled.{HasFailed, IsKept, IsRecordAt, IsTables}
 use Rattle.pie_results.specs.inner.Failures.{is_done}
-use Rattle.pie_results.specs.inner.Ordered.{Place, place_cmp, keys_in, IsPlace, HasPlace, IsPlaced, ArePlaces, recorded, IsOfLive, AreRecords}
-
-abbrev IsTold : Task → Type 0
-IsTold t = IsCanonicalTask t (enc_task t)
+use Rattle.pie_results.specs.inner.Ordered.{bytes_in, number_cmp, IsDoneAt, IsAmong, AreOrdered, recorded, IsOfLive, AreRecords}
 
 -- ---- records of tables
 
@@ -49,45 +43,37 @@ done_storable r (inr failed) e = absurd (failed_not r.outcome e failed)
 pub some_same : {X : Type 0} (x y : X) → Some x ≡ Some y → x ≡ y
 some_same x y e = cc
 
--- a task has one place among distinct ones
-pub same_place : (tasks : List Task) (i j : ℕ) (t : Task) → AreDistinct tasks → slice_get tasks i ≡ Some t → slice_get tasks j ≡ Some t → i ≡ j
-same_place tasks i j t distinct e f =
-    let at : get_or tasks i t ≡ t = get_or_from_slice_get tasks i t t e in
-    let there : get_or tasks j t ≡ t = get_or_from_slice_get tasks j t t f in
-    let m : i < length tasks = slice_get_within tasks i t e in
-    let n : j < length tasks = slice_get_within tasks j t f in
-    elim (cases_lt i j) [
-      | inl lt ↦ absurd (distinct i j t lt n (at ∙ sym there))
-      | inr ge ↦ elim (cases_lt j i) [
-        | inl lt ↦ absurd (distinct j i t lt m (there ∙ sym at))
-        | inr le ↦ omega (arith, ge, le)
-      ]
-    ]
+-- ---- numbers and their records
 
--- ---- places and their records
+module _ (records : Records) (live : List ℕ) where
+  numbered_zip : (nos : List ℕ) → AllByRecursion (λ (n : ℕ). (r : TaskRecord) × IsDoneAt records live n r) nos
+      → AllZip (IsDoneAt records live) nos (recorded records nos)
+  numbered_zip [] all = tt
+  numbered_zip (n ∷ nos) all =
+      subst (λ o. AllZip (IsDoneAt records live) (n ∷ nos) (option_to_list o ++ recorded records nos)) (sym all.0.1.found) (all.0.1, numbered_zip nos all.1)
 
-module _ (t : Tables) (heights live : List ℕ) where
-  abbrev Placed : {Z : Type 0} → Place Z → TaskRecord → Type 0
-  Placed p r = IsPlace t.records heights live p r
-
-  placed_zip : {Z : Type 0} (es : List (Place Z)) → AllByRecursion (λ (p : Place Z). (r : TaskRecord) × Placed p r) es
-      → AllZip (λ (p : Place Z). Placed p) es (recorded t.records es)
-  placed_zip [] all = tt
-  placed_zip {Z} (p ∷ es) all =
-      subst (λ o. AllZip (λ (p : Place Z). Placed p) (p ∷ es) (option_to_list o ++ recorded t.records es)) (sym all.0.1.found) (all.0.1, placed_zip es all.1)
-
-  rows_all : {Z : Type 0} (P : TaskRecord → Type 0) → ((p : Place Z) (r : TaskRecord) → Placed p r → P r) → (es : List (Place Z)) (rows : List TaskRecord)
-      → AllZip (λ (p : Place Z). Placed p) es rows → All P rows
+  rows_all : (P : TaskRecord → Type 0) → ((n : ℕ) (r : TaskRecord) → IsDoneAt records live n r → P r) → (nos : List ℕ) (rows : List TaskRecord)
+      → AllZip (IsDoneAt records live) nos rows → All P rows
   rows_all P h [] [] z = All-nil P
   rows_all P h [] (r ∷ rows) z = elim z [ ]
-  rows_all P h (p ∷ es) [] z = elim z [ ]
-  rows_all P h (p ∷ es) (r ∷ rows) z = All-cons P r rows (h p r z.0) (rows_all P h es rows z.1)
+  rows_all P h (n ∷ nos) [] z = elim z [ ]
+  rows_all P h (n ∷ nos) (r ∷ rows) z = All-cons P r rows (h n r z.0) (rows_all P h nos rows z.1)
 
-  zip_length : {Z : Type 0} (es : List (Place Z)) (rows : List TaskRecord) → AllZip (λ (p : Place Z). Placed p) es rows → length rows ≡ length es
+  zip_length : (nos : List ℕ) (rows : List TaskRecord) → AllZip (IsDoneAt records live) nos rows → length rows ≡ length nos
   zip_length [] [] z = refl
   zip_length [] (r ∷ rows) z = elim z [ ]
-  zip_length (p ∷ es) [] z = elim z [ ]
-  zip_length (p ∷ es) (r ∷ rows) z = let rest = zip_length es rows z.1 in omega (arith, rest)
+  zip_length (n ∷ nos) [] z = elim z [ ]
+  zip_length (n ∷ nos) (r ∷ rows) z = let rest = zip_length nos rows z.1 in omega (arith, rest)
+
+  -- a number has its record among these
+  number_row : (nos : List ℕ) (rows : List TaskRecord) (n : ℕ) (r : TaskRecord) (i : ℕ) → record_of records n ≡ Some r
+      → AllZip (IsDoneAt records live) nos rows → i < length nos → get_or nos i n ≡ n → Contains rows r
+  number_row [] rows n r i found z l e = absurd (omega (arith, l))
+  number_row (m ∷ nos) [] n r i found z l e = elim z [ ]
+  number_row (m ∷ nos) (s ∷ rows) n r zero found z l e =
+      (0, omega arith, some_same s r (sym z.0.found ∙ ap (record_of records) e ∙ found))
+  number_row (m ∷ nos) (s ∷ rows) n r (suc i) found z l e =
+      let k = number_row nos rows n r i found z.1 (omega (arith, l)) e in (suc k.0, omega (arith, k.1), k.2)
 
 -- ---- the order
 
@@ -101,77 +87,51 @@ before height n m a b r s hr hs ar bs e = by (nat_cmp n m) (ranks n m) e
         inr (hr ∙ eq ∙ sym hs, subst (λ (x : List ℕ). byte_order x (enc_task s.task) ≡ Less) ar (subst (λ (y : List ℕ). byte_order a y ≡ Less) bs h))
     by Greater gt h = absurd (cc)
 
-module _ (t : Tables) (heights live : List ℕ) (height : Task → ℕ) where
-  -- the height of each record is the one beside its place
-  abbrev AreHigh : Type 0 → Type 0
-  AreHigh Z = (p : Place Z) (r : TaskRecord) → IsPlace t.records heights live p r → height r.task ≡ p.0.0
+module _ (records : Records) (heights live : List ℕ) (height : Task → ℕ) where
+  -- the height of each record is that of its number
+  abbrev AreHigh : Type 0
+  AreHigh = (n : ℕ) (r : TaskRecord) → IsDoneAt records live n r → height r.task ≡ get_or heights n 0
 
-  all_after : {Z : Type 0} → AreHigh Z → (p : Place Z) (r : TaskRecord) (es : List (Place Z)) (rows : List TaskRecord)
-      → IsPlace t.records heights live p r → AllZip (λ (p : Place Z). IsPlace t.records heights live p) es rows
-      → AllByRecursion (λ (y : ℕ × Vec ℕ Z). place_cmp p.0 y ≡ Less) (keys_in es) → All (RowBefore height r) rows
-  all_after h p r [] [] is z less = All-nil (RowBefore height r)
-  all_after h p r [] (s ∷ rows) is z less = elim z [ ]
-  all_after h p r (q ∷ es) [] is z less = elim z [ ]
-  all_after h p r (q ∷ es) (s ∷ rows) is z less =
+  all_after : AreHigh → (n : ℕ) (r : TaskRecord) (nos : List ℕ) (rows : List TaskRecord) → IsDoneAt records live n r
+      → AllZip (IsDoneAt records live) nos rows → AllByRecursion (λ (m : ℕ). number_cmp records heights n m ≡ Less) nos → All (RowBefore height r) rows
+  all_after h n r [] [] is z less = All-nil (RowBefore height r)
+  all_after h n r [] (s ∷ rows) is z less = elim z [ ]
+  all_after h n r (m ∷ nos) [] is z less = elim z [ ]
+  all_after h n r (m ∷ nos) (s ∷ rows) is z less =
       All-cons (RowBefore height r) s rows
-      (before height p.0.0 q.0.0 p.0.1.items q.0.1.items r s (h p r is) (h q s z.0) is.bytes z.0.bytes less.0)
-      (all_after h p r es rows is z.1 less.1)
+      (before height (get_or heights n 0) (get_or heights m 0) (bytes_in (record_of records n)) (bytes_in (record_of records m)) r s (h n r is) (h m s z.0)
+      (ap bytes_in is.found) (ap bytes_in z.0.found) less.0)
+      (all_after h n r nos rows is z.1 less.1)
 
-  rows_ascend : {Z : Type 0} → AreHigh Z → (es : List (Place Z)) (rows : List TaskRecord)
-      → AllZip (λ (p : Place Z). IsPlace t.records heights live p) es rows → IsStrictlySortedBy place_cmp (keys_in es) → AllPairs (RowBefore height) rows
+  rows_ascend : AreHigh → (nos : List ℕ) (rows : List TaskRecord) → AllZip (IsDoneAt records live) nos rows
+      → IsStrictlySortedBy (number_cmp records heights) nos → AllPairs (RowBefore height) rows
   unfolding IsStrictlySortedBy
   rows_ascend h [] [] z asc = λ i j d lt within. absurd (omega (arith, within))
   rows_ascend h [] (r ∷ rows) z asc = elim z [ ]
-  rows_ascend h (p ∷ es) [] z asc = elim z [ ]
-  rows_ascend h (p ∷ es) (r ∷ rows) z asc =
-      AllPairs-cons (RowBefore height) r rows (all_after h p r es rows z.0 z.1 asc.0) (rows_ascend h es rows z.1 asc.1)
-
--- ---- each record has its row
-
-told_at : (names : List Task) (n : ℕ) (t : Task) → All IsTold names → slice_get names n ≡ Some t → IsTold t
-told_at names n t all e = subst IsTold (get_or_from_slice_get names n t t e) (all n t (slice_get_within names n t e))
-
--- the record at a place with the bytes of a task is that of its number
-same_row : {Z : Type 0} (t : Tables) (heights live : List ℕ) (n : ℕ) (r s : TaskRecord) (p : Place Z) → IsTables t → AreDistinct t.names → All IsTold t.names
-    → record_of t.records n ≡ Some r → IsPlace t.records heights live p s → p.0.1.items ≡ enc_task r.task → s ≡ r
-same_row t heights live n r s p is distinct told found at bytes =
-    let here : slice_get t.names n ≡ Some r.task = (record_there t n r is found).named in
-    let there : slice_get t.names p.1 ≡ Some s.task = (record_there t p.1 s is at.found).named in
-    let same : s.task ≡ r.task =
-    bytes_tell s.task r.task (told_at t.names p.1 s.task told there) (told_at t.names n r.task told here) (sym at.bytes ∙ bytes) in
-    let place : p.1 ≡ n = same_place t.names p.1 n r.task distinct (there ∙ ap Some same) here in
-    some_same s r (sym at.found ∙ ap (record_of t.records) place ∙ found)
-
-place_row : {Z : Type 0} (t : Tables) (heights live : List ℕ) (n height : ℕ) (r : TaskRecord) (es : List (Place Z)) (rows : List TaskRecord) → IsTables t
-    → AreDistinct t.names → All IsTold t.names → record_of t.records n ≡ Some r → AllZip (λ (p : Place Z). IsPlace t.records heights live p) es rows
-    → HasPlace height (enc_task r.task) es → Contains rows r
-place_row t heights live n height r [] rows is distinct told found z has = elim has [ ]
-place_row t heights live n height r (p ∷ es) [] is distinct told found z has = elim z [ ]
-place_row t heights live n height r (p ∷ es) (s ∷ rows) is distinct told found z (inl at) =
-    (0, omega arith, same_row t heights live n r s p is distinct told found z.0 at.1)
-place_row t heights live n height r (p ∷ es) (s ∷ rows) is distinct told found z (inr more) =
-    let m = place_row t heights live n height r es rows is distinct told found z.1 more in (suc m.0, omega (arith, m.1), m.2)
+  rows_ascend h (n ∷ nos) [] z asc = elim z [ ]
+  rows_ascend h (n ∷ nos) (r ∷ rows) z asc =
+      AllPairs-cons (RowBefore height) r rows (all_after h n r nos rows z.0 z.1 asc.0) (rows_ascend h nos rows z.1 asc.1)
 
 -- ---- all of it
 
-pub rows_storable : {Z : Type 0} (t : Tables) (heights live : List ℕ) (es : List (Place Z)) (rows : List TaskRecord) → IsTables t
-    → ArePlaces t.records heights live live es → rows ≡ recorded t.records es → All IsStorable rows
-rows_storable {Z} t heights live es rows is a e =
-    rows_all t heights live IsStorable (λ p r at. done_storable r (record_there t p.1 r is at.found).kept at.done) es rows
-    (subst (λ (rs : List TaskRecord). AllZip (λ (p : Place Z). IsPlace t.records heights live p) es rs) (sym e) (placed_zip t heights live es a.only))
+pub rows_storable : (t : Tables) (heights live nos : List ℕ) (rows : List TaskRecord) → IsTables t → AreOrdered t.records heights live live nos
+    → rows ≡ recorded t.records nos → All IsStorable rows
+rows_storable t heights live nos rows is a e =
+    rows_all t.records live IsStorable (λ n r at. done_storable r (record_there t n r is at.found).kept at.done) nos rows
+    (subst (λ (rs : List TaskRecord). AllZip (IsDoneAt t.records live) nos rs) (sym e) (numbered_zip t.records live nos a.only))
 
-pub rows_are : {Z : Type 0} (t : Tables) (heights live : List ℕ) (es : List (Place Z)) (rows : List TaskRecord) → IsTables t → AreDistinct t.names
-    → All IsTold t.names → ArePlaces t.records heights live live es → rows ≡ recorded t.records es → AreRecords t.names t.records heights live rows
-rows_are {Z} t heights live es rows is distinct told a e = record {
-  few = let size = zip_length t heights live es rows zip in omega (arith, size, a.few);
-  only = rows_all t heights live (IsOfLive t.records live)
-      (λ p r at. record { number = p.1; is_live = at.is_live; found = at.found; done = at.done }) es rows zip;
+pub rows_are : (t : Tables) (heights live nos : List ℕ) (rows : List TaskRecord) → IsTables t → AreOrdered t.records heights live live nos
+    → rows ≡ recorded t.records nos → AreRecords t.names t.records heights live rows
+rows_are t heights live nos rows is a e = record {
+  few = let size = zip_length t.records live nos rows zip in omega (arith, size, a.few);
+  only = rows_all t.records live (IsOfLive t.records live)
+      (λ n r at. record { number = n; is_live = at.is_live; found = at.found; done = at.done }) nos rows zip;
   each = λ n r is_live found done.
-      place_row t heights live n (get_or heights n 0) r es rows is distinct told found zip
-      (subst (λ (o : Option TaskRecord). IfSome o (IsPlaced heights es n)) found (a.each n is_live) done);
-  ascending = λ height has. rows_ascend t heights live height
-      (λ p r at. has p.1 r.task (record_there t p.1 r is at.found).named ∙ at.high) es rows zip a.ascending;
+      let k : Contains nos n = subst (λ (o : Option TaskRecord). IfSome o (IsAmong nos n)) found (a.each n is_live) done in
+      number_row t.records live nos rows n r k.0 found zip k.1 k.2;
+  ascending = λ height has. rows_ascend t.records heights live height
+      (λ n r at. has n r.task (record_there t n r is at.found).named) nos rows zip a.ascending;
 }
   where
-    zip : AllZip (λ (p : Place Z). IsPlace t.records heights live p) es rows
-    zip = subst (λ (rs : List TaskRecord). AllZip (λ (p : Place Z). IsPlace t.records heights live p) es rs) (sym e) (placed_zip t heights live es a.only)
+    zip : AllZip (IsDoneAt t.records live) nos rows
+    zip = subst (λ (rs : List TaskRecord). AllZip (IsDoneAt t.records live) nos rs) (sym e) (numbered_zip t.records live nos a.only)

@@ -4,17 +4,48 @@ ghost use Rattle.std.specs.List.{Contains};
 ghost use Rattle.pie_graph.specs.Numbers.{numbers, AllBelow};
 ghost use Rattle.pie_tables.specs.Tabled.{IsTables};
 ghost use Rattle.pie_results.specs.inner.Failures.{is_done as specs_is_done};
-ghost use Rattle.pie_results.specs.inner.Ordered.{ArePlaces};
+ghost use Rattle.pie_results.specs.inner.Ordered.{AreOrdered, ArePlaces, numbers_in};
 
 use pie_base::OutOfMemory;
 use pie_graph::TaskNo;
 use pie_record::{Outcome, TaskRecord};
 use pie_tables::Tables;
 use pie_value::encode_task;
+use std::alloc::Global;
 use std::collections::BTreeMap;
 
-/// The live tasks that are done, by height and canonical bytes.
-pub(crate) fn places_of(
+/// The numbers of the live tasks that are done, by height and canonical bytes. A map puts them into order.
+pub(crate) fn sorted(
+    tables: &Tables,
+    heights: &[u32],
+    live: &[TaskNo],
+) -> Result<Vec<u32>, OutOfMemory>
+    requires tables { IsTables tables.now }
+    requires live { AllBelow (length heights.now) (numbers live.now) }
+    ensures { IfOk result (λ nos. AreOrdered tables.now.records heights.now (numbers live.now) (numbers live.now) nos.items) }
+{
+    let _names = tables.names.as_slice();
+    let places = places_of(tables, heights, live)?;
+    let nos = numbers_at(tables.alloc, &places)?;
+    Ok(nos)
+}
+
+// The numbers at places.
+fn numbers_at(
+    alloc: Global,
+    places: &BTreeMap<(u32, Vec<u8>), u32>,
+) -> Result<Vec<u32>, OutOfMemory>
+    ensures { IfOk result (λ nos. nos.items ≡ numbers_in places.now.entries) }
+{
+    let mut nos = Vec::new(alloc);
+    for (_, no) in places {
+        nos.push(*no)?;
+    }
+    Ok(nos)
+}
+
+// The live tasks that are done, by height and canonical bytes.
+fn places_of(
     tables: &Tables,
     heights: &[u32],
     live: &[TaskNo],

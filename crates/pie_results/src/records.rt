@@ -5,14 +5,14 @@ ghost use Rattle.pie_graph.specs.Numbers.{numbers, AllBelow};
 ghost use Rattle.pie_record.specs.Canonical.{IsStorable};
 ghost use Rattle.pie_record.specs.inner.Records.{record_of};
 ghost use Rattle.pie_tables.specs.Tabled.{IsTables};
-ghost use Rattle.pie_results.specs.inner.Ordered.{AreRecords, recorded};
+ghost use Rattle.pie_results.specs.inner.Ordered.{AreOrdered, AreRecords, recorded};
 
-use crate::places::places_of;
+use crate::ascending::as_they_stand;
+use crate::places::sorted;
 use pie_base::OutOfMemory;
 use pie_graph::TaskNo;
 use pie_record::TaskRecord;
 use pie_tables::Tables;
-use std::collections::BTreeMap;
 
 /// The records of live tasks that are done, by height and task.
 pub(crate) fn ordered(
@@ -25,21 +25,29 @@ pub(crate) fn ordered(
     ensures storable { IfOk result (λ rows. All IsStorable rows.items) }
     ensures records { IfOk result (λ rows. AreRecords tables.now.names tables.now.records heights.now (numbers live.now) rows.items) }
 {
-    let _names = tables.names.as_slice();
-    let places = places_of(tables, heights, live)?;
-    let rows = rows_at(tables, &places)?;
+    let nos = in_order(tables, heights, live)?;
+    let rows = rows_at(tables, nos.as_slice())?;
     Ok(rows)
 }
 
-// The records at places.
-fn rows_at(
-    tables: &Tables,
-    places: &BTreeMap<(u32, Vec<u8>), u32>,
-) -> Result<Vec<TaskRecord>, OutOfMemory>
-    ensures { IfOk result (λ rows. rows.items ≡ recorded tables.now.records places.now.entries) }
+// The numbers of the live tasks that are done, by height and canonical bytes.
+fn in_order(tables: &Tables, heights: &[u32], live: &[TaskNo]) -> Result<Vec<u32>, OutOfMemory>
+    requires tables { IsTables tables.now }
+    requires live { AllBelow (length heights.now) (numbers live.now) }
+    ensures { IfOk result (λ nos. AreOrdered tables.now.records heights.now (numbers live.now) (numbers live.now) nos.items) }
+{
+    match as_they_stand(tables, heights, live)? {
+        Some(nos) => Ok(nos),
+        None => sorted(tables, heights, live),
+    }
+}
+
+// The records of numbered tasks.
+fn rows_at(tables: &Tables, nos: &[u32]) -> Result<Vec<TaskRecord>, OutOfMemory>
+    ensures { IfOk result (λ rows. rows.items ≡ recorded tables.now.records nos.now) }
 {
     let mut rows = Vec::new(tables.alloc);
-    for (_, no) in places {
+    for no in nos {
         put_record(tables, TaskNo(*no), &mut rows)?;
     }
     Ok(rows)

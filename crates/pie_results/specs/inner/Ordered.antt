@@ -1,10 +1,10 @@
 -- The records of live tasks, by height and task.
-use Rattle.std.specs.Prelude.{◌≡◌, ◌⊎◌, ℕ, ◌≤◌, List, [], ◌∷◌, ◌++◌, length, map, Some, Vec, slice_get, slice_index_or, IfSome, true}
+use Rattle.std.specs.Prelude.{◌≡◌, ◌⊎◌, ℕ, ◌≤◌, List, [], ◌∷◌, ◌++◌, length, map, Bool, cond, Option, None, Some, Vec, slice_get, slice_index_or, IfSome, true}
 use Rattle.std.specs.List.{All, AllByRecursion, AllPairs, Contains}
 use Rattle.std.specs.List.Sorted.{IsStrictlySortedBy}
 use Rattle.std.specs.Option.{option_to_list}
 use Rattle.std.specs.declared.cmp.Ordering.{Ordering}
-use Rattle.std.specs.Ordering.{nat_cmp, ordering_then}
+use Rattle.std.specs.Ordering.{nat_cmp, ordering_then, is_lt}
 use Rattle.std.specs.Cmp.Lexicographic.{slice_cmp}
 use Rattle.pie_value.specs.declared.task.Task.{Task}
 use Rattle.pie_value.specs.Canonical.{enc_task}
@@ -50,10 +50,58 @@ pub record ArePlaces {Z : Type 0} (records : Records) (heights live seen : List 
   pub only : AllByRecursion (λ (p : Place Z). (r : TaskRecord) × IsPlace records heights live p r) places
   pub each : (n : ℕ) → Contains seen n → IfSome (record_of records n) (IsPlaced heights places n)
 
--- the records at places
-abbrev pub recorded : {Z : Type 0} → Records → List (Place Z) → List TaskRecord
-recorded rs [] = []
-recorded rs (p ∷ places) = option_to_list (record_of rs p.1) ++ recorded rs places
+-- the numbers at places
+abbrev pub numbers_in : {Z : Type 0} → List (Place Z) → List ℕ
+numbers_in {Z} places = map (λ (p : Place Z). p.1) places
+
+-- the lower height comes first, and at one height the canonical bytes decide
+abbrev pub key_cmp : ℕ × List ℕ → ℕ × List ℕ → Ordering
+key_cmp x y = ordering_then (nat_cmp x.0 y.0) (slice_cmp nat_cmp x.1 y.1)
+
+-- a key comes after the last one, if there is one
+abbrev pub follows : Option (ℕ × List ℕ) → ℕ × List ℕ → Bool
+follows None key = true
+follows (Some last) key = is_lt (key_cmp last key)
+
+-- the record of a task that is done
+abbrev pub done_in : Option TaskRecord → Option TaskRecord
+done_in None = None
+done_in (Some r) = cond (is_done r.outcome) (Some r) None
+
+-- the canonical bytes of the task of a record
+abbrev pub bytes_in : Option TaskRecord → List ℕ
+bytes_in None = []
+bytes_in (Some r) = enc_task r.task
+
+-- the height of a numbered task and its canonical bytes
+abbrev pub key_of : Records → List ℕ → ℕ → ℕ × List ℕ
+key_of records heights n = (slice_index_or heights n 0, bytes_in (record_of records n))
+
+-- the order of numbered tasks: by height and canonical bytes
+abbrev pub number_cmp : Records → List ℕ → ℕ → ℕ → Ordering
+number_cmp records heights n m = key_cmp (key_of records heights n) (key_of records heights m)
+
+-- the number of a live task that is done, with this record
+pub record IsDoneAt (records : Records) (live : List ℕ) (n : ℕ) (r : TaskRecord) : Type 0 where
+  pub is_live : Contains live n
+  pub found : record_of records n ≡ Some r
+  pub done : is_done r.outcome ≡ true
+
+-- a task that is done has its number among these
+abbrev pub IsAmong : List ℕ → ℕ → TaskRecord → Type 0
+IsAmong nos n r = is_done r.outcome ≡ true → Contains nos n
+
+-- the numbers in order of live tasks that are done, with each of some of them
+pub record AreOrdered (records : Records) (heights live seen nos : List ℕ) : Type 0 where
+  pub few : length nos ≤ length seen
+  pub ascending : IsStrictlySortedBy (number_cmp records heights) nos
+  pub only : AllByRecursion (λ (n : ℕ). (r : TaskRecord) × IsDoneAt records live n r) nos
+  pub each : (n : ℕ) → Contains seen n → IfSome (record_of records n) (IsAmong nos n)
+
+-- the records of numbered tasks
+abbrev pub recorded : Records → List ℕ → List TaskRecord
+recorded records [] = []
+recorded records (n ∷ nos) = option_to_list (record_of records n) ++ recorded records nos
 
 -- the height of a task is that of its number
 abbrev pub HasHeights : List Task → List ℕ → (Task → ℕ) → Type 0

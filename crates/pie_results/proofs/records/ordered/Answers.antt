@@ -1,13 +1,15 @@
+use Rattle.std.proofs.Common.{ap, ◌∙◌}
 use Rattle.pie_graph.specs.Numbers.{numbers}
+use Rattle.pie_results.specs.inner.Ordered.{recorded}
 use Rattle.pie_results.proofs.Ordering.{rows_are, rows_storable}
 use Rattle.pie_results.proofs.records.ordered.Goals as goal
 
 pub returns-clause-storable : goal.returns-clause-storable
 returns-clause-storable c =
-    rows_storable c.args.tables.now c.args.heights.now (numbers c.args.live.now) c.in_ok-places.places.entries c.in_ok-rows.rows.items c.requires.tables
-    c.in_ok-places.ensures c.in_ok-rows.ensures
+    rows_storable c.args.tables.now c.args.heights.now (numbers c.args.live.now) c.in_ok-nos.nos.items c.in_ok-rows.rows.items c.requires.tables
+    c.in_ok-nos.ensures (c.in_ok-rows.ensures ∙ ap (recorded c.args.tables.now.records) c.as_slice.ensures.value)
 
 pub returns-clause-records : goal.returns-clause-records
 returns-clause-records c =
-    rows_are c.args.tables.now c.args.heights.now (numbers c.args.live.now) c.in_ok-places.places.entries c.in_ok-rows.rows.items c.requires.tables
-    c.as_slice-names.ensures.distinct c.as_slice-names.ensures.canonical c.in_ok-places.ensures c.in_ok-rows.ensures
+    rows_are c.args.tables.now c.args.heights.now (numbers c.args.live.now) c.in_ok-nos.nos.items c.in_ok-rows.rows.items c.requires.tables
+    c.in_ok-nos.ensures (c.in_ok-rows.ensures ∙ ap (recorded c.args.tables.now.records) c.as_slice.ensures.value)
