@@ -46,3 +46,4 @@ pub mod Totals
 pub mod Knowing
 pub mod Concluding
 pub mod Telling
+pub mod Owning

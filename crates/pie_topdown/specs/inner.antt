@@ -16,3 +16,4 @@ pub mod Calling
 pub mod Rooted
 pub mod Offering
 pub mod Ran
+pub mod Unoffered

@@ -15,6 +15,7 @@ ghost use Rattle.pie_topdown.specs.inner.Places.{beside, AsksSource, Finds, IsPa
 ghost use Rattle.pie_topdown.specs.inner.Right.{PassesRight};
 ghost use Rattle.pie_topdown.specs.inner.Ran.{StaysMarked, Marks};
 ghost use Rattle.pie_topdown.specs.inner.Turns.{TurnsTo, check_mass, below, Nearer, room, Fits, Spends, StartsOne, Keeps};
+ghost use Rattle.pie_topdown.specs.inner.Unoffered.{ChecksOwn, HoldsOwn, IsOwnCheck, IsOwnTurn};
 
 use crate::builder::Builder;
 use crate::entering::Entry;
@@ -62,6 +63,7 @@ impl<'a> Builder<'a> {
         ensures marks { OnOk result (Marks self.old check.entry.value.no.0 self.new runs.old runs.new) }
         ensures reads { ReadsOnly F.holds F.moment F.left_since F.images F.faults files.old files.new result }
         ensures told { O.told offers.new ≡ O.told offers.old }
+        ensures own { IfOk result (ChecksOwn (F.holds files.old) (O.told offers.old) self.old check.entry.value self.new) }
         ensures right { IfOk result (ComparesSo (F.holds files.old) (O.told offers.old) self.old check.entry.value self.new) }
     {
         let mut check = check;
@@ -90,6 +92,7 @@ impl<'a> Builder<'a> {
         ensures marks { OnOk result (Marks self.old check.entry.value.no.0 self.new runs.old runs.new) }
         ensures reads { ReadsOnly F.holds F.moment F.left_since F.images F.faults files.old files.new result }
         ensures told { O.told offers.new ≡ O.told offers.old }
+        ensures own { IfOk result (ChecksOwn (F.holds files.old) (O.told offers.old) self.old check.entry.value self.new) }
         ensures right { IfOk result (GoesOnSo (F.holds files.old) (O.told offers.old) self.old check.entry.value place self.new) }
     {
         match place {
@@ -107,6 +110,7 @@ impl<'a> Builder<'a> {
         ensures turns { TurnsTo self.now result }
         ensures nearer { Nearer (below self.now + check_mass check.entry.value) self.now result }
         ensures fits { Fits (room self.now + 1) self.now result }
+        ensures own { IsOwnCheck check.entry.value → IsOwnTurn result }
         ensures right { PassesRight self.now check.entry.value result }
     {
         let mut check = check;
@@ -137,6 +141,7 @@ impl<'a> Builder<'a> {
         ensures marks { OnOk result (Marks self.old check.entry.value.no.0 self.new runs.old runs.new) }
         ensures reads { ReadsOnly F.holds F.moment F.left_since F.images F.faults files.old files.new result }
         ensures told { O.told offers.new ≡ O.told offers.old }
+        ensures own { IfOk result (ChecksOwn (F.holds files.old) (O.told offers.old) self.old check.entry.value self.new) }
         ensures right { IfOk result (RequiresSo (F.holds files.old) (O.told offers.old) self.old check.entry.value task self.new) }
     {
         match self.entry(&task) {
@@ -163,6 +168,7 @@ impl<'a> Builder<'a> {
         ensures fits { IfOk result (Fits (room self.old + 1) self.new) }
         ensures kept { OnOk result (Keeps self.old self.new) }
         ensures marks { OnOk result (StaysMarked self.old self.new) }
+        ensures own { IsOwnCheck check.entry.value → IfOk result (HoldsOwn self.old self.new) }
         ensures right { IfOk result (ChecksSo self.old check.entry.value task self.new) }
     {
         let no = self.enter(task, code)?;

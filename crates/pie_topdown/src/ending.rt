@@ -8,8 +8,8 @@ ghost use Rattle.pie_value.specs.Values.{tree_of};
 ghost use Rattle.pie_topdown.specs.inner.Asking.{EndsSo};
 ghost use Rattle.pie_topdown.specs.inner.Frames.{IsNoted, IsSite};
 ghost use Rattle.pie_topdown.specs.inner.Right.{FailsSo};
-ghost use Rattle.pie_topdown.specs.inner.Ran.{StaysMarked};
 ghost use Rattle.pie_topdown.specs.inner.Turns.{TurnsTo, below, Nearer, room, Fits, Keeps, FailsFirst, StaysFailed};
+ghost use Rattle.pie_topdown.specs.inner.Unoffered.{GoesMarked};
 
 use crate::builder::Builder;
 use crate::hand::{Hand, Turn};
@@ -35,7 +35,7 @@ impl<'a> Builder<'a> {
         ensures nearer { IfOk result (Nearer (below self.old + 1) self.new) }
         ensures fits { IfOk result (Fits (room self.old) self.new) }
         ensures kept { OnOk result (Keeps self.old self.new) }
-        ensures marks { OnOk result (StaysMarked self.old self.new) }
+        ensures marks { IfOk result (GoesMarked self.old self.new) }
         ensures right { IfOk result (EndsSo self.old notes output self.new) }
     {
         if !output.is_small() {
@@ -64,7 +64,7 @@ impl<'a> Builder<'a> {
         ensures nearer { IfOk result (Nearer (below self.old + 1) self.new) }
         ensures fits { IfOk result (Fits (room self.old) self.new) }
         ensures kept { OnOk result (Keeps self.old self.new) }
-        ensures marks { OnOk result (StaysMarked self.old self.new) }
+        ensures marks { IfOk result (GoesMarked self.old self.new) }
         ensures right { IfOk result (EndsSo self.old notes output self.new) }
     {
         let NoteParts {
@@ -92,7 +92,7 @@ impl<'a> Builder<'a> {
         ensures nearer { IfOk result (Nearer (below self.old + 1) self.new) }
         ensures fits { IfOk result (Fits (room self.old) self.new) }
         ensures kept { OnOk result (Keeps self.old self.new) }
-        ensures marks { OnOk result (StaysMarked self.old self.new) }
+        ensures marks { IfOk result (GoesMarked self.old self.new) }
         ensures right { IfOk result (FailsSo self.old no.0 kind self.new) }
     {
         let task = self.ledger.tables.names.task(no).copy()?;
@@ -109,7 +109,7 @@ impl<'a> Builder<'a> {
         ensures nearer { IfOk result (Nearer (below self.old + 1) self.new) }
         ensures fits { IfOk result (Fits (room self.old) self.new) }
         ensures kept { OnOk result (Keeps self.old self.new) }
-        ensures marks { OnOk result (StaysMarked self.old self.new) }
+        ensures marks { IfOk result (GoesMarked self.old self.new) }
         ensures first { OnOk result (FailsFirst self.old outcome self.new) }
     {
         self.note_failure(&outcome)?;

@@ -5,8 +5,8 @@ ghost use Rattle.pie_running.specs.inner.Frames.{IsWaiting};
 ghost use Rattle.pie_value.specs.declared.event.Event.TheVariants as events;
 ghost use Rattle.pie_topdown.specs.inner.Asking.{ActsSo, AsksSo, LooksSo, RunsSo, ToldSo};
 ghost use Rattle.pie_topdown.specs.inner.Frames.{IsNoted, IsRunning, IsSite};
-ghost use Rattle.pie_topdown.specs.inner.Ran.{StaysMarked};
 ghost use Rattle.pie_topdown.specs.inner.Turns.{TurnsTo, below, Nearer, room, Fits, Keeps, MayGo, told_mass};
+ghost use Rattle.pie_topdown.specs.inner.Unoffered.{GoesMarked};
 
 use crate::builder::Builder;
 use crate::hand::{Hand, Turn};
@@ -30,7 +30,7 @@ impl<'a> Builder<'a> {
         ensures nearer { IfOk result (Nearer (below self.old + (2 * task.entry.notes.left + 1)) self.new) }
         ensures fits { IfOk result (Fits (room self.old) self.new) }
         ensures kept { OnOk result (Keeps self.old self.new) }
-        ensures marks { OnOk result (StaysMarked self.old self.new) }
+        ensures marks { IfOk result (GoesMarked self.old self.new) }
         ensures reads { ReadsOnly F.holds F.moment F.left_since F.images F.faults files.old files.new result }
         ensures right { IfOk result (RunsSo (F.holds files.old) self.old task.entry self.new) }
     {
@@ -59,7 +59,7 @@ impl<'a> Builder<'a> {
         ensures nearer { IfOk result (Nearer (below self.old + (2 * waiting.entry.notes.left + 1)) self.new) }
         ensures fits { IfOk result (Fits (room self.old) self.new) }
         ensures kept { OnOk result (Keeps self.old self.new) }
-        ensures marks { OnOk result (StaysMarked self.old self.new) }
+        ensures marks { IfOk result (GoesMarked self.old self.new) }
         ensures reads { ReadsOnly F.holds F.moment F.left_since F.images F.faults files.old files.new result }
         ensures right { IfOk result (AsksSo (F.holds files.old) self.old waiting.entry event self.new) }
     {
@@ -90,7 +90,7 @@ impl<'a> Builder<'a> {
         ensures nearer { IfOk result (Nearer (below self.old + (2 * waiting.entry.notes.left + 1)) self.new) }
         ensures fits { IfOk result (Fits (room self.old) self.new) }
         ensures kept { OnOk result (Keeps self.old self.new) }
-        ensures marks { OnOk result (StaysMarked self.old self.new) }
+        ensures marks { IfOk result (GoesMarked self.old self.new) }
         ensures reads { ReadsOnly F.holds F.moment F.left_since F.images F.faults files.old files.new result }
         ensures right { IfOk result (AsksSo (F.holds files.old) self.old waiting.entry (events.Exists path) self.new) }
     {
@@ -114,7 +114,7 @@ impl<'a> Builder<'a> {
         ensures nearer { IfOk result (Nearer (below self.old + (2 * waiting.entry.notes.left + 1)) self.new) }
         ensures fits { IfOk result (Fits (room self.old) self.new) }
         ensures kept { OnOk result (Keeps self.old self.new) }
-        ensures marks { OnOk result (StaysMarked self.old self.new) }
+        ensures marks { IfOk result (GoesMarked self.old self.new) }
         ensures reads { ReadsOnly F.holds F.moment F.left_since F.images F.faults files.old files.new result }
         ensures right { IfOk result (LooksSo (F.holds files.old) self.old waiting.entry (events.Exists path) path self.new) }
     {
@@ -139,7 +139,7 @@ impl<'a> Builder<'a> {
         ensures nearer { IfOk result (Nearer (below self.old + (2 * waiting.entry.notes.left + 1)) self.new) }
         ensures fits { IfOk result (Fits (room self.old) self.new) }
         ensures kept { OnOk result (Keeps self.old self.new) }
-        ensures marks { OnOk result (StaysMarked self.old self.new) }
+        ensures marks { IfOk result (GoesMarked self.old self.new) }
         ensures reads { ReadsOnly F.holds F.moment F.left_since F.images F.faults files.old files.new result }
         ensures right { IfOk result (AsksSo (F.holds files.old) self.old waiting.entry (events.Read path by) self.new) }
     {
@@ -164,7 +164,7 @@ impl<'a> Builder<'a> {
         ensures nearer { IfOk result (Nearer (below self.old + (2 * waiting.entry.notes.left + 1)) self.new) }
         ensures fits { IfOk result (Fits (room self.old) self.new) }
         ensures kept { OnOk result (Keeps self.old self.new) }
-        ensures marks { OnOk result (StaysMarked self.old self.new) }
+        ensures marks { IfOk result (GoesMarked self.old self.new) }
         ensures reads { ReadsOnly F.holds F.moment F.left_since F.images F.faults files.old files.new result }
         ensures right { IfOk result (LooksSo (F.holds files.old) self.old waiting.entry (events.Read path by) path self.new) }
     {
@@ -188,7 +188,7 @@ impl<'a> Builder<'a> {
         ensures nearer { IfOk result (Nearer (below self.old + (2 * waiting.entry.notes.left + 1)) self.new) }
         ensures fits { IfOk result (Fits (room self.old) self.new) }
         ensures kept { OnOk result (Keeps self.old self.new) }
-        ensures marks { OnOk result (StaysMarked self.old self.new) }
+        ensures marks { IfOk result (GoesMarked self.old self.new) }
         ensures reads { ReadsOnly F.holds F.moment F.left_since F.images F.faults files.old files.new result }
         ensures right { IfOk result (AsksSo (F.holds files.old) self.old waiting.entry (events.Digest path) self.new) }
     {
@@ -212,7 +212,7 @@ impl<'a> Builder<'a> {
         ensures nearer { IfOk result (Nearer (below self.old + (2 * waiting.entry.notes.left + 1)) self.new) }
         ensures fits { IfOk result (Fits (room self.old) self.new) }
         ensures kept { OnOk result (Keeps self.old self.new) }
-        ensures marks { OnOk result (StaysMarked self.old self.new) }
+        ensures marks { IfOk result (GoesMarked self.old self.new) }
         ensures reads { ReadsOnly F.holds F.moment F.left_since F.images F.faults files.old files.new result }
         ensures right { IfOk result (LooksSo (F.holds files.old) self.old waiting.entry (events.Digest path) path self.new) }
     {
@@ -236,7 +236,7 @@ impl<'a> Builder<'a> {
         ensures nearer { IfOk result (Nearer (below self.old + (2 * waiting.entry.notes.left + 1)) self.new) }
         ensures fits { IfOk result (Fits (room self.old) self.new) }
         ensures kept { OnOk result (Keeps self.old self.new) }
-        ensures marks { OnOk result (StaysMarked self.old self.new) }
+        ensures marks { IfOk result (GoesMarked self.old self.new) }
         ensures reads { ReadsOnly F.holds F.moment F.left_since F.images F.faults files.old files.new result }
         ensures right { IfOk result (AsksSo (F.holds files.old) self.old waiting.entry (events.List dir) self.new) }
     {
@@ -259,7 +259,7 @@ impl<'a> Builder<'a> {
         ensures nearer { IfOk result (Nearer (below self.old + (2 * waiting.entry.notes.left + 1)) self.new) }
         ensures fits { IfOk result (Fits (room self.old) self.new) }
         ensures kept { OnOk result (Keeps self.old self.new) }
-        ensures marks { OnOk result (StaysMarked self.old self.new) }
+        ensures marks { IfOk result (GoesMarked self.old self.new) }
         ensures right { IfOk result (ActsSo self.old waiting.entry (events.Write path bytes) self.new) }
     {
         let told = waiting.write(self.alloc, &mut self.stage, path, &bytes)?;
@@ -275,7 +275,7 @@ impl<'a> Builder<'a> {
         ensures nearer { IfOk result (Nearer (below self.old + told_mass told.entry) self.new) }
         ensures fits { IfOk result (Fits (room self.old) self.new) }
         ensures kept { OnOk result (Keeps self.old self.new) }
-        ensures marks { OnOk result (StaysMarked self.old self.new) }
+        ensures marks { IfOk result (GoesMarked self.old self.new) }
         ensures right { IfOk result (ToldSo self.old no.0 told.entry self.new) }
     {
         match told {

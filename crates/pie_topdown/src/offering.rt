@@ -1,5 +1,5 @@
 //! Records that are offered for a task whose own record doesn't stand.
-ghost use Rattle.std.specs.Prelude.{◌≡◌, ◌<◌, ◌≤◌, ◌+◌, ◌*◌, length, Some, true, slice_get, All, IfOk, IfSome, OnOk};
+ghost use Rattle.std.specs.Prelude.{◌≡◌, ◌<◌, ◌≤◌, ◌+◌, ◌*◌, [], length, Some, true, slice_get, All, IfOk, IfSome, OnOk};
 ghost use Rattle.pie_files.specs.Reading.{ReadsOnly};
 ghost use Rattle.pie_record.specs.Canonical.{IsStorable};
 ghost use Rattle.pie_store.specs.inner.Offers.{IsOffer};
@@ -8,6 +8,7 @@ ghost use Rattle.pie_topdown.specs.inner.Offering.{OffersOrRuns, DiffersSo, Offe
 ghost use Rattle.pie_topdown.specs.inner.Places.{MayGiveWay};
 ghost use Rattle.pie_topdown.specs.inner.Ran.{Marks};
 ghost use Rattle.pie_topdown.specs.inner.Turns.{TurnsTo, check_mass, below, Nearer, room, Fits, Spends, StartsOne, Keeps};
+ghost use Rattle.pie_topdown.specs.inner.Unoffered.{BeginsOwn, ChecksOwn, HoldsOwn, OffersNothing};
 
 use crate::begin::is_done;
 use crate::builder::Builder;
@@ -46,6 +47,7 @@ impl<'a> Builder<'a> {
         ensures marks { OnOk result (Marks self.old check.entry.value.no.0 self.new runs.old runs.new) }
         ensures reads { ReadsOnly F.holds F.moment F.left_since F.images F.faults files.old files.new result }
         ensures told { O.told offers.new ≡ O.told offers.old }
+        ensures own { IfOk result (ChecksOwn (F.holds files.old) (O.told offers.old) self.old check.entry.value self.new) }
         ensures right { IfOk result (DiffersSo (F.holds files.old) (O.told offers.old) self.old check.entry.value self.new) }
     {
         let Check { no, code, rest, .. } = Box::into_inner(check);
@@ -76,6 +78,7 @@ impl<'a> Builder<'a> {
         ensures marks { OnOk result (Marks self.old no.0 self.new runs.old runs.new) }
         ensures reads { ReadsOnly F.holds F.moment F.left_since F.images F.faults files.old files.new result }
         ensures told { O.told offers.new ≡ O.told offers.old }
+        ensures own { IfOk result (BeginsOwn (F.holds files.old) (O.told offers.old) self.old self.new) }
         ensures right { IfOk result (OffersOrRuns (F.holds files.old) (O.told offers.old) self.old no.0 code.now self.new) }
     {
         let rest = self.offered(no, offers, files)?;
@@ -95,6 +98,7 @@ impl<'a> Builder<'a> {
         ensures few { IfOk result (λ found. length found.items ≤ 4) }
         ensures reads { ReadsOnly F.holds F.moment F.left_since F.images F.faults files.old files.new result }
         ensures told { O.told offers.new ≡ O.told offers.old }
+        ensures none { OffersNothing (F.holds files.old) (O.told offers.old) → IfOk result (λ found. found.items ≡ []) }
         ensures right { IfOk result (λ found. OffersSo (F.holds files.old) (O.told offers.old) self.now found.items) }
     {
         let _names = self.ledger.tables.names.as_slice();
@@ -125,6 +129,7 @@ impl<'a> Builder<'a> {
         ensures few { length runs.new ≤ length runs.old + (room self.old + 1) }
         ensures kept { OnOk result (Keeps self.old self.new) }
         ensures marks { OnOk result (Marks self.old no.0 self.new runs.old runs.new) }
+        ensures own { rest.items ≡ [] → IfOk result (HoldsOwn self.old self.new) }
         ensures right { IfOk result (TriesSo self.old no.0 code.now rest.items self.new) }
     {
         let mut rest = rest;

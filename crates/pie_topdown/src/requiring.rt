@@ -11,8 +11,8 @@ ghost use Rattle.pie_topdown.specs.inner.Calling.{AnswersSo, CallsSo, DescendsSo
 ghost use Rattle.pie_topdown.specs.inner.Entries.{MayEnter};
 ghost use Rattle.pie_topdown.specs.inner.Frames.{IsNoted, IsCaller, IsSite};
 ghost use Rattle.pie_topdown.specs.inner.Ledgers.{HasOutput};
-ghost use Rattle.pie_topdown.specs.inner.Ran.{StaysMarked};
 ghost use Rattle.pie_topdown.specs.inner.Turns.{TurnsTo, below, Nearer, room, Fits, Keeps};
+ghost use Rattle.pie_topdown.specs.inner.Unoffered.{GoesMarked, IsOwnTurn};
 
 use crate::builder::Builder;
 use crate::entering::Entry;
@@ -41,7 +41,7 @@ impl<'a> Builder<'a> {
         ensures nearer { IfOk result (Nearer (below self.old + (2 * waiting.entry.notes.left + 1)) self.new) }
         ensures fits { IfOk result (Fits (room self.old) self.new) }
         ensures kept { OnOk result (Keeps self.old self.new) }
-        ensures marks { OnOk result (StaysMarked self.old self.new) }
+        ensures marks { IfOk result (GoesMarked self.old self.new) }
         ensures right { IfOk result (ActsSo self.old waiting.entry (events.Require required how) self.new) }
     {
         if !required.is_small() {
@@ -66,7 +66,7 @@ impl<'a> Builder<'a> {
         ensures nearer { IfOk result (Nearer (below self.old + (2 * caller.entry.waiting.notes.left + 1)) self.new) }
         ensures fits { IfOk result (Fits (room self.old) self.new) }
         ensures kept { OnOk result (Keeps self.old self.new) }
-        ensures marks { OnOk result (StaysMarked self.old self.new) }
+        ensures marks { IfOk result (GoesMarked self.old self.new) }
         ensures right { IfOk result (AnswersSo self.old caller.entry self.new) }
     {
         match self.ledger.tables.names.number(&caller.required)? {
@@ -84,7 +84,7 @@ impl<'a> Builder<'a> {
         ensures nearer { IfOk result (Nearer (below self.old + (2 * caller.entry.waiting.notes.left + 1)) self.new) }
         ensures fits { IfOk result (Fits (room self.old) self.new) }
         ensures kept { OnOk result (Keeps self.old self.new) }
-        ensures marks { OnOk result (StaysMarked self.old self.new) }
+        ensures marks { IfOk result (GoesMarked self.old self.new) }
         ensures right { IfOk result (CallsSo self.old caller.entry self.new) }
     {
         let no = caller.waiting.notes.no();
@@ -114,6 +114,7 @@ impl<'a> Builder<'a> {
         ensures turns { IfOk result (TurnsTo self.now) }
         ensures nearer { IfOk result (Nearer (below self.now + (2 * caller.entry.waiting.notes.left + 1)) self.now) }
         ensures fits { IfOk result (Fits (room self.now) self.now) }
+        ensures turn { IfOk result IsOwnTurn }
         ensures right { IfOk result (GivesSo self.now caller.entry callee.0 output self.now) }
     {
         let Caller {
@@ -139,7 +140,7 @@ impl<'a> Builder<'a> {
         ensures nearer { IfOk result (Nearer (below self.old + (2 * caller.entry.waiting.notes.left + 1)) self.new) }
         ensures fits { IfOk result (Fits (room self.old) self.new) }
         ensures kept { OnOk result (Keeps self.old self.new) }
-        ensures marks { OnOk result (StaysMarked self.old self.new) }
+        ensures marks { IfOk result (GoesMarked self.old self.new) }
         ensures right { IfOk result (DescendsSo self.old caller.entry self.new) }
     {
         match self.entry(&caller.required) {
@@ -169,7 +170,7 @@ impl<'a> Builder<'a> {
         ensures nearer { IfOk result (Nearer (below self.old + (2 * caller.entry.waiting.notes.left + 1)) self.new) }
         ensures fits { IfOk result (Fits (room self.old) self.new) }
         ensures kept { OnOk result (Keeps self.old self.new) }
-        ensures marks { OnOk result (StaysMarked self.old self.new) }
+        ensures marks { IfOk result (GoesMarked self.old self.new) }
         ensures right { IfOk result (DescendsSo self.old caller.entry self.new) }
     {
         let no = self.enter(caller.required.copy()?, code)?;
@@ -185,7 +186,7 @@ impl<'a> Builder<'a> {
         ensures nearer { IfOk result (Nearer (below self.old + (2 * caller.entry.waiting.notes.left + 1)) self.new) }
         ensures fits { IfOk result (Fits (room self.old) self.new) }
         ensures kept { OnOk result (Keeps self.old self.new) }
-        ensures marks { OnOk result (StaysMarked self.old self.new) }
+        ensures marks { IfOk result (GoesMarked self.old self.new) }
         ensures right { IfOk result (LosesSo self.old caller.entry self.new) }
     {
         let no = caller.waiting.notes.no();

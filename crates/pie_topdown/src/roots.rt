@@ -11,6 +11,7 @@ ghost use Rattle.pie_topdown.specs.inner.Ran.{RansOn, SettlesRan, StopsRan, Sett
 ghost use Rattle.pie_topdown.specs.inner.Rooted.{lost, RunsOnRight, SettlesRight, SettlesAllRight};
 ghost use Rattle.pie_topdown.specs.inner.Roots.{IsSettledRoot, AreSettled, Started, Continues};
 ghost use Rattle.pie_topdown.specs.inner.Turns.{Stands, hand_room, room, Keeps};
+ghost use Rattle.pie_topdown.specs.inner.Unoffered.{EndsOwn, RunsOwn};
 
 use crate::begin::is_done;
 use crate::builder::Builder;
@@ -26,7 +27,7 @@ use pie_vm::Runs;
 
 impl<'a> Builder<'a> {
     /// Settles the roots up to the first that fails; why it does.
-    #[tactic(auto, using(pie_files::proofs::Reading::reads, crate::proofs::Turning::none_settled, crate::proofs::Totals::none_ran))]
+    #[tactic(auto, using(pie_files::proofs::Reading::reads, crate::proofs::Turning::none_settled, crate::proofs::Totals::none_ran, crate::proofs::Owning::own_none))]
     pub(crate) fn settle_all<F: Files, O: Offers>(
         &mut self,
         roots: &[Task],
@@ -43,6 +44,7 @@ impl<'a> Builder<'a> {
         ensures few { length runs.new ≤ length runs.old + room self.old }
         ensures reads { ReadsOnly F.holds F.moment F.left_since F.images F.faults files.old files.new result }
         ensures told { O.told offers.new ≡ O.told offers.old }
+        ensures own { OnOk result (EndsOwn (F.holds files.old) (O.told offers.old) self.old self.new) }
         ensures right { IfOk result (SettlesAllRight (F.holds files.old) (O.told offers.old) self.old roots.now self.new) }
         ensures ran { IfOk result (SettlesAllRan (F.holds files.old) (O.told offers.old) self.old roots.now self.new runs.old runs.new) }
         ensures full { IfOk result (StopsAllRan (F.holds files.old) (O.told offers.old) self.old roots.now self.new runs.old runs.new) }
@@ -75,6 +77,7 @@ impl<'a> Builder<'a> {
         ensures few { length runs.new ≤ length runs.old + room self.old }
         ensures reads { ReadsOnly F.holds F.moment F.left_since F.images F.faults files.old files.new result }
         ensures told { O.told offers.new ≡ O.told offers.old }
+        ensures own { OnOk result (EndsOwn (F.holds files.old) (O.told offers.old) self.old self.new) }
         ensures right { IfOk result (SettlesRight (F.holds files.old) (O.told offers.old) self.old root.now self.new) }
         ensures ran { IfOk result (SettlesRan (F.holds files.old) (O.told offers.old) self.old root.now self.new runs.old runs.new) }
         ensures full { IfOk result (StopsRan (F.holds files.old) (O.told offers.old) self.old root.now self.new runs.old runs.new) }
@@ -105,6 +108,7 @@ impl<'a> Builder<'a> {
         ensures few { length runs.new ≤ length runs.old + room self.old }
         ensures reads { ReadsOnly F.holds F.moment F.left_since F.images F.faults files.old files.new result }
         ensures told { O.told offers.new ≡ O.told offers.old }
+        ensures own { OnOk result (EndsOwn (F.holds files.old) (O.told offers.old) self.old self.new) }
         ensures right { IfOk result (SettlesRight (F.holds files.old) (O.told offers.old) self.old root.now self.new) }
         ensures ran { IfOk result (SettlesRan (F.holds files.old) (O.told offers.old) self.old root.now self.new runs.old runs.new) }
         ensures full { IfOk result (StopsRan (F.holds files.old) (O.told offers.old) self.old root.now self.new runs.old runs.new) }
@@ -140,6 +144,7 @@ impl<'a> Builder<'a> {
         ensures few { length runs.new ≤ length runs.old + room self.old }
         ensures reads { ReadsOnly F.holds F.moment F.left_since F.images F.faults files.old files.new result }
         ensures told { O.told offers.new ≡ O.told offers.old }
+        ensures own { OnOk result (EndsOwn (F.holds files.old) (O.told offers.old) self.old self.new) }
         ensures right { IfOk result (SettlesRight (F.holds files.old) (O.told offers.old) self.old root.now self.new) }
         ensures ran { IfOk result (SettlesRan (F.holds files.old) (O.told offers.old) self.old root.now self.new runs.old runs.new) }
         ensures full { IfOk result (StopsRan (F.holds files.old) (O.told offers.old) self.old root.now self.new runs.old runs.new) }
@@ -156,7 +161,7 @@ impl<'a> Builder<'a> {
     }
 
     // Goes on until nothing waits, or one task more was to be entered than a build may have.
-    #[tactic(auto, using(pie_files::proofs::Reading::reads, crate::proofs::Turning::stays_first, crate::proofs::Totals::ran_first))]
+    #[tactic(auto, using(pie_files::proofs::Reading::reads, crate::proofs::Turning::stays_first, crate::proofs::Totals::ran_first, crate::proofs::Owning::own_first))]
     fn run<F: Files, O: Offers>(
         &mut self,
         hand: Hand<'a>,
@@ -172,6 +177,7 @@ impl<'a> Builder<'a> {
         ensures few { length runs.new ≤ length runs.old + (room self.old + hand_room hand.entry) }
         ensures reads { ReadsOnly F.holds F.moment F.left_since F.images F.faults files.old files.new result }
         ensures told { O.told offers.new ≡ O.told offers.old }
+        ensures own { OnOk result (RunsOwn (F.holds files.old) (O.told offers.old) self.old hand.entry self.new) }
         ensures right { IfOk result (RunsOnRight (F.holds files.old) (O.told offers.old) self.old hand.entry self.new) }
         ensures ran { OnOk result (RansOn (F.holds files.old) (O.told offers.old) self.old hand.entry self.new runs.old runs.new) }
     {

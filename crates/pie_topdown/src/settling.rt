@@ -16,6 +16,7 @@ ghost use Rattle.pie_topdown.specs.inner.Ran.{AddsNamed, AddsOne, RunsForReasons
 ghost use Rattle.pie_topdown.specs.inner.Rooted.{AreOldTables, IsPlanOf, IsProgram, IsUnbegun, MakesSettled};
 ghost use Rattle.pie_topdown.specs.inner.Roots.{AreSettled, Started};
 ghost use Rattle.pie_topdown.specs.inner.Turns.{room, StartsOne};
+ghost use Rattle.pie_topdown.specs.inner.Unoffered.{OffersNothing};
 
 use crate::builder::Builder;
 use crate::ledger::Ledger;
@@ -68,6 +69,7 @@ pub fn topdown<F: Files, O: Offers>(
     ensures reads { ReadsOnly F.holds F.moment F.left_since F.images F.faults files.old files.new result }
     ensures clean { IsProgram typed.now code.now image.rows
         → IfOk result (MakesClean (F.holds files.old) typed.now image.funcs digests.now image.rows (O.told offers.old) roots.now) }
+    ensures none { OffersNothing (F.holds files.old) (O.told offers.old) → OnOk result (reused.new.items ≡ reused.old.items) }
     ensures ran { IsProgram typed.now code.now image.rows
         → IfOk result (λ b. RunsForReasons (F.holds files.old) typed.now image.funcs digests.now image.rows (O.told offers.old) roots.now runs.old runs.new
         reused.old.items reused.new.items b.verdict) }

@@ -10,6 +10,7 @@ ghost use Rattle.pie_topdown.specs.inner.Offering.{EndsReused, StagesAll};
 ghost use Rattle.pie_topdown.specs.inner.Right.{KeepsRight, EndsKept};
 ghost use Rattle.pie_topdown.specs.inner.Ran.{StaysMarked, ReusesOne, KeepsMarks};
 ghost use Rattle.pie_topdown.specs.inner.Turns.{TurnsTo, below, Nearer, room, Fits, Keeps};
+ghost use Rattle.pie_topdown.specs.inner.Unoffered.{HoldsOwn, IsOwnCheck};
 
 use crate::builder::Builder;
 use crate::hand::{Check, Hand, Turn};
@@ -29,6 +30,7 @@ impl<'a> Builder<'a> {
         ensures fits { IfOk result (Fits (room self.old) self.new) }
         ensures kept { OnOk result (Keeps self.old self.new) }
         ensures marks { OnOk result (KeepsMarks self.old check.entry.value.no.0 self.new) }
+        ensures own { IsOwnCheck check.entry.value → IfOk result (HoldsOwn self.old self.new) }
         ensures right { IfOk result (KeepsRight self.old check.entry.value self.new) }
     {
         let Check {
@@ -61,6 +63,7 @@ impl<'a> Builder<'a> {
         ensures fits { IfOk result (Fits (room self.old) self.new) }
         ensures kept { OnOk result (Keeps self.old self.new) }
         ensures marks { OnOk result (StaysMarked self.old self.new) }
+        ensures own { IfOk result (HoldsOwn self.old self.new) }
         ensures ended { IfOk result (EndsKept self.old no.0 rec (numbers required.items) self.new) }
     {
         self.ledger.end(no, rec, required)?;

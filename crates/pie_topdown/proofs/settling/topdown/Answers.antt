@@ -6,6 +6,7 @@ use Rattle.pie_topdown.specs.inner.Ran.{AddsNamed}
 use Rattle.pie_topdown.specs.inner.Rooted.{IsPlanOf, IsUnbegun, MakesSettled}
 use Rattle.pie_topdown.proofs.Concluding.{build_ran, refused_ran}
 use Rattle.pie_topdown.proofs.Resulting.{built_clean, refused_so}
+use Rattle.pie_topdown.proofs.Owning.{nothing_reused}
 use Rattle.pie_topdown.proofs.settling.topdown.Goals as goal
 
 pub returns-in-Some-clause-clean : goal.returns-in-Some-clause-clean
@@ -57,3 +58,23 @@ returns-clause-ran g c = λ program.
     (subst (λ (b : Builder). IsPlanOf c.args.typed.now c.args.code.now c.args.image.funcs c.args.digests.now c.args.image.rows b.plan) (sym first)
     c.in_ok-builder.ensures.plan) (subst IsUnbegun (sym first) c.in_ok-builder.ensures.unbegun) c.in_ok-why.why c.in-None.is
     (c.in_ok-why.ensures.site c.in-None.is) c.in_ok-why.ensures.plan c.in_ok-why.ensures.right c.in_ok-why.ensures.ran adds
+
+pub returns-in-Some-clause-none : goal.returns-in-Some-clause-none
+returns-in-Some-clause-none g c =
+    let old = c.deref_mut.result.now in
+    let first : old ≡ c.in_ok-builder.builder.value = search rules in
+    let there : c.deref.result.now ≡ c.settle_all.new.self = search rules in
+    let adds : AddsNamed c.settle_all.new.self (numbers c.settle_all.new.self.reused.items) c.args.reused.now.items c.tell_reused.new.reused.items =
+    subst (λ (b : Builder). AddsNamed b (numbers b.reused.items) c.args.reused.now.items c.tell_reused.new.reused.items) there c.in_ok-tell_reused.ensures.named in
+    nothing_reused (g.F.Files.holds c.args.files.now) (g.O.Offers.told c.args.offers.now) old c.settle_all.new.self c.args.reused.now.items c.tell_reused.new.reused.items
+    (subst IsUnbegun (sym first) c.in_ok-builder.ensures.unbegun) c.in_ok-why.ensures.own adds
+
+pub returns-clause-none : goal.returns-clause-none
+returns-clause-none g c =
+    let old = c.deref_mut.result.now in
+    let first : old ≡ c.in_ok-builder.builder.value = search rules in
+    let there : c.deref.result.now ≡ c.settle_all.new.self = search rules in
+    let adds : AddsNamed c.settle_all.new.self (numbers c.settle_all.new.self.reused.items) c.args.reused.now.items c.tell_reused.new.reused.items =
+    subst (λ (b : Builder). AddsNamed b (numbers b.reused.items) c.args.reused.now.items c.tell_reused.new.reused.items) there c.in_ok-tell_reused.ensures.named in
+    nothing_reused (g.F.Files.holds c.args.files.now) (g.O.Offers.told c.args.offers.now) old c.settle_all.new.self c.args.reused.now.items c.tell_reused.new.reused.items
+    (subst IsUnbegun (sym first) c.in_ok-builder.ensures.unbegun) c.in_ok-why.ensures.own adds

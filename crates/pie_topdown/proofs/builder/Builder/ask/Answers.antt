@@ -7,3 +7,6 @@ pub returns-clause-right : goal.returns-clause-right
 returns-clause-right g c =
     asks_begins {E = FilesError} (g.F.Files.holds c.args.files.now) (g.O.Offers.told c.args.offers.now) c.args.self.now c.try_next.new.self c.args.no.0
     c.args.code.now c.in_ok-rest.rest.items (Ok c.in_ok-try_next.field-0) c.in_ok-rest.ensures.right c.in_ok-try_next.ensures.right
+
+pub returns-clause-own : goal.returns-clause-own
+returns-clause-own g c = λ o own. c.in_ok-try_next.ensures.own (c.in_ok-rest.ensures.none o) own

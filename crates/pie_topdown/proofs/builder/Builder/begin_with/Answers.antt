@@ -4,6 +4,7 @@ use Rattle.pie_record.specs.declared.task_record.TaskRecord.{TaskRecord}
 use Rattle.pie_topdown.specs.inner.Written.{IsThereIn, IsOneGone, FindsThere, FindsGone}
 use Rattle.pie_topdown.proofs.Begun.{own_begins, other_begins}
 use Rattle.pie_topdown.proofs.Marking.{marks_with, stays_same}
+use Rattle.pie_topdown.proofs.Owning.{begins_after, own_check}
 use Rattle.pie_topdown.proofs.builder.Builder.begin_with.Goals as goal
 
 pub returns-then-not-branch-clause-right : goal.returns-then-not-branch-clause-right
@@ -33,3 +34,12 @@ returns-then-not-branch-clause-marks g c =
     let mid = record c.args.self.now { named = c.writes_stand.new.named } in
     marks_with c.ask.result c.args.self.now mid c.ask.new.self c.args.no.0 c.args.runs.now c.ask.new.runs (stays_same c.args.self.now mid refl refl) refl
     c.ask.ensures.marks
+
+pub returns-then-not-branch-clause-own : goal.returns-then-not-branch-clause-own
+returns-then-not-branch-clause-own g c =
+    begins_after (g.F.Files.holds c.args.files.now) (g.O.Offers.told c.args.offers.now) (record c.args.self.now { named = c.writes_stand.new.named })
+    c.ask.new.self c.ask.result (g.F.Files.holds c.writes_stand.new.files) c.writes_stand.ensures.reads.same c.args.self.now refl refl c.ask.ensures.own
+
+pub returns-clause-own : goal.returns-clause-own
+returns-clause-own g c = λ o own.
+    record { stack = own; turn = own_check c.in_ok-check.check.value c.in_ok-check.ensures.parts.0 c.in_ok-check.ensures.parts.1; reused = refl }

@@ -7,6 +7,7 @@ use Rattle.pie_topdown.proofs.Twice.{reads_then}
 use Rattle.pie_topdown.proofs.Differing.{compares}
 use Rattle.pie_topdown.proofs.Marking.{marks_with, stays_same}
 use Rattle.pie_topdown.proofs.Stacking.{same_site}
+use Rattle.pie_topdown.proofs.Owning.{checks_after}
 use Rattle.pie_topdown.proofs.builder.Builder.check.Goals as goal
 
 pub go_on-requires-clause-site : goal.go_on-requires-clause-site
@@ -37,3 +38,11 @@ returns-clause-marks g c =
     (stays_same c.args.self.now c.look.new.self (ap (λ b. b.ledger) e) (ap (λ b. b.reused) e)) (ap (λ b. b.ledger.tables.names) e)
     (subst (λ (n : ℕ). OnOk c.go_on.result (Marks c.look.new.self n c.go_on.new.self c.args.runs.now c.go_on.new.runs)) (ap (λ (x : Check). x.no.0) one)
     c.go_on.ensures.marks)
+
+pub returns-clause-own : goal.returns-clause-own
+returns-clause-own g c =
+    let e = c.look.ensures.same in
+    let one = subst (λ (x : Check). c.look.new.check ≡ record x { required = c.look.new.check.required }) c.deref_mut.ensures.value c.look.ensures.check in
+    checks_after (g.F.Files.holds c.args.files.now) (g.O.Offers.told c.args.offers.now) c.look.new.self c.go_on.new.self c.go_on.result
+    (g.F.Files.holds c.look.new.files) c.in_ok-place.ensures.reads.same c.args.self.now c.args.check.value c.look.new.check (ap (λ b. b.stack.items) e)
+    (ap (λ b. b.reused.items) e) (ap (λ (x : Check). x.contents) one) (ap (λ (x : Check). x.rest) one) c.go_on.ensures.own

@@ -1,4 +1,4 @@
-use Rattle.std.proofs.Common.{Ok}
+use Rattle.std.proofs.Common.{Ok, refl}
 use Rattle.pie_files.specs.declared.files.FilesError.{FilesError}
 use Rattle.pie_topdown.specs.declared.entering.Entry.TheVariants.{Full, Unknown}
 use Rattle.pie_topdown.specs.inner.Entries.{MayEnter}
@@ -21,3 +21,9 @@ returns-clause-right g c =
     let may : MayEnter c.args.self.now c.args.task Full = rw c.in-Full.is at c.entry.ensures in
     full_requires (g.F.Files.holds c.args.files.now) (g.O.Offers.told c.args.offers.now) c.args.self.now c.args.check.value c.args.task may
     c.requires.encodable c.requires.absent
+
+pub returns-in-May-clause-own : goal.returns-in-May-clause-own
+returns-in-May-clause-own g c = λ o own this. c.in_ok-push_check-in-May.ensures.own this own
+
+pub returns-clause-own : goal.returns-clause-own
+returns-clause-own g c = λ o own this. record { stack = own; turn = tt; reused = refl }

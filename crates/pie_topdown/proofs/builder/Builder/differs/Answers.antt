@@ -4,6 +4,8 @@ use Rattle.pie_files.specs.declared.files.FilesError.{FilesError}
 use Rattle.pie_topdown.specs.declared.hand.Check.{Check}
 use Rattle.pie_topdown.specs.inner.Offering.{OffersOrRuns, TriesSo}
 use Rattle.pie_topdown.proofs.Differing.{unasked_differs, asked_differs}
+use Rattle.pie_topdown.proofs.Owning.{begins_checks}
+use Rattle.pie_topdown.specs.inner.Unoffered.{HasNoOffers}
 use Rattle.pie_topdown.proofs.builder.Builder.differs.Goals as goal
 
 pub returns-in-Unasked-clause-right : goal.returns-in-Unasked-clause-right
@@ -19,3 +21,13 @@ returns-in_ok-try_next-in-Asked-clause-right g c =
     c.in-Asked.rest (Ok c.in_ok-try_next-in-Asked.field-0) (ap (λ (x : Check). x.rest) (sym c.into_inner-rest.ensures) ∙ c.in-Asked.is)
     (subst (λ (x : Check). TriesSo c.args.self.now x.no.0 x.code.now c.in-Asked.rest.items c.try_next.new.self c.in_ok-try_next-in-Asked.field-0)
     c.into_inner-rest.ensures c.in_ok-try_next-in-Asked.ensures.right)
+
+pub returns-in-Unasked-clause-own : goal.returns-in-Unasked-clause-own
+returns-in-Unasked-clause-own g c =
+    begins_checks (g.F.Files.holds c.args.files.now) (g.O.Offers.told c.args.offers.now) c.args.self.now c.ask.new.self c.ask.result c.args.check.value
+    c.ask.ensures.own
+
+pub returns-in_ok-try_next-in-Asked-clause-own : goal.returns-in_ok-try_next-in-Asked-clause-own
+returns-in_ok-try_next-in-Asked-clause-own g c = λ o own this.
+    c.in_ok-try_next-in-Asked.ensures.own
+    (subst HasNoOffers (ap (λ (x : Check). x.rest) (sym c.into_inner-rest.ensures) ∙ c.in-Asked.is) this.rest) own

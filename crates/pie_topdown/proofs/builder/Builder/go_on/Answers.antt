@@ -1,4 +1,4 @@
-use Rattle.std.proofs.Common.{Ok, sym, subst}
+use Rattle.std.proofs.Common.{Ok, sym, subst, refl}
 use Rattle.std.specs.Prelude.{IfOk}
 use Rattle.pie_files.specs.declared.files.FilesError.{FilesError}
 use Rattle.pie_topdown.specs.declared.checking.Place.{Place}
@@ -38,3 +38,9 @@ returns-in-Needs-clause-right g c =
     let place = subst (IsPlace c.args.self.now.ledger c.args.check.value) c.in-Needs.is c.requires.place in
     subst (λ (p : Place). IfOk c.descend.result (GoesOnSo held told c.args.self.now c.args.check.value p c.descend.new.self)) (sym c.in-Needs.is)
     (needs_goes held told c.args.self.now c.descend.new.self c.args.check.value c.in-Needs.task c.descend.result place.0 c.descend.ensures.right)
+
+pub returns-in_ok-keep-in-Over-clause-own : goal.returns-in_ok-keep-in-Over-clause-own
+returns-in_ok-keep-in-Over-clause-own g c = λ o own this. c.in_ok-keep-in-Over.ensures.own this own
+
+pub returns-in-Stands-clause-own : goal.returns-in-Stands-clause-own
+returns-in-Stands-clause-own g c = λ o own this. record { stack = own; turn = c.pass.ensures.own this; reused = refl }

@@ -7,6 +7,7 @@ use Rattle.pie_topdown.specs.inner.Right.{EndsKept}
 use Rattle.pie_topdown.proofs.Kept.{keeps_if}
 use Rattle.pie_topdown.proofs.Reused.{reuses_if}
 use Rattle.pie_topdown.proofs.Staging.{bytes_in}
+use Rattle.pie_topdown.proofs.Owning.{never_offered}
 use Rattle.pie_topdown.proofs.builder.Builder.keep.Goals as goal
 
 pub returns-in-Some-clause-right : goal.returns-in-Some-clause-right
@@ -22,3 +23,10 @@ returns-in-None-clause-right c =
     (ap (λ (x : Check). x.contents) (sym c.into_inner-rec.ensures) ∙ c.in-None.is)
     (subst (λ (x : Check). IfOk c.keep_own.result (EndsKept c.args.self.now x.no.0 x.rec (numbers x.required.items) c.keep_own.new.self)) c.into_inner-rec.ensures
     c.keep_own.ensures.ended)
+
+pub returns-in-Some-clause-own : goal.returns-in-Some-clause-own
+returns-in-Some-clause-own c =
+    never_offered c.args.check.value c.in-Some.contents (ap (λ (x : Check). x.contents) (sym c.into_inner-rec.ensures) ∙ c.in-Some.is)
+
+pub returns-in-None-clause-own : goal.returns-in-None-clause-own
+returns-in-None-clause-own c = λ this. c.keep_own.ensures.own

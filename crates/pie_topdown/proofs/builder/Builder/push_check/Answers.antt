@@ -5,6 +5,7 @@ use Rattle.pie_topdown.proofs.Entered.{last_unrecorded}
 use Rattle.pie_topdown.proofs.Growing.{check_grows}
 use Rattle.pie_topdown.proofs.Pushed.{check_pushed}
 use Rattle.pie_topdown.proofs.Stacking.{pushed_site, pushed_nearer, pushed_room}
+use Rattle.pie_topdown.proofs.Owning.{pushed_own, same_own}
 use Rattle.pie_topdown.proofs.builder.Builder.push_check.Goals as goal
 
 pub returns-clause-turns : goal.returns-clause-turns
@@ -33,3 +34,11 @@ returns-clause-right c =
     check_pushed c.args.self.now c.enter.new.self c.args.check c.args.task c.args.code c.in_ok-no.no c.push.new.self c.in_ok-no.ensures.number
     c.in_ok-no.ensures.added c.in_ok-no.ensures.right c.requires.may (last_unrecorded c.args.self.now.ledger c.requires.site.ledger) c.requires.absent
     c.in_ok-push.ensures.items
+
+pub returns-clause-own : goal.returns-clause-own
+returns-clause-own c = λ this own. record {
+  stack = pushed_own c.enter.new.self (record c.enter.new.self { stack = c.push.new.self }) (frames.Checks c.args.check) c.in_ok-push.ensures.items this
+      (same_own c.args.self.now c.enter.new.self (ap (λ v. v.items) c.in_ok-no.ensures.stack) own);
+  turn = tt;
+  reused = c.in_ok-no.ensures.marks.reused;
+}

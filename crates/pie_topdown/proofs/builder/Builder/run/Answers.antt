@@ -4,6 +4,7 @@ use Rattle.pie_topdown.specs.inner.Turns.{Spends, TurnsTo, hand_room, room}
 use Rattle.pie_topdown.proofs.Going.{keeps_then, started_more}
 use Rattle.pie_topdown.proofs.Totals.{ran_on}
 use Rattle.pie_topdown.proofs.Turning.{stays_on, stops_many, stops_rests}
+use Rattle.pie_topdown.proofs.Owning.{own_on, own_stepped}
 use Rattle.pie_topdown.proofs.builder.Builder.run.Goals as goal
 
 pub steps-preserved : goal.steps-preserved
@@ -24,6 +25,8 @@ steps-preserved g c =
       c.step.ensures.told ∙ before.8,
       ran_on (g.F.Files.holds c.args.files.now) (g.O.Offers.told c.args.offers.now) c.args.self.now c.steps.self c.step.new.self c.args.hand c.steps.hand
           c.args.runs.now c.steps.runs c.step.new.runs before.7 c.in_ok-next.ensures.kept c.in_ok-next.ensures.marks before.9,
+      own_on (g.F.Files.holds c.args.files.now) (g.F.Files.holds c.steps.files) (g.O.Offers.told c.args.offers.now) (g.O.Offers.told c.steps.offers)
+          before.4 before.8 c.args.self.now c.steps.self c.step.new.self c.args.hand c.steps.hand _ before.10 c.in_ok-next.ensures.own c.in-Goes.next c.in-Goes.is,
     )
 
 pub returns-in_err-next-clause-started : goal.returns-in_err-next-clause-started
@@ -63,3 +66,15 @@ pub returns-in-Many-clause-ran : goal.returns-in-Many-clause-ran
 returns-in-Many-clause-ran g c =
     ran_on (g.F.Files.holds c.args.files.now) (g.O.Offers.told c.args.offers.now) c.args.self.now c.steps.self c.step.new.self c.args.hand c.steps.hand
     c.args.runs.now c.steps.runs c.step.new.runs c.steps.invariant.7 c.in_ok-next.ensures.kept c.in_ok-next.ensures.marks c.steps.invariant.9
+
+pub returns-in-Rests-clause-own : goal.returns-in-Rests-clause-own
+returns-in-Rests-clause-own g c =
+    let before = c.steps.invariant in
+    own_stepped (g.F.Files.holds c.args.files.now) (g.F.Files.holds c.steps.files) (g.O.Offers.told c.args.offers.now) (g.O.Offers.told c.steps.offers)
+    before.4 before.8 c.args.self.now c.steps.self c.step.new.self c.args.hand c.steps.hand _ before.10 c.in_ok-next.ensures.own
+
+pub returns-in-Many-clause-own : goal.returns-in-Many-clause-own
+returns-in-Many-clause-own g c =
+    let before = c.steps.invariant in
+    own_stepped (g.F.Files.holds c.args.files.now) (g.F.Files.holds c.steps.files) (g.O.Offers.told c.args.offers.now) (g.O.Offers.told c.steps.offers)
+    before.4 before.8 c.args.self.now c.steps.self c.step.new.self c.args.hand c.steps.hand _ before.10 c.in_ok-next.ensures.own

@@ -4,6 +4,7 @@ use Rattle.pie_topdown.specs.inner.Ran.{RansOn}
 use Rattle.pie_topdown.specs.inner.Rooted.{StaysRight}
 use Rattle.pie_topdown.specs.inner.Roots.{Started}
 use Rattle.pie_topdown.specs.inner.Turns.{Keeps, Stands, below, hand_mass, hand_room, room}
+use Rattle.pie_topdown.specs.inner.Unoffered.{StaysOwnSo}
 use Rattle.pie_topdown.proofs.builder.Builder.run.Given as goal
 
 -- the build stands with what it does next, what may be started has fallen by what was, and it is right or failed, and what ran is marked
@@ -16,6 +17,7 @@ invariant-steps g l =
     × StaysRight (g.F.Files.holds l.fn.files) (g.O.Offers.told l.fn.offers) l.fn.self l.fn.hand l.self l.hand
     × (g.O.Offers.told l.offers ≡ g.O.Offers.told l.fn.offers)
     × RansOn (g.F.Files.holds l.fn.files) (g.O.Offers.told l.fn.offers) l.fn.self l.fn.hand l.self l.fn.runs l.runs
+    × StaysOwnSo (g.F.Files.holds l.fn.files) (g.O.Offers.told l.fn.offers) l.fn.self l.fn.hand l.self l.hand
 
 abbrev pub decreases-steps : goal.decreases-steps
 decreases-steps g l = below l.self + hand_mass l.hand

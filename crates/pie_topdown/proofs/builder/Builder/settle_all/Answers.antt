@@ -1,10 +1,11 @@
-use Rattle.std.proofs.Common.{◌∙◌, subst}
+use Rattle.std.proofs.Common.{◌∙◌, subst, arith}
 use Rattle.pie_files.proofs.Reading.{both_before}
 use Rattle.pie_topdown.specs.inner.Ran.{StopsRan}
 use Rattle.pie_topdown.specs.inner.Rooted.{SettlesRight}
 use Rattle.pie_topdown.proofs.Going.{continues_then, settled_all, settled_more, started_then}
 use Rattle.pie_topdown.proofs.Totals.{all_ran, all_refused, ran_one_more, stops_none, stops_one_more}
 use Rattle.pie_topdown.proofs.Turning.{all_settled, refused_one, settled_one}
+use Rattle.pie_topdown.proofs.Owning.{own_then}
 use Rattle.pie_topdown.proofs.builder.Builder.settle_all.Goals as goal
 
 pub loop-root-preserved : goal.loop-root-preserved
@@ -30,6 +31,8 @@ loop-root-preserved g c =
           c.args.self.now c.loop-root.self c.settle.new.self c.args.roots.now c.loop-root.root-index c.root-item.result c.args.runs.now c.loop-root.runs
           c.settle.new.runs c.in_ok-refusal.field-0 c.loop-root-test.true c.root-item.is before.4 before.8 before.2.plan before.7 c.in_ok-refusal.ensures.ran
           c.in-None.is before.9,
+      own_then (g.F.Files.holds c.args.files.now) (g.F.Files.holds c.loop-root.files) (g.O.Offers.told c.args.offers.now) (g.O.Offers.told c.loop-root.offers)
+          before.4 before.8 c.args.self.now c.loop-root.self c.settle.new.self before.10 c.in_ok-refusal.ensures.own,
     )
 
 pub returns-clause-settled : goal.returns-clause-settled
@@ -78,3 +81,23 @@ returns-in-Some-clause-full g c =
     c.settle.new.runs c.in-Some.refusal c.loop-root-test.true c.root-item.is before.4 before.8 before.2.plan before.7
     (subst (StopsRan (g.F.Files.holds c.loop-root.files) (g.O.Offers.told c.loop-root.offers) c.loop-root.self c.root-item.result c.settle.new.self
     c.loop-root.runs c.settle.new.runs) c.in-Some.is c.in_ok-refusal.ensures.full) before.9
+
+pub returns-clause-own : goal.returns-clause-own
+returns-clause-own g c = c.loop-root.invariant.10
+
+pub returns-in-Some-clause-own : goal.returns-in-Some-clause-own
+returns-in-Some-clause-own g c =
+    let before = c.loop-root.invariant in
+    own_then (g.F.Files.holds c.args.files.now) (g.F.Files.holds c.loop-root.files) (g.O.Offers.told c.args.offers.now) (g.O.Offers.told c.loop-root.offers)
+    before.4 before.8 c.args.self.now c.loop-root.self c.settle.new.self before.10 c.in_ok-refusal.ensures.own
+
+pub returns-in-Some-clause-reads : goal.returns-in-Some-clause-reads
+returns-in-Some-clause-reads g c =
+    let before = c.loop-root.invariant in
+    let steady = c.in_ok-refusal.ensures.reads.counted.steady ∙ before.5 in
+    record {
+      same = c.settle.ensures.reads.same ∙ before.4;
+      crash = both_before g.F.Files.holds g.F.Files.moment g.F.Files.left_since g.F.Files.images c.args.files.now c.loop-root.files c.settle.new.files before.4
+          before.6 c.settle.ensures.reads.crash;
+      counted = record { later = omega (arith, steady); steady = steady; cause = λ e. absurd (let never : ⊥ = cc in never) };
+    }

@@ -4,6 +4,7 @@ use Rattle.pie_topdown.specs.inner.Frames.{IsSite}
 use Rattle.pie_topdown.specs.inner.Ran.{HasSettledRan}
 use Rattle.pie_topdown.specs.inner.Rooted.{HasSettledRight}
 use Rattle.pie_topdown.specs.inner.Roots.{AreSettled, Continues, Started}
+use Rattle.pie_topdown.specs.inner.Unoffered.{EndsOwn}
 use Rattle.pie_topdown.proofs.builder.Builder.settle_all.Given as goal
 
 -- the roots so far have outputs
@@ -15,3 +16,4 @@ invariant-loop-root g l =
     × HasSettledRight (g.F.Files.holds l.fn.files) (g.O.Offers.told l.fn.offers) l.fn.self l.roots (take l.root-index l.roots) l.self
     × (g.O.Offers.told l.offers ≡ g.O.Offers.told l.fn.offers)
     × HasSettledRan (g.F.Files.holds l.fn.files) (g.O.Offers.told l.fn.offers) l.fn.self l.roots l.self l.fn.runs l.runs
+    × EndsOwn (g.F.Files.holds l.fn.files) (g.O.Offers.told l.fn.offers) l.fn.self l.self

@@ -6,6 +6,7 @@ use Rattle.pie_topdown.specs.inner.Right.{IsRefused}
 use Rattle.pie_topdown.specs.inner.Rooted.{lost}
 use Rattle.pie_topdown.proofs.Rooting.{full_refused, lost_refused}
 use Rattle.pie_topdown.proofs.Totals.{ran_refused, root_lost, root_over}
+use Rattle.pie_topdown.proofs.Owning.{own_none}
 use Rattle.pie_topdown.proofs.builder.Builder.settle_new.Goals as goal
 
 pub returns-in-Unknown-clause-right : goal.returns-in-Unknown-clause-right
@@ -38,3 +39,9 @@ returns-in-Unknown-clause-full g c =
 
 pub returns-clause-full : goal.returns-clause-full
 returns-clause-full g c = root_over (g.F.Files.holds c.args.files.now) (g.O.Offers.told c.args.offers.now) c.args.self.now c.args.root.now c.args.runs.now
+
+pub returns-in-Unknown-clause-own : goal.returns-in-Unknown-clause-own
+returns-in-Unknown-clause-own g c = own_none (g.F.Files.holds c.args.files.now) (g.O.Offers.told c.args.offers.now) c.args.self.now
+
+pub returns-clause-own : goal.returns-clause-own
+returns-clause-own g c = own_none (g.F.Files.holds c.args.files.now) (g.O.Offers.told c.args.offers.now) c.args.self.now

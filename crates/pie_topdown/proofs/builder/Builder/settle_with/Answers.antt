@@ -1,4 +1,4 @@
-use Rattle.std.proofs.Common.{◌≡◌, ◌∙◌, None, Some, ap, subst, arith, rules}
+use Rattle.std.proofs.Common.{◌≡◌, ◌∙◌, None, Some, ap, subst, arith, rules, refl}
 use Rattle.pie_value.specs.declared.verdict.Refusal.TheVariants.{Many}
 use Rattle.pie_topdown.specs.inner.Entries.{HasEntered}
 use Rattle.pie_topdown.specs.inner.Right.{EntersSite}
@@ -6,6 +6,8 @@ use Rattle.pie_topdown.specs.inner.Turns.{stack_room}
 use Rattle.pie_topdown.proofs.Going.{grows_then}
 use Rattle.pie_topdown.proofs.Rooting.{with_failure, with_many, with_rest}
 use Rattle.pie_topdown.proofs.Totals.{ran_refused, ran_root, root_ends, root_fails, root_full}
+use Rattle.pie_topdown.proofs.Owning.{own_root}
+use Rattle.pie_topdown.specs.declared.hand.Hand.TheVariants as hands
 use Rattle.pie_topdown.proofs.builder.Builder.settle_with.Goals as goal
 
 pub returns-clause-continues : goal.returns-clause-continues
@@ -100,3 +102,18 @@ returns-clause-full g c =
     c.in_ok-no.ensures.kept c.in_ok-no.ensures.marks c.in_ok-rests.ensures.kept c.in_ok-rests.ensures.right c.in_ok-rests.ensures.ran
     c.in_ok-unless_done.field-0 (ap (λ f. record c.run.new.self { failure = f }) c.take.ensures.after) c.if-not-rests.false calm
     c.in_ok-unless_done.ensures.none
+
+pub returns-in-Some-clause-own : goal.returns-in-Some-clause-own
+returns-in-Some-clause-own g c =
+    own_root (g.F.Files.holds c.args.files.now) (g.O.Offers.told c.args.offers.now) c.args.self.now c.enter.new.self c.run.new.self (record c.run.new.self { failure = c.take.new.self })
+    (hands.Enters c.in_ok-no.no c.args.code) (ap (λ v. v.items) c.in_ok-no.ensures.stack) c.in_ok-no.ensures.marks.reused tt c.in_ok-rests.ensures.own refl refl
+
+pub returns-then-not-rests-clause-own : goal.returns-then-not-rests-clause-own
+returns-then-not-rests-clause-own g c =
+    own_root (g.F.Files.holds c.args.files.now) (g.O.Offers.told c.args.offers.now) c.args.self.now c.enter.new.self c.run.new.self (record c.run.new.self { failure = c.take.new.self })
+    (hands.Enters c.in_ok-no.no c.args.code) (ap (λ v. v.items) c.in_ok-no.ensures.stack) c.in_ok-no.ensures.marks.reused tt c.in_ok-rests.ensures.own refl refl
+
+pub returns-clause-own : goal.returns-clause-own
+returns-clause-own g c =
+    own_root (g.F.Files.holds c.args.files.now) (g.O.Offers.told c.args.offers.now) c.args.self.now c.enter.new.self c.run.new.self (record c.run.new.self { failure = c.take.new.self })
+    (hands.Enters c.in_ok-no.no c.args.code) (ap (λ v. v.items) c.in_ok-no.ensures.stack) c.in_ok-no.ensures.marks.reused tt c.in_ok-rests.ensures.own refl refl

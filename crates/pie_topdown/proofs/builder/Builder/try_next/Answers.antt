@@ -1,6 +1,7 @@
 use Rattle.std.proofs.Common.{subst}
 use Rattle.pie_topdown.specs.inner.Offering.{Takes}
 use Rattle.pie_topdown.proofs.Tried.{check_tries, start_tries}
+use Rattle.pie_topdown.proofs.Owning.{nothing_taken}
 use Rattle.pie_topdown.proofs.builder.Builder.try_next.Goals as goal
 
 pub returns-in-Some-clause-right : goal.returns-in-Some-clause-right
@@ -11,3 +12,11 @@ returns-in-Some-clause-right c =
 pub returns-clause-right : goal.returns-clause-right
 returns-clause-right c =
     start_tries c.args.self.now c.start.new.self c.args.no.0 c.args.code.now c.args.rest.items c.start.result c.start.ensures.right
+
+pub returns-in-Some-clause-own : goal.returns-in-Some-clause-own
+returns-in-Some-clause-own c =
+    nothing_taken c.args.rest.items c.next_fitting.new.rest.items c.in-Some.offer
+    (subst (Takes c.args.rest.items c.next_fitting.new.rest.items) c.in-Some.is c.in_ok-offer.ensures.takes)
+
+pub returns-clause-own : goal.returns-clause-own
+returns-clause-own c = λ none. c.start.ensures.own
