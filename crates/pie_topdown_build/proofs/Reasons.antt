@@ -1,6 +1,7 @@
 -- Which tasks a build without a list ran, from its evaluation to the earlier build.
-use Rattle.std.proofs.Common.{◌≡◌, ℕ, true, false, Bool, cond, List, [], ◌∷◌, ◌++◌, Option, None, Some, Result, Ok, Err, Vec, Global, refl, sym, ap, subst, ◌∙◌, inl}
+use Rattle.std.proofs.Common.{◌≡◌, ℕ, true, false, Bool, cond, List, [], ◌∷◌, ◌++◌, Option, None, Some, Result, Ok, Err, Vec, Global, refl, sym, ap, subst, ◌∙◌, ◌⊎◌, inl, inr}
 use Rattle.std.specs.Prelude.{All, Box, IfOk, IfSome, bytes_eq}
+use Rattle.std.specs.List.{Contains}
 use Rattle.std.specs.Option.{option_map}
 use Rattle.std.proofs.lemmas.List.Elements.{All-weaker}
 use Rattle.sha2.specs.Sha256.{sha256}
@@ -8,6 +9,7 @@ use Rattle.pie_build.specs.inner.Projects.{IsReady}
 use Rattle.pie_build.proofs.Cleaning.{is_ready}
 use Rattle.pie_builder_laws.specs.Events.{AreCompiled}
 use Rattle.pie_checks.specs.declared.built.Built.{Built}
+use Rattle.pie_check_laws.proofs.Members.{none_in}
 use Rattle.pie_code.specs.declared.code.Code.{Code}
 use Rattle.pie_core_laws.specs.Update.{Update}
 use Rattle.pie_diff.specs.Hashes.{is_hash}
@@ -41,12 +43,15 @@ use Rattle.pie_store.specs.declared.image.StoreImage.{StoreImage}
 use Rattle.pie_topdown.specs.inner.Due.{HasReason as HasReasonOf}
 use Rattle.pie_topdown.specs.inner.Ran.{RanFor as StartedFor, RunsForReasons as StartsForReasons}
 use Rattle.pie_topdown.specs.inner.Rooted.{IsProgram}
+use Rattle.pie_topdown.specs.inner.Unoffered.{OffersNothing}
+use Rattle.pie_topdown.proofs.Owning.{offers_still}
 use Rattle.pie_topdown_result_laws.specs.Builds.{AreHonest, IsFromStore, IsNowHere}
 use Rattle.pie_value.specs.Canonical.{enc_task}
 use Rattle.pie_value.specs.Limits.{is_small_task}
 use Rattle.pie_value.specs.declared.task.Task.{Task}
 use Rattle.pie_value.specs.declared.verdict.Verdict.{Verdict}
-use Rattle.pie_value.specs.declared.verdict.Verdict.TheVariants.{Accepted}
+use Rattle.pie_value.specs.declared.verdict.Refusal.TheVariants.{Many}
+use Rattle.pie_value.specs.declared.verdict.Verdict.TheVariants.{Accepted, Refused}
 use Rattle.pie_topdown_build.specs.declared.base.Base.{Base}
 use Rattle.pie_topdown_build.specs.declared.base.Start.{Start}
 use Rattle.pie_topdown_build.specs.declared.base.Start.TheVariants.{Afresh, From}
@@ -56,7 +61,7 @@ use Rattle.pie_topdown_build.specs.Clean.{HasStoreOf}
 use Rattle.pie_topdown_build.specs.Ran.{RanFor, RunsForReasons}
 use Rattle.pie_topdown_build.specs.inner.Bases.{HasBase, IsReadFrom, StartsAt}
 use Rattle.pie_topdown_build.specs.inner.Clean.{update_of, OffersHonest}
-use Rattle.pie_topdown_build.specs.inner.Ran.{FromRuns, HaveReasons, RunsBy, RunsByIfTold, RunsFrom}
+use Rattle.pie_topdown_build.specs.inner.Ran.{FromRuns, HaveReasons, OffersNone, RanFrom, RunsBy, RunsByIfTold, RunsFrom}
 use Rattle.pie_topdown_build.proofs.Cleanly.{differs, found, here, nothing_offered, stored}
 use Rattle.pie_topdown_build.proofs.Running.{Told}
 
@@ -67,9 +72,10 @@ runs_from : (before mid : Option Directory) (p : Project) (codes : List Code) (s
     → mid ≡ before → AreCompiled p.typed codes → IsImage s → t.rows ≡ s.rows → IfSome before (λ d. t ≡ digested d p.digests.items s)
     → (IsProgram p.typed codes t.rows
     → StartsForReasons mid p.typed t.funcs p.digests.items t.rows told p.roots.items first after [] reused v)
-    → RunsFrom before p s told first after reused v
-runs_from before mid p codes s t told first after reused v same compiled image rows put starts = record {
+    → (OffersNothing mid told → reused ≡ []) → RunsFrom before p s told first after reused v
+runs_from before mid p codes s t told first after reused v same compiled image rows put starts nothing = record {
   each = λ accepted u here stored honest. by accepted u here stored honest (is u here);
+  none = λ o. nothing (offers_still before mid told told same refl o);
 }
   where
     is : (u : Update) → IsNowHere u before p.typed p.roots.items → t ≡ digested u.directory p.digests.items s
@@ -92,10 +98,11 @@ pub evaluates_ran : (before mid : Option Directory) (p : Project) (codes : List 
     → IfSome before (λ d. t ≡ digested d p.digests.items s)
     → (IsProgram p.typed codes t.rows
     → IfOk result (λ e. StartsForReasons mid p.typed t.funcs p.digests.items t.rows told p.roots.items first after [] e.reused.items e.built.value.verdict))
+    → (OffersNothing mid told → IfOk result (λ e. e.reused.items ≡ []))
     → IfOk result (λ e. RunsFrom before p s told first after e.reused.items e.built.value.verdict)
-evaluates_ran before mid p codes s t told first after (Ok e) same compiled image rows put starts =
-    runs_from before mid p codes s t told first after e.reused.items e.built.value.verdict same compiled image rows put starts
-evaluates_ran before mid p codes s t told first after (Err x) same compiled image rows put starts = tt
+evaluates_ran before mid p codes s t told first after (Ok e) same compiled image rows put starts nothing =
+    runs_from before mid p codes s t told first after e.reused.items e.built.value.verdict same compiled image rows put starts nothing
+evaluates_ran before mid p codes s t told first after (Err x) same compiled image rows put starts nothing = tt
 
 -- ---- its end
 
@@ -105,17 +112,30 @@ one_behind [] ys zs e = e
 one_behind (x ∷ xs) ys zs e = one_behind xs ys zs (let f : xs ++ ys ≡ xs ++ zs = cc in f)
 
 -- what was started since a list is what a report tells
-retold : (u : Update) (kept digests : List (List ℕ × List ℕ)) (first after ran reused : List Task) (v : Verdict) → after ≡ first ++ ran
-    → StartedFor u kept digests first after [] reused v → HaveReasons u kept digests ran
-retold u kept digests first after ran reused v gained s =
-    subst (HaveReasons u kept digests) (sym (one_behind first ran s.ran (sym gained ∙ s.ran_are))) (record { once = s.once; reasons = s.reasons })
+retold : (u : Update) (told : Told) (kept digests : List (List ℕ × List ℕ)) (first after ran reused : List Task) (v : Verdict) → v ≡ Accepted
+    → (OffersNone told u.directory → reused ≡ []) → after ≡ first ++ ran → StartedFor u kept digests first after [] reused v
+    → HaveReasons u told kept digests ran
+retold u told kept digests first after ran reused v accepted nothing gained s =
+    subst (HaveReasons u told kept digests) (sym (one_behind first ran s.ran (sym gained ∙ s.ran_are)))
+    (record { once = s.once; reasons = s.reasons; all = λ none t entered r. by none t (s.all not_many t entered r) })
+  where
+    not_many : v ≡ Refused Many → ⊥
+    not_many e = never (sym accepted ∙ e)
+      where
+        never : Accepted ≡ Refused Many → ⊥
+        never e = cc
+
+    by : OffersNone told u.directory → (t : Task) → Contains s.ran t ⊎ Contains s.reused t → Contains s.ran t
+    by none t (inl in_ran) = in_ran
+    by none t (inr in_reused) = absurd (none_in t (subst (λ ts. Contains ts t) (sym s.reused_are ∙ nothing none) in_reused))
 
 -- a report of the tasks that were started, with the verdict of what was made
 pub runs_ran : (b : Base) (p : Project) (told : Told) (before : Option Directory) (first after reused : List Task) (made : Built) (r : Report)
     → RunsFrom before p b.image told first after reused made.verdict → r.verdict ≡ made.verdict → after ≡ first ++ r.ran.items → RunsBy b p told before r
 runs_ran b p told before first after reused made r runs is gained = record {
   each = λ accepted u from honest.
-      retold u (digested u.directory p.digests.items b.image).funcs p.digests.items first after r.ran.items reused made.verdict gained
+      retold u told (digested u.directory p.digests.items b.image).funcs p.digests.items first after r.ran.items reused made.verdict (sym is ∙ accepted)
+      (λ none. runs.none (record { directory = u.directory; is = from.here.holds; none = none })) gained
       (runs.each (sym is ∙ accepted) u from.here from.stored honest);
 }
 
@@ -178,11 +198,22 @@ module _ (e : Earlier) (d : Directory) (s : StoreImage) (text : List ℕ) (p : P
       (subst (λ o. RunReason world (project p.typed d) d (record_among before (enc_task t)) (digest_under kept t.func) o)
       (same_digest p.digests.items t.func) r))
 
+  -- and back
+  reason_back : (kept : List (List ℕ × List ℕ)) (t : Task) → HasReason e d p.typed kept p.digests.items t
+      → HasReasonOf (update_of e from.strings d p.typed p.roots.items) kept p.digests.items t
+  reason_back kept t r =
+      let before = earlier_rows e in
+      subst (λ o. RunReason world (project p.typed d) d o (digest_under kept t.func) (digest_under p.digests.items t.func)) (sym (same_record before (enc_task t)))
+      (subst (λ o. RunReason world (project p.typed d) d (record_in before (enc_task t)) o (digest_under p.digests.items t.func)) (sym (same_digest kept t.func))
+      (subst (λ o. RunReason world (project p.typed d) d (record_in before (enc_task t)) (digest_in kept t.func) o)
+      (sym (same_digest p.digests.items t.func)) r))
+
   -- tasks that ran for reasons in the update did so by the earlier build
-  ran_for : (ran : List Task) → HaveReasons (update_of e from.strings d p.typed p.roots.items) (digested d p.digests.items s).funcs p.digests.items ran
-      → RanFor e d ran
-  ran_for ran have =
+  ran_for : (told : Told) (ran : List Task)
+      → HaveReasons (update_of e from.strings d p.typed p.roots.items) told (digested d p.digests.items s).funcs p.digests.items ran → RanFrom e d told ran
+  ran_for told ran have =
       let kept = (digested d p.digests.items s).funcs in
+      let same = kept_is d p.digests.items s in
       record {
         funcs = p.digests.items;
         roots = p.roots.items;
@@ -191,9 +222,12 @@ module _ (e : Earlier) (d : Directory) (s : StoreImage) (text : List ℕ) (p : P
         text = text;
         is = readable;
         once = have.once;
-        reasons = subst (λ k. All (HasReason e d p.typed k p.digests.items) ran) (kept_is d p.digests.items s)
+        reasons = subst (λ k. All (HasReason e d p.typed k p.digests.items) ran) same
             (All-weaker (HasReasonOf (update_of e from.strings d p.typed p.roots.items) kept p.digests.items) (HasReason e d p.typed kept p.digests.items)
             (λ t r. reason_of kept t r) ran have.reasons);
+        all = λ none t canonical enters r.
+            have.all none t (record { canonical = canonical; entered = enters })
+            (reason_back kept t (subst (λ k. HasReason e d p.typed k p.digests.items t) (sym same) r));
       }
 
 -- a build from a base, whatever the project of the directory is
@@ -214,12 +248,12 @@ from_runs b p told before mid r same says has names funcs runs = record {
     ran d is = runs.of d (same ∙ is) (is_ready (Some d) (Some d) p (project_is d is) refl)
 
     by : r.verdict ≡ Accepted → (d : Directory) → before ≡ Some d → (e : Earlier) (from : HasStoreOf e d) → OffersHonest e from.strings d told
-        → (o : Option (Vec ℕ Global)) → b.store ≡ o → IsReadFrom d b.image o → RanFor e d r.ran.items
+        → (o : Option (Vec ℕ Global)) → b.store ≡ o → IsReadFrom d b.image o → RanFrom e d told r.ran.items
     by accepted d is e from honest None at readable = absurd readable
     by accepted d is e from honest (Some text) at readable =
         let says = project_is d is in
         let has = digests d is in
-        ran_for e d b.image text.items p from readable says has names funcs r.ran.items
+        ran_for e d b.image text.items p from readable says has names funcs told r.ran.items
         ((ran d is).each accepted (update_of e from.strings d p.typed p.roots.items)
         (record {
           here = here e d b.image text.items p from readable says has names funcs mid (same ∙ is);
@@ -254,5 +288,19 @@ store_runs start b before mid (Ok r) is begins same h = by before same begins
     by : (o : Option Directory) → mid ≡ o → IfSome o (λ d. StartsAt d start) → IfSome o (λ d. RunsForReasons d r)
     by None told begun = tt
     by (Some d) told begun = record {
-      each = λ none accepted e from. h.each accepted d told (subst (StartsAt d) is begun) e from (nothing_offered e from.strings d);
+      each = λ none accepted e from. every e (h.each accepted d told (subst (StartsAt d) is begun) e from (nothing_offered e from.strings d));
     }
+      where
+        -- nothing is offered, so each that has a reason is among them
+        every : (e : Earlier) → RanFrom e d (λ x t digest. []) r.ran.items → RanFor e d r.ran.items
+        every e f = record {
+          funcs = f.funcs;
+          roots = f.roots;
+          found = f.found;
+          image = f.image;
+          text = f.text;
+          is = f.is;
+          once = f.once;
+          reasons = f.reasons;
+          all = f.all (λ t digest. refl);
+        }

@@ -7,6 +7,7 @@ ghost use Rattle.pie_store.specs.Canonical.{AreFuncs};
 ghost use Rattle.pie_topdown.specs.inner.Ran.{RunsForReasons};
 ghost use Rattle.pie_topdown.specs.inner.Rooted.{IsProgram};
 ghost use Rattle.pie_topdown.specs.inner.Roots.{Started};
+ghost use Rattle.pie_topdown.specs.inner.Unoffered.{OffersNothing};
 ghost use Rattle.pie_topdown_result_laws.specs.Builds.{MakesClean};
 ghost use Rattle.pie_value.specs.Canonical.{IsEncodableTask};
 ghost use Rattle.pie_topdown_build.specs.inner.Clean.{MakesFrom};
@@ -81,6 +82,7 @@ fn settled<F: Files, O: Offers>(
     ensures runs { IsProgram project.now.typed code.now image.value.rows
         → IfOk result (λ e. RunsForReasons (F.holds files.old) project.now.typed image.value.funcs project.now.digests.items image.value.rows (O.told offers.old)
         project.now.roots.items runs.old runs.new [] e.reused.items e.built.value.verdict) }
+    ensures none { OffersNothing (F.holds files.old) (O.told offers.old) → IfOk result (λ e. e.reused.items ≡ []) }
     ensures reused { IfOk result (λ e. All IsEncodableTask e.reused.items) }
     ensures started { Started runs.old runs.new }
     ensures few { length runs.new ≤ length runs.old + 50000 }

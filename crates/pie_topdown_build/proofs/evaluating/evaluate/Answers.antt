@@ -34,4 +34,4 @@ returns-clause-runs g c =
     evaluates_ran held mid p codes c.args.image c.put_digests.new.image (g.O.Offers.told c.args.offers.now) c.args.runs.now c.settled.new.runs c.settled.result
     put.reads.same compiled c.requires.image (put.rows ∙ ap (λ (s : StoreImage). s.rows) begun)
     (begun_digested held held p.digests.items c.as_slice.result.now c.deref_mut.result.now c.args.image c.put_digests.new.image refl c.as_slice.ensures.value
-    begun put.put) c.settled.ensures.runs
+    begun put.put) c.settled.ensures.runs c.settled.ensures.none
