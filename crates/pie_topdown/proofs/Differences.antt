@@ -71,7 +71,7 @@ use Rattle.pie_model_pipeline.specs.Words.{fault_of}
 use Rattle.pie_builder_laws.proofs.Coded.{unknown_fails}
 use Rattle.pie_topdown.proofs.Pushed.{absent_among}
 use Rattle.pie_step_laws.proofs.Tables.{no_more}
-use Rattle.pie_topdown.proofs.Agreeing.{IsPlainDep, dep_stands}
+use Rattle.pie_compare_laws.proofs.Agreeing.{IsPlainDep, dep_stands}
 use Rattle.pie_topdown.proofs.Reasoning.{evaluated_few}
 
 one_some : {A : Type 0} (x y : A) → Some x ≡ Some y → x ≡ y

@@ -37,8 +37,6 @@ pub mod Stepping
 pub mod Required
 pub mod Asked
 pub mod Lasting
-pub mod Stamped
-pub mod Agreeing
 pub mod Reasoning
 pub mod Differences
 pub mod Marking

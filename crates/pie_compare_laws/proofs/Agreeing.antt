@@ -31,7 +31,7 @@ use Rattle.pie_view.specs.declared.seen.Seen.{Seen as RowsSeen}
 use Rattle.pie_view.specs.declared.seen.Seen.TheVariants.{Absent, By, Clash}
 use Rattle.pie_view.specs.Seen.{Visible, IsOnly}
 use Rattle.pie_compare.specs.inner.Standing.{hash_in, is_of_file, out_stamp, SeenStands, OutStands, FileStands}
-use Rattle.pie_compare.specs.inner.Standing.{output_of, output_in, called_stamp, OnStands}
+use Rattle.pie_compare.specs.inner.Standing.{output_of, output_in, called_stamp, OnStands, DepStands}
 use Rattle.pie_model.specs.declared.words.Kind.{Kind}
 use Rattle.pie_model.specs.declared.words.Kind.TheVariants.{Out, Kept, Source}
 use Rattle.pie_model.specs.declared.words.Look.{Look}
@@ -56,8 +56,7 @@ use Rattle.pie_compare_laws.specs.Settled.{ArePresent}
 use Rattle.pie_compare_laws.specs.Agreeing.{OutputsAreCanonical}
 use Rattle.pie_compare_laws.proofs.Ways.{one_some, first_is, hash_told, seen_told, wrote_by, seen_of}
 use Rattle.pie_compare_laws.proofs.Agreement.{told_hash_stamp, each_recorded}
-use Rattle.pie_compare.specs.inner.Standing.{DepStands}
-use Rattle.pie_topdown.proofs.Stamped.{absent_back, hash_back, success_back, whole_back, out_back, there_same, read_same, digest_same, marked_same, listed_same, known_same, no_some}
+use Rattle.pie_compare_laws.proofs.Stamped.{absent_back, hash_back, success_back, whole_back, out_back, there_same, read_same, digest_same, marked_same, listed_same, known_same, no_some}
 
 module _ (fs : List FunctionTree) (d : Directory) (t : Tables) (rows : List Row) (n : Named) (settled : ℕ → Bool) (told : List (List ℕ) → Path → Told)
     (present : ArePresent t.names t.records rows settled told) (true_of : IsTrueOf d n) where
@@ -174,7 +173,7 @@ module _ (fs : List FunctionTree) (d : Directory) (t : Tables) (rows : List Row)
         by true i = clash (is_source p) h (ap (λ b. not b && not (is_kept p)) i)
         by false i = refl
 
-    file_stands : (own : List (Path × List ℕ)) (kind : DepKind) (p : Path) (s : Stamp) → IsTrue (allows kind (File p) (tag_of s))
+    pub file_stands : (own : List (Path × List ℕ)) (kind : DepKind) (p : Path) (s : Stamp) → IsTrue (allows kind (File p) (tag_of s))
         → (kind ≡ kinds.List → is_source p ≡ true)
         → stamp_now world (project fs d) (by_records (recorded t.names t.records) told) own (map enc_task us) (asked_of kind p) ≡ Some (stamp_of s)
         → FileStands (record { tables = t; rows = rows; known = n; own = own }) required kind p s
@@ -215,7 +214,7 @@ module _ (fs : List FunctionTree) (d : Directory) (t : Tables) (rows : List Row)
   output_stands kinds.Digest task v s a k l h = cc
   output_stands kinds.List task v s a k l h = cc
 
-  called_stands : OutputsAreCanonical t.records settled → (kind : DepKind) (task : Task) (k : ℕ) (s : Stamp) → settled k ≡ true
+  pub called_stands : OutputsAreCanonical t.records settled → (kind : DepKind) (task : Task) (k : ℕ) (s : Stamp) → settled k ≡ true
       → slice_get t.names k ≡ Some task → IsTrue (allows kind (Called task) (tag_of s))
       → ((u : Value) → s ≡ stamps.Whole u → IsCanonical (tree_of u) (enc (tree_of u)))
       → outcome_now world (how_by kind) (recorded_outcome (recorded t.names t.records (enc_task task))) ≡ Some (stamp_of s)
