@@ -4,12 +4,13 @@ use Rattle.pie_model.specs.Paths.{Path, among}
 use Rattle.pie_model.specs.Tasks.{Task, Value}
 use Rattle.pie_model.specs.declared.words.How.{How}
 use Rattle.pie_model.specs.declared.words.Event.TheVariants.{Done, Require}
-use Rattle.pie_model.specs.declared.words.Outcome.TheVariants.{Ended, Cycled}
-use Rattle.pie_model.specs.Trees.{outcome_of, trace_of}
+use Rattle.pie_model.specs.declared.words.Outcome.{Outcome}
+use Rattle.pie_model.specs.declared.words.Outcome.TheVariants.{Ended, Failed, Cycled, Many}
+use Rattle.pie_model.specs.Trees.{outcome_of, trace_of, is_done}
 use Rattle.pie_model.specs.Evaluation.{World, Project, start, evaluation_with, evaluation_under, evaluation, round}
 use Rattle.pie_model.specs.Records.{Query, Looked, Listed, Required, Observation, observed, Record, Stamp, record_of, hashed, needs_of, task_asked}
 use Rattle.pie_model.specs.Running.{rest_of_run}
-use Rattle.pie_model.specs.StampNow.{Told, Teller, by_evaluation, by_records, stamp_now, asked_before}
+use Rattle.pie_model.specs.StampNow.{Told, Teller, by_evaluation, by_records, stamp_now, outcome_now, asked_before}
 use Rattle.pie_model.specs.Separate.{AllMet, NeverWritesWhatItSaw}
 use Rattle.pie_model.specs.Reasons.{Differs}
 use Rattle.pie_model.specs.inner.RecordLaws.{Passes}
@@ -188,18 +189,43 @@ module _ (x : Setting) (before : Project) (R : Task → Option Record) (root : T
 
   -- ---- a reason
 
+  -- what it passed, and what comes next
+  observed_so : (passed : List Observation) (rest : List Observation) → Checked passed rest → r.observations ≡ passed ++ rest
+  observed_so passed rest c =
+      all_observed x.world before x.now (MetIn x) (room_above x.world fs) (tasks_of fs) r c.frame rest c.beside ∙ ap (λ z. z ++ rest) c.seen
+
+  -- a stamp that isn't the one of now is a reason
+  stamp_differs : (passed rest : List Observation) (o : Observation) → Checked passed (o ∷ rest) → (HasStamp x (by_evaluation x.world x.now) r passed o → ⊥)
+      → Differs x.world x.now (by_evaluation x.world x.now) r.writes [] r.observations
+  stamp_differs passed rest o c not =
+      subst (Differs x.world x.now (by_evaluation x.world x.now) r.writes []) (sym (observed_so passed (o ∷ rest) c))
+      (differs_later x.world x.now (by_evaluation x.world x.now) r.writes passed [] rest o not)
+
   pub is_reason : (names : List Task) (passed rest : List Observation) (o : Observation) (M : MayPass x before R names root fs t r passed rest o)
       (told : List Task → Path → Told) → TellsRight R told → (HasStamp x (by_records R told) r passed o → ⊥)
       → Differs x.world x.now (by_evaluation x.world x.now) r.writes [] r.observations
   is_reason names passed rest o M told tells not =
-      subst (Differs x.world x.now (by_evaluation x.world x.now) r.writes []) (sym whole)
-      (differs_later x.world x.now (by_evaluation x.world x.now) r.writes passed [] rest o
-      (λ h. not (stamps_same names passed rest o M told tells ∙ h)))
+      stamp_differs passed rest o M.checked (λ h. not (stamps_same names passed rest o M told tells ∙ h))
+
+  -- and so is a required task that doesn't end with a value now
+  pub required_reason : (passed rest : List Observation) (c : Checked passed rest) (h : How) (u : Task)
+      → x.now.next c.frame.task c.frame.progress.answers ≡ Require h u → is_done (outcome_of (evaluation x.world x.now u)) ≡ false
+      → Differs x.world x.now (by_evaluation x.world x.now) r.writes [] r.observations
+  required_reason passed [] c h u next undone = absurd (never c.asks.next.0 (sym c.asks.next.2 ∙ next))
     where
-      whole : r.observations ≡ passed ++ o ∷ rest
-      whole =
-          all_observed x.world before x.now (MetIn x) (room_above x.world fs) (tasks_of fs) r M.checked.frame (o ∷ rest) M.checked.beside
-          ∙ ap (λ z. z ++ o ∷ rest) M.checked.seen
+      never : (v : Value) → Done v ≡ Require h u → ⊥
+      never v e = cc
+  required_reason passed (o ∷ rest) c h u next undone =
+      stamp_differs passed rest o c
+      (λ e. no_stamp (outcome_of (evaluation x.world x.now u)) o.stamp undone
+      (subst (λ z. stamp_now x.world x.now (by_evaluation x.world x.now) r.writes (needs_of passed) z ≡ Some o.stamp)
+      (asks_for o.query h u (sym c.asks.next ∙ next)) e))
+    where
+      no_stamp : (e : Outcome) (s : Stamp) → is_done e ≡ false → outcome_now x.world h e ≡ Some s → ⊥
+      no_stamp (Ended v) s d i = clash true refl d
+      no_stamp (Failed a k) s d i = cc
+      no_stamp (Cycled ts) s d i = cc
+      no_stamp Many s d i = cc
 
   -- ---- require
 

@@ -5,6 +5,7 @@ pub mod Tabling
 pub mod Checking
 pub mod Building
 pub mod Sinking
+pub mod Lower
 pub mod Deciding
 pub mod Stacking
 pub mod Exactness
