@@ -1,5 +1,5 @@
 pub mod Ways
 pub mod Agreement
 pub mod Stamped
-pub mod Agreeing
+pub mod Observed
 pub mod Standing

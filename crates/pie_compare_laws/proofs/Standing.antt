@@ -36,7 +36,7 @@ use Rattle.pie_compare_laws.specs.Settled.{RestsOn, ArePresent}
 use Rattle.pie_compare_laws.specs.Agreeing.{IsPlainRow, OutputsAreCanonical}
 use Rattle.pie_compare_laws.proofs.Ways.{number_of}
 use Rattle.pie_compare_laws.proofs.Agreement.{asked_of_path, numbers_more, settled_more}
-use Rattle.pie_compare_laws.proofs.Agreeing.{file_stands, called_stands}
+use Rattle.pie_compare_laws.proofs.Observed.{file_stands, called_stands}
 
 module _ (fs : List FunctionTree) (d : Directory) (t : Tables) (rows : List Row) (n : Named) (settled : ℕ → Bool) (told : List (List ℕ) → Path → Told)
     (present : ArePresent t.names t.records rows settled told) (true_of : IsTrueOf d n) (outputs : OutputsAreCanonical t.records settled)
