@@ -1,5 +1,5 @@
 -- A required task answers from how it ended, or closes a cycle, in the words of the model.
-use Rattle.std.proofs.Common.{◌≡◌, ℕ, suc, ◌-◌, ◌<◌, ◌≤◌, Bool, true, false, List, [], ◌∷◌, ◌++◌, Option, None, Some, Result, Ok, Err, length, refl, sym, ap, subst, ◌∙◌, inl, arith}
+use Rattle.std.proofs.Common.{◌≡◌, ◌⊎◌, ℕ, suc, ◌-◌, ◌<◌, ◌≤◌, Bool, true, false, List, [], ◌∷◌, ◌++◌, Option, None, Some, Result, Ok, Err, length, refl, sym, ap, subst, ◌∙◌, inl, inr, arith}
 use Rattle.std.specs.Prelude.{slice_get, IfOk, OnOk}
 use Rattle.std.specs.List.{Contains}
 use Rattle.std.specs.Option.{option_map}
@@ -9,7 +9,6 @@ use Rattle.pie_value.specs.declared.task.Task.{Task}
 use Rattle.pie_value.specs.declared.value.Value.{Value}
 use Rattle.pie_value.specs.declared.event.Event.TheVariants as events
 use Rattle.pie_value.specs.declared.event.How.{How as Asked}
-use Rattle.pie_value.specs.declared.verdict.Refusal.TheVariants.{Fault}
 use Rattle.pie_value.specs.Values.{tree_of}
 use Rattle.pie_value.specs.Limits.{is_small_task}
 use Rattle.pie_value.specs.Canonical.{enc_task, IsCanonicalTask, IsEncodable}
@@ -33,12 +32,12 @@ use Rattle.pie_model.specs.Paths.{among}
 use Rattle.pie_model.specs.Trees.{is_done, outcome_of}
 use Rattle.pie_model.specs.declared.words.Outcome.TheVariants.{Failed}
 use Rattle.pie_model.specs.declared.words.Event.TheVariants.{Fail}
-use Rattle.pie_model.specs.declared.words.Verdict.TheVariants.{Fault as ModelFault}
 use Rattle.pie_model.specs.Records.{Record}
 use Rattle.pie_model.specs.inner.Stack.{Frame as ModelFrame, tasks_of}
-use Rattle.pie_model.proofs.Basics.{clash}
+use Rattle.pie_model.specs.Evaluation.{evaluation}
+use Rattle.pie_model.proofs.Basics.{among_either, clash}
 use Rattle.pie_step_laws.specs.Frames.{set_aside}
-use Rattle.pie_step_laws.proofs.Tables.{no_more}
+use Rattle.pie_step_laws.proofs.Tables.{among_one, no_more}
 use Rattle.pie_settle_laws.specs.Going.{before_wait}
 use Rattle.pie_model_pipeline.specs.Rows as rows
 use Rattle.pie_model_pipeline.specs.Words.{how_of, fault_of}
@@ -54,6 +53,7 @@ use Rattle.pie_topdown_laws.specs.Ledgers.{setting}
 use Rattle.pie_topdown_laws.specs.Running.{IsTop}
 use Rattle.pie_topdown_laws.proofs.Acting.{requirer_waits, caller_runs, some_left}
 use Rattle.pie_topdown_laws.proofs.Deciding.{failed_decides}
+use Rattle.pie_topdown_laws.proofs.Lower.{requirer_undone}
 use Rattle.pie_topdown_laws.proofs.Sinking.{lost_by_names, required_sinks, new_fails}
 use Rattle.pie_topdown.specs.declared.builder.Builder.{Builder}
 use Rattle.pie_topdown.specs.declared.hand.Hand.TheVariants as hands
@@ -61,10 +61,10 @@ use Rattle.pie_topdown.specs.declared.hand.Turn.{Turn}
 use Rattle.pie_topdown.specs.declared.hand.Turn.TheVariants.{Goes}
 use Rattle.pie_topdown.specs.inner.Asking.{ActsSo}
 use Rattle.pie_topdown.specs.inner.Calling.{CallsSo, AnswersSo, GivesSo, DescendsSo, NeedsSo, LosesSo}
-use Rattle.pie_topdown.specs.inner.Right.{site_of, build_of, names_of, records_of, IsPlanNow, IsRightSite, AreTheBusy}
-use Rattle.pie_topdown.specs.inner.Turns.{FailsFirst}
+use Rattle.pie_topdown.specs.inner.Right.{lost, site_of, build_of, names_of, records_of, IsLost, IsPlanNow, IsRightSite, AreTheBusy, TurnIsRight}
+use Rattle.pie_topdown.specs.inner.Turns.{FailsBy}
 use Rattle.pie_topdown.proofs.Entered.{canonical_at}
-use Rattle.pie_topdown.proofs.Failing.{failed_turn}
+use Rattle.pie_topdown.proofs.Failing.{falls_right}
 use Rattle.pie_topdown.proofs.Pushed.{absent_among}
 use Rattle.pie_topdown.proofs.Topmost.{one_some, never}
 
@@ -95,7 +95,7 @@ pub gives_turn : (b : Builder) (c : Caller) (callee : ℕ) (v : Value) (height :
     → IsEncodable (tree_of v) → IsTold c.waiting f (required (of_task c.how c.required v) callee height c.waiting.notes) (requiring_answer c.how v)
     → Given (Called c.required) callee height c.waiting.notes f.notes → GivesSo b c callee v b (Goes (hands.Runs f))
 gives_turn b c callee v height f named small told given = λ rec kept gave u done root fs plan s waiting h.
-    inl (record {
+    record {
       site = s;
       fs = fs;
       waiting = waiting;
@@ -108,7 +108,7 @@ gives_turn b c callee v height f named small told given = λ rec kept gave u don
         ran = subst (IsMarked b.ledger.tables.ran.items) (sym given.same) h.ran;
         busy = subst (λ (t : Task). AreTheBusy b (enc_task t ∷ tasks_of fs)) (sym given.task) h.busy;
       };
-    })
+    }
 
 -- a task that ended so has a record
 record EndedSo (b : Builder) (k : ℕ) (o : Outcome) : Type 0 where
@@ -130,7 +130,7 @@ answers_given b new c callee v (Err x) e gives = tt
 answers_given b new c callee v (Ok turn) e gives = let k = ended_so b callee (outcomes.Done v) e in gives k.rec k.kept k.is
 
 -- a recorded task gave an output
-gave_output : (u : Update) (done : List (List ℕ)) (root : List ℕ) (b : Builder) (k : ℕ) (rec : TaskRecord) → IsRightSite u done root b
+pub gave_output : (u : Update) (done : List (List ℕ)) (root : List ℕ) (b : Builder) (k : ℕ) (rec : TaskRecord) → IsRightSite u done root b
     → kept_of b.ledger.tables.records k ≡ Some rec → is_done (rows.outcome_of rec.outcome) ≡ true
 gave_output u done root b k rec s kept =
     let now : records_of b (enc_task rec.task) ≡ Some (rows.record_of rec) =
@@ -138,20 +138,6 @@ gave_output u done root b k rec s kept =
     ∙ ap (option_map rows.record_of) kept in
     ap (λ (z : Record). is_done z.outcome) (s.ledger.table.right (enc_task rec.task) (rows.record_of rec) now)
     ∙ s.ledger.table.done (enc_task rec.task) (rows.record_of rec) now
-
--- so none has failed
-pub answers_failed : {E : Type 0} (b new : Builder) (c : Caller) (callee : ℕ) (o : Outcome) (r : Result Turn E)
-    → Some o ≡ option_map (λ (x : TaskRecord). x.outcome) (kept_of b.ledger.tables.records callee) → ((v : Value) → o ≡ outcomes.Done v → ⊥)
-    → IfOk r (CallsSo b c new)
-answers_failed b new c callee o (Err x) e other = tt
-answers_failed b new c callee o (Ok turn) e other = λ u done root fs plan s waiting h.
-    let k = ended_so b callee o e in
-    absurd (by o other (ap (λ (z : Outcome). is_done (rows.outcome_of z)) (sym k.is) ∙ gave_output u done root b callee k.rec s k.kept))
-  where
-    by : (z : Outcome) → ((v : Value) → z ≡ outcomes.Done v → ⊥) → is_done (rows.outcome_of z) ≡ true → ⊥
-    by (outcomes.Done v) other is = other v refl
-    by (outcomes.Failed f) other is = let apart : false ≡ true = is in cc
-    by (outcomes.Cycled ts) other is = let apart : false ≡ true = is in cc
 
 -- ---- it has ended
 
@@ -176,11 +162,9 @@ no_function u b t plan none = by (number_from 0 u.functions t) refl
     by None e = refl
     by (Some n) e = let c = code_found u.functions b.plan.code.now t n plan.compiled e in absurd (of_now n e c.code c.is c.takes)
 
-pub lost_turn : {E : Type 0} (b new : Builder) (c : Caller) (t : Task) (r : Result Turn E) → t ≡ c.required → 0 < c.waiting.notes.left
-    → OnOk r (FailsFirst b (outcomes.Failed (record { task = t; kind = Unknown })) new) → IfOk r (LosesSo b c new)
+pub lost_turn : (b new : Builder) (c : Caller) (turn : Turn) → 0 < c.waiting.notes.left → FailsBy b (lost c.required) new turn → LosesSo b c new turn
 unfolding world
-lost_turn b new c t (Err x) same left first = tt
-lost_turn b new c t (Ok turn) same left first = λ fewer absent none canonical small u done root fs plan s waiting a.
+lost_turn b new c turn left fell = λ fewer absent none canonical small u done root fs plan s waiting a.
     let R = a.asks.runs in
     let f = R.frame in
     let Q = requirer_waits (site_of u b) (build_of b) root fs c.waiting c.required c.how a.asks left small canonical in
@@ -194,26 +178,27 @@ lost_turn b new c t (Ok turn) same left first = λ fewer absent none canonical s
     let above_few : length (tasks_of (f ∷ fs)) < 50000 =
     less (length (tasks_of (f ∷ fs))) (length (names_of b)) (no_more (tasks_of (f ∷ fs)) (names_of b) R.top.goes.once R.top.under_way.counted) few in
     let apart : among (enc_task c.required) (tasks_of (f ∷ fs)) ≡ false = apart_from (enc_task c.required) (tasks_of (f ∷ fs)) (names_of b) R.top.under_way.counted new_one in
-    failed_turn u done root new turn (record {
-      why = Fault (record { task = t; kind = Unknown });
-      kept = first s.calm;
-      refused = λ rest.
-          failed_decides (setting u) (records_of b) (names_of b) s.ledger.table (names_of b ++ enc_task c.required ∷ []) done rest root s.recorded
-          (enc_task c.required) (fault_of Unknown)
-          (lost_by_names (setting u) (records_of b) (names_of b) s.ledger.table done s.recorded root fs f R.top (c.waiting.notes.left - 1) (how_of c.how)
-          (enc_task c.required) l Q.requires.next (fault_of Unknown) new_one few (omega arith) fails)
-          (one_longer (names_of b) (enc_task c.required) few)
-          (required_sinks (setting u) (records_of b) root fs f R.top.goes (c.waiting.notes.left - 1) (how_of c.how) (enc_task c.required) l Q.requires.next
-          (Failed (enc_task c.required) (fault_of Unknown))
-          (ap outcome_of (new_fails world (present u) (tasks_of (f ∷ fs)) (enc_task c.required) (fault_of Unknown) apart above_few (omega arith) fails)) refl)
-          ∙ ap (λ (z : Task). ModelFault (enc_task z) (fault_of Unknown)) (sym same);
-      ends =
-          ap is_done
-          (required_sinks (setting u) (records_of b) root fs f R.top.goes (c.waiting.notes.left - 1) (how_of c.how) (enc_task c.required) l Q.requires.next
-          (Failed (enc_task c.required) (fault_of Unknown))
-          (ap outcome_of (new_fails world (present u) (tasks_of (f ∷ fs)) (enc_task c.required) (fault_of Unknown) apart above_few (omega arith) fails)) refl);
-    })
+    let sunk : outcome_of (evaluation world (present u) root) ≡ Failed (enc_task c.required) (fault_of Unknown) =
+    required_sinks (setting u) (records_of b) root fs f R.top.goes (c.waiting.notes.left - 1) (how_of c.how) (enc_task c.required) l Q.requires.next
+    (Failed (enc_task c.required) (fault_of Unknown))
+    (ap outcome_of (new_fails world (present u) (tasks_of (f ∷ fs)) (enc_task c.required) (fault_of Unknown) apart above_few (omega arith) fails)) refl in
+    let all = lost_by_names (setting u) (records_of b) (names_of b) s.ledger.table done s.recorded root fs f R.top (c.waiting.notes.left - 1) (how_of c.how)
+    (enc_task c.required) l Q.requires.next (fault_of Unknown) new_one few (omega arith) fails in
+    subst (TurnIsRight u done root new) (sym fell.turn)
+    (falls_right u done root b new (lost c.required) fs f c.waiting.notes.number c.waiting.notes.task s waiting R.top
+    (requirer_undone (setting u) (records_of b) root (names_of b) fs f R.top (c.waiting.notes.left - 1) (how_of c.how) (enc_task c.required) l Q.requires.next
+    (ap (λ n. is_done (outcome_of n)) (new_fails world (present u) [] (enc_task c.required) (fault_of Unknown) refl (omega arith) (omega arith) fails)))
+    R.means.named a.ran a.busy fell.is
+    (λ rest.
+    failed_decides (setting u) (records_of b) (names_of b) s.ledger.table (names_of b ++ enc_task c.required ∷ []) done rest root s.recorded
+    (enc_task c.required) (fault_of Unknown) all (one_longer (names_of b) (enc_task c.required) few) sunk)
+    (ap is_done sunk) (λ x i. others canonical x (among_either x (names_of b) (enc_task c.required ∷ []) (all x i))))
   where
+    others : IsCanonicalTask c.required (enc_task c.required) → (x : List ℕ)
+        → (among x (names_of b) ≡ true) ⊎ (among x (enc_task c.required ∷ []) ≡ true) → (among x (names_of b) ≡ true) ⊎ IsLost (lost c.required) x
+    others canonical x (inl i) = inl i
+    others canonical x (inr i) = inr (record { task = c.required; is = refl; canonical = canonical; bytes = sym (among_one x (enc_task c.required) i) })
+
     less : (x y : ℕ) → x ≤ y → y < 50000 → x < 50000
     less x y p q = omega (arith, p, q)
 

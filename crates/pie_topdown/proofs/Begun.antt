@@ -61,7 +61,7 @@ pub own_begins : (held : Option Directory) (told : Directory → Task → List �
 own_begins held told b mid n code rec c same finds begins own = λ u done root fs holds plan honest s waiting e.
     let found = finds u.directory holds s.known in
     let site = site_by b mid same u done root found.known s in
-    inl (record {
+    record {
       site = site;
       fs = fs;
       waiting = waiting_by b mid same u root fs waiting;
@@ -69,7 +69,7 @@ own_begins held told b mid n code rec c same finds begins own = λ u done root f
           (stored_old u rec plan.build (plan.old own.number rec own.kept) (plan.meaning own.number rec own.kept own.same)) (tells_apart u plan.apart)
           (plan.parts own.number rec own.kept) (all_there u.directory rec.writes (found.there refl))
           (own_lasts b.plan mid.plan rec (ap (λ x. x.plan) same) own) tt;
-    })
+    }
 
 -- else its offers are asked for, when more is known of the files: something that it wrote isn't there
 pub other_begins : {E : Type 0} (held between : Option Directory) (told : Directory → Task → List ℕ → List Offered) (b mid new : Builder) (n : ℕ) (code : Code)

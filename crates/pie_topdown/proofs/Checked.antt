@@ -162,10 +162,10 @@ pub passes_turn : (b : Builder) (c : Check) (next : Box Check Global) → next.v
     → PassesRight b c (Goes (hands.Checks next))
 passes_turn b c next is storable = λ u done root fs held old from holds known s waiting k same n.
     let rec_same = ap (λ (x : Check). x.rec) same in
-    inl (record {
+    record {
       site = s;
       fs = fs;
       waiting = waiting;
       hand = subst (ChecksRight u b root fs) (sym (is ∙ ap (λ (x : Check). record x { at = x.at + 1 }) same))
           (passes_check u done root fs held old b from c.required holds known s k (subst (StandsNext held old b from) same n) (subst IsStorable rec_same storable));
-    })
+    }

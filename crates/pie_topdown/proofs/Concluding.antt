@@ -1,13 +1,14 @@
 -- Which tasks a whole build has run and reused: each that a clean build enters and that has a reason to run is among them.
-use Rattle.std.proofs.Common.{◌≡◌, ◌⊎◌, ℕ, Bool, true, false, List, [], Option, None, Some, Contains, length, map, refl, sym, ap, subst, ◌∙◌, inl, inr, arith}
+use Rattle.std.proofs.Common.{◌≡◌, ◌⊎◌, ℕ, Bool, true, false, List, [], Option, None, Some, Contains, ◌++◌, length, map, refl, sym, ap, subst, ◌∙◌, inl, inr, arith}
 use Rattle.std.specs.Prelude.{All, IfSome, slice_get, slice_index_or, option_map}
 use Rattle.std.proofs.lemmas.List.{append-nil}
 use Rattle.std.proofs.lemmas.List.Elements.{All-weaker}
 use Rattle.pie_value.specs.declared.task.Task.{Task}
 use Rattle.pie_value.specs.declared.verdict.Refusal.{Refusal}
 use Rattle.pie_value.specs.declared.verdict.Verdict.{Verdict}
-use Rattle.pie_value.specs.declared.verdict.Verdict.TheVariants.{Accepted, Refused}
-use Rattle.pie_value.specs.Canonical.{enc_task}
+use Rattle.pie_value.specs.declared.verdict.Verdict.TheVariants.{Refused}
+use Rattle.pie_value.specs.declared.verdict.Refusal.TheVariants.{Many}
+use Rattle.pie_value.specs.Canonical.{enc_task, IsCanonicalTask}
 use Rattle.pie_code.specs.declared.code.Code.{Code}
 use Rattle.pie_checks.specs.declared.built.Built.{Built}
 use Rattle.pie_parser.specs.FunctionTrees.{FunctionTree}
@@ -17,30 +18,34 @@ use Rattle.pie_record.specs.Canonical.{IsStorable}
 use Rattle.pie_record.specs.declared.task_record.TaskRecord.{TaskRecord}
 use Rattle.pie_record.specs.inner.Records.{record_of as kept_of}
 use Rattle.pie_store.specs.inner.Offers.{Offered}
-use Rattle.pie_tables.specs.Tabled.{IsRecordAt}
+use Rattle.pie_tables.specs.Tabled.{IsRecordAt, IsTables}
 use Rattle.pie_model.specs.Paths.{among}
 use Rattle.pie_model.specs.Evaluation.{evaluation}
 use Rattle.pie_model.specs.Records.{Record, record_of as model_record}
 use Rattle.pie_model.specs.Reasons.{RunReason}
-use Rattle.pie_model.proofs.Basics.{clash}
+use Rattle.pie_model.specs.Forest.{entered_tasks, forest, only_if}
+use Rattle.pie_model.specs.Running.{entered_all}
+use Rattle.pie_model.specs.Trees.{entered, is_done, outcome_of}
+use Rattle.pie_model.proofs.Basics.{among_here, among_there, clash}
+use Rattle.pie_model.proofs.RunningLemmas.{entered_all-end}
 use Rattle.pie_model_pipeline.specs.Rows.{record_of}
 use Rattle.pie_model_pipeline.specs.World.{world}
 use Rattle.pie_model_pipeline.proofs.Joining.{tasks_told}
-use Rattle.pie_builder_laws.proofs.Naming.{among_from, canonical_at}
+use Rattle.pie_builder_laws.proofs.Naming.{among_at, among_from, canonical_at}
 use Rattle.pie_builder_laws.proofs.Tabled.{record_by_number}
 use Rattle.pie_earlier_laws.specs.Functions.{digest_under}
 use Rattle.pie_earlier_laws.proofs.Pipelines.{manners_of}
 use Rattle.pie_earlier_laws.proofs.Reasons.{no_reason}
 use Rattle.pie_core_laws.specs.Update.{Update, present, old_record}
 use Rattle.pie_core_laws.proofs.Joined.{same_codes}
-use Rattle.pie_topdown_laws.specs.Ledgers.{setting}
+use Rattle.pie_topdown_laws.specs.Ledgers.{setting, IsRightLedger}
 use Rattle.pie_topdown_laws.proofs.Sinking.{base_among, recorded_done}
 use Rattle.pie_topdown_result_laws.specs.Builds.{AreHonest, IsFromStore, IsNowHere}
 use Rattle.pie_topdown.specs.declared.builder.Builder.{Builder}
-use Rattle.pie_topdown.specs.inner.Due.{HasReason, NoneFails, KnowsCode}
+use Rattle.pie_topdown.specs.inner.Due.{HasReason, KnowsCode}
 use Rattle.pie_topdown.specs.inner.Frames.{IsOwnRecord, IsSite}
-use Rattle.pie_topdown.specs.inner.Ran.{AddsNamed, HasRunAs, HasRunFull, HasRunSo, IsEntered, IsOneOf, RanFor, RunsForReasons, SettlesAllRan, StopsAllRan}
-use Rattle.pie_topdown.specs.inner.Right.{names_of, records_of, IsPlanNow}
+use Rattle.pie_topdown.specs.inner.Ran.{AddsNamed, HasFailed, HasRunAs, HasRunSo, HasStopped, IsEntered, IsOneOf, RanFor, RunsForReasons, SettlesAllRan, StopsAllRan}
+use Rattle.pie_topdown.specs.inner.Right.{lost, names_of, records_of, AreWritten, IsLost, IsPlanNow}
 use Rattle.pie_topdown.specs.inner.Rooted.{IsPlanOf, IsProgram, IsSettledSoFar, IsUnbegun, SettlesAllRight, RootsEndRight}
 use Rattle.pie_topdown.proofs.Knowing.{knows_code}
 use Rattle.pie_topdown.proofs.Planning.{build_now, plan_now}
@@ -66,84 +71,83 @@ begun_ran b site is runs = record {
   only = λ n marked. absurd (unmarked b.ledger.tables.ran.items n (site.ledger.tables.flags ∙ ap length is.names) marked);
 }
 
--- ---- all roots have outputs
+-- ---- what is marked, and what isn't
 
-module _ (u : Update) (funcs digests : List (List ℕ × List ℕ)) (b : Builder) (plan : IsPlanNow u b.plan) (knows : KnowsCode u funcs digests b.plan)
-    (site : IsSite b) (s : IsSettledSoFar u u.roots b) where
-  fine : NoneFails u
-  fine r listed = (recorded_done (setting u) (records_of b) (names_of b) s.ledger.table u.roots s.recorded).done r listed
-
+module _ (u : Update) (funcs digests : List (List ℕ × List ℕ)) (b : Builder) (knows : KnowsCode u funcs digests b.plan) (written : AreWritten u b) where
   -- what was marked had a reason
   marked_due : (t : Task) → HasRunAs b t → HasReason u funcs digests t
   marked_due t r =
-      let d = s.written.due r.number r.marked in
-      subst (HasReason u funcs digests) (one_some d.task t (sym d.named ∙ r.named)) (d.due funcs digests knows fine)
+      let d = written.due r.number r.marked in
+      subst (HasReason u funcs digests) (one_some d.task t (sym d.named ∙ r.named)) (d.due funcs digests knows)
 
-  module _ (t : Task) (is : IsEntered u t) (reason : HasReason u funcs digests t) where
-    entered : among (enc_task t) (names_of b) ≡ true
-    entered = base_among (setting u) (records_of b) (names_of b) s.ledger.table u.roots s.recorded (enc_task t) is.entered
-
+  module _ (plan : IsPlanNow u b.plan) (earlier : IsTables b.plan.earlier)
+      (ledger : IsRightLedger u b.ledger.tables.names b.ledger.tables.records b.ledger.rows b.ledger.places.items) (t : Task)
+      (canonical : IsCanonicalTask t (enc_task t)) (reason : HasReason u funcs digests t) where
     -- a record that is its own gives none
     unmarked_none : (n : ℕ) (rec : TaskRecord) → slice_get b.ledger.tables.names n ≡ Some t → kept_of b.ledger.tables.records n ≡ Some rec
         → slice_index_or b.ledger.tables.ran.items n false ≡ false → ⊥
     unmarked_none n rec named kept off =
         no_reason world (present u) u.directory (enc_task t) (record_of rec) (digest_under funcs t.func) (digest_under digests t.func)
         ((manners_of u.functions u.directory).writes (enc_task t)) right
-        (s.ledger.table.done (enc_task t) (record_of rec) now)
-        (same_codes funcs digests t.func (sym (knows.each own.number t at) ∙ own.same)) (s.written.there n rec off kept)
+        (ledger.table.done (enc_task t) (record_of rec) now)
+        (same_codes funcs digests t.func (sym (knows.each own.number t at) ∙ own.same)) (written.there n rec off kept)
         (subst (λ (o : Option Record). RunReason world (present u) u.directory o (digest_under funcs t.func) (digest_under digests t.func)) left reason)
       where
         own : IsOwnRecord b.plan rec
-        own = s.written.own n rec off kept
+        own = written.own n rec off kept
 
         its : rec.task ≡ t
-        its = one_some rec.task t (sym (s.ledger.named n rec kept) ∙ named)
+        its = one_some rec.task t (sym (ledger.named n rec kept) ∙ named)
 
         left : old_record u (enc_task t) ≡ Some (record_of rec)
         left = ap (λ (z : Task). old_record u (enc_task z)) (sym its) ∙ (plan.old own.number rec own.kept).left
 
         now : records_of b (enc_task t) ≡ Some (record_of rec)
-        now = record_by_number b.ledger.tables.names b.ledger.tables.records n t s.ledger.tasks named ∙ ap (option_map record_of) kept
+        now = record_by_number b.ledger.tables.names b.ledger.tables.records n t ledger.tasks named ∙ ap (option_map record_of) kept
 
         right : record_of rec ≡ model_record world (evaluation world (present u) (enc_task t))
-        right = s.ledger.table.right (enc_task t) (record_of rec) now
+        right = ledger.table.right (enc_task t) (record_of rec) now
 
         at : slice_get b.plan.earlier.names own.number ≡ Some t
         at =
-            (subst (λ (o : Option TaskRecord). IfSome o (IsRecordAt b.plan.earlier.names own.number)) own.kept (site.earlier.records own.number)).named
+            (subst (λ (o : Option TaskRecord). IfSome o (IsRecordAt b.plan.earlier.names own.number)) own.kept (earlier.records own.number)).named
             ∙ ap Some its
 
-    pub is_marked : (n : ℕ) → slice_get b.ledger.tables.names n ≡ Some t → IsMarked b.ledger.tables.ran.items n
-    is_marked n named = by (slice_index_or b.ledger.tables.ran.items n false) refl
-      where
-        recorded : (o : Option TaskRecord) → kept_of b.ledger.tables.records n ≡ o → slice_index_or b.ledger.tables.ran.items n false ≡ false → ⊥
-        recorded None none off =
-            clash (among (enc_task t) [])
-            (s.all (enc_task t) entered
-            (record_by_number b.ledger.tables.names b.ledger.tables.records n t s.ledger.tasks named ∙ ap (option_map record_of) none)) refl
-        recorded (Some rec) kept off = unmarked_none n rec named kept off
+    -- where each entered task without a record is marked
+    module _ (marked : (n : ℕ) (v : Task) → slice_get b.ledger.tables.names n ≡ Some v → kept_of b.ledger.tables.records n ≡ None
+        → IsMarked b.ledger.tables.ran.items n) where
+      is_marked : (n : ℕ) → slice_get b.ledger.tables.names n ≡ Some t → IsMarked b.ledger.tables.ran.items n
+      is_marked n named = by (slice_index_or b.ledger.tables.ran.items n false) refl
+        where
+          recorded : (o : Option TaskRecord) → kept_of b.ledger.tables.records n ≡ o → slice_index_or b.ledger.tables.ran.items n false ≡ false
+              → slice_index_or b.ledger.tables.ran.items n false ≡ true
+          recorded None none off = marked n t named none
+          recorded (Some rec) kept off = absurd (unmarked_none n rec named kept off)
 
-        by : (f : Bool) → slice_index_or b.ledger.tables.ran.items n false ≡ f → slice_index_or b.ledger.tables.ran.items n false ≡ true
-        by true e = e
-        by false e = absurd (recorded (kept_of b.ledger.tables.records n) refl e)
+          by : (f : Bool) → slice_index_or b.ledger.tables.ran.items n false ≡ f → slice_index_or b.ledger.tables.ran.items n false ≡ true
+          by true e = e
+          by false e = recorded (kept_of b.ledger.tables.records n) refl e
 
-    -- it ran, or was reused
-    has_run : (first after : List Task) (h : HasRunSo b first after) → Contains h.gained t ⊎ Contains h.reused t
-    has_run first after h =
-        let m = among_from b.ledger.tables.names (enc_task t) entered in
-        let its : m.task ≡ t = tasks_told m.task t (canonical_at b.ledger.tables.names s.ledger.tasks m.number m.task m.named) is.canonical (sym m.bytes) in
-        by m.number (m.named ∙ ap Some its) (h.only m.number (is_marked m.number (m.named ∙ ap Some its)))
-      where
-        one : (n : ℕ) (ts : List Task) → slice_get b.ledger.tables.names n ≡ Some t → IsOneOf b ts n → Contains ts t
-        one n ts named o = subst (Contains ts) (one_some o.task t (sym o.named ∙ named)) o.listed
+      -- it ran, or was reused
+      has_run : among (enc_task t) (names_of b) ≡ true → (first after : List Task) (h : HasRunSo b first after) → Contains h.gained t ⊎ Contains h.reused t
+      has_run entered first after h =
+          let m = among_from b.ledger.tables.names (enc_task t) entered in
+          let its : m.task ≡ t = tasks_told m.task t (canonical_at b.ledger.tables.names ledger.tasks m.number m.task m.named) canonical (sym m.bytes) in
+          by m.number (m.named ∙ ap Some its) (h.only m.number (is_marked m.number (m.named ∙ ap Some its)))
+        where
+          one : (n : ℕ) (ts : List Task) → slice_get b.ledger.tables.names n ≡ Some t → IsOneOf b ts n → Contains ts t
+          one n ts named o = subst (Contains ts) (one_some o.task t (sym o.named ∙ named)) o.listed
 
-        by : (n : ℕ) → slice_get b.ledger.tables.names n ≡ Some t → IsOneOf b h.gained n ⊎ IsOneOf b h.reused n → Contains h.gained t ⊎ Contains h.reused t
-        by n named (inl o) = inl (one n h.gained named o)
-        by n named (inr o) = inr (one n h.reused named o)
+          by : (n : ℕ) → slice_get b.ledger.tables.names n ≡ Some t → IsOneOf b h.gained n ⊎ IsOneOf b h.reused n → Contains h.gained t ⊎ Contains h.reused t
+          by n named (inl o) = inl (one n h.gained named o)
+          by n named (inr o) = inr (one n h.reused named o)
 
-  pub settled_ran : (v : Verdict) (before after old new : List Task) → HasRunSo b before after → AddsNamed b (numbers b.reused.items) old new
+  -- so it is known which tasks ran, where each that has a reason did
+  ran_for : (v : Verdict) (before after old new : List Task) → (h : HasRunSo b before after) → AddsNamed b (numbers b.reused.items) old new
+      → ((v ≡ Refused Many → ⊥) → (t : Task) → IsEntered u t → HasReason u funcs digests t
+      → Contains h.gained t ⊎ Contains h.reused t ⊎ (v ≡ Refused (lost t)))
       → RanFor u funcs digests before after old new v
-  settled_ran v before after old new h adds = record {
+  ran_for v before after old new h adds all = record {
     ran = h.gained;
     ran_are = h.is;
     reused = h.reused;
@@ -153,31 +157,76 @@ module _ (u : Update) (funcs digests : List (List ℕ × List ℕ)) (b : Builder
     apart = h.apart;
     reasons = All-weaker (HasRunAs b) (HasReason u funcs digests) marked_due h.gained h.marked;
     reused_reasons = All-weaker (HasRunAs b) (HasReason u funcs digests) marked_due h.reused h.reused_marked;
-    all = λ fewer t is reason. has_run t is reason before after h;
+    all = all;
   }
 
--- ---- too many tasks
+one_more : {A B C : Type 0} → A ⊎ B → A ⊎ B ⊎ C
+one_more (inl a) = inl a
+one_more (inr b) = inr (inl b)
 
-pub full_ran : (u : Update) (funcs digests : List (List ℕ × List ℕ)) (b : Builder) → KnowsCode u funcs digests b.plan → NoneFails u → (v : Verdict) (r : Refusal)
-    → v ≡ Refused r → (before after old new : List Task) → HasRunFull u b before after r → AddsNamed b (numbers b.reused.items) old new
+-- ---- all roots have outputs
+
+settled_ran : (u : Update) (funcs digests : List (List ℕ × List ℕ)) (b : Builder) → IsPlanNow u b.plan → KnowsCode u funcs digests b.plan → IsSite b
+    → IsSettledSoFar u u.roots b → (v : Verdict) (before after old new : List Task) → HasRunSo b before after → AddsNamed b (numbers b.reused.items) old new
     → RanFor u funcs digests before after old new v
-full_ran u funcs digests b knows fine v r is before after old new f adds = record {
-  ran = f.ran.gained;
-  ran_are = f.ran.is;
-  reused = f.ran.reused;
-  reused_are = adds f.ran.reused f.ran.reused_are;
-  once = f.ran.once;
-  reused_once = f.ran.reused_once;
-  apart = f.ran.apart;
-  reasons = All-weaker (HasRunAs b) (HasReason u funcs digests) due f.ran.gained f.ran.marked;
-  reused_reasons = All-weaker (HasRunAs b) (HasReason u funcs digests) due f.ran.reused f.ran.reused_marked;
-  all = λ fewer. absurd (fewer (is ∙ ap Refused f.full));
-}
+settled_ran u funcs digests b plan knows site s v before after old new h adds =
+    ran_for u funcs digests b knows s.written v before after old new h adds
+    (λ fewer t is reason.
+    one_more (has_run u funcs digests b knows s.written plan site.earlier s.ledger t is.canonical reason none_left
+    (base_among (setting u) (records_of b) (names_of b) s.ledger.table u.roots s.recorded (enc_task t) is.entered) before after h))
   where
-    due : (t : Task) → HasRunAs b t → HasReason u funcs digests t
-    due t run =
-        let d = f.written.due run.number run.marked in
-        subst (HasReason u funcs digests) (one_some d.task t (sym d.named ∙ run.named)) (d.due funcs digests knows fine)
+    none_left : (n : ℕ) (v : Task) → slice_get b.ledger.tables.names n ≡ Some v → kept_of b.ledger.tables.records n ≡ None → IsMarked b.ledger.tables.ran.items n
+    none_left n v named none =
+        clash (among (enc_task v) [])
+        (s.all (enc_task v) (among_at b.ledger.tables.names n v named)
+        (record_by_number b.ledger.tables.names b.ledger.tables.records n v s.ledger.tasks named ∙ ap (option_map record_of) none)) refl
+
+-- ---- a root fails, or there are too many tasks
+
+-- the clean build enters nothing after a root that fails
+stops_at : (u : Update) (done rest : List (List ℕ)) (root : List ℕ)
+    → ((r : List ℕ) → among r done ≡ true → is_done (outcome_of (evaluation world (present u) r)) ≡ true)
+    → is_done (outcome_of (evaluation world (present u) root)) ≡ false
+    → forest world (present u) (done ++ root ∷ rest) ≡ forest world (present u) done ++ evaluation world (present u) root ∷ []
+stops_at u [] rest root well ends =
+    ap (λ z. evaluation world (present u) root ∷ only_if z (forest world (present u) rest)) ends
+stops_at u (r ∷ rs) rest root well ends =
+    ap (λ z. evaluation world (present u) r ∷ only_if z (forest world (present u) (rs ++ root ∷ rest))) (well r (among_here r rs))
+    ∙ ap (λ ns. evaluation world (present u) r ∷ ns) (stops_at u rs rest root (λ x i. well x (among_there x r rs i)) ends)
+    ∙ ap (λ z. evaluation world (present u) r ∷ (only_if z (forest world (present u) rs) ++ evaluation world (present u) root ∷ [])) (sym (well r (among_here r rs)))
+
+module _ (u : Update) (funcs digests : List (List ℕ × List ℕ)) (b : Builder) (plan : IsPlanNow u b.plan) (knows : KnowsCode u funcs digests b.plan)
+    (earlier : IsTables b.plan.earlier) (v : Verdict) (why : Refusal) (is : v ≡ Refused why) (before after : List Task) (f : HasStopped u b before after why) where
+  -- what it enters is entered, but for one that is why it is refused
+  entered_or_lost : HasFailed u f.done f.root b why → (t : Task) → IsEntered u t → (among (enc_task t) (names_of b) ≡ true) ⊎ (v ≡ Refused (lost t))
+  entered_or_lost q t e = by (q.all (enc_task t) (subst (λ z. among (enc_task t) z ≡ true) same e.entered))
+    where
+      same : entered_tasks world (present u) u.roots ≡ entered (evaluation world (present u) f.root) (entered_tasks world (present u) f.done)
+      same =
+          ap (entered_tasks world (present u)) (sym f.roots)
+          ∙ ap (λ ns. entered_all ns [])
+          (stops_at u f.done f.rest f.root (recorded_done (setting u) (records_of b) (names_of b) q.ledger.table f.done q.recorded).done q.ends)
+          ∙ entered_all-end (forest world (present u) f.done) (evaluation world (present u) f.root) []
+
+      by : (among (enc_task t) (names_of b) ≡ true) ⊎ IsLost why (enc_task t) → (among (enc_task t) (names_of b) ≡ true) ⊎ (v ≡ Refused (lost t))
+      by (inl i) = inl i
+      by (inr l) = inr (is ∙ ap Refused (l.is ∙ ap lost (tasks_told l.task t l.canonical e.canonical l.bytes)))
+
+  pub stopped_ran : (old new : List Task) → AddsNamed b (numbers b.reused.items) old new → RanFor u funcs digests before after old new v
+  stopped_ran old new adds =
+      ran_for u funcs digests b knows f.refused.written v before after old new f.refused.ran adds (λ fewer t e reason. by f.refused.failed fewer t e reason)
+    where
+      run : HasFailed u f.done f.root b why → (t : Task) → IsEntered u t → HasReason u funcs digests t
+          → (among (enc_task t) (names_of b) ≡ true) ⊎ (v ≡ Refused (lost t))
+          → Contains f.refused.ran.gained t ⊎ Contains f.refused.ran.reused t ⊎ (v ≡ Refused (lost t))
+      run q t e reason (inl i) =
+          one_more (has_run u funcs digests b knows f.refused.written plan earlier q.ledger t e.canonical reason q.marked i before after f.refused.ran)
+      run q t e reason (inr l) = inr (inr l)
+
+      by : (why ≡ Many) ⊎ HasFailed u f.done f.root b why → (v ≡ Refused Many → ⊥) → (t : Task) → IsEntered u t → HasReason u funcs digests t
+          → Contains f.refused.ran.gained t ⊎ Contains f.refused.ran.reused t ⊎ (v ≡ Refused (lost t))
+      by (inl many) fewer t e reason = absurd (fewer (is ∙ ap Refused many))
+      by (inr q) fewer t e reason = run q t e reason (entered_or_lost q t e)
 
 -- ---- the whole build
 
@@ -188,7 +237,7 @@ module _ (held : Option Directory) (fs : List FunctionTree) (codes : List Code) 
       → SettlesAllRan held told a roots b before after why → AddsNamed b (numbers b.reused.items) old new
       → RunsForReasons held fs funcs digests rows told roots before after old new made.verdict
   build_ran why none there same settles ran adds = record {
-    each = λ u here stored honest well.
+    each = λ u here stored honest.
         let s : IsSettledSoFar u u.roots b =
         subst (RootsEndRight u b) none
         (ends_so held fs codes funcs digests rows told roots a b made program storable site plan unbegun u why settles here stored honest) in
@@ -199,21 +248,16 @@ module _ (held : Option Directory) (fs : List FunctionTree) (codes : List Code) 
         (unbegun_settled a site unbegun u) before (begun_ran a site unbegun before)) adds;
   }
 
-  -- one of them isn't settled: where none fails, there are too many tasks
+  -- one of them isn't settled
   pub refused_ran : (why : Option Refusal) (r : Refusal) → why ≡ Some r → made.verdict ≡ Refused r → b.plan ≡ a.plan
       → StopsAllRan held told a roots b before after why → AddsNamed b (numbers b.reused.items) old new
       → RunsForReasons held fs funcs digests rows told roots before after old new made.verdict
-  refused_ran why r some is same stops adds = record { each = λ u here stored honest well. by u here stored honest well }
-    where
-      never : Refused r ≡ Accepted → ⊥
-      never e = cc
-
-      by : (u : Update) → IsNowHere u held fs roots → IsFromStore u funcs digests rows → AreHonest u digests told → (made.verdict ≡ Accepted) ⊎ NoneFails u
-          → RanFor u funcs digests before after old new made.verdict
-      by u here stored honest (inl accepted) = absurd (never (sym is ∙ accepted))
-      by u here stored honest (inr fine) =
-          let f = stops u (build_now fs codes funcs digests rows a.plan plan u held roots program storable here stored told honest) here.roots_are
-          (unbegun_settled a site unbegun u) before (begun_ran a site unbegun before) fine r some in
-          full_ran u funcs digests b
-          (subst (KnowsCode u funcs digests) (sym same) (knows_code fs codes funcs digests rows a.plan plan u held roots here stored)) fine made.verdict r is
-          before after old new f adds
+  refused_ran why r some is same stops adds = record {
+    each = λ u here stored honest.
+        stopped_ran u funcs digests b
+        (subst (IsPlanNow u) (sym same) (plan_now fs codes funcs digests rows a.plan plan u held roots program storable here stored))
+        (subst (KnowsCode u funcs digests) (sym same) (knows_code fs codes funcs digests rows a.plan plan u held roots here stored))
+        (subst (λ p. IsTables p.earlier) (sym same) site.earlier) made.verdict r is before after
+        (stops u (build_now fs codes funcs digests rows a.plan plan u held roots program storable here stored told honest) here.roots_are
+        (unbegun_settled a site unbegun u) before (begun_ran a site unbegun before) r some) old new adds;
+  }

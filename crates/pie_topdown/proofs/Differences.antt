@@ -1,5 +1,5 @@
--- A task whose own record differs in a place has a reason to run, unless a root fails.
-use Rattle.std.proofs.Common.{◌≡◌, ◌⊎◌, ℕ, zero, suc, ◌+◌, ◌<◌, ◌≤◌, Bool, true, false, List, [], ◌∷◌, Option, None, Some, length, map, refl, sym, ap, subst, ◌∙◌, inl, inr, arith, Vec}
+-- A task whose own record differs in a place has a reason to run.
+use Rattle.std.proofs.Common.{◌≡◌, ◌⊎◌, ℕ, zero, suc, ◌+◌, ◌<◌, ◌≤◌, true, false, List, [], ◌∷◌, Option, None, Some, length, map, refl, sym, ap, subst, ◌∙◌, inl, inr, arith, Vec}
 use Rattle.std.specs.declared.alloc.Global.{Global}
 use Rattle.std.specs.Prelude.{slice_get, take, drop, option_map, Contains, IfSome}
 use Rattle.std.proofs.lemmas.List.{length-map}
@@ -51,27 +51,24 @@ use Rattle.pie_topdown_laws.specs.Checks.{AreUnderWay, IsChecked}
 use Rattle.pie_topdown_laws.specs.CheckLaws.{MayPass}
 use Rattle.pie_topdown_laws.specs.Ledgers.{setting, walk_of, IsAsExact}
 use Rattle.pie_topdown_laws.specs.Places.{ChecksAt, StandsAbove}
-use Rattle.pie_topdown_laws.proofs.Building.{closes, is_reason}
+use Rattle.pie_topdown_laws.proofs.Building.{is_reason, required_reason}
 use Rattle.pie_topdown_laws.proofs.Comparing.{drop_at, requires_at}
+use Rattle.pie_topdown_laws.proofs.Lower.{closing_undone}
 use Rattle.pie_topdown_laws.proofs.Exactness.{as_exact, kept_settled, settled_kept}
 use Rattle.pie_topdown.specs.declared.builder.Builder.{Builder}
 use Rattle.pie_topdown.specs.declared.hand.Check.{Check}
-use Rattle.pie_topdown.specs.inner.Due.{NoneFails, IsDue, IsDueBy}
+use Rattle.pie_topdown.specs.inner.Due.{IsDue, IsDueBy}
 use Rattle.pie_topdown.specs.inner.Frames.{IsOwnRecord, IsSite}
 use Rattle.pie_topdown.specs.inner.Places.{DiffersHere, NeedsNext}
 use Rattle.pie_topdown.specs.inner.Right.{names_of, records_of, IsPlanNow, IsRightSite, ChecksRight}
 use Rattle.pie_base.specs.declared.fault.FaultKind.TheVariants.{Unknown as UnknownTask}
-use Rattle.pie_model.specs.declared.words.Outcome.TheVariants.{Failed}
-use Rattle.pie_model.specs.declared.words.Event.TheVariants.{Fail}
 use Rattle.pie_topdown.specs.declared.entering.Entry.TheVariants.{Unknown}
 use Rattle.pie_topdown.specs.inner.Entries.{MayEnter}
 use Rattle.pie_topdown.proofs.Answering.{no_function}
-use Rattle.pie_topdown_laws.proofs.Sinking.{required_sinks, new_fails}
+use Rattle.pie_topdown_laws.proofs.Sinking.{new_fails}
 use Rattle.pie_model_pipeline.specs.Words.{fault_of}
 use Rattle.pie_builder_laws.proofs.Coded.{unknown_fails}
-use Rattle.pie_topdown.proofs.Pushed.{absent_among}
-use Rattle.pie_step_laws.proofs.Tables.{no_more}
-use Rattle.pie_compare_laws.proofs.Agreeing.{IsPlainDep, dep_stands}
+use Rattle.pie_compare_laws.proofs.Observed.{IsPlainDep, dep_stands}
 use Rattle.pie_topdown.proofs.Reasoning.{evaluated_few}
 
 one_some : {A : Type 0} (x y : A) → Some x ≡ Some y → x ≡ y
@@ -82,6 +79,9 @@ slice_inside : {A : Type 0} (xs : List A) (i : ℕ) → i < length xs → (x : A
 slice_inside [] i l = absurd (omega (arith, l))
 slice_inside (x ∷ xs) zero l = (x, refl)
 slice_inside (x ∷ xs) (suc i) l = slice_inside xs i (omega (arith, l))
+
+same_task : (v w : Task) → Called v ≡ Called w → v ≡ w
+same_task v w e = cc
 
 -- ---- what is known of an own record
 
@@ -113,8 +113,7 @@ module _ (u : Update) (b : Builder) (plan : IsPlanNow u b.plan) (rec : TaskRecor
 -- ---- the check of one
 
 module _ (u : Update) (done : List (List ℕ)) (root : List ℕ) (b : Builder) (fs : List ModelFrame) (c : Check) (plan : IsPlanNow u b.plan) (is : IsSite b)
-    (s : IsRightSite u done root b) (k : ChecksRight u b root fs c) (differs : DiffersHere b c) (own : IsOwnRecord b.plan c.rec)
-    (fine : NoneFails u) where
+    (s : IsRightSite u done root b) (k : ChecksRight u b root fs c) (differs : DiffersHere b c) (own : IsOwnRecord b.plan c.rec) where
   abbrev R : List ℕ → Option Record
   R = records_of b
 
@@ -258,31 +257,40 @@ module _ (u : Update) (done : List (List ℕ)) (root : List ℕ) (b : Builder) (
           is_reason (setting u) k.check.before R root fs (enc_task c.rec.task) (record_of c.rec) (names_of b) (map observation_of (take c.at c.rec.deps))
           (map observation_of (drop (c.at + 1) c.rec.deps)) (observation_of dep) may told right_told hasnt
 
-    -- a task without a record stands below it: the root ends in a cycle
-    in_cycle : (v : Task) (n : ℕ) → dep.what ≡ Called v → slice_get b.ledger.tables.names n ≡ Some v → kept_of b.ledger.tables.records n ≡ None → ⊥
+    -- a task without a record stands below it, so it doesn't end with a value
+    in_cycle : (v : Task) (n : ℕ) → dep.what ≡ Called v → slice_get b.ledger.tables.names n ≡ Some v → kept_of b.ledger.tables.records n ≡ None
+        → Differs world (present u) (by_evaluation world (present u)) c.rec.writes [] (record_of c.rec).observations
     in_cycle v n what named none =
         let requires = requires_at u k.check.before b.ledger.tables.names b.ledger.tables.records root fs c.rec c.at (numbers c.required.items) C dep v next what in
         let on : among (enc_task v) (enc_task c.rec.task ∷ tasks_of fs) ≡ true =
         k.busy (enc_task v) (among_at b.ledger.tables.names n v named)
         (record_by_number b.ledger.tables.names b.ledger.tables.records n v s.ledger.tasks named ∙ ap (option_map record_of) none) in
-        clash (is_done (model_outcome (evaluation world (present u) root))) (fine root s.listed)
-        (ap is_done (closes (setting u) R root fs C.checked.frame C.checked.goes requires.left (how_by dep.kind) (enc_task v) requires.is_left requires.next
-        (subst (λ x. among (enc_task v) (x ∷ tasks_of fs) ≡ true) (sym C.checked.task) on)))
+        required_reason (setting u) k.check.before R root fs (enc_task c.rec.task) (record_of c.rec) (map observation_of (take c.at c.rec.deps))
+        (map observation_of (drop c.at c.rec.deps)) C.checked (how_by dep.kind) (enc_task v) requires.next
+        (closing_undone (setting u) R root (names_of b) fs C.checked.frame k.top requires.left (how_by dep.kind) (enc_task v) requires.is_left requires.next
+        (subst (λ x. among (enc_task v) (x ∷ tasks_of fs) ≡ true) (sym C.checked.task) on))
 
-    ready_at : (v : Task) → dep.what ≡ Called v → (n : ℕ) × (slice_get b.ledger.tables.names n ≡ Some v) × (is_ended walk n ≡ true)
-    ready_at v what =
-        let m = differs.entered dep v next few what in
-        let named = place b.ledger.tables.names v m in
-        (m.0, named, by m.0 named (kept_of b.ledger.tables.records m.0) refl)
+    differs_there : Differs world (present u) (by_evaluation world (present u)) c.rec.writes [] (record_of c.rec).observations
+    differs_there = by dep.what refl
       where
-        by : (n : ℕ) → slice_get b.ledger.tables.names n ≡ Some v → (o : Option TaskRecord) → kept_of b.ledger.tables.records n ≡ o → is_ended walk n ≡ true
-        by n named None e = absurd (in_cycle v n what named e)
-        by n named (Some rec) e = settled_at n rec e
+        never_called : (p : Path) (v : Task) → File p ≡ Called v → ⊥
+        never_called p v e = cc
+
+        by_record : (v : Task) (n : ℕ) → dep.what ≡ Called v → slice_get b.ledger.tables.names n ≡ Some v → (o : Option TaskRecord)
+            → kept_of b.ledger.tables.records n ≡ o → Differs world (present u) (by_evaluation world (present u)) c.rec.writes [] (record_of c.rec).observations
+        by_record v n what named None e = in_cycle v n what named e
+        by_record v n what named (Some rec) e =
+            differs_so (λ w is. (n, named ∙ ap Some (same_task v w (sym what ∙ is)), settled_at n rec e))
+
+        by : (what : DepOn) → dep.what ≡ what → Differs world (present u) (by_evaluation world (present u)) c.rec.writes [] (record_of c.rec).observations
+        by (File p) what = differs_so (λ v is. absurd (never_called p v (sym what ∙ is)))
+        by (Called v) what =
+            let m = differs.entered dep v next few what in
+            let named = place b.ledger.tables.names v m in
+            by_record v m.0 what named (kept_of b.ledger.tables.records m.0) refl
 
   differs_now : Differs world (present u) (by_evaluation world (present u)) c.rec.writes [] (record_of c.rec).observations
-  differs_now =
-      let dep = slice_inside c.rec.deps c.at differs.inside in
-      differs_so dep.0 dep.1 (ready_at dep.0 dep.1)
+  differs_now = let dep = slice_inside c.rec.deps c.at differs.inside in differs_there dep.0 dep.1
 
 -- ---- a check that differs
 
@@ -292,42 +300,32 @@ differs_due u done root b fs c plan is s k differs = by c.contents k.may.due
   where
     by : (o : Option (Vec (Vec ℕ Global) Global)) → IsDueBy u b.plan c.rec o → IsDue u b.plan c.rec.task
     by (Some contents) due = due
-    by None own = λ funcs digests knows fine.
-        stamp (record_of c.rec) (plan.old own.number c.rec own.kept).left (differs_now u done root b fs c plan is s k differs own fine)
+    by None own = λ funcs digests knows.
+        stamp (record_of c.rec) (plan.old own.number c.rec own.kept).left (differs_now u done root b fs c plan is s k differs own)
 
 -- ---- its next observation is of a task of no function
 
--- so it fails, and with it the root
-pub lost_due : (u : Update) (done : List (List ℕ)) (root : List ℕ) (b : Builder) (fs : List ModelFrame) (c : Check) (task : Task) → IsPlanNow u b.plan
-    → IsRightSite u done root b → ChecksRight u b root fs c → NeedsNext c task → MayEnter b task Unknown → IsCanonicalTask task (enc_task task)
-    → ¬ (Contains b.ledger.tables.names task) → IsDue u b.plan c.rec.task
+-- so that one fails
+pub lost_due : (u : Update) (b : Builder) (root : List ℕ) (fs : List ModelFrame) (c : Check) (task : Task) → IsPlanNow u b.plan → ChecksRight u b root fs c
+    → NeedsNext c task → MayEnter b task Unknown → IsCanonicalTask task (enc_task task) → IsDue u b.plan c.rec.task
 unfolding world
-lost_due u done root b fs c task plan s k needs may canonical absent funcs digests knows fine =
-    let C = k.check.check in
-    let f = C.checked.frame in
-    let requires = requires_at u k.check.before b.ledger.tables.names b.ledger.tables.records root fs c.rec c.at (numbers c.required.items) C needs.dep task needs.next
-    needs.what in
-    let fails : (present u).next (enc_task task) [] ≡ Fail (fault_of UnknownTask) =
-    unknown_fails u.functions task [] (no_function u b task plan may.1) canonical in
-    let new_one : among (enc_task task) (names_of b) ≡ false = absent_among b.ledger.tables.names task s.ledger.tasks canonical absent in
-    let size : length (names_of b) ≡ length b.ledger.tables.names = length-map b.ledger.tables.names enc_task in
-    let fewer = may.0 in
-    let few_names : length (names_of b) < 50000 = omega (arith, size, fewer) in
-    let above_few : length (tasks_of (f ∷ fs)) < 50000 =
-    less (length (tasks_of (f ∷ fs))) (length (names_of b)) (no_more (tasks_of (f ∷ fs)) (names_of b) k.top.goes.once k.top.under_way.counted) few_names in
-    let apart : among (enc_task task) (tasks_of (f ∷ fs)) ≡ false = apart_from (enc_task task) (tasks_of (f ∷ fs)) (names_of b) k.top.under_way.counted new_one in
-    let fallen : model_outcome (evaluation world (present u) root) ≡ Failed (enc_task task) (fault_of UnknownTask) =
-    required_sinks (setting u) (records_of b) root fs f k.top.goes requires.left (how_by needs.dep.kind) (enc_task task) requires.is_left requires.next
-    (Failed (enc_task task) (fault_of UnknownTask))
-    (ap model_outcome (new_fails world (present u) (tasks_of (f ∷ fs)) (enc_task task) (fault_of UnknownTask) apart above_few (omega arith) fails)) refl in
-    clash (is_done (model_outcome (evaluation world (present u) root))) (fine root s.listed) (ap is_done fallen)
+lost_due u b root fs c task plan k needs may canonical = by c.contents k.may.due
   where
-    less : (x y : ℕ) → x ≤ y → y < 50000 → x < 50000
-    less x y p q = omega (arith, p, q)
+    C : ChecksAt u k.check.before b.ledger.tables.names b.ledger.tables.records root fs c.rec c.at (numbers c.required.items)
+    C = k.check.check
 
-    apart_from : (x : List ℕ) (ts xs : List (List ℕ)) → ((t : List ℕ) → among t ts ≡ true → among t xs ≡ true) → among x xs ≡ false → among x ts ≡ false
-    apart_from x ts xs counted off = by (among x ts) refl
-      where
-        by : (z : Bool) → among x ts ≡ z → among x ts ≡ false
-        by true on = clash (among x xs) (counted x on) off
-        by false q = q
+    undone : is_done (model_outcome (evaluation world (present u) (enc_task task))) ≡ false
+    unfolding world
+    undone =
+        ap (λ n. is_done (model_outcome n))
+        (new_fails world (present u) [] (enc_task task) (fault_of UnknownTask) refl (omega arith) (omega arith)
+        (unknown_fails u.functions task [] (no_function u b task plan may.1) canonical))
+
+    by : (o : Option (Vec (Vec ℕ Global) Global)) → IsDueBy u b.plan c.rec o → IsDue u b.plan c.rec.task
+    by (Some contents) due = due
+    by None own = λ funcs digests knows.
+        stamp (record_of c.rec) (plan.old own.number c.rec own.kept).left
+        (required_reason (setting u) k.check.before (records_of b) root fs (enc_task c.rec.task) (record_of c.rec) (map observation_of (take c.at c.rec.deps))
+        (map observation_of (drop c.at c.rec.deps)) C.checked (how_by needs.dep.kind) (enc_task task)
+        (requires_at u k.check.before b.ledger.tables.names b.ledger.tables.records root fs c.rec c.at (numbers c.required.items) C needs.dep task needs.next
+        needs.what).next undone)

@@ -168,7 +168,7 @@ lost_requires held told b new c task (Ok t) named differs may encodable absent =
     differs u done root fs holds plan honest s waiting (gives_enters u b root fs c named k) (record {
       task = c.rec.task;
       named = named;
-      due = lost_due u done root b fs c task plan s k needs may (record { encodable = encodable; name = parts.0; leaves = parts.1; bytes = refl }) absent;
+      due = lost_due u b root fs c task plan k needs may (record { encodable = encodable; name = parts.0; leaves = parts.1; bytes = refl });
     }) k.may.rest
 
 pub full_requires : (held : Option Directory) (told : Directory → Task → List ℕ → List Offered) (b : Builder) (c : Check) (task : Task)

@@ -27,6 +27,7 @@ use Rattle.pie_topdown.specs.declared.builder.Builder.{Builder}
 use Rattle.pie_topdown.specs.declared.hand.Hand.TheVariants as hands
 use Rattle.pie_topdown.specs.declared.hand.Turn.{Turn}
 use Rattle.pie_topdown.specs.declared.hand.Turn.TheVariants.{Goes}
+use Rattle.pie_graph.specs.Numbers.{IsMarked}
 use Rattle.pie_topdown.specs.inner.Asking.{EndsRightly, EndsSo}
 use Rattle.pie_topdown.specs.inner.Effects.{EndsIfNew, HasEnded}
 use Rattle.pie_topdown.specs.inner.Frames.{IsNoted}
@@ -41,8 +42,8 @@ pub ends_big : {E : Type 0} (b new : Builder) (at : ℕ) (n : Noted) (v : Value)
     → is_small (tree_of v) ≡ false → IfOk r (FailsSo b at Big new) → IfOk r (EndsSo b n v new)
 ends_big b new at n v (Err x) number noted big fails = tt
 ends_big b new at n v (Ok turn) number noted big fails = λ u done root fs s waiting h.
-    fails u done root fs n.task s (subst (λ k. slice_get b.ledger.tables.names k ≡ Some n.task) (sym number) noted.task)
-    (subst (λ z. EndsAbove (site_of u b) (build_of b) root fs n v z) big h.ends)
+    fails u done root fs n.task s waiting (subst (λ k. slice_get b.ledger.tables.names k ≡ Some n.task) (sym number) noted.task)
+    (subst (λ z. EndsAbove (site_of u b) (build_of b) root fs n v z) big h.ends) (subst (IsMarked b.ledger.tables.ran.items) (sym number) h.ran) h.busy
 
 -- a task ended with the record of these notes
 pub kept_as : (b c : Builder) (at : ℕ) (p : NoteParts) (left : ℕ) (n : Noted) (v : Value) (deps : List Dep) (writes : List (List ℕ × List ℕ)) → n ≡ noted_in p left
@@ -107,5 +108,5 @@ module _ (b c : Builder) (n : Noted) (v : Value) (kept : HasKept b n.number (lef
 pub ends_small : (b c : Builder) (n : Noted) (v : Value) → HasKept b n.number (left_as n (outcomes.Done v)) n.needs c → IsNoted b.ledger n → IsEncodable (tree_of v)
     → HasTrueLeaves (tree_of v) → is_small (tree_of v) ≡ true → EndsSo b n v c (Goes hands.Ended)
 ends_small b c n v kept noted encodable leaves small = λ u done root fs s waiting h.
-    inl (done_right b c n v kept noted encodable leaves u done root fs s waiting h
-    (subst (λ z. EndsAbove (site_of u b) (build_of b) root fs n v z) small h.ends))
+    done_right b c n v kept noted encodable leaves u done root fs s waiting h
+    (subst (λ z. EndsAbove (site_of u b) (build_of b) root fs n v z) small h.ends)

@@ -22,13 +22,12 @@ grows_then k l m g h = record {
 }
 
 pub keeps_none : (b : Builder) → Keeps b b
-keeps_none b = record { plan = refl; grows = same_grows b.ledger b.ledger refl refl; failed = λ why had. had }
+keeps_none b = record { plan = refl; grows = same_grows b.ledger b.ledger refl refl }
 
 pub keeps_then : (a b c : Builder) → Keeps a b → Keeps b c → Keeps a c
 keeps_then a b c f g = record {
   plan = g.plan ∙ f.plan;
   grows = grows_then a.ledger b.ledger c.ledger f.grows g.grows;
-  failed = λ why had. g.failed why (f.failed why had);
 }
 
 -- ---- the tasks that were started

@@ -73,7 +73,7 @@ pub told_goes : (b : Builder) (n : ℕ) (f : RunningTask) → ToldSo b n (tolds.
 told_goes b n f = λ u done root fs s waiting h.
     let same : f.notes.task ≡ h.task =
     one_some f.notes.task h.task (sym h.goes.means.named ∙ ap (slice_get b.ledger.tables.names) h.same ∙ h.named) in
-    inl (record {
+    record {
       site = s;
       fs = fs;
       waiting = waiting;
@@ -82,12 +82,12 @@ told_goes b n f = λ u done root fs s waiting h.
         ran = subst (IsMarked b.ledger.tables.ran.items) (sym h.same) h.ran;
         busy = subst (λ (t : Task). AreTheBusy b (enc_task t ∷ tasks_of fs)) (sym same) h.busy;
       };
-    })
+    }
 
 -- it fails
 pub told_fails : {E : Type 0} (b new : Builder) (n : ℕ) (m : Noted) (k : FaultKind) (r : Result Turn E) → IfOk r (FailsSo b n k new)
     → IfOk r (ToldSo b n (tolds.Fails m k) new)
-told_fails b new n m k (Ok t) fails = λ u done root fs s waiting h. fails u done root fs h.task s h.named h.goes
+told_fails b new n m k (Ok t) fails = λ u done root fs s waiting h. fails u done root fs h.task s waiting h.named h.goes h.ran h.busy
 told_fails b new n m k (Err e) fails = tt
 
 is_of : (n : Noted) (t : Told) → Answered n t → IsOf n.number t
@@ -330,10 +330,12 @@ pub hand_fails : {E : Type 0} (held : Option Directory) (b new : Builder) (f : R
     → at ≡ f.notes.number → Gives f (pauses.Fails n k) → IfOk r (FailsSo b at k new) → IfOk r (RunsSo held b f new)
 hand_fails held b new f at n k (Err x) number gives fails = tt
 hand_fails held b new f at n k (Ok turn) number gives fails = λ u done root fs holds plan s waiting h.
-    fails u done root fs n.task s
+    fails u done root fs n.task s waiting
     (subst (λ i. slice_get b.ledger.tables.names i ≡ Some n.task) (sym number)
     (subst (λ (m : Noted). slice_get b.ledger.tables.names f.notes.number ≡ Some m.task) (sym gives.comes) h.runs.means.named))
     (pauses_above (site_of u b) (build_of b) root fs plan.compiled s.ledger.tasks f (pauses.Fails n k) s.listed h.runs gives)
+    (subst (IsMarked b.ledger.tables.ran.items) (sym number) h.ran)
+    (subst (λ (m : Noted). AreTheBusy b (enc_task m.task ∷ tasks_of fs)) (sym gives.comes) h.busy)
 
 pub hand_ends : {E : Type 0} (held : Option Directory) (b new : Builder) (f : RunningTask) (n : Noted) (v : Value) (r : Result Turn E)
     → Gives f (pauses.Ends n v) → IfOk r (EndsSo b n v new) → IfOk r (RunsSo held b f new)

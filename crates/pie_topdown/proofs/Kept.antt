@@ -129,5 +129,5 @@ module _ (b c : Builder) (check : Check) (kept : HasKept b check.no.0 check.rec 
 pub keeps_if : {E : Type 0} (b c : Builder) (check : Check) (r : Result Turn E) → IsCheck b.ledger check → length check.rec.deps ≤ check.at
     → check.contents ≡ None → IfOk r (EndsKept b check.no.0 check.rec (numbers check.required.items) c) → IfOk r (KeepsRight b check c)
 keeps_if b c check (Ok t) is over own h = λ u done root fs s waiting k.
-    subst (TurnIsRight u done root c) (sym h.1) (inl (keeps_check b c check h.0 u done root fs s waiting k own is.named is.storable over))
+    subst (TurnIsRight u done root c) (sym h.1) (keeps_check b c check h.0 u done root fs s waiting k own is.named is.storable over)
 keeps_if b c check (Err e) is over own h = tt

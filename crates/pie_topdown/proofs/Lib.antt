@@ -12,6 +12,8 @@ pub mod Ended
 pub mod Checked
 pub mod Kept
 pub mod Failing
+pub mod Started
+pub mod Falling
 pub mod Waited
 pub mod Touched
 pub mod Fetched

@@ -63,6 +63,7 @@ use Rattle.pie_topdown.specs.inner.Right.{site_of, build_of, names_of, records_o
 use Rattle.pie_topdown.proofs.Entered.{entered_names, entered_records, entered_all, entered_beside, entered_busy, entered_number, canonical_at, flag_more}
 use Rattle.pie_topdown.proofs.Touched.{restacked_site, restacked_untouched, restacked_besides}
 use Rattle.pie_topdown.proofs.Waited.{entries_push}
+use Rattle.pie_graph.specs.Numbers.{IsMarked}
 use Rattle.pie_topdown.proofs.Lasting.{by_lasts}
 
 -- a task that isn't among the entered ones has other bytes than they
@@ -162,10 +163,10 @@ pub caller_pushed : (b c : Builder) (w : Caller) (code : Bor Code) (at : TaskNo)
 caller_pushed b c w code at pushed number e enters may fresh absent left items = λ canonical small u done root fs plan s waiting a.
     let R = a.asks.runs in
     let Q = requirer_waits (site_of u b) (build_of b) root fs w.waiting w.required w.how a.asks left small canonical in
-    inl (pushed_right b c w.required code at number e enters may u done root fs plan s waiting fresh absent R.frame R.top (w.waiting.notes.left - 1)
+    pushed_right b c w.required code at number e enters may u done root fs plan s waiting fresh absent R.frame R.top (w.waiting.notes.left - 1)
     (some_left (site_of u b) (build_of b) root fs w.waiting.code.now w.waiting.machine w.waiting.notes R left) (how_of w.how) Q.requires.next (subst (λ x. AreTheBusy b (x ∷ tasks_of fs)) (sym R.means.task) a.busy) (frames.Waits w) pushed items
     (caller_stays u b c w.required e fresh (set_aside R.frame (w.waiting.notes.left - 1)) w Q.waits)
-    (ap (λ flags. slice_index_or flags w.waiting.notes.number false) e.added.ran ∙ flag_more b.ledger.tables.ran.items w.waiting.notes.number ∙ a.ran))
+    (ap (λ flags. slice_index_or flags w.waiting.notes.number false) e.added.ran ∙ flag_more b.ledger.tables.ran.items w.waiting.notes.number ∙ a.ran)
 
 -- ---- nothing more may be entered
 
@@ -175,7 +176,7 @@ unfolding world
 full_turn b w full absent left = λ canonical small u done root fs plan s waiting a.
     let R = a.asks.runs in
     let Q = requirer_waits (site_of u b) (build_of b) root fs w.waiting w.required w.how a.asks left small canonical in
-    inl (record {
+    record {
       calm = s.calm;
       written = s.written;
       refused = λ rest.
@@ -187,7 +188,7 @@ full_turn b w full absent left = λ canonical small u done root fs plan s waitin
             stands = required_has world (present u) (records_of b) (Passes (unrecorded (records_of b))) root fs R.frame R.top.goes Q.requires.left (how_of w.how)
                 (enc_task w.required) Q.requires.is_left Q.requires.next;
           });
-    })
+    }
   where
     whole : length (names_of b) ≤ 50000 → length (names_of b) ≡ 50000
     whole fewer = let size : length (names_of b) ≡ length b.ledger.tables.names = length-map b.ledger.tables.names enc_task in omega (arith, size, fewer, full)
@@ -198,9 +199,9 @@ pub big_turn : {E : Type 0} (b new : Builder) (at : ℕ) (w : Waiting) (t : Task
     → 0 < w.notes.left → is_small_task t ≡ false → IfOk r (FailsSo b at Big new) → IfOk r (ActsSo b w (events.Require t how) new)
 big_turn b new at w t how (Err x) number left big fails = tt
 big_turn b new at w t how (Ok turn) number left big fails = λ u done root fs plan s waiting a.
-    fails u done root fs w.notes.task s
+    fails u done root fs w.notes.task s waiting
     (subst (λ k. slice_get b.ledger.tables.names k ≡ Some w.notes.task) (sym number) a.asks.runs.means.named)
-    (big_fails (site_of u b) (build_of b) root fs w t how a.asks left big)
+    (big_fails (site_of u b) (build_of b) root fs w t how a.asks left big) (subst (IsMarked b.ledger.tables.ran.items) (sym number) a.ran) a.busy
 
 -- ---- a check waits for it
 
@@ -234,12 +235,12 @@ pub check_pushed : (b c : Builder) (k : Box Check Global) (t : Task) (code : Bor
     → ChecksSo b k.value t (record c { stack = pushed }) (Goes (hands.Enters at code))
 check_pushed b c k t code at pushed number e enters may fresh absent items = λ u done root fs plan s waiting h needs.
     let C = h.check.check in
-    inl (pushed_right b c t code at number e enters may u done root fs plan s waiting fresh absent C.checked.frame h.top C.checked.asks.left
+    pushed_right b c t code at number e enters may u done root fs plan s waiting fresh absent C.checked.frame h.top C.checked.asks.left
     C.checked.asks.is_left (how_by needs.dep.kind)
     (requires_at u h.check.before b.ledger.tables.names b.ledger.tables.records root fs k.value.rec k.value.at (numbers k.value.required.items) C needs.dep t
     needs.next needs.what).next
     (subst (λ x. AreTheBusy b (x ∷ tasks_of fs)) (sym C.checked.task) h.busy) (frames.Checks k) pushed items
-    (check_waits u b c t e root fs k.value fresh h) (check_may u b c t e root fs k.value fresh h))
+    (check_waits u b c t e root fs k.value fresh h) (check_may u b c t e root fs k.value fresh h)
 
 -- nothing more may be entered
 pub check_full : (b : Builder) (k : Check) (t : Task) → 50000 ≤ length b.ledger.tables.names → IsCanonicalTask t (enc_task t)
@@ -247,7 +248,7 @@ pub check_full : (b : Builder) (k : Check) (t : Task) → 50000 ≤ length b.led
 unfolding world
 check_full b k t full canonical absent = λ u done root fs plan s waiting h needs.
     let C = h.check.check in
-    inl (record {
+    record {
       calm = s.calm;
       written = s.written;
       refused = λ rest.
@@ -261,7 +262,7 @@ check_full b k t full canonical absent = λ u done root fs plan s waiting h need
                 (requires_at u h.check.before b.ledger.tables.names b.ledger.tables.records root fs k.rec k.at (numbers k.required.items) C needs.dep t needs.next
                 needs.what).next;
           });
-    })
+    }
   where
     whole : length (names_of b) ≤ 50000 → length (names_of b) ≡ 50000
     whole fewer = let size : length (names_of b) ≡ length b.ledger.tables.names = length-map b.ledger.tables.names enc_task in omega (arith, size, fewer, full)

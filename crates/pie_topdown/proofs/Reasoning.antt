@@ -63,7 +63,7 @@ module _ (u : Update) (p : Plan) (plan : IsPlanNow u p) where
   -- ---- it has none
 
   pub no_own_due : (t : Task) → IsCanonicalTask t (enc_task t) → HasNoOwn p t → IsDue u p t
-  no_own_due t canonical none funcs digests knows fine = by (old_record u (enc_task t)) refl
+  no_own_due t canonical none funcs digests knows = by (old_record u (enc_task t)) refl
     where
       known : (r : Record) → old_record u (enc_task t) ≡ Some r → HasReason u funcs digests t
       known r is = flag (slice_index_or p.same.items k.number false) refl
@@ -112,7 +112,7 @@ module _ (u : Update) (p : Plan) (plan : IsPlanNow u p) where
   gone_missing d (w ∷ ws) (inr h) = inr (gone_missing d ws h)
 
   pub gone_due : (rec : TaskRecord) → IsOwnRecord p rec → IsOneGone u.directory rec.writes → IsDue u p rec.task
-  gone_due rec own gone funcs digests knows fine =
+  gone_due rec own gone funcs digests knows =
       provided (record_of rec) (plan.old own.number rec own.kept).left (gone_missing u.directory rec.writes gone)
 
 -- ---- no record is found

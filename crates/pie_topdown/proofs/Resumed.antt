@@ -1,11 +1,9 @@
 -- What waits goes on, and tasks begin to run, in the words of the model.
-use Rattle.std.proofs.Common.{◌≡◌, ℕ, true, false, List, [], ◌∷◌, ◌++◌, Some, Box, Vec, Result, Ok, Err, length, refl, sym, ap, subst, ◌∙◌, inl, arith}
+use Rattle.std.proofs.Common.{◌≡◌, ℕ, true, false, List, [], ◌∷◌, ◌++◌, Some, Box, Vec, Result, Ok, Err, length, refl, sym, ap, subst, ◌∙◌, arith}
 use Rattle.std.specs.declared.alloc.Global.{Global}
 use Rattle.std.specs.Prelude.{slice_get, slice_index_or, All, IfOk}
 use Rattle.std.specs.Option.{option_to_list}
-use Rattle.std.proofs.lemmas.List.{get_or-set_same, get_or-set_other}
 use Rattle.std.proofs.lemmas.List.Elements.{All-pop}
-use Rattle.std.proofs.lemmas.Option.{slice_get_within}
 use Rattle.pie_value.specs.declared.task.Task.{Task}
 use Rattle.pie_value.specs.Canonical.{enc_task}
 use Rattle.pie_code.specs.declared.code.Code.{Code}
@@ -35,6 +33,7 @@ use Rattle.pie_topdown.specs.inner.Calling.{AnswersSo, ResumesSo, StartsSo}
 use Rattle.pie_topdown.specs.inner.Effects.{HasStarted}
 use Rattle.pie_topdown.specs.inner.Frames.{IsSite}
 use Rattle.pie_topdown.specs.inner.Right.{site_of, build_of, entry_of, entries_up, IsBesides, AreWaiting, IsRightSite, EndedRight, AreTheBusy, IsRight, IsAtRest, IsPlanNow, HasEndedAs, TurnIsRight}
+use Rattle.pie_topdown.proofs.Started.{start_same, same_stage, others_stay, is_started}
 use Rattle.pie_topdown.proofs.Topmost.{one_some, own_site, own_waiting}
 use Rattle.pie_topdown.proofs.Touched.{IsSameBut, StaysOf, touched_top, touched_busy, restacked_site, restacked_may, restacked_besides}
 use Rattle.pie_topdown.proofs.Waited.{entries_push}
@@ -45,17 +44,17 @@ module _ (b : Builder) (popped : Vec Frame Global) (e : Frame) (items : b.stack.
   abbrev after : Builder
   after = record b { stack = popped }
 
-  ups : entries_up b.stack.items ≡ entry_of e ∷ entries_up popped.items
+  pub ups : entries_up b.stack.items ≡ entry_of e ∷ entries_up popped.items
   ups = ap entries_up items ∙ entries_push popped.items e
 
   module _ (u : Update) (root : List ℕ) (g : ModelFrame) (gs : List ModelFrame) (waiting : AreWaiting u b root (g ∷ gs)) where
-    both : AreEntries (site_of u b) (build_of b) root (entry_of e ∷ entries_up popped.items) (g ∷ gs)
+    pub both : AreEntries (site_of u b) (build_of b) root (entry_of e ∷ entries_up popped.items) (g ∷ gs)
     both = subst (λ es. AreEntries (site_of u b) (build_of b) root es (g ∷ gs)) ups waiting.entries
 
-    split : All (IsBesides u b) popped.items × IsBesides u b e
+    pub split : All (IsBesides u b) popped.items × IsBesides u b e
     split = All-pop (IsBesides u b) b.stack.items popped.items (Some e) items waiting.besides
 
-    rest_waits : AreWaiting u after root gs
+    pub rest_waits : AreWaiting u after root gs
     rest_waits = record {
       entries = both.1;
       besides = λ i d l. restacked_besides b popped u (slice_index_or popped.items i d) (split.0 i d l);
@@ -86,8 +85,8 @@ module _ (u : Update) (done : List (List ℕ)) (root : List ℕ) (b : Builder) (
 pub check_resumes : (b : Builder) (popped : Vec Frame Global) (c : Box Check Global) → b.stack.items ≡ popped.items ++ option_to_list (Some (frames.Checks c))
     → ResumesSo b (record b { stack = popped }) (Goes (hands.Checks c))
 check_resumes b popped c items = λ u done root fs plan s waiting h.
-    inl (check_back u done root b popped c items s fs waiting
-    (subst (EndedRight u b root fs) (ups b popped (frames.Checks c) items) h))
+    check_back u done root b popped c items s fs waiting
+    (subst (EndedRight u b root fs) (ups b popped (frames.Checks c) items) h)
 
 -- a task that runs is to be answered
 module _ (u : Update) (done : List (List ℕ)) (root : List ℕ) (b new : Builder) (popped : Vec Frame Global) (c : Caller)
@@ -125,8 +124,8 @@ empty_of (x ∷ es) e = absurd (omega (arith, e))
 -- nothing waits
 pub none_resumes : (b : Builder) (popped : Vec Frame Global) → length b.stack.items ≡ 0 → length popped.items ≡ 0 → ResumesSo b (record b { stack = popped }) Rests
 none_resumes b popped no_old no_new = λ u done root fs plan s waiting h.
-    inl (by u done root fs s (subst (λ es. AreEntries (site_of u b) (build_of b) root (entries_up es) fs) (empty_of b.stack.items no_old) waiting.entries)
-    (subst (λ es. EndedRight u b root fs (entries_up es)) (empty_of b.stack.items no_old) h))
+    by u done root fs s (subst (λ es. AreEntries (site_of u b) (build_of b) root (entries_up es) fs) (empty_of b.stack.items no_old) waiting.entries)
+    (subst (λ es. EndedRight u b root fs (entries_up es)) (empty_of b.stack.items no_old) h)
   where
     by : (u : Update) (done : List (List ℕ)) (root : List ℕ) (fs : List ModelFrame) → IsRightSite u done root b → AreEntries (site_of u b) (build_of b) root [] fs
         → EndedRight u b root fs [] → IsAtRest u done root (record b { stack = popped })
@@ -137,53 +136,32 @@ none_resumes b popped no_old no_new = λ u done root fs plan s waiting h.
 
 module _ (b c : Builder) (n : ℕ) (code : Code) (t : Task) (f : RunningTask) (ledger : HasStarted b.ledger n c.ledger) (rest : c ≡ record b { ledger = c.ledger })
     (named : slice_get b.ledger.tables.names n ≡ Some t) (started : IsStarted code t n f) (is : IsSite b) where
-  start_same : IsSameBut b c
-  start_same = record {
-    plan = ap (λ x. x.plan) rest;
-    names = ledger.names;
-    records = ledger.records;
-    rows = ledger.rows;
-    places = ap (λ v. v.items) ledger.places;
-    stack = ap (λ x. x.stack) rest;
-    known = ap (λ x. x.named) rest;
-    failure = ap (λ x. x.failure) rest;
-  }
-
-  same_stage : c.stage ≡ b.stage
-  same_stage = ap (λ x. x.stage) rest
+  same : IsSameBut b c
+  same = start_same b c n t ledger rest named is
 
   stays : (k : ℕ) → (k ≡ n → ⊥) → StaysOf b c k
-  stays k apart = record {
-    content = λ p. ap (λ st. content st k p) same_stage;
-    flag = ap (λ flags. slice_index_or flags k false) ledger.ran ∙ get_or-set_other b.ledger.tables.ran.items n k true false apart;
-  }
-
-  marked : IsMarked c.ledger.tables.ran.items n
-  marked =
-      ap (λ flags. slice_index_or flags n false) ledger.ran
-      ∙ get_or-set_same b.ledger.tables.ran.items n true false
-      (let within = slice_get_within b.ledger.tables.names n t named in let flags = is.ledger.tables.flags in omega (arith, within, flags))
+  stays = others_stay b c n t ledger rest named is
 
   pub starts_turn : StartsSo b n code c (Goes (hands.Runs f))
   starts_turn = λ u done root fs s waiting e due.
       let one : e.task ≡ t = one_some e.task t (sym e.named ∙ named) in
       let top : IsTop (site_of u b) (build_of b) root fs (begun world (enc_task t)) =
       subst (λ (x : Task). IsTop (site_of u b) (build_of b) root fs (begun world (enc_task x))) one e.top in
-      inl (record {
-        site = own_site u done root b fs (begun world (enc_task t)) n t s top refl named c start_same stays (λ so. due);
+      record {
+        site = own_site u done root b fs (begun world (enc_task t)) n t s top refl named c same stays (λ so. due);
         fs = fs;
-        waiting = own_waiting u done root b fs (begun world (enc_task t)) n t s top refl named c start_same stays (λ so. due) is waiting;
+        waiting = own_waiting u done root b fs (begun world (enc_task t)) n t s top refl named c same stays (λ so. due) is waiting;
         hand = record {
           runs = begins_above (site_of u c) (build_of c) root fs t n f
               (subst (λ (ts : List Task). slice_get ts n ≡ Some t) (sym ledger.names) named)
-              (subst (λ p. HasFunction u.functions p.code.now t f.code.now) (sym start_same.plan)
+              (subst (λ p. HasFunction u.functions p.code.now t f.code.now) (sym same.plan)
               (subst (HasFunction u.functions b.plan.code.now t) (sym started.coded)
               (subst (λ (x : Task). HasFunction u.functions b.plan.code.now x code) one e.function)))
               (subst (λ (k : Code). IsStarted k t n f) (sym started.coded) started)
-              (λ p. ap (λ st. content st n p) same_stage ∙ e.untouched.unstaged p)
-              (touched_top b c start_same u root fs (begun world (enc_task t)) top);
-          ran = subst (λ (m : Noted). IsMarked c.ledger.tables.ran.items m.number) (sym started.notes) marked;
+              (λ p. ap (λ st. content st n p) (same_stage b c n t ledger rest named is) ∙ e.untouched.unstaged p)
+              (touched_top b c same u root fs (begun world (enc_task t)) top);
+          ran = subst (λ (m : Noted). IsMarked c.ledger.tables.ran.items m.number) (sym started.notes) (is_started b c n t ledger rest named is);
           busy = subst (λ (m : Noted). AreTheBusy c (enc_task m.task ∷ tasks_of fs)) (sym started.notes)
-              (touched_busy b c start_same (enc_task t ∷ tasks_of fs) (subst (λ (x : Task). AreTheBusy b (enc_task x ∷ tasks_of fs)) one e.busy));
+              (touched_busy b c same (enc_task t ∷ tasks_of fs) (subst (λ (x : Task). AreTheBusy b (enc_task x ∷ tasks_of fs)) one e.busy));
         };
-      })
+      }

@@ -231,5 +231,5 @@ pub reuses_if : {E : Type 0} (b c : Builder) (check : Check) (contents : Vec (Ve
     → length check.rec.deps ≤ check.at → check.contents ≡ Some contents
     → IfOk r (EndsReused b check.no.0 check.rec (numbers check.required.items) (bytes_in contents.items) c) → IfOk r (KeepsRight b check c)
 reuses_if b c check contents (Ok t) is checks over own h = λ u done root fs s waiting k.
-    subst (TurnIsRight u done root c) (sym h.1) (inl (keeps_offer b c check contents h.0 u done root fs s waiting k own is checks over))
+    subst (TurnIsRight u done root c) (sym h.1) (keeps_offer b c check contents h.0 u done root fs s waiting k own is checks over)
 reuses_if b c check contents (Err e) is checks over own h = tt

@@ -39,7 +39,7 @@ use Rattle.pie_builder_laws.proofs.Coded.{unknown_fails}
 use Rattle.pie_builder_laws.proofs.Naming.{among_at, other_back}
 use Rattle.pie_builder_laws.proofs.Tabled.{record_by_number}
 use Rattle.pie_core_laws.specs.Update.{Update, present}
-use Rattle.pie_topdown_laws.specs.Ends.{AreRecorded}
+use Rattle.pie_topdown_laws.specs.Ends.{AllEntered, AreRecorded}
 use Rattle.pie_topdown_laws.specs.Ledgers.{setting}
 use Rattle.pie_topdown_laws.specs.Running.{IsTop}
 use Rattle.pie_topdown_laws.specs.Stacks.{IsStack}
@@ -52,8 +52,8 @@ use Rattle.pie_topdown.specs.declared.hand.Hand.TheVariants as hands
 use Rattle.pie_topdown.specs.inner.Entries.{HasEntered, MayBe}
 use Rattle.pie_topdown.specs.inner.Frames.{IsSite}
 use Rattle.pie_topdown.specs.inner.Ledgers.{HasOutput}
-use Rattle.pie_topdown.specs.inner.Right.{AreWritten, site_of, build_of, names_of, records_of, entries_up, EntersSite, IsAtRest, IsBesides, IsPlanNow, IsRefused, IsRight, IsRightSite, IsUntouched, AreWaiting}
-use Rattle.pie_topdown.specs.inner.Rooted.{lost, IsBuildOf, IsSettledSoFar, RootEndsRight, RunsOnRight, SettlesRight, StopsRight}
+use Rattle.pie_topdown.specs.inner.Right.{lost, AreWritten, site_of, build_of, names_of, records_of, entries_up, EntersSite, FailsRight, IsAtRest, IsBesides, IsFull, IsPlanNow, IsRefused, IsRight, IsRightSite, IsUntouched, AreWaiting}
+use Rattle.pie_topdown.specs.inner.Rooted.{IsBuildOf, IsSettledSoFar, RootEndsRight, RunsOnRight, SettlesRight, StopsRight}
 use Rattle.pie_topdown.specs.inner.Roots.{IsSettledRoot}
 use Rattle.pie_topdown.specs.inner.Turns.{Keeps}
 use Rattle.pie_topdown.proofs.Answering.{no_function}
@@ -238,63 +238,64 @@ module _ (b : Builder) (t : Task) (canonical : IsCanonicalTask t (enc_task t)) (
       whole fewer = let size = size_is in omega (arith, size, fewer, full)
 
   -- it is of no function
-  pub lost_refused : IsPlanNow u b.plan → length b.ledger.tables.names < 50000 → IsCodeFor b.plan.typed.now b.plan.code.now t None
-      → IsRefused u done (enc_task t) (lost t)
-  unfolding world
-  lost_refused plan fewer none rest =
-      failed_decides (setting u) (records_of b) (names_of b) s.ledger.table all done rest (enc_task t) s.recorded (enc_task t) (fault_of Unknown)
-      (failed_root (setting u) (records_of b) all table done s.recorded (enc_task t) [] (begun world (enc_task t)) stack [] (Failed (enc_task t) (fault_of Unknown)) ends
-      refl) table.few
-      (failure_sinks (setting u) (records_of b) (enc_task t) [] (begun world (enc_task t)) stack.goes [] (Failed (enc_task t) (fault_of Unknown)) ends refl)
-    where
-      all : List (List ℕ)
-      all = names_of b ++ enc_task t ∷ []
+  module _ (plan : IsPlanNow u b.plan) (fewer : length b.ledger.tables.names < 50000) (none : IsCodeFor b.plan.typed.now b.plan.code.now t None) where
+    all : List (List ℕ)
+    all = names_of b ++ enc_task t ∷ []
 
-      few_names : length (names_of b) < 50000
-      few_names = let size = size_is in omega (arith, size, fewer)
+    few_names : length (names_of b) < 50000
+    few_names = let size = size_is in omega (arith, size, fewer)
 
-      table : IsTable world (present u) (records_of b) all
-      table = one_more_entered world (present u) (records_of b) (names_of b) s.ledger.table (enc_task t) not_entered few_names
+    table : IsTable world (present u) (records_of b) all
+    unfolding world
+    table = one_more_entered world (present u) (records_of b) (names_of b) s.ledger.table (enc_task t) not_entered few_names
 
-      stack : IsStack (setting u) (records_of b) all (enc_task t) [] (begun world (enc_task t))
-      stack = begins (setting u) (records_of b) (names_of b) (enc_task t) s.ledger.table not_entered few_names
+    stack : IsStack (setting u) (records_of b) all (enc_task t) [] (begun world (enc_task t))
+    unfolding world
+    stack = begins (setting u) (records_of b) (names_of b) (enc_task t) s.ledger.table not_entered few_names
 
-      ends : Ends world (present u) (begun world (enc_task t)) [] (Failed (enc_task t) (fault_of Unknown))
-      ends = failing 1000000 (fault_of Unknown) refl (unknown_fails u.functions t [] (no_function u b t plan none) canonical)
+    ends : Ends world (present u) (begun world (enc_task t)) [] (Failed (enc_task t) (fault_of Unknown))
+    unfolding world
+    ends = failing 1000000 (fault_of Unknown) refl (unknown_fails u.functions t [] (no_function u b t plan none) canonical)
 
-  -- so it doesn't end with a value
-  pub lost_ends : IsPlanNow u b.plan → length b.ledger.tables.names < 50000 → IsCodeFor b.plan.typed.now b.plan.code.now t None
-      → is_ended (outcome_of_root (evaluation world (present u) (enc_task t))) ≡ false
-  unfolding world
-  lost_ends plan fewer none =
-      ap is_ended
-      (failure_sinks (setting u) (records_of b) (enc_task t) [] (begun world (enc_task t)) stack.goes [] (Failed (enc_task t) (fault_of Unknown)) ends refl)
-    where
-      few_names : length (names_of b) < 50000
-      few_names = let size = size_is in omega (arith, size, fewer)
+    sinks : outcome_of_root (evaluation world (present u) (enc_task t)) ≡ Failed (enc_task t) (fault_of Unknown)
+    sinks = failure_sinks (setting u) (records_of b) (enc_task t) [] (begun world (enc_task t)) stack.goes [] (Failed (enc_task t) (fault_of Unknown)) ends refl
 
-      stack : IsStack (setting u) (records_of b) (names_of b ++ enc_task t ∷ []) (enc_task t) [] (begun world (enc_task t))
-      stack = begins (setting u) (records_of b) (names_of b) (enc_task t) s.ledger.table not_entered few_names
+    -- so the clean build enters it alone beside the others
+    pub lost_enters : AllEntered (setting u) done (enc_task t) (names_of b ++ enc_task t ∷ [])
+    lost_enters =
+        failed_root (setting u) (records_of b) all table done s.recorded (enc_task t) [] (begun world (enc_task t)) stack [] (Failed (enc_task t) (fault_of Unknown))
+        ends refl
 
-      ends : Ends world (present u) (begun world (enc_task t)) [] (Failed (enc_task t) (fault_of Unknown))
-      ends = failing 1000000 (fault_of Unknown) refl (unknown_fails u.functions t [] (no_function u b t plan none) canonical)
+    -- that is why it is refused
+    pub lost_refused : IsRefused u done (enc_task t) (lost t)
+    lost_refused rest =
+        failed_decides (setting u) (records_of b) (names_of b) s.ledger.table all done rest (enc_task t) s.recorded (enc_task t) (fault_of Unknown) lost_enters
+        table.few sinks
+
+    -- and it doesn't end with a value
+    pub lost_ends : is_ended (outcome_of_root (evaluation world (present u) (enc_task t))) ≡ false
+    lost_ends = ap is_ended sinks
 
 -- ---- how the steps of a root end
 
 module _ (u : Update) (done : List (List ℕ)) (root : List ℕ) (b : Builder) where
+  -- a task failed
+  pub stops_fallen : (rests : Bool) (why : Refusal) → StopsRight u done root b rests → b.failure ≡ Some why → FailsRight u done root b
+  stops_fallen true why rest failed = absurd (never why (sym rest.site.calm ∙ failed))
+  stops_fallen false why (inl full) failed = absurd (never why (sym full.calm ∙ failed))
+  stops_fallen false why (inr f) failed = f
+
   pub stops_failed : (rests : Bool) (why : Refusal) → StopsRight u done root b rests → b.failure ≡ Some why → IsRefused u done root why
-  stops_failed true why (inl rest) failed = absurd (never why (sym rest.site.calm ∙ failed))
-  stops_failed true why (inr f) failed = subst (IsRefused u done root) (one_some f.why why (sym f.kept ∙ failed)) f.refused
-  stops_failed false why (inl full) failed = absurd (never why (sym full.calm ∙ failed))
-  stops_failed false why (inr f) failed = subst (IsRefused u done root) (one_some f.why why (sym f.kept ∙ failed)) f.refused
+  stops_failed rests why stops failed =
+      let f = stops_fallen rests why stops failed in subst (IsRefused u done root) (one_some f.why why (sym f.kept ∙ failed)) f.refused
 
-  pub stops_full : StopsRight u done root b false → b.failure ≡ None → IsRefused u done root refusals.Many
-  stops_full (inl full) calm = full.refused
-  stops_full (inr f) calm = absurd (never f.why (sym calm ∙ f.kept))
+  -- one task more was to be entered than may be
+  pub stops_over : StopsRight u done root b false → b.failure ≡ None → IsFull u done root b
+  stops_over (inl full) calm = full
+  stops_over (inr f) calm = absurd (never f.why (sym calm ∙ f.kept))
 
-  pub stops_settled : StopsRight u done root b true → b.failure ≡ None → IsSettledSoFar u (done ++ root ∷ []) (record b { failure = None })
-  stops_settled (inl rest) calm = rest_settled u done root b rest
-  stops_settled (inr f) calm = absurd (never f.why (sym calm ∙ f.kept))
+  pub stops_settled : StopsRight u done root b true → IsSettledSoFar u (done ++ root ∷ []) (record b { failure = None })
+  stops_settled rest = rest_settled u done root b rest
 
 -- ---- a root that has code
 
@@ -311,7 +312,7 @@ module _ (held : Option Directory) (told : Directory → Task → List ℕ → L
       → StopsRight u done (enc_task t) c rests
   stops u done of listed s =
       runs u done (enc_task t) (build_then u held held told told a.plan b.plan refl refl same_plan of)
-      (inl (root_begins a b t code at number e enters may fresh absent u done of.plan listed s))
+      (root_begins a b t code at number e enters may fresh absent u done of.plan listed s)
 
   -- it fails
   pub with_failure : (new : Builder) (why : Refusal) → c.failure ≡ Some why → SettlesRight held told a t new (Some why)
@@ -320,7 +321,7 @@ module _ (held : Option Directory) (told : Directory → Task → List ℕ → L
   -- one task more was to be entered than may be
   pub with_many : (new : Builder) → rests ≡ false → c.failure ≡ None → SettlesRight held told a t new (Some refusals.Many)
   with_many new no_rest calm u done of listed s =
-      stops_full u done (enc_task t) c (subst (StopsRight u done (enc_task t) c) no_rest (stops u done of listed s)) calm
+      (stops_over u done (enc_task t) c (subst (StopsRight u done (enc_task t) c) no_rest (stops u done of listed s)) calm).refused
 
   named : slice_get c.ledger.tables.names (length a.ledger.tables.names) ≡ Some t
   named =
@@ -328,23 +329,23 @@ module _ (held : Option Directory) (told : Directory → Task → List ℕ → L
       (named_more b.ledger.tables.names kept.grows.rest t (length a.ledger.tables.names) (entered_number a b t e fresh))
 
   -- where nothing waits any more, and no task failed, it has an output
-  pub rest_is_none : (new : Builder) (why : Option Refusal) → new ≡ record c { failure = None } → rests ≡ true → c.failure ≡ None
+  pub rest_is_none : (new : Builder) (why : Option Refusal) → new ≡ record c { failure = None } → rests ≡ true
       → (IsSettledRoot new.ledger t → why ≡ None) → (u : Update) (done : List (List ℕ)) → IsBuildOf u held told a.plan → among (enc_task t) u.roots ≡ true
       → IsSettledSoFar u done a → why ≡ None
-  rest_is_none new why is rest calm none u done of listed s =
+  rest_is_none new why is rest none u done of listed s =
       let after : IsSettledSoFar u (done ++ enc_task t ∷ []) new =
       subst (IsSettledSoFar u (done ++ enc_task t ∷ [])) (sym is)
-      (stops_settled u done (enc_task t) c (subst (StopsRight u done (enc_task t) c) rest (stops u done of listed s)) calm) in
+      (stops_settled u done (enc_task t) c (subst (StopsRight u done (enc_task t) c) rest (stops u done of listed s))) in
       none (is_settled u (done ++ enc_task t ∷ []) new after (length a.ledger.tables.names) t
       (subst (λ (x : Builder). slice_get x.ledger.tables.names (length a.ledger.tables.names) ≡ Some t) (sym is) named))
 
   -- it has an output
-  pub with_rest : (new : Builder) (why : Option Refusal) → new ≡ record c { failure = None } → rests ≡ true → c.failure ≡ None
+  pub with_rest : (new : Builder) (why : Option Refusal) → new ≡ record c { failure = None } → rests ≡ true
       → (IsSettledRoot new.ledger t → why ≡ None) → SettlesRight held told a t new why
-  with_rest new why is rest calm none u done of listed s =
+  with_rest new why is rest none u done of listed s =
       let after : IsSettledSoFar u (done ++ enc_task t ∷ []) new =
       subst (IsSettledSoFar u (done ++ enc_task t ∷ [])) (sym is)
-      (stops_settled u done (enc_task t) c (subst (StopsRight u done (enc_task t) c) rest (stops u done of listed s)) calm) in
+      (stops_settled u done (enc_task t) c (subst (StopsRight u done (enc_task t) c) rest (stops u done of listed s))) in
       let at_new : slice_get new.ledger.tables.names (length a.ledger.tables.names) ≡ Some t =
       subst (λ (x : Builder). slice_get x.ledger.tables.names (length a.ledger.tables.names) ≡ Some t) (sym is) named in
       subst (RootEndsRight u done (enc_task t) new) (sym (none (is_settled u (done ++ enc_task t ∷ []) new after (length a.ledger.tables.names) t at_new))) after

@@ -1,6 +1,6 @@
 -- The tasks of a cycle, by the numbers of what waits.
 use Rattle.std.proofs.Common.{◌≡◌, ℕ, suc, Bool, true, false, cond, List, [], ◌∷◌, ◌++◌, Option, None, Some, Result, Ok, Err, map, reverse, refl, sym, ap, subst, ◌∙◌, inl, inr, arith, bytes_eq}
-use Rattle.std.specs.Prelude.{slice_get, IfOk, OnOk, ◌==◌}
+use Rattle.std.specs.Prelude.{slice_get, IfOk, ◌==◌}
 use Rattle.std.specs.Option.{option_map}
 use Rattle.std.specs.List.{All}
 use Rattle.std.proofs.lemmas.Bool.Decides.{nat_tests}
@@ -8,6 +8,8 @@ use Rattle.std.proofs.lemmas.List.{append_assoc, append-nil, map-append, reverse
 use Rattle.pie_value.specs.declared.task.Task.{Task}
 use Rattle.pie_value.specs.declared.verdict.Refusal.TheVariants.{Cycle}
 use Rattle.pie_value.specs.Canonical.{enc_task}
+use Rattle.pie_value.specs.declared.value.Value.{Value}
+use Rattle.pie_record.specs.declared.task_record.Outcome.{Outcome}
 use Rattle.pie_record.specs.declared.task_record.Outcome.TheVariants as outcomes
 use Rattle.pie_record.specs.declared.task_record.TaskRecord.{TaskRecord}
 use Rattle.pie_record.specs.inner.Records.{record_of as kept_of}
@@ -30,16 +32,17 @@ use Rattle.pie_core_laws.specs.Update.{Update}
 use Rattle.pie_topdown_laws.specs.Ledgers.{setting}
 use Rattle.pie_topdown_laws.proofs.Building.{closes}
 use Rattle.pie_topdown_laws.proofs.Deciding.{cycled_decides}
+use Rattle.pie_topdown_laws.proofs.Lower.{closing_undone, requirer_undone}
 use Rattle.pie_topdown_laws.proofs.Sinking.{cycled_root}
 use Rattle.pie_topdown.specs.declared.builder.Builder.{Builder}
 use Rattle.pie_topdown.specs.declared.hand.Turn.{Turn}
 use Rattle.pie_topdown.specs.inner.Frames.{IsFrame, IsSite}
-use Rattle.pie_topdown.specs.inner.Turns.{FailsFirst}
-use Rattle.pie_topdown.proofs.Failing.{failed_turn}
+use Rattle.pie_topdown.proofs.Answering.{gave_output}
+use Rattle.pie_topdown.proofs.Failing.{falls_right}
 use Rattle.pie_topdown.specs.declared.hand.Frame.{Frame}
 use Rattle.pie_topdown.specs.declared.hand.Frame.TheVariants as frames
 use Rattle.pie_topdown.specs.inner.Calling.{number_in, task_in, tasks_from, joins_by, CallsRight, CallsSo, ClosesBy}
-use Rattle.pie_topdown.specs.inner.Right.{site_of, build_of, names_of, records_of, entry_of, entries_up, IsRightSite, AreWaiting}
+use Rattle.pie_topdown.specs.inner.Right.{site_of, build_of, names_of, records_of, entry_of, entries_up, IsRightSite, AreWaiting, TurnIsRight}
 use Rattle.pie_topdown.proofs.Entered.{canonical_at}
 use Rattle.pie_topdown.proofs.Topmost.{one_some, never}
 use Rattle.pie_topdown.proofs.Waited.{task_up, up_same}
@@ -273,37 +276,50 @@ module _ (u : Update) (done : List (List ℕ)) (root : List ℕ) (b : Builder) (
           ∙ sym whole
 
 -- the build fails for the cycle that is closed
-pub closes_turn : {E : Type 0} (b mid new : Builder) (c : Caller) (callee : ℕ) (top : Task) (ts : List Task) (r : Result Turn E) → IsSite b
-    → top ≡ c.waiting.notes.task → slice_get b.ledger.tables.names callee ≡ Some c.required
-    → None ≡ option_map (λ (x : TaskRecord). x.outcome) (kept_of b.ledger.tables.records callee) → ClosesBy b callee top mid
-    → OnOk r (FailsFirst mid (outcomes.Cycled ts) new) → IfOk r (CallsSo b c new)
-closes_turn b mid new c callee top ts (Err x) is same named none closed first = tt
-closes_turn b mid new c callee top ts (Ok turn) is same named none closed first = λ u done root fs plan s waiting h.
-    let unkept : kept_of b.ledger.tables.records callee ≡ None = no_outcome (kept_of b.ledger.tables.records callee) none in
+closes_turn : (b new : Builder) (c : Caller) (callee : ℕ) (top : Task) (turn : Turn) → IsSite b → top ≡ c.waiting.notes.task
+    → slice_get b.ledger.tables.names callee ≡ Some c.required
+    → ((v : Value) → Some (outcomes.Done v) ≡ option_map (λ (x : TaskRecord). x.outcome) (kept_of b.ledger.tables.records callee) → ⊥)
+    → ClosesBy b callee top new turn → CallsSo b c new turn
+closes_turn b new c callee top turn is same named none closed = λ u done root fs plan s waiting h.
     let off : records_of b (enc_task c.required) ≡ None =
-    record_by_number b.ledger.tables.names b.ledger.tables.records callee c.required s.ledger.tasks named ∙ ap (option_map rows.record_of) unkept in
+    record_by_number b.ledger.tables.names b.ledger.tables.records callee c.required s.ledger.tasks named
+    ∙ ap (option_map rows.record_of) (unkept u done root s (kept_of b.ledger.tables.records callee) refl) in
     let on : among (enc_task c.required) (enc_task c.waiting.notes.task ∷ tasks_of fs) ≡ true =
     h.busy (enc_task c.required) (named_back b.ledger.tables.names c.required (placed b.ledger.tables.names callee c.required named)) off in
     let f = before_wait h.aside in
     let above : among (enc_task c.required) (tasks_of (f ∷ fs)) ≡ true =
     subst (λ t. among (enc_task c.required) (t ∷ tasks_of fs) ≡ true) (sym h.caller.frame.task) on in
-    failed_turn u done root new turn (record {
-      why = Cycle (tasks_from callee b.stack.items ++ top ∷ []);
-      kept = first ∙ closed s.calm;
-      refused = λ rest.
-          cycled_decides (setting u) (records_of b) (names_of b) s.ledger.table (names_of b) done rest root s.recorded
-          (round (enc_task c.required) (tasks_of (f ∷ fs)) [])
-          (cycled_root (setting u) (records_of b) (names_of b) s.ledger.table done s.recorded root fs f h.top h.aside.left (how_of c.how) (enc_task c.required)
-          refl h.caller.waits above) s.ledger.table.few
-          (closes (setting u) (records_of b) root fs f h.top.goes h.aside.left (how_of c.how) (enc_task c.required) refl h.caller.waits above)
-          ∙ ap ModelCycle
-          (ap (λ t. round (enc_task c.required) (t ∷ tasks_of fs) []) h.caller.frame.task
-          ∙ round_is u done root b fs c callee s waiting is h named on
-          ∙ ap (λ t. map enc_task (tasks_from callee b.stack.items ++ t ∷ [])) (sym same));
-      ends = ap is_done
-          (closes (setting u) (records_of b) root fs f h.top.goes h.aside.left (how_of c.how) (enc_task c.required) refl h.caller.waits above);
-    })
+    let entered = cycled_root (setting u) (records_of b) (names_of b) s.ledger.table done s.recorded root fs f h.top h.aside.left (how_of c.how) (enc_task c.required)
+    refl h.caller.waits above in
+    let sunk = closes (setting u) (records_of b) root fs f h.top.goes h.aside.left (how_of c.how) (enc_task c.required) refl h.caller.waits above in
+    subst (TurnIsRight u done root new) (sym closed.turn)
+    (falls_right u done root b new (Cycle (tasks_from callee b.stack.items ++ top ∷ [])) fs f c.waiting.notes.number c.waiting.notes.task s waiting h.top
+    (requirer_undone (setting u) (records_of b) root (names_of b) fs f h.top h.aside.left (how_of c.how) (enc_task c.required) refl h.caller.waits
+    (closing_undone (setting u) (records_of b) root (names_of b) fs f h.top h.aside.left (how_of c.how) (enc_task c.required) refl h.caller.waits above))
+    h.caller.frame.named h.ran h.busy closed.is
+    (λ rest.
+    cycled_decides (setting u) (records_of b) (names_of b) s.ledger.table (names_of b) done rest root s.recorded
+    (round (enc_task c.required) (tasks_of (f ∷ fs)) []) entered s.ledger.table.few sunk
+    ∙ ap ModelCycle
+    (ap (λ t. round (enc_task c.required) (t ∷ tasks_of fs) []) h.caller.frame.task
+    ∙ round_is u done root b fs c callee s waiting is h named on
+    ∙ ap (λ t. map enc_task (tasks_from callee b.stack.items ++ t ∷ [])) (sym same)))
+    (ap is_done sunk) (λ x i. inl (entered x i)))
   where
-    no_outcome : (o : Option TaskRecord) → None ≡ option_map (λ (x : TaskRecord). x.outcome) o → o ≡ None
-    no_outcome None e = refl
-    no_outcome (Some rec) e = absurd (never rec.outcome e)
+    unkept : (u : Update) (done : List (List ℕ)) (root : List ℕ) → IsRightSite u done root b → (o : Option TaskRecord) → kept_of b.ledger.tables.records callee ≡ o
+        → o ≡ None
+    unkept u done root s None e = refl
+    unkept u done root s (Some rec) e = absurd (by rec.outcome refl (gave_output u done root b callee rec s e))
+      where
+        by : (o : Outcome) → rec.outcome ≡ o → is_done (rows.outcome_of rec.outcome) ≡ true → ⊥
+        by (outcomes.Done v) is d = none v (sym (ap (option_map (λ (x : TaskRecord). x.outcome)) e ∙ ap Some is))
+        by (outcomes.Failed f) is d = let apart : false ≡ true = sym (ap (λ (z : Outcome). is_done (rows.outcome_of z)) is) ∙ d in cc
+        by (outcomes.Cycled ts) is d = let apart : false ≡ true = sym (ap (λ (z : Outcome). is_done (rows.outcome_of z)) is) ∙ d in cc
+
+-- so it is where that call succeeds
+pub closes_if : {E : Type 0} (b new : Builder) (c : Caller) (callee : ℕ) (top : Task) (r : Result Turn E) → IsSite b → top ≡ c.waiting.notes.task
+    → slice_get b.ledger.tables.names callee ≡ Some c.required
+    → ((v : Value) → Some (outcomes.Done v) ≡ option_map (λ (x : TaskRecord). x.outcome) (kept_of b.ledger.tables.records callee) → ⊥)
+    → IfOk r (ClosesBy b callee top new) → IfOk r (CallsSo b c new)
+closes_if b new c callee top (Ok turn) is same named none closed = closes_turn b new c callee top turn is same named none closed
+closes_if b new c callee top (Err e) is same named none closed = tt

@@ -20,11 +20,10 @@ use Rattle.pie_topdown.proofs.Growing.{frames_grow}
 use Rattle.pie_topdown.proofs.Keeping.{same_grows}
 
 -- a build is as it was but for what is staged, what is known of the files
-pub same_keeps : (b c : Builder) → c.plan ≡ b.plan → c.ledger ≡ b.ledger → c.failure ≡ b.failure → Keeps b c
-same_keeps b c plan ledger failure = record {
+pub same_keeps : (b c : Builder) → c.plan ≡ b.plan → c.ledger ≡ b.ledger → Keeps b c
+same_keeps b c plan ledger = record {
   plan = plan;
   grows = same_grows b.ledger c.ledger (ap (λ l. l.tables.names) ledger) (ap (λ l. l.tables.records) ledger);
-  failed = λ why had. failure ∙ had;
 }
 
 pub same_site : (b c : Builder) → c.plan ≡ b.plan → c.ledger ≡ b.ledger → c.stack ≡ b.stack → IsSite b → IsSite c

@@ -107,14 +107,14 @@ pub offer_checks : (b : Builder) (n : ℕ) (code : Code) (offer : Offer) (rest :
     → BeginsCheck b n code offer.row (Some offer.contents) (rests.Asked rest) c.value → ChecksOffer b n code offer rest.items b (Goes (hands.Checks c))
 offer_checks b n code offer rest c named begins parts = λ u done root fs honest s waiting e due.
     let h : IsHonest u (offered offer) = All-head (λ x. IsHonest u (offered x)) offer rest.items honest in
-    inl (record {
+    record {
       site = s;
       fs = fs;
       waiting = waiting;
       hand = begins u done root fs h.before s e (honest_old u (offered offer) h) (honest_apart u (offered offer) h) parts h
           (subst (IsDue u b.plan) (one_some due.task offer.row.task (sym due.named ∙ named)) due.due)
           (All-tail (λ x. IsHonest u (offered x)) offer rest.items honest);
-    })
+    }
 
 -- they are asked for
 pub asks_begins : {E : Type 0} (held : Option Directory) (told : Directory → Task → List ℕ → List Offered) (b new : Builder) (n : ℕ) (code : Code)

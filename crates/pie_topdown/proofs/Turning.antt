@@ -1,5 +1,5 @@
 -- Steps and roots, one after another, in the words of the model.
-use Rattle.std.proofs.Common.{◌≡◌, ℕ, ◌+◌, ◌<◌, ◌≤◌, true, false, List, [], ◌∷◌, ◌++◌, Option, None, Some, length, map, take, drop, get_or, sym, ap, subst, ◌∙◌}
+use Rattle.std.proofs.Common.{◌≡◌, ℕ, ◌+◌, ◌<◌, ◌≤◌, true, false, List, [], ◌∷◌, ◌++◌, Option, None, Some, length, map, take, drop, get_or, sym, ap, subst, ◌∙◌, inl, inr}
 use Rattle.std.proofs.lemmas.List.{map-append, take_more, take_all, drop_more, take-append-drop}
 use Rattle.pie_value.specs.declared.task.Task.{Task}
 use Rattle.pie_value.specs.declared.verdict.Refusal.{Refusal}
@@ -15,9 +15,9 @@ use Rattle.pie_core_laws.specs.Update.{Update, present}
 use Rattle.pie_topdown.specs.declared.builder.Builder.{Builder}
 use Rattle.pie_topdown.specs.declared.hand.Hand.{Hand}
 use Rattle.pie_topdown.specs.declared.hand.Turn.{Turn}
-use Rattle.pie_topdown.specs.declared.hand.Turn.TheVariants.{Goes, Rests, Many}
+use Rattle.pie_topdown.specs.declared.hand.Turn.TheVariants.{Goes, Rests, Many, Fails}
 use Rattle.pie_topdown.specs.declared.plan.Plan.{Plan}
-use Rattle.pie_topdown.specs.inner.Right.{IsPlanNow, AreOffersHonest, IsRightOrFailed, StepsRight, TurnIsRight}
+use Rattle.pie_topdown.specs.inner.Right.{IsPlanNow, AreOffersHonest, IsRight, StepsRight, TurnIsRight}
 use Rattle.pie_topdown.specs.inner.Rooted.{HasSettledRight, IsBuildOf, IsSettledSoFar, RunsOnRight, SettlesAllRight, SettlesRight, StaysRight}
 
 -- by the files and the offers as they are between two calls, of the same plan
@@ -36,7 +36,7 @@ stays_first held told b h u done root of is = is
 
 module _ (held mid : Option Directory) (told later : Directory → Task → List ℕ → List Offered) (a b c : Builder) (h g : Hand) (turn : Turn) (same : mid ≡ held)
     (offers : later ≡ told) (plan : b.plan ≡ a.plan) (before : StaysRight held told a h b g) (step : StepsRight mid later b g c turn) where
-  turned : (u : Update) (done : List (List ℕ)) (root : List ℕ) → IsBuildOf u held told a.plan → IsRightOrFailed u done root a h → TurnIsRight u done root c turn
+  turned : (u : Update) (done : List (List ℕ)) (root : List ℕ) → IsBuildOf u held told a.plan → IsRight u done root a h → TurnIsRight u done root c turn
   turned u done root of is =
       let now = build_then u held mid told later a.plan b.plan same offers plan of in
       step u done root now.holds now.plan now.honest (before u done root of is)
@@ -48,7 +48,10 @@ module _ (held mid : Option Directory) (told later : Directory → Task → List
   stops_rests rests u done root of is = subst (TurnIsRight u done root c) rests (turned u done root of is)
 
   pub stops_many : turn ≡ Many → RunsOnRight held told a h c false
-  stops_many many u done root of is = subst (TurnIsRight u done root c) many (turned u done root of is)
+  stops_many many u done root of is = inl (subst (TurnIsRight u done root c) many (turned u done root of is))
+
+  pub stops_fails : turn ≡ Fails → RunsOnRight held told a h c false
+  stops_fails fails u done root of is = inr (subst (TurnIsRight u done root c) fails (turned u done root of is))
 
 -- ---- the roots
 
@@ -66,7 +69,7 @@ module _ (held mid : Option Directory) (told later : Directory → Task → List
     (inside : i < length roots) (at : t ≡ get_or roots i t) (same : mid ≡ held) (offers : later ≡ told) (plan : b.plan ≡ a.plan)
     (before : HasSettledRight held told a roots (take i roots) b) where
   -- the roots before it, it, and those after it
-  split : map enc_task (take i roots) ++ enc_task t ∷ map enc_task (drop (i + 1) roots) ≡ map enc_task roots
+  pub split : map enc_task (take i roots) ++ enc_task t ∷ map enc_task (drop (i + 1) roots) ≡ map enc_task roots
   split =
       let front : drop i roots ≡ t ∷ drop (i + 1) roots = drop_more roots i t inside ∙ ap (λ (x : Task). x ∷ drop (i + 1) roots) (sym at) in
       sym (map-append enc_task (take i roots) (t ∷ drop (i + 1) roots))

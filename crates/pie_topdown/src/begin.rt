@@ -3,8 +3,10 @@ ghost use Rattle.std.specs.Prelude.{◌≡◌, ◌<◌, ◌≤◌, ◌+◌, leng
 ghost use Rattle.pie_files.specs.Reading.{ReadsOnly};
 ghost use Rattle.pie_record.specs.Canonical.{IsStorable};
 ghost use Rattle.pie_results.specs.inner.Failures.{is_done as specs_is_done};
-ghost use Rattle.pie_topdown.specs.inner.Calling.{StartsSo};
+ghost use Rattle.pie_topdown.specs.inner.Calling.{HasBegun, StartsSo};
 ghost use Rattle.pie_topdown.specs.inner.Due.{LacksOwn};
+ghost use Rattle.pie_topdown.specs.inner.Effects.{HasStarted};
+ghost use Rattle.pie_topdown.specs.inner.Ledgers.{Grows};
 ghost use Rattle.pie_topdown.specs.inner.Frames.{AreOffers, IsCheck, IsOwnRecord, MayStart, IsSite};
 ghost use Rattle.pie_topdown.specs.inner.Offering.{BeginsSo, BeginsWith};
 ghost use Rattle.pie_topdown.specs.inner.Right.{BeginsCheck};
@@ -169,6 +171,27 @@ impl<'a> Builder<'a> {
         ensures own { IfOk result (HoldsOwn self.old self.new) }
         ensures right { IfOk result (StartsSo self.old no.0 code.now self.new) }
     {
+        let task = self.begin_run(no, code, runs)?;
+        Ok(Turn::Goes(Hand::Runs(task)))
+    }
+
+    /// The machine of an entered task starts, and the task is marked.
+    #[tactic(auto, using(crate::proofs::Naming::named_encodable))]
+    pub(crate) fn begin_run(
+        &mut self,
+        no: TaskNo,
+        code: &'a Checked,
+        runs: &mut Runs,
+    ) -> Result<RunningTask<'a>, OutOfMemory>
+        requires site { IsSite self.old }
+        requires starts { MayStart self.old.ledger no.0 code.now.params }
+        ensures rest { self.new ≡ record self.old { ledger = self.new.ledger } }
+        ensures site { OnOk result (IsSite self.new) }
+        ensures grows { OnOk result (Grows self.old.ledger self.new.ledger) }
+        ensures ledger { OnOk result (HasStarted self.old.ledger no.0 self.new.ledger) }
+        ensures starts { StartsOne runs.old runs.new }
+        ensures begun { IfOk result (HasBegun self.old no.0 code.now runs.old runs.new) }
+    {
         let _names = self.ledger.tables.names.as_slice();
         let task = RunningTask::start(
             self.alloc,
@@ -178,7 +201,7 @@ impl<'a> Builder<'a> {
             runs,
         )?;
         self.ledger.runs(no);
-        Ok(Turn::Goes(Hand::Runs(task)))
+        Ok(task)
     }
 }
 

@@ -1,27 +1,29 @@
 //! Cycles of tasks on the stack.
-ghost use Rattle.std.specs.Prelude.{◌≡◌, ◌++◌, ◌∷◌, [], None, IfOk, OnOk};
+ghost use Rattle.std.specs.Prelude.{◌≡◌, ◌++◌, ◌∷◌, ◌+◌, [], IfOk, OnOk};
 ghost use Rattle.pie_topdown.specs.inner.Calling.{ClosesBy, joins, joins_by, tasks_from};
-ghost use Rattle.pie_topdown.specs.inner.Turns.{StaysFailed};
+ghost use Rattle.pie_topdown.specs.inner.Frames.{IsSite};
+ghost use Rattle.pie_topdown.specs.inner.Turns.{TurnsTo, below, Nearer, room, Fits, Keeps};
+ghost use Rattle.pie_topdown.specs.inner.Unoffered.{GoesMarked};
 
 use crate::builder::Builder;
-use crate::hand::Frame;
+use crate::hand::{Frame, Turn};
 use pie_base::OutOfMemory;
 use pie_graph::TaskNo;
 use pie_value::{Refusal, Task, Tasks};
 
 impl<'a> Builder<'a> {
-    /// The task with this number, which stands on the stack, is required by the one above it: where no task failed before, that fails by their cycle.
-    pub(crate) fn close(&mut self, from: TaskNo, top: &Task) -> Result<(), OutOfMemory>
-        ensures same { self.new ≡ record self.old { failure = self.new.failure } }
-        ensures stays { StaysFailed self.old self.new }
-        ensures first { OnOk result (ClosesBy self.old from.0 top.now self.new) }
+    /// The task with this number, which stands on the stack, is required by the one above it: the build fails by their cycle.
+    pub(crate) fn close(&mut self, from: TaskNo, top: &Task) -> Result<Turn<'a>, OutOfMemory>
+        requires site { IsSite self.old }
+        ensures turns { IfOk result (TurnsTo self.new) }
+        ensures nearer { IfOk result (Nearer (below self.old + 1) self.new) }
+        ensures fits { IfOk result (Fits (room self.old) self.new) }
+        ensures kept { OnOk result (Keeps self.old self.new) }
+        ensures marks { IfOk result (GoesMarked self.old self.new) }
+        ensures closed { IfOk result (ClosesBy self.old from.0 top.now self.new) }
     {
-        if self.failure.is_some() {
-            return Ok(());
-        }
         let tasks = self.cycle(from, top)?;
-        self.failure = Some(Refusal::Cycle(tasks));
-        Ok(())
+        Ok(self.fail_as(Refusal::Cycle(tasks)))
     }
 
     // The tasks on the stack from the one with this number on, and the one above them.

@@ -1,23 +1,25 @@
 //! Tasks that end.
-ghost use Rattle.std.specs.Prelude.{◌≡◌, ◌<◌, ◌+◌, length, true, IfOk, OnOk};
+ghost use Rattle.std.specs.Prelude.{◌≡◌, ◌<◌, ◌≤◌, ◌+◌, length, true, IfOk, OnOk};
 ghost use Rattle.pie_running.specs.inner.Noted.{IsSound};
-ghost use Rattle.pie_tables.specs.Tabled.{HasFailed};
 ghost use Rattle.pie_value.specs.Canonical.{IsEncodable, HasTrueLeaves};
 ghost use Rattle.pie_value.specs.Limits.{is_small};
 ghost use Rattle.pie_value.specs.Values.{tree_of};
 ghost use Rattle.pie_topdown.specs.inner.Asking.{EndsSo};
 ghost use Rattle.pie_topdown.specs.inner.Frames.{IsNoted, IsSite};
 ghost use Rattle.pie_topdown.specs.inner.Right.{FailsSo};
-ghost use Rattle.pie_topdown.specs.inner.Turns.{TurnsTo, below, Nearer, room, Fits, Keeps, FailsFirst, StaysFailed};
+ghost use Rattle.pie_topdown.specs.inner.Ran.{FallsWhole};
+ghost use Rattle.pie_topdown.specs.inner.Roots.{Started};
+ghost use Rattle.pie_topdown.specs.inner.Turns.{TurnsTo, below, Nearer, room, Fits, Keeps, FailsBy};
 ghost use Rattle.pie_topdown.specs.inner.Unoffered.{GoesMarked};
 
 use crate::builder::Builder;
-use crate::hand::{Hand, Turn};
+use crate::hand::{Check, Frame, Hand, Turn};
 use pie_base::{FaultKind, OutOfMemory};
 use pie_graph::TaskNo;
 use pie_record::{Deps, Outcome, TaskRecord, Writes};
 use pie_running::{NoteParts, Notes};
 use pie_value::{Fault, Refusal, Value, encode};
+use pie_vm::Runs;
 
 impl<'a> Builder<'a> {
     /// The task that runs is done with this output.
@@ -96,39 +98,41 @@ impl<'a> Builder<'a> {
         ensures right { IfOk result (FailsSo self.old no.0 kind self.new) }
     {
         let task = self.ledger.tables.names.task(no).copy()?;
-        self.fail_as(no, Outcome::Failed(Fault { task, kind }))
+        Ok(self.fail_as(Refusal::Fault(Fault { task, kind })))
     }
 
-    /// The task that runs fails as one did that it required, or in a cycle.
-    #[tactic(auto, using(crate::proofs::Stacking::grown_site))]
-    pub(crate) fn fail_as(&mut self, no: TaskNo, outcome: Outcome) -> Result<Turn<'a>, OutOfMemory>
+    /// A task fails, which is why the build does.
+    pub(crate) fn fail_as(&mut self, why: Refusal) -> Turn<'a>
         requires site { IsSite self.old }
-        requires number { no.0 < length self.old.ledger.tables.names }
-        requires failed { HasFailed outcome }
-        ensures turns { IfOk result (TurnsTo self.new) }
-        ensures nearer { IfOk result (Nearer (below self.old + 1) self.new) }
-        ensures fits { IfOk result (Fits (room self.old) self.new) }
-        ensures kept { OnOk result (Keeps self.old self.new) }
-        ensures marks { IfOk result (GoesMarked self.old self.new) }
-        ensures first { OnOk result (FailsFirst self.old outcome self.new) }
+        ensures turns { TurnsTo self.new result }
+        ensures nearer { Nearer (below self.old + 1) self.new result }
+        ensures fits { Fits (room self.old) self.new result }
+        ensures kept { Keeps self.old self.new }
+        ensures marks { GoesMarked self.old self.new result }
+        ensures fails { FailsBy self.old why self.new result }
     {
-        self.note_failure(&outcome)?;
-        self.ledger.fail(no, outcome)?;
-        Ok(Turn::Goes(Hand::Ended))
+        self.failure = Some(why);
+        Turn::Fails
     }
 
-    // How a task failed is why the build does, unless one failed before. That it closes a cycle is told by `close`.
-    fn note_failure(&mut self, outcome: &Outcome) -> Result<(), OutOfMemory>
-        ensures same { self.new ≡ record self.old { failure = self.new.failure } }
-        ensures stays { StaysFailed self.old self.new }
-        ensures first { OnOk result (FailsFirst self.old outcome.now self.new) }
+    /// A task failed: those of the checks that wait start too, since each requires one that fails, and so fails as that one did.
+    pub(crate) fn start_waiting(&mut self, runs: &mut Runs) -> Result<(), OutOfMemory>
+        requires site { IsSite self.old }
+        ensures rest { OnOk result (self.new ≡ record self.old { ledger = self.new.ledger; stack = self.new.stack }) }
+        ensures names { OnOk result (self.new.ledger.tables.names ≡ self.old.ledger.tables.names) }
+        ensures started { Started runs.old runs.new }
+        ensures few { length runs.new ≤ length runs.old + room self.old }
+        ensures falls { OnOk result (FallsWhole self.old self.new runs.old runs.new) }
     {
-        if self.failure.is_some() {
-            return Ok(());
+        'waiting: loop {
+            match self.stack.pop() {
+                Some(Frame::Checks(check)) => {
+                    let Check { no, code, .. } = Box::into_inner(check);
+                    let _task = self.begin_run(no, code, runs)?;
+                }
+                Some(Frame::Waits(_)) => {}
+                None => return Ok(()),
+            }
         }
-        if let Outcome::Failed(fault) = outcome {
-            self.failure = Some(Refusal::Fault(fault.copy()?));
-        }
-        Ok(())
     }
 }

@@ -61,4 +61,6 @@ pub(crate) enum Turn<'a> {
     Rests,
     /// One task more was to be entered than a build may have.
     Many,
+    /// A task failed, and with it the build.
+    Fails,
 }

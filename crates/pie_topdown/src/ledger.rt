@@ -8,14 +8,14 @@ ghost use Rattle.pie_old.specs.inner.Rows.{paths_in, tasks_at};
 ghost use Rattle.pie_record.specs.Canonical.{IsStorable};
 ghost use Rattle.pie_record.specs.inner.Records.{record_of};
 ghost use Rattle.pie_store.specs.Canonical.{needs as needs_by};
-ghost use Rattle.pie_tables.specs.Tabled.{HasFailed, IsGiven};
+ghost use Rattle.pie_tables.specs.Tabled.{IsGiven};
 ghost use Rattle.pie_value.specs.Canonical.{IsEncodableTask};
 ghost use Rattle.pie_topdown.specs.inner.Ledgers.{HasOutput, row_with, IsLedger, Grows};
 ghost use Rattle.pie_topdown.specs.inner.Effects.{HasAdded, HasEnded, HasStarted, EndsIfNew};
 
 use pie_base::{MAX_TASKS, OutOfMemory, Path};
 use pie_graph::{Edges, IndexedRows, TaskNo, TaskRows};
-use pie_record::{Deps, Outcome, Records, TaskNames, TaskRecord, Writes};
+use pie_record::{Outcome, Records, TaskNames, TaskRecord};
 use pie_tables::Tables;
 use pie_value::Task;
 use std::alloc::Global;
@@ -171,52 +171,6 @@ impl Ledger {
         self.rows.set_edges(no, edges)?;
         Ok(())
     }
-
-    /// A task fails. One that has ended stays as it is.
-    pub(crate) fn fail(&mut self, no: TaskNo, outcome: Outcome) -> Result<(), OutOfMemory>
-        requires ledger { IsLedger self.old }
-        requires number { no.0 < length self.old.tables.names }
-        requires failed { HasFailed outcome }
-        ensures ledger { OnOk result (IsLedger self.new) }
-        ensures grows { OnOk result (Grows self.old self.new) }
-        ensures names { OnOk result (self.new.tables.names ≡ self.old.tables.names) }
-        ensures ran { OnOk result (self.new.tables.ran.items ≡ self.old.tables.ran.items) }
-    {
-        if self.has_ended(no) {
-            return Ok(());
-        }
-        self.fail_first(no, outcome)
-    }
-
-    // The same of a task that hasn't ended.
-    fn fail_first(&mut self, no: TaskNo, outcome: Outcome) -> Result<(), OutOfMemory>
-        requires ledger { IsLedger self.old }
-        requires unended { record_of self.old.tables.records no.0 ≡ None }
-        requires number { no.0 < length self.old.tables.names }
-        requires failed { HasFailed outcome }
-        ensures ledger { OnOk result (IsLedger self.new) }
-        ensures grows { OnOk result (Grows self.old self.new) }
-        ensures names { OnOk result (self.new.tables.names ≡ self.old.tables.names) }
-        ensures ran { OnOk result (self.new.tables.ran.items ≡ self.old.tables.ran.items) }
-    {
-        let rec = failed_record(self.alloc, self.tables.names.task(no), outcome)?;
-        self.tables.put(no, rec)?;
-        Ok(())
-    }
-}
-
-// The record of a task that failed. It tells nothing but how, since nobody checks it or keeps it.
-fn failed_record(alloc: Global, task: &Task, outcome: Outcome) -> Result<TaskRecord, OutOfMemory>
-    ensures task { IfOk result (λ rec. rec.task ≡ task.now) }
-    ensures outcome { IfOk result (λ rec. rec.outcome ≡ outcome) }
-{
-    let task = task.copy()?;
-    Ok(TaskRecord {
-        task,
-        deps: Deps::new(Vec::new(alloc)),
-        writes: Writes::new(Vec::new(alloc)),
-        outcome,
-    })
 }
 
 // The paths of writes.

@@ -17,12 +17,13 @@ ghost use Rattle.pie_topdown.specs.inner.Unoffered.{GoesMarked, IsOwnTurn};
 use crate::builder::Builder;
 use crate::entering::Entry;
 use crate::hand::{Frame, Hand, Turn};
+use crate::roots::unknown;
 use pie_base::{FaultKind, OutOfMemory};
 use pie_code::Checked;
 use pie_graph::TaskNo;
 use pie_record::Outcome;
 use pie_running::{Caller, Done, Waiting};
-use pie_value::{Fault, How, Task, Tasks, Value, encode_task};
+use pie_value::{How, Task, Value, encode_task};
 
 impl<'a> Builder<'a> {
     /// A task is required: it is answered from how it ended, or is entered and settled first.
@@ -75,7 +76,7 @@ impl<'a> Builder<'a> {
         }
     }
 
-    // An entered task is required. Where it hasn't ended, it stands on the stack.
+    // An entered task is required. Where it hasn't ended with an output, it stands on the stack, since a build stops where a task fails.
     fn answer(&mut self, caller: Caller<'a>, callee: TaskNo) -> Result<Turn<'a>, OutOfMemory>
         requires site { IsSite self.old }
         requires caller { IsCaller self.old.ledger caller }
@@ -87,15 +88,9 @@ impl<'a> Builder<'a> {
         ensures marks { IfOk result (GoesMarked self.old self.new) }
         ensures right { IfOk result (CallsSo self.old caller.entry self.new) }
     {
-        let no = caller.waiting.notes.no();
         match self.ledger.outcome(callee)? {
             Some(Outcome::Done(output)) => self.give(caller, callee, output),
-            Some(failed) => self.fail_as(no, failed),
-            None => {
-                self.close(callee, caller.waiting.notes.task())?;
-                let none = Tasks::new(Vec::new(self.alloc));
-                self.fail_as(no, Outcome::Cycled(none))
-            }
+            _ => self.close(callee, caller.waiting.notes.task()),
         }
     }
 
@@ -189,14 +184,7 @@ impl<'a> Builder<'a> {
         ensures marks { IfOk result (GoesMarked self.old self.new) }
         ensures right { IfOk result (LosesSo self.old caller.entry self.new) }
     {
-        let no = caller.waiting.notes.no();
-        let task = caller.required.copy()?;
-        self.fail_as(
-            no,
-            Outcome::Failed(Fault {
-                task,
-                kind: FaultKind::Unknown,
-            }),
-        )
+        let Caller { required, .. } = caller;
+        Ok(self.fail_as(unknown(required)))
     }
 }

@@ -8,7 +8,8 @@ ghost use Rattle.pie_value.specs.Canonical.{IsEncodableTask};
 ghost use Rattle.pie_topdown.specs.inner.Entries.{MayBe};
 ghost use Rattle.pie_topdown.specs.inner.Frames.{IsSite};
 ghost use Rattle.pie_topdown.specs.inner.Ran.{RansOn, SettlesRan, StopsRan, SettlesAllRan, StopsAllRan};
-ghost use Rattle.pie_topdown.specs.inner.Rooted.{lost, RunsOnRight, SettlesRight, SettlesAllRight};
+ghost use Rattle.pie_topdown.specs.inner.Right.{lost};
+ghost use Rattle.pie_topdown.specs.inner.Rooted.{RunsOnRight, SettlesRight, SettlesAllRight};
 ghost use Rattle.pie_topdown.specs.inner.Roots.{IsSettledRoot, AreSettled, Started, Continues};
 ghost use Rattle.pie_topdown.specs.inner.Turns.{Stands, hand_room, room, Keeps};
 ghost use Rattle.pie_topdown.specs.inner.Unoffered.{EndsOwn, RunsOwn};
@@ -152,6 +153,7 @@ impl<'a> Builder<'a> {
         let no = self.enter(root.copy()?, code)?;
         let rests = self.run(Hand::Enters(no, code), offers, files, runs)?;
         if let Some(why) = self.failure.take() {
+            self.start_waiting(runs)?;
             return Ok(Some(why));
         }
         if !rests {
@@ -160,7 +162,7 @@ impl<'a> Builder<'a> {
         Ok(self.unless_done(root)?)
     }
 
-    // Goes on until nothing waits, or one task more was to be entered than a build may have.
+    // Goes on until nothing waits, one task more was to be entered than a build may have, or a task failed.
     #[tactic(auto, using(pie_files::proofs::Reading::reads, crate::proofs::Turning::stays_first, crate::proofs::Totals::ran_first, crate::proofs::Owning::own_first))]
     fn run<F: Files, O: Offers>(
         &mut self,
@@ -170,9 +172,9 @@ impl<'a> Builder<'a> {
         runs: &mut Runs,
     ) -> Result<bool, FilesError>
         requires { Stands self.old hand }
-        ensures site { IfOk result (λ rests. rests ≡ true → IsSite self.new) }
+        ensures site { OnOk result (IsSite self.new) }
         ensures kept { OnOk result (Keeps self.old self.new) }
-        ensures spends { IfOk result (λ rests. rests ≡ true → length runs.new + room self.new ≤ length runs.old + (room self.old + hand_room hand.entry)) }
+        ensures spends { OnOk result (length runs.new + room self.new ≤ length runs.old + (room self.old + hand_room hand.entry)) }
         ensures started { Started runs.old runs.new }
         ensures few { length runs.new ≤ length runs.old + (room self.old + hand_room hand.entry) }
         ensures reads { ReadsOnly F.holds F.moment F.left_since F.images F.faults files.old files.new result }
@@ -187,6 +189,7 @@ impl<'a> Builder<'a> {
                 Turn::Goes(next) => hand = next,
                 Turn::Rests => return Ok(true),
                 Turn::Many => return Ok(false),
+                Turn::Fails => return Ok(false),
             }
         }
     }
@@ -221,8 +224,8 @@ fn has_output(outcome: &Option<Outcome>) -> bool
     }
 }
 
-// A task is of no function.
-fn unknown(task: Task) -> Refusal
+/// A task is of no function.
+pub(crate) fn unknown(task: Task) -> Refusal
     ensures { result ≡ lost task }
 {
     Refusal::Fault(Fault {

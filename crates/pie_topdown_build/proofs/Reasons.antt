@@ -50,15 +50,13 @@ use Rattle.pie_value.specs.Canonical.{enc_task}
 use Rattle.pie_value.specs.Limits.{is_small_task}
 use Rattle.pie_value.specs.declared.task.Task.{Task}
 use Rattle.pie_value.specs.declared.verdict.Verdict.{Verdict}
-use Rattle.pie_value.specs.declared.verdict.Refusal.TheVariants.{Many}
-use Rattle.pie_value.specs.declared.verdict.Verdict.TheVariants.{Accepted, Refused}
 use Rattle.pie_topdown_build.specs.declared.base.Base.{Base}
 use Rattle.pie_topdown_build.specs.declared.base.Start.{Start}
 use Rattle.pie_topdown_build.specs.declared.base.Start.TheVariants.{Afresh, From}
 use Rattle.pie_topdown_build.specs.declared.evaluating.Evaluated.{Evaluated}
 use Rattle.pie_topdown_build.specs.declared.offered.Offered.{Offered}
 use Rattle.pie_topdown_build.specs.Clean.{HasStoreOf}
-use Rattle.pie_topdown_build.specs.Ran.{RanFor, RunsForReasons}
+use Rattle.pie_topdown_build.specs.Ran.{IsLost, RanFor, RunsForReasons}
 use Rattle.pie_topdown_build.specs.inner.Bases.{HasBase, IsReadFrom, StartsAt}
 use Rattle.pie_topdown_build.specs.inner.Clean.{update_of, OffersHonest}
 use Rattle.pie_topdown_build.specs.inner.Ran.{FromRuns, HaveReasons, OffersNone, RanFrom, RunsBy, RunsByIfTold, RunsFrom}
@@ -74,23 +72,23 @@ runs_from : (before mid : Option Directory) (p : Project) (codes : List Code) (s
     → StartsForReasons mid p.typed t.funcs p.digests.items t.rows told p.roots.items first after [] reused v)
     → (OffersNothing mid told → reused ≡ []) → RunsFrom before p s told first after reused v
 runs_from before mid p codes s t told first after reused v same compiled image rows put starts nothing = record {
-  each = λ accepted u here stored honest. by accepted u here stored honest (is u here);
+  each = λ u here stored honest. by u here stored honest (is u here);
   none = λ o. nothing (offers_still before mid told told same refl o);
 }
   where
     is : (u : Update) → IsNowHere u before p.typed p.roots.items → t ≡ digested u.directory p.digests.items s
     is u here = subst (λ o. IfSome o (λ d. t ≡ digested d p.digests.items s)) here.holds put
 
-    by : v ≡ Accepted → (u : Update) → IsNowHere u before p.typed p.roots.items
+    by : (u : Update) → IsNowHere u before p.typed p.roots.items
         → IsFromStore u (digested u.directory p.digests.items s).funcs p.digests.items s.rows → AreHonest u p.digests.items told
         → t ≡ digested u.directory p.digests.items s
         → StartedFor u (digested u.directory p.digests.items s).funcs p.digests.items first after [] reused v
-    by accepted u here stored honest put =
+    by u here stored honest put =
         subst (λ (x : StoreImage). StartedFor u x.funcs p.digests.items first after [] reused v) put
         ((starts (record { compiled = compiled; parts = subst (All IsTrueRecord) (sym rows) image.parts })).each u
         (subst (λ m. IsNowHere u m p.typed p.roots.items) (sym same) here)
         (subst (λ (x : List TaskRecord). IsFromStore u t.funcs p.digests.items x) (sym rows)
-        (subst (λ (x : StoreImage). IsFromStore u x.funcs p.digests.items s.rows) (sym put) stored)) honest (inl accepted))
+        (subst (λ (x : StoreImage). IsFromStore u x.funcs p.digests.items s.rows) (sym put) stored)) honest)
 
 -- so it is with an evaluation that succeeds
 pub evaluates_ran : (before mid : Option Directory) (p : Project) (codes : List Code) (s t : StoreImage) (told : Told) (first after : List Task)
@@ -112,31 +110,27 @@ one_behind [] ys zs e = e
 one_behind (x ∷ xs) ys zs e = one_behind xs ys zs (let f : xs ++ ys ≡ xs ++ zs = cc in f)
 
 -- what was started since a list is what a report tells
-retold : (u : Update) (told : Told) (kept digests : List (List ℕ × List ℕ)) (first after ran reused : List Task) (v : Verdict) → v ≡ Accepted
+retold : (u : Update) (told : Told) (kept digests : List (List ℕ × List ℕ)) (first after ran reused : List Task) (v : Verdict)
     → (OffersNone told u.directory → reused ≡ []) → after ≡ first ++ ran → StartedFor u kept digests first after [] reused v
-    → HaveReasons u told kept digests ran
-retold u told kept digests first after ran reused v accepted nothing gained s =
-    subst (HaveReasons u told kept digests) (sym (one_behind first ran s.ran (sym gained ∙ s.ran_are)))
-    (record { once = s.once; reasons = s.reasons; all = λ none t entered r. by none t (s.all not_many t entered r) })
+    → HaveReasons u told kept digests ran v
+retold u told kept digests first after ran reused v nothing gained s =
+    subst (λ ts. HaveReasons u told kept digests ts v) (sym (one_behind first ran s.ran (sym gained ∙ s.ran_are)))
+    (record { once = s.once; reasons = s.reasons; all = λ none fewer t entered r. by none t (s.all fewer t entered r) })
   where
-    not_many : v ≡ Refused Many → ⊥
-    not_many e = never (sym accepted ∙ e)
-      where
-        never : Accepted ≡ Refused Many → ⊥
-        never e = cc
-
-    by : OffersNone told u.directory → (t : Task) → Contains s.ran t ⊎ Contains s.reused t → Contains s.ran t
-    by none t (inl in_ran) = in_ran
-    by none t (inr in_reused) = absurd (none_in t (subst (λ ts. Contains ts t) (sym s.reused_are ∙ nothing none) in_reused))
+    by : OffersNone told u.directory → (t : Task) → Contains s.ran t ⊎ Contains s.reused t ⊎ IsLost v t → Contains s.ran t ⊎ IsLost v t
+    by none t (inl in_ran) = inl in_ran
+    by none t (inr (inl in_reused)) = absurd (none_in t (subst (λ ts. Contains ts t) (sym s.reused_are ∙ nothing none) in_reused))
+    by none t (inr (inr lost)) = inr lost
 
 -- a report of the tasks that were started, with the verdict of what was made
 pub runs_ran : (b : Base) (p : Project) (told : Told) (before : Option Directory) (first after reused : List Task) (made : Built) (r : Report)
     → RunsFrom before p b.image told first after reused made.verdict → r.verdict ≡ made.verdict → after ≡ first ++ r.ran.items → RunsBy b p told before r
 runs_ran b p told before first after reused made r runs is gained = record {
-  each = λ accepted u from honest.
-      retold u told (digested u.directory p.digests.items b.image).funcs p.digests.items first after r.ran.items reused made.verdict (sym is ∙ accepted)
+  each = λ u from honest.
+      subst (HaveReasons u told (digested u.directory p.digests.items b.image).funcs p.digests.items r.ran.items) (sym is)
+      (retold u told (digested u.directory p.digests.items b.image).funcs p.digests.items first after r.ran.items reused made.verdict
       (λ none. runs.none (record { directory = u.directory; is = from.here.holds; none = none })) gained
-      (runs.each (sym is ∙ accepted) u from.here from.stored honest);
+      (runs.each u from.here from.stored honest));
 }
 
 -- ---- the build of a project
@@ -209,9 +203,9 @@ module _ (e : Earlier) (d : Directory) (s : StoreImage) (text : List ℕ) (p : P
       (sym (same_digest p.digests.items t.func)) r))
 
   -- tasks that ran for reasons in the update did so by the earlier build
-  ran_for : (told : Told) (ran : List Task)
-      → HaveReasons (update_of e from.strings d p.typed p.roots.items) told (digested d p.digests.items s).funcs p.digests.items ran → RanFrom e d told ran
-  ran_for told ran have =
+  ran_for : (told : Told) (ran : List Task) (v : Verdict)
+      → HaveReasons (update_of e from.strings d p.typed p.roots.items) told (digested d p.digests.items s).funcs p.digests.items ran v → RanFrom e d told ran v
+  ran_for told ran v have =
       let kept = (digested d p.digests.items s).funcs in
       let same = kept_is d p.digests.items s in
       record {
@@ -225,8 +219,8 @@ module _ (e : Earlier) (d : Directory) (s : StoreImage) (text : List ℕ) (p : P
         reasons = subst (λ k. All (HasReason e d p.typed k p.digests.items) ran) same
             (All-weaker (HasReasonOf (update_of e from.strings d p.typed p.roots.items) kept p.digests.items) (HasReason e d p.typed kept p.digests.items)
             (λ t r. reason_of kept t r) ran have.reasons);
-        all = λ none t canonical enters r.
-            have.all none t (record { canonical = canonical; entered = enters })
+        all = λ none fewer t canonical enters r.
+            have.all none fewer t (record { canonical = canonical; entered = enters })
             (reason_back kept t (subst (λ k. HasReason e d p.typed k p.digests.items t) (sym same) r));
       }
 
@@ -235,7 +229,7 @@ from_runs : (b : Base) (p : Project) (told : Told) (before mid : Option Director
     → IfSome before (λ d. ProjectSays d (Ok (front_of p))) → IfSome before (λ d. HasDigests d p.digests.items) → HasNames p.typed p.digests.items
     → AreFuncs p.digests.items → RunsByIfTold b p told mid r → FromRuns b told before r
 from_runs b p told before mid r same says has names funcs runs = record {
-  each = λ accepted d is base e from honest. by accepted d is e from honest b.store refl base;
+  each = λ d is base e from honest. by d is e from honest b.store refl base;
 }
   where
     project_is : (d : Directory) → before ≡ Some d → ProjectSays d (Ok (front_of p))
@@ -247,14 +241,14 @@ from_runs b p told before mid r same says has names funcs runs = record {
     ran : (d : Directory) → before ≡ Some d → RunsBy b p told mid r
     ran d is = runs.of d (same ∙ is) (is_ready (Some d) (Some d) p (project_is d is) refl)
 
-    by : r.verdict ≡ Accepted → (d : Directory) → before ≡ Some d → (e : Earlier) (from : HasStoreOf e d) → OffersHonest e from.strings d told
-        → (o : Option (Vec ℕ Global)) → b.store ≡ o → IsReadFrom d b.image o → RanFrom e d told r.ran.items
-    by accepted d is e from honest None at readable = absurd readable
-    by accepted d is e from honest (Some text) at readable =
+    by : (d : Directory) → before ≡ Some d → (e : Earlier) (from : HasStoreOf e d) → OffersHonest e from.strings d told
+        → (o : Option (Vec ℕ Global)) → b.store ≡ o → IsReadFrom d b.image o → RanFrom e d told r.ran.items r.verdict
+    by d is e from honest None at readable = absurd readable
+    by d is e from honest (Some text) at readable =
         let says = project_is d is in
         let has = digests d is in
-        ran_for e d b.image text.items p from readable says has names funcs told r.ran.items
-        ((ran d is).each accepted (update_of e from.strings d p.typed p.roots.items)
+        ran_for e d b.image text.items p from readable says has names funcs told r.ran.items r.verdict
+        ((ran d is).each (update_of e from.strings d p.typed p.roots.items)
         (record {
           here = here e d b.image text.items p from readable says has names funcs mid (same ∙ is);
           stored = stored e d b.image text.items p from readable says has names funcs;
@@ -276,7 +270,7 @@ pub afresh_runs : (cause : Cause) (before : Option Directory) (result : Result R
     → IfSome before (λ d. IfOk result (RunsForReasons d))
 afresh_runs cause before (Err e) why = if_always before (tt {0})
 afresh_runs cause None (Ok r) why = tt
-afresh_runs cause (Some d) (Ok r) why = record { each = λ none accepted e from. absurd (differs cause r.fresh why none) }
+afresh_runs cause (Some d) (Ok r) why = record { each = λ none e from. absurd (differs cause r.fresh why none) }
 
 -- one from a store
 pub store_runs : (start : Start) (b : Box Base Global) (before mid : Option Directory) (result : Result Report BuildError) → start ≡ From b
@@ -288,11 +282,11 @@ store_runs start b before mid (Ok r) is begins same h = by before same begins
     by : (o : Option Directory) → mid ≡ o → IfSome o (λ d. StartsAt d start) → IfSome o (λ d. RunsForReasons d r)
     by None told begun = tt
     by (Some d) told begun = record {
-      each = λ none accepted e from. every e (h.each accepted d told (subst (StartsAt d) is begun) e from (nothing_offered e from.strings d));
+      each = λ none e from. every e (h.each d told (subst (StartsAt d) is begun) e from (nothing_offered e from.strings d));
     }
       where
         -- nothing is offered, so each that has a reason is among them
-        every : (e : Earlier) → RanFrom e d (λ x t digest. []) r.ran.items → RanFor e d r.ran.items
+        every : (e : Earlier) → RanFrom e d (λ x t digest. []) r.ran.items r.verdict → RanFor e d r.ran.items r.verdict
         every e f = record {
           funcs = f.funcs;
           roots = f.roots;

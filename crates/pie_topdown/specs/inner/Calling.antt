@@ -1,5 +1,5 @@
 -- A task that is required in a build without a list, as the model of building knows it: it is entered, answers, or closes a cycle.
-use Rattle.std.specs.Prelude.{◌≡◌, ◌==◌, ℕ, ◌<◌, true, cond, List, [], ◌∷◌, ◌++◌, length, map, None, Some}
+use Rattle.std.specs.Prelude.{◌≡◌, ◌==◌, ℕ, ◌<◌, true, cond, List, [], ◌∷◌, ◌++◌, length, map, None, Some, slice_get}
 use Rattle.std.specs.List.{Contains}
 use Rattle.pie_value.specs.declared.task.Task.{Task}
 use Rattle.pie_value.specs.declared.value.Value.{Value}
@@ -13,7 +13,9 @@ use Rattle.pie_record.specs.declared.task_record.Outcome.TheVariants.{Done}
 use Rattle.pie_record.specs.declared.task_record.TaskRecord.{TaskRecord}
 use Rattle.pie_record.specs.inner.Records.{record_of as kept_of}
 use Rattle.pie_running.specs.declared.frame.Caller.{Caller}
+use Rattle.pie_running.specs.declared.frame.RunningTask.{RunningTask}
 use Rattle.pie_running.specs.inner.Coded.{IsCodeFor}
+use Rattle.pie_running.specs.inner.Frames.{IsStarted}
 use Rattle.pie_model.specs.inner.Stack.{Frame as ModelFrame, tasks_of}
 use Rattle.pie_settle_laws.specs.Going.{before_wait}
 use Rattle.pie_core_laws.specs.Update.{Update}
@@ -28,6 +30,7 @@ use Rattle.pie_topdown.specs.inner.Asking.{ActsSo}
 use Rattle.pie_topdown.specs.inner.Due.{IsDueAt}
 use Rattle.pie_topdown.specs.inner.Places.{NeedsNext}
 use Rattle.pie_topdown.specs.inner.Right.{site_of, build_of, entries_up, CanGoOn, EndedRight, EntersRight, ChecksRight, IsPlanNow, IsRightSite, AreWaiting, AreTheBusy, TurnIsRight}
+use Rattle.pie_topdown.specs.inner.Turns.{FailsBy}
 use Rattle.pie_topdown_laws.specs.Whole.{waits}
 
 -- ---- a task that waited, or asks
@@ -97,8 +100,8 @@ abbrev pub joins_by : ℕ → List Task → Frame → List Task
 joins_by n ts e = joins n ts (number_in e) (task_in e)
 
 -- with the one on top they are a cycle, which is why the build fails
-abbrev pub ClosesBy : Builder → ℕ → Task → Builder → Type 0
-ClosesBy old from top new = old.failure ≡ None → new.failure ≡ Some (Cycle (tasks_from from old.stack.items ++ top ∷ []))
+abbrev pub ClosesBy : Builder → ℕ → Task → Builder → Turn → Type 0
+ClosesBy old from top new t = FailsBy old (Cycle (tasks_from from old.stack.items ++ top ∷ [])) new t
 
 -- ---- what waits goes on
 
@@ -109,6 +112,13 @@ ResumesSo old new t =
     → EndedRight u old root fs (entries_up old.stack.items) → TurnIsRight u done root new t
 
 -- ---- a task begins to run
+
+-- an entered task has begun to run with this code, and was added to the runs
+pub record HasBegun (old : Builder) (n : ℕ) (code : Code) (before after : List Task) (f : RunningTask) : Type 0 where
+  pub task : Task
+  pub named : slice_get old.ledger.tables.names n ≡ Some task
+  pub started : IsStarted code task n f
+  pub added : after ≡ before ++ task ∷ []
 
 -- an entered task that may begin, and has a reason to, runs
 abbrev pub StartsSo : Builder → ℕ → Code → Builder → Turn → Type 0

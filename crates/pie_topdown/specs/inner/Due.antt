@@ -7,10 +7,7 @@ use Rattle.pie_value.specs.Canonical.{enc_task}
 use Rattle.pie_record.specs.declared.task_record.TaskRecord.{TaskRecord}
 use Rattle.pie_record.specs.inner.Records.{record_of as kept_of}
 use Rattle.pie_old.specs.inner.Code.{is_same_code}
-use Rattle.pie_model.specs.Paths.{among}
-use Rattle.pie_model.specs.Evaluation.{evaluation}
 use Rattle.pie_model.specs.Reasons.{RunReason}
-use Rattle.pie_model.specs.Trees.{is_done, outcome_of}
 use Rattle.pie_model_pipeline.specs.World.{world}
 use Rattle.pie_builder_laws.specs.Names.{AreTasks}
 use Rattle.pie_earlier_laws.specs.Functions.{digest_under}
@@ -23,10 +20,6 @@ use Rattle.pie_topdown.specs.inner.Frames.{IsOwnRecord}
 abbrev pub HasReason : Update → List (List ℕ × List ℕ) → List (List ℕ × List ℕ) → Task → Type 0
 HasReason u funcs digests t =
     RunReason world (present u) u.directory (old_record u (enc_task t)) (digest_under funcs t.func) (digest_under digests t.func)
-
--- each root of a clean build ends with a value
-abbrev pub NoneFails : Update → Type 0
-NoneFails u = (r : List ℕ) → among r u.roots ≡ true → is_done (outcome_of (evaluation world (present u) r)) ≡ true
 
 -- ---- what is known of old tasks
 
@@ -46,9 +39,9 @@ pub record KnowsCode (u : Update) (funcs digests : List (List ℕ × List ℕ)) 
 
 -- ---- why tasks are due
 
--- a task has a reason to run by such digests, unless a root fails
+-- a task has a reason to run by such digests
 abbrev pub IsDue : Update → Plan → Task → Type 0
-IsDue u p t = (funcs digests : List (List ℕ × List ℕ)) → KnowsCode u funcs digests p → NoneFails u → HasReason u funcs digests t
+IsDue u p t = (funcs digests : List (List ℕ × List ℕ)) → KnowsCode u funcs digests p → HasReason u funcs digests t
 
 -- the task with this number has one
 pub record IsDueAt (u : Update) (b : Builder) (n : ℕ) : Type 0 where

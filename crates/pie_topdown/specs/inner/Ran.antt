@@ -5,7 +5,7 @@ use Rattle.pie_value.specs.declared.task.Task.{Task}
 use Rattle.pie_value.specs.declared.verdict.Refusal.{Refusal}
 use Rattle.pie_value.specs.declared.verdict.Refusal.TheVariants.{Many}
 use Rattle.pie_value.specs.declared.verdict.Verdict.{Verdict}
-use Rattle.pie_value.specs.declared.verdict.Verdict.TheVariants.{Accepted, Refused}
+use Rattle.pie_value.specs.declared.verdict.Verdict.TheVariants.{Refused}
 use Rattle.pie_value.specs.Canonical.{enc_task, IsCanonicalTask}
 use Rattle.pie_parser.specs.FunctionTrees.{FunctionTree}
 use Rattle.pie_files.specs.Directory.{Directory}
@@ -13,7 +13,12 @@ use Rattle.pie_graph.specs.Numbers.{numbers, IsMarked}
 use Rattle.pie_old.specs.inner.Rows.{tasks_at}
 use Rattle.pie_record.specs.declared.task_record.TaskRecord.{TaskRecord}
 use Rattle.pie_store.specs.inner.Offers.{Offered}
+use Rattle.pie_record.specs.inner.Records.{record_of as kept_of}
 use Rattle.pie_model.specs.Forest.{entered_tasks}
+use Rattle.pie_model.specs.Trees.{is_done, outcome_of}
+use Rattle.pie_model.specs.Evaluation.{evaluation}
+use Rattle.pie_topdown_laws.specs.Ends.{AreRecorded}
+use Rattle.pie_topdown_laws.specs.Ledgers.{IsRightLedger}
 use Rattle.pie_model.specs.Paths.{among}
 use Rattle.pie_model_pipeline.specs.World.{world}
 use Rattle.pie_core_laws.specs.Update.{Update, present}
@@ -21,8 +26,8 @@ use Rattle.pie_topdown_result_laws.specs.Builds.{IsNowHere, IsFromStore, AreHone
 use Rattle.pie_topdown.specs.declared.builder.Builder.{Builder}
 use Rattle.pie_topdown.specs.declared.hand.Hand.{Hand}
 use Rattle.pie_topdown.specs.declared.hand.Hand.TheVariants as hands
-use Rattle.pie_topdown.specs.inner.Due.{HasReason, NoneFails}
-use Rattle.pie_topdown.specs.inner.Right.{AreWritten, IsRightOrFailed}
+use Rattle.pie_topdown.specs.inner.Due.{HasReason}
+use Rattle.pie_topdown.specs.inner.Right.{lost, records_of, AreWritten, HasEnteredAll, IsFalling, IsPlanNow, IsRight, IsRightSite}
 use Rattle.pie_topdown.specs.inner.Rooted.{IsBuildOf, IsSettledSoFar}
 
 -- ---- what a step marks
@@ -96,11 +101,11 @@ pub record HasRunSo (b : Builder) (before after : List Task) : Type 0 where
   pub apart : (t : Task) → Contains gained t → Contains reused t → ⊥
   pub only : (n : ℕ) → IsMarked b.ledger.tables.ran.items n → IsOneOf b gained n ⊎ IsOneOf b reused n
 
--- so it is still where no task failed
+-- so it is still while a build is right
 abbrev pub RansOn : Option Directory → (Directory → Task → List ℕ → List Offered) → Builder → Hand → Builder → List Task → List Task → Type 0
 RansOn held told old h new before after =
-    (u : Update) (done : List (List ℕ)) (root : List ℕ) → IsBuildOf u held told old.plan → IsRightOrFailed u done root old h → (first : List Task)
-    → HasRunSo old first before → new.failure ≡ None → HasRunSo new first after
+    (u : Update) (done : List (List ℕ)) (root : List ℕ) → IsBuildOf u held told old.plan → IsRight u done root old h → (first : List Task)
+    → HasRunSo old first before → HasRunSo new first after
 
 -- and with a root that has an output
 abbrev pub SettlesRan : Option Directory → (Directory → Task → List ℕ → List Offered) → Builder → Task → Builder → List Task → List Task → Option Refusal
@@ -109,24 +114,59 @@ SettlesRan held told old root new before after why =
     (u : Update) (done : List (List ℕ)) → IsBuildOf u held told old.plan → among (enc_task root) u.roots ≡ true → IsSettledSoFar u done old
     → (first : List Task) → HasRunSo old first before → why ≡ None → HasRunSo new first after
 
--- a build is refused for too many tasks: so far what ran did for a reason
-pub record HasRunFull (u : Update) (b : Builder) (first after : List Task) (why : Refusal) : Type 0 where
-  pub full : why ≡ Many
+-- ---- a build that is refused
+
+-- nothing waits any more, and each entered task without a record has run
+pub record HasFallen (u : Update) (done : List (List ℕ)) (root : List ℕ) (b : Builder) : Type 0 where
+  pub site : IsRightSite u done root b
+  pub marked : (n : ℕ) (t : Task) → slice_get b.ledger.tables.names n ≡ Some t → kept_of b.ledger.tables.records n ≡ None → IsMarked b.ledger.tables.ran.items n
+
+-- some of those that waited have gone, and the tasks of their checks were started
+abbrev pub FallsOn : Builder → Builder → List Task → List Task → Type 0
+FallsOn old new before after =
+    (u : Update) (done : List (List ℕ)) (root : List ℕ) → IsPlanNow u old.plan → IsFalling u done root old → (first : List Task) → HasRunSo old first before
+    → IsFalling u done root new × HasRunSo new first after
+
+-- so it is once the tasks of all checks that wait were started
+abbrev pub FallsWhole : Builder → Builder → List Task → List Task → Type 0
+FallsWhole old new before after =
+    (u : Update) (done : List (List ℕ)) (root : List ℕ) → IsPlanNow u old.plan → IsFalling u done root old → (first : List Task) → HasRunSo old first before
+    → HasFallen u done root new × HasRunSo new first after
+
+-- a root fails: each task is recorded or has run that the clean build enters up to it, but for one of no function which is why the build is refused
+pub record HasFailed (u : Update) (done : List (List ℕ)) (root : List ℕ) (b : Builder) (why : Refusal) : Type 0 where
+  pub ledger : IsRightLedger u b.ledger.tables.names b.ledger.tables.records b.ledger.rows b.ledger.places.items
+  pub recorded : AreRecorded (records_of b) done
+  pub ends : is_done (outcome_of (evaluation world (present u) root)) ≡ false
+  pub marked : (n : ℕ) (t : Task) → slice_get b.ledger.tables.names n ≡ Some t → kept_of b.ledger.tables.records n ≡ None → IsMarked b.ledger.tables.ran.items n
+  pub all : HasEnteredAll u done root b why
+
+-- a build is refused at a root: what ran did for a reason, and it is for too many tasks, or the root fails
+pub record HasRunRefused (u : Update) (done : List (List ℕ)) (root : List ℕ) (b : Builder) (first after : List Task) (why : Refusal) : Type 0 where
   pub ran : HasRunSo b first after
   pub written : AreWritten u b
+  pub failed : (why ≡ Many) ⊎ HasFailed u done root b why
 
--- so it is where a root isn't settled, though none fails
+-- so it is where a root isn't settled
 abbrev pub StopsRan : Option Directory → (Directory → Task → List ℕ → List Offered) → Builder → Task → Builder → List Task → List Task → Option Refusal → Type 0
 StopsRan held told old root new before after why =
     (u : Update) (done : List (List ℕ)) → IsBuildOf u held told old.plan → among (enc_task root) u.roots ≡ true → IsSettledSoFar u done old
-    → (first : List Task) → HasRunSo old first before → NoneFails u → (w : Refusal) → why ≡ Some w → HasRunFull u new first after w
+    → (first : List Task) → HasRunSo old first before → (w : Refusal) → why ≡ Some w → HasRunRefused u done (enc_task root) new first after w
+
+-- at one of the roots
+pub record HasStopped (u : Update) (b : Builder) (first after : List Task) (why : Refusal) : Type 0 where
+  pub done : List (List ℕ)
+  pub root : List ℕ
+  pub rest : List (List ℕ)
+  pub roots : done ++ root ∷ rest ≡ u.roots
+  pub refused : HasRunRefused u done root b first after why
 
 -- and where some root isn't
 abbrev pub StopsAllRan : Option Directory → (Directory → Task → List ℕ → List Offered) → Builder → List Task → Builder → List Task → List Task
     → Option Refusal → Type 0
 StopsAllRan held told old roots new before after why =
     (u : Update) → IsBuildOf u held told old.plan → map enc_task roots ≡ u.roots → IsSettledSoFar u [] old → (first : List Task) → HasRunSo old first before
-    → NoneFails u → (w : Refusal) → why ≡ Some w → HasRunFull u new first after w
+    → (w : Refusal) → why ≡ Some w → HasStopped u new first after w
 
 -- and with some roots
 abbrev pub HasSettledRan : Option Directory → (Directory → Task → List ℕ → List Offered) → Builder → List Task → Builder → List Task → List Task → Type 0
@@ -154,8 +194,8 @@ pub record IsEntered (u : Update) (t : Task) : Type 0 where
   pub canonical : IsCanonicalTask t (enc_task t)
   pub entered : among (enc_task t) (entered_tasks world (present u) u.roots) ≡ true
 
--- these tasks were started and those reused, each once, none both, each for a reason; and each that a clean build enters and that has one is among them,
--- unless there are too many
+-- these tasks were started and those reused, each once, none both, each for a reason; and unless there are too many, each that a clean build enters and that has
+-- one is among them, or is of no function, which is why the build is refused
 pub record RanFor (u : Update) (funcs digests : List (List ℕ × List ℕ)) (before after old new : List Task) (v : Verdict) : Type 0 where
   pub ran : List Task
   pub ran_are : after ≡ before ++ ran
@@ -166,10 +206,11 @@ pub record RanFor (u : Update) (funcs digests : List (List ℕ × List ℕ)) (be
   pub apart : (t : Task) → Contains ran t → Contains reused t → ⊥
   pub reasons : All (HasReason u funcs digests) ran
   pub reused_reasons : All (HasReason u funcs digests) reused
-  pub all : (v ≡ Refused Many → ⊥) → (t : Task) → IsEntered u t → HasReason u funcs digests t → Contains ran t ⊎ Contains reused t
+  pub all : (v ≡ Refused Many → ⊥) → (t : Task) → IsEntered u t → HasReason u funcs digests t
+      → Contains ran t ⊎ Contains reused t ⊎ (v ≡ Refused (lost t))
 
--- so it is with each update to what the files hold, from the store of its earlier build and where offers are honest, if the build is accepted or no root fails
+-- so it is with each update to what the files hold, from the store of its earlier build and where offers are honest
 pub record RunsForReasons (held : Option Directory) (fs : List FunctionTree) (funcs digests : List (List ℕ × List ℕ)) (rows : List TaskRecord)
     (told : Directory → Task → List ℕ → List Offered) (roots before after old new : List Task) (v : Verdict) : Type 0 where
-  pub each : (u : Update) → IsNowHere u held fs roots → IsFromStore u funcs digests rows → AreHonest u digests told → (v ≡ Accepted) ⊎ NoneFails u
+  pub each : (u : Update) → IsNowHere u held fs roots → IsFromStore u funcs digests rows → AreHonest u digests told
       → RanFor u funcs digests before after old new v

@@ -4,10 +4,12 @@ use Rattle.std.specs.declared.alloc.Global.{Global}
 use Rattle.std.proofs.Common.{Vec}
 use Rattle.std.specs.BTreeMap.{get_by_text}
 use Rattle.pie_base.specs.declared.fault.FaultKind.{FaultKind}
+use Rattle.pie_base.specs.declared.fault.FaultKind.TheVariants.{Unknown}
 use Rattle.pie_value.specs.declared.task.Task.{Task}
 use Rattle.pie_value.specs.declared.value.Value.{Value}
 use Rattle.pie_value.specs.declared.verdict.Refusal.{Refusal}
-use Rattle.pie_value.specs.Canonical.{enc_task}
+use Rattle.pie_value.specs.declared.verdict.Refusal.TheVariants.{Fault}
+use Rattle.pie_value.specs.Canonical.{enc_task, IsCanonicalTask}
 use Rattle.pie_code.specs.declared.code.Code.{Code}
 use Rattle.pie_files.specs.Directory.{Directory}
 use Rattle.pie_graph.specs.Numbers.{numbers, IsMarked}
@@ -22,7 +24,8 @@ use Rattle.pie_running.specs.inner.Coded.{HasFunction}
 use Rattle.pie_model.specs.Paths.{among}
 use Rattle.pie_model.specs.Evaluation.{Project, evaluation}
 use Rattle.pie_model.specs.Records.{Record}
-use Rattle.pie_model.specs.Trees.{HasTask, is_done, outcome_of}
+use Rattle.pie_model.specs.Forest.{entered_tasks}
+use Rattle.pie_model.specs.Trees.{HasTask, entered, is_done, outcome_of}
 use Rattle.pie_model.specs.Verdict.{verdict}
 use Rattle.pie_model.specs.declared.words.Verdict.TheVariants.{Many as TooMany}
 use Rattle.pie_model.specs.inner.Stack.{Frame as ModelFrame, tasks_of}
@@ -56,7 +59,7 @@ use Rattle.pie_topdown.specs.declared.hand.Hand.TheVariants as hands
 use Rattle.pie_topdown.specs.declared.hand.Rest.{Rest}
 use Rattle.pie_topdown.specs.declared.hand.Rest.TheVariants as rests
 use Rattle.pie_topdown.specs.declared.hand.Turn.{Turn}
-use Rattle.pie_topdown.specs.declared.hand.Turn.TheVariants.{Goes, Rests, Many}
+use Rattle.pie_topdown.specs.declared.hand.Turn.TheVariants.{Goes, Rests, Many, Fails}
 use Rattle.pie_topdown.specs.declared.plan.Plan.{Plan}
 use Rattle.pie_topdown.specs.inner.Due.{IsDueAt, IsDueBy}
 use Rattle.pie_topdown.specs.inner.Effects.{EndsIfNew}
@@ -238,15 +241,42 @@ pub record IsRight (u : Update) (done : List (List ℕ)) (root : List ℕ) (b : 
 abbrev pub IsRefused : Update → List (List ℕ) → List ℕ → Refusal → Type 0
 IsRefused u done root why = (rest : List (List ℕ)) → verdict world (present u) (done ++ root ∷ rest) ≡ refusal_of why
 
--- a task failed, and with it this root, and that is why the build does: what stands in the tables then doesn't matter
+-- a task is of no function of the pipeline
+abbrev pub lost : Task → Refusal
+lost t = Fault (record { task = t; kind = Unknown })
+
+-- a build is refused since a task with these bytes is of no function
+pub record IsLost (why : Refusal) (x : List ℕ) : Type 0 where
+  pub task : Task
+  pub is : why ≡ lost task
+  pub canonical : IsCanonicalTask task (enc_task task)
+  pub bytes : enc_task task ≡ x
+
+-- each task that the clean build enters up to this root was entered, or is of no function, which is why the build is refused
+abbrev pub HasEnteredAll : Update → List (List ℕ) → List ℕ → Builder → Refusal → Type 0
+HasEnteredAll u done root b why =
+    (x : List ℕ) → among x (entered (evaluation world (present u) root) (entered_tasks world (present u) done)) ≡ true
+    → (among x (names_of b) ≡ true) ⊎ IsLost why x
+
+-- the evaluation of a task that was on top above these doesn't end with a value, and each other entered task without a record waits or has run
+pub record IsFalling (u : Update) (done : List (List ℕ)) (root : List ℕ) (b : Builder) : Type 0 where
+  pub site : IsRightSite u done root b
+  pub fs : List ModelFrame
+  pub waiting : AreWaiting u b root fs
+  pub top : ModelFrame
+  pub goes : IsTop (site_of u b) (build_of b) root fs top
+  pub undone : is_done (outcome_of (evaluation world (present u) top.task)) ≡ false
+  pub marked : (n : ℕ) (t : Task) → slice_get b.ledger.tables.names n ≡ Some t → kept_of b.ledger.tables.records n ≡ None
+      → (among (enc_task t) (tasks_of fs) ≡ true) ⊎ IsMarked b.ledger.tables.ran.items n
+
+-- a task failed, and with it this root, and that is why the build does
 pub record FailsRight (u : Update) (done : List (List ℕ)) (root : List ℕ) (b : Builder) : Type 0 where
   pub why : Refusal
   pub kept : b.failure ≡ Some why
   pub refused : IsRefused u done root why
   pub ends : is_done (outcome_of (evaluation world (present u) root)) ≡ false
-
-abbrev pub IsRightOrFailed : Update → List (List ℕ) → List ℕ → Builder → Hand → Type 0
-IsRightOrFailed u done root b h = IsRight u done root b h ⊎ FailsRight u done root b
+  pub falls : IsFalling u done root (record b { failure = None })
+  pub all : HasEnteredAll u done root b why
 
 -- nothing waits any more: each entered task is recorded, the root among them
 pub record IsAtRest (u : Update) (done : List (List ℕ)) (root : List ℕ) (b : Builder) : Type 0 where
@@ -263,9 +293,10 @@ pub record IsFull (u : Update) (done : List (List ℕ)) (root : List ℕ) (b : B
 
 -- what a step leaves of it
 abbrev pub TurnIsRight : Update → List (List ℕ) → List ℕ → Builder → Turn → Type 0
-TurnIsRight u done root b (Goes h) = IsRightOrFailed u done root b h
-TurnIsRight u done root b Rests = IsAtRest u done root b ⊎ FailsRight u done root b
-TurnIsRight u done root b Many = IsFull u done root b ⊎ FailsRight u done root b
+TurnIsRight u done root b (Goes h) = IsRight u done root b h
+TurnIsRight u done root b Rests = IsAtRest u done root b
+TurnIsRight u done root b Many = IsFull u done root b
+TurnIsRight u done root b Fails = FailsRight u done root b
 
 -- what is offered to a task by the present digest of its function is honest
 abbrev pub AreOffersHonest : Update → Plan → (Directory → Task → List ℕ → List Offered) → Type 0
@@ -275,7 +306,7 @@ AreOffersHonest u p told = (t : Task) (digest : List ℕ) → get_by_text p.dige
 abbrev pub StepsRight : Option Directory → (Directory → Task → List ℕ → List Offered) → Builder → Hand → Builder → Turn → Type 0
 StepsRight held told old h new t =
     (u : Update) (done : List (List ℕ)) (root : List ℕ) → held ≡ Some u.directory → IsPlanNow u old.plan → AreOffersHonest u old.plan told
-    → IsRightOrFailed u done root old h → TurnIsRight u done root new t
+    → IsRight u done root old h → TurnIsRight u done root new t
 
 -- ---- single calls
 
@@ -322,5 +353,6 @@ KeepsRight old c new t =
 -- a task fails by itself: that is why the clean build is refused
 abbrev pub FailsSo : Builder → ℕ → FaultKind → Builder → Turn → Type 0
 FailsSo old n kind new t =
-    (u : Update) (done : List (List ℕ)) (root : List ℕ) (fs : List ModelFrame) (task : Task) → IsRightSite u done root old
-    → slice_get old.ledger.tables.names n ≡ Some task → FailsAbove (site_of u old) (build_of old) root fs task kind → TurnIsRight u done root new t
+    (u : Update) (done : List (List ℕ)) (root : List ℕ) (fs : List ModelFrame) (task : Task) → IsRightSite u done root old → AreWaiting u old root fs
+    → slice_get old.ledger.tables.names n ≡ Some task → FailsAbove (site_of u old) (build_of old) root fs task kind
+    → IsMarked old.ledger.tables.ran.items n → AreTheBusy old (enc_task task ∷ tasks_of fs) → TurnIsRight u done root new t

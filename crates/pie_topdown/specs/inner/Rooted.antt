@@ -59,26 +59,22 @@ pub record IsBuildOf (u : Update) (held : Option Directory) (told : Directory �
 
 -- ---- the steps of a root
 
--- once nothing waits, or one task more was to be entered than may be
+-- once nothing waits, one task more was to be entered than may be, or a task failed
 abbrev pub StopsRight : Update → List (List ℕ) → List ℕ → Builder → Bool → Type 0
-StopsRight u done root b true = TurnIsRight u done root b Rests
-StopsRight u done root b false = TurnIsRight u done root b Many
+StopsRight u done root b true = IsAtRest u done root b
+StopsRight u done root b false = IsFull u done root b ⊎ FailsRight u done root b
 
 -- a build with what is in hand goes on until then
 abbrev pub RunsOnRight : Option Directory → (Directory → Task → List ℕ → List Offered) → Builder → Hand → Builder → Bool → Type 0
 RunsOnRight held told old h new rests =
-    (u : Update) (done : List (List ℕ)) (root : List ℕ) → IsBuildOf u held told old.plan → IsRightOrFailed u done root old h → StopsRight u done root new rests
+    (u : Update) (done : List (List ℕ)) (root : List ℕ) → IsBuildOf u held told old.plan → IsRight u done root old h → StopsRight u done root new rests
 
--- so far it is right, or failed
+-- so far it is right
 abbrev pub StaysRight : Option Directory → (Directory → Task → List ℕ → List Offered) → Builder → Hand → Builder → Hand → Type 0
 StaysRight held told old h new next =
-    (u : Update) (done : List (List ℕ)) (root : List ℕ) → IsBuildOf u held told old.plan → IsRightOrFailed u done root old h → IsRightOrFailed u done root new next
+    (u : Update) (done : List (List ℕ)) (root : List ℕ) → IsBuildOf u held told old.plan → IsRight u done root old h → IsRight u done root new next
 
 -- ---- a root
-
--- a task is of no function of the pipeline
-abbrev pub lost : Task → Refusal
-lost t = Fault (record { task = t; kind = Unknown })
 
 -- with a root that has an output one root more is settled; one that fails is why the clean build is refused
 abbrev pub RootEndsRight : Update → List (List ℕ) → List ℕ → Builder → Option Refusal → Type 0

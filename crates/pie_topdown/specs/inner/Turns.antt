@@ -1,11 +1,8 @@
 -- How a step ends, and by what a build falls.
-use Rattle.std.specs.Prelude.{◌≡◌, ◌⊎◌, ℕ, ◌+◌, ◌-◌, ◌*◌, ◌<◌, ◌≤◌, List, [], ◌∷◌, ◌++◌, length, Some, None}
+use Rattle.std.specs.Prelude.{◌≡◌, ◌⊎◌, ℕ, ◌+◌, ◌-◌, ◌*◌, ◌<◌, ◌≤◌, List, [], ◌∷◌, ◌++◌, length, Some}
 use Rattle.pie_value.specs.declared.task.Task.{Task}
 use Rattle.pie_value.specs.Canonical.{IsEncodableTask}
 use Rattle.pie_value.specs.declared.verdict.Refusal.{Refusal}
-use Rattle.pie_value.specs.declared.verdict.Refusal.TheVariants.{Fault}
-use Rattle.pie_record.specs.declared.task_record.Outcome.{Outcome}
-use Rattle.pie_record.specs.declared.task_record.Outcome.TheVariants.{Done, Failed, Cycled}
 use Rattle.pie_running.specs.declared.frame.Told.{Told}
 use Rattle.pie_running.specs.declared.frame.Told.TheVariants as tolds
 use Rattle.pie_running.specs.inner.Frames.{IsReady}
@@ -18,7 +15,7 @@ use Rattle.pie_topdown.specs.declared.hand.Hand.TheVariants as hands
 use Rattle.pie_topdown.specs.declared.hand.Rest.{Rest}
 use Rattle.pie_topdown.specs.declared.hand.Rest.TheVariants as rests
 use Rattle.pie_topdown.specs.declared.hand.Turn.{Turn}
-use Rattle.pie_topdown.specs.declared.hand.Turn.TheVariants.{Goes, Rests, Many}
+use Rattle.pie_topdown.specs.declared.hand.Turn.TheVariants.{Goes, Rests, Many, Fails}
 use Rattle.pie_topdown.specs.inner.Frames.{IsHand, IsNoted, IsSite}
 use Rattle.pie_topdown.specs.inner.Ledgers.{Grows}
 
@@ -31,7 +28,8 @@ pub record Stands (b : Builder) (h : Hand) : Type 0 where
 abbrev pub TurnsTo : Builder → Turn → Type 0
 TurnsTo b (Goes h) = Stands b h
 TurnsTo b Rests = IsSite b
-TurnsTo b Many = Unit {0}
+TurnsTo b Many = IsSite b
+TurnsTo b Fails = IsSite b
 
 -- ---- what is left to do
 
@@ -72,6 +70,7 @@ abbrev pub Nearer : ℕ → Builder → Turn → Type 0
 Nearer bound b (Goes h) = below b + hand_mass h < bound
 Nearer bound b Rests = Unit {0}
 Nearer bound b Many = Unit {0}
+Nearer bound b Fails = Unit {0}
 
 -- ---- how many tasks may yet be started
 
@@ -96,7 +95,8 @@ room b = (50000 - length b.ledger.tables.names) + stack_room b.stack.items
 abbrev pub turn_room : Builder → Turn → ℕ
 turn_room b (Goes h) = room b + hand_room h
 turn_room b Rests = room b
-turn_room b Many = 0
+turn_room b Many = room b
+turn_room b Fails = room b
 
 -- no more tasks may be started than so many
 abbrev pub Fits : ℕ → Builder → Turn → Type 0
@@ -110,21 +110,15 @@ Spends bound runs after b t = length after + turn_room b t ≤ length runs + bou
 abbrev pub StartsOne : List Task → List Task → Type 0
 StartsOne old new = (new ≡ old) ⊎ ((task : Task) × (new ≡ old ++ task ∷ []) × IsEncodableTask task)
 
--- why the first task failed doesn't change
-abbrev pub StaysFailed : Builder → Builder → Type 0
-StaysFailed old new = (why : Refusal) → old.failure ≡ Some why → new.failure ≡ Some why
-
 -- a build of the same pipeline, in which tasks were entered or have ended
 pub record Keeps (old new : Builder) : Type 0 where
   pub plan : new.plan ≡ old.plan
   pub grows : Grows old.ledger new.ledger
-  pub failed : StaysFailed old new
 
--- the first task that fails by itself, or as one that can't be entered, is why the build does
-abbrev pub FailsFirst : Builder → Outcome → Builder → Type 0
-FailsFirst old (Failed fault) new = old.failure ≡ None → new.failure ≡ Some (Fault fault)
-FailsFirst old (Cycled tasks) new = new.failure ≡ old.failure
-FailsFirst old (Done value) new = new.failure ≡ old.failure
+-- a task fails, and with it the build, for this reason
+pub record FailsBy (old : Builder) (why : Refusal) (new : Builder) (t : Turn) : Type 0 where
+  pub is : new ≡ record old { failure = Some why }
+  pub turn : t ≡ Fails
 
 -- ---- a task that was told something
 

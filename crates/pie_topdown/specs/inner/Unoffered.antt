@@ -12,7 +12,7 @@ use Rattle.pie_topdown.specs.declared.hand.Hand.TheVariants as hands
 use Rattle.pie_topdown.specs.declared.hand.Rest.{Rest}
 use Rattle.pie_topdown.specs.declared.hand.Rest.TheVariants as rests
 use Rattle.pie_topdown.specs.declared.hand.Turn.{Turn}
-use Rattle.pie_topdown.specs.declared.hand.Turn.TheVariants.{Goes, Rests, Many}
+use Rattle.pie_topdown.specs.declared.hand.Turn.TheVariants.{Goes, Rests, Many, Fails}
 use Rattle.pie_topdown.specs.inner.Ran.{StaysMarked}
 
 -- over files that tell what they hold, nothing is offered to any task
@@ -52,6 +52,7 @@ abbrev pub IsOwnTurn : Turn → Type 0
 IsOwnTurn (Goes h) = IsOwnHand h
 IsOwnTurn Rests = Unit {0}
 IsOwnTurn Many = Unit {0}
+IsOwnTurn Fails = Unit {0}
 
 -- so it stays, and no task is reused
 pub record StaysOwn (old new : Builder) (t : Turn) : Type 0 where

@@ -1,5 +1,5 @@
 -- What the parts of a build without a list say of the tasks that ran.
-use Rattle.std.specs.Prelude.{◌≡◌, ◌≢◌, ℕ, List, [], All, Option, Some}
+use Rattle.std.specs.Prelude.{◌≡◌, ◌≢◌, ◌⊎◌, ℕ, List, [], All, Option, Some}
 use Rattle.std.specs.List.{AllPairs, Contains}
 use Rattle.pie_build.specs.Left.{IsProjectOf}
 use Rattle.pie_build.specs.inner.Projects.{IsReady}
@@ -21,17 +21,19 @@ use Rattle.pie_topdown_result_laws.specs.Builds.{AreHonest, IsFromStore, IsNowHe
 use Rattle.pie_value.specs.Canonical.{enc_task, IsCanonicalTask}
 use Rattle.pie_value.specs.declared.task.Task.{Task}
 use Rattle.pie_value.specs.declared.verdict.Verdict.{Verdict}
-use Rattle.pie_value.specs.declared.verdict.Verdict.TheVariants.{Accepted}
+use Rattle.pie_value.specs.declared.verdict.Refusal.TheVariants.{Many}
+use Rattle.pie_value.specs.declared.verdict.Verdict.TheVariants.{Refused}
+use Rattle.pie_topdown_build.specs.Ran.{IsLost}
 use Rattle.pie_topdown_build.specs.declared.base.Base.{Base}
 use Rattle.pie_topdown_build.specs.Clean.{HasStoreOf}
 use Rattle.pie_topdown_build.specs.inner.Bases.{HasBase}
 use Rattle.pie_topdown_build.specs.inner.Clean.{IsUpdateBy, OffersHonest}
 
--- the tasks that an accepted evaluation started and reused are those that have a reason to run in each update to this project in what the files hold, from
--- this store with its digests, where honest records are offered; and where nothing is offered, none was reused
+-- the tasks that an evaluation started and reused are those that have a reason to run in each update to this project in what the files hold, from this store with
+-- its digests, where honest records are offered; and where nothing is offered, none was reused
 pub record RunsFrom (held : Option Directory) (p : Project) (s : StoreImage) (told : Directory → Task → List ℕ → List Offered) (before after reused : List Task)
     (v : Verdict) : Type 0 where
-  pub each : v ≡ Accepted → (u : Update) → IsNowHere u held p.typed p.roots.items
+  pub each : (u : Update) → IsNowHere u held p.typed p.roots.items
       → IsFromStore u (digested u.directory p.digests.items s).funcs p.digests.items s.rows → AreHonest u p.digests.items told
       → StartedFor u (digested u.directory p.digests.items s).funcs p.digests.items before after [] reused v
   pub none : OffersNothing held told → reused ≡ []
@@ -41,24 +43,25 @@ abbrev pub OffersNone : (Directory → Task → List ℕ → List Offered) → D
 OffersNone told d = (t : Task) (digest : List ℕ) → told d t digest ≡ []
 
 -- no task stands twice among these, and each has a reason to run, by the digests that the store kept and those of now; where nothing is offered, each that a
--- clean build enters and that has one is among them
-pub record HaveReasons (u : Update) (told : Directory → Task → List ℕ → List Offered) (kept digests : List (List ℕ × List ℕ)) (ran : List Task) : Type 0 where
+-- clean build enters and that has one is among them, unless there are too many, or it is of no function and the build is refused for that
+pub record HaveReasons (u : Update) (told : Directory → Task → List ℕ → List Offered) (kept digests : List (List ℕ × List ℕ)) (ran : List Task) (v : Verdict)
+    : Type 0 where
   pub once : AllPairs (λ t v. t ≢ v) ran
   pub reasons : All (HasReason u kept digests) ran
-  pub all : OffersNone told u.directory → (t : Task) → EntersNow u t → HasReason u kept digests t → Contains ran t
+  pub all : OffersNone told u.directory → (v ≡ Refused Many → ⊥) → (t : Task) → EntersNow u t → HasReason u kept digests t → Contains ran t ⊎ IsLost v t
 
--- so it is with the tasks of the report of an accepted build of this project from this base
+-- so it is with the tasks of the report of a build of this project from this base
 pub record RunsBy (b : Base) (p : Project) (told : Directory → Task → List ℕ → List Offered) (before : Option Directory) (r : Report) : Type 0 where
-  pub each : r.verdict ≡ Accepted → (u : Update) → IsUpdateBy u before b p → AreHonest u p.digests.items told
-      → HaveReasons u told (digested u.directory p.digests.items b.image).funcs p.digests.items r.ran.items
+  pub each : (u : Update) → IsUpdateBy u before b p → AreHonest u p.digests.items told
+      → HaveReasons u told (digested u.directory p.digests.items b.image).funcs p.digests.items r.ran.items r.verdict
 
 -- so it is over files that tell their directory, where the functions are typed and the roots are tasks of them
 pub record RunsByIfTold (b : Base) (p : Project) (told : Directory → Task → List ℕ → List Offered) (before : Option Directory) (r : Report) : Type 0 where
   pub of : (d : Directory) → before ≡ Some d → IsReady p.typed p.roots.items → RunsBy b p told before r
 
 -- a build of a directory from the store of an earlier one ran no task twice, each for a reason, and where nothing is offered, each that a clean build enters and
--- that has one
-pub record RanFrom (e : Earlier) (d : Directory) (told : Directory → Task → List ℕ → List Offered) (ran : List Task) : Type 0 where
+-- that has one, unless there are too many, or it is of no function and the build is refused for that
+pub record RanFrom (e : Earlier) (d : Directory) (told : Directory → Task → List ℕ → List Offered) (ran : List Task) (v : Verdict) : Type 0 where
   pub funcs : List (List ℕ × List ℕ)
   pub roots : List Task
   pub found : IsProjectOf d funcs roots
@@ -67,10 +70,10 @@ pub record RanFrom (e : Earlier) (d : Directory) (told : Directory → Task → 
   pub is : IsReadable d image text
   pub once : AllPairs (λ t u. t ≢ u) ran
   pub reasons : All (HasReasonSince e d found.functions (kept_digests d funcs image) funcs) ran
-  pub all : OffersNone told d → (t : Task) → IsCanonicalTask t (enc_task t) → Enters found.functions d roots (enc_task t)
-      → HasReasonSince e d found.functions (kept_digests d funcs image) funcs t → Contains ran t
+  pub all : OffersNone told d → (v ≡ Refused Many → ⊥) → (t : Task) → IsCanonicalTask t (enc_task t) → Enters found.functions d roots (enc_task t)
+      → HasReasonSince e d found.functions (kept_digests d funcs image) funcs t → Contains ran t ⊎ IsLost v t
 
--- an accepted build from this base ran no task twice, and each for a reason, where it has the store of an earlier one, and honest records are offered
+-- a build from this base ran no task twice, and each for a reason, where it has the store of an earlier one, and honest records are offered
 pub record FromRuns (b : Base) (told : Directory → Task → List ℕ → List Offered) (before : Option Directory) (r : Report) : Type 0 where
-  pub each : r.verdict ≡ Accepted → (d : Directory) → before ≡ Some d → HasBase d b → (e : Earlier) (from : HasStoreOf e d) → OffersHonest e from.strings d told
-      → RanFrom e d told r.ran.items
+  pub each : (d : Directory) → before ≡ Some d → HasBase d b → (e : Earlier) (from : HasStoreOf e d) → OffersHonest e from.strings d told
+      → RanFrom e d told r.ran.items r.verdict

@@ -5,4 +5,4 @@ use Rattle.pie_topdown.proofs.builder.Builder.fail.Goals as goal
 pub returns-clause-right : goal.returns-clause-right
 returns-clause-right c =
     fails_if c.args.self.now c.fail_as.new.self c.args.no.0 c.in_ok-task.task c.args.kind c.fail_as.result (c.task.ensures ∙ ap Some (sym c.in_ok-task.ensures))
-    c.fail_as.ensures.first
+    c.fail_as.ensures.fails

@@ -23,11 +23,10 @@ returns-clause-turns c =
 pub returns-clause-kept : goal.returns-clause-kept
 returns-clause-kept c =
     let e = c.reuse.ensures.same in
-    keeps_then c.args.self.now c.reuse.new.self _ (same_keeps c.args.self.now c.reuse.new.self (ap (λ b. b.plan) e) (ap (λ b. b.ledger) e) (ap (λ b. b.failure) e))
+    keeps_then c.args.self.now c.reuse.new.self _ (same_keeps c.args.self.now c.reuse.new.self (ap (λ b. b.plan) e) (ap (λ b. b.ledger) e))
     (record {
       plan = refl;
       grows = grows_then c.reuse.new.self.ledger c.end.new.self c.runs.new.self c.in_ok-end.ensures.grows c.runs.ensures.grows;
-      failed = λ why had. had;
     })
 
 pub returns-clause-ended : goal.returns-clause-ended

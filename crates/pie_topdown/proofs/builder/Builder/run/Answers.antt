@@ -3,7 +3,7 @@ use Rattle.pie_files.proofs.Reading.{both_before}
 use Rattle.pie_topdown.specs.inner.Turns.{Spends, TurnsTo, hand_room, room}
 use Rattle.pie_topdown.proofs.Going.{keeps_then, started_more}
 use Rattle.pie_topdown.proofs.Totals.{ran_on}
-use Rattle.pie_topdown.proofs.Turning.{stays_on, stops_many, stops_rests}
+use Rattle.pie_topdown.proofs.Turning.{stays_on, stops_fails, stops_many, stops_rests}
 use Rattle.pie_topdown.proofs.Owning.{own_on, own_stepped}
 use Rattle.pie_topdown.proofs.builder.Builder.run.Goals as goal
 
@@ -42,8 +42,14 @@ returns-in-Rests-clause-started g c = started_more c.args.runs.now c.steps.runs 
 pub returns-in-Many-clause-kept : goal.returns-in-Many-clause-kept
 returns-in-Many-clause-kept g c = keeps_then c.args.self.now c.steps.self c.step.new.self c.steps.invariant.1 c.in_ok-next.ensures.kept
 
+pub returns-in-Fails-clause-kept : goal.returns-in-Fails-clause-kept
+returns-in-Fails-clause-kept g c = keeps_then c.args.self.now c.steps.self c.step.new.self c.steps.invariant.1 c.in_ok-next.ensures.kept
+
 pub returns-in-Many-clause-started : goal.returns-in-Many-clause-started
 returns-in-Many-clause-started g c = started_more c.args.runs.now c.steps.runs c.step.new.runs c.steps.invariant.2 c.step.ensures.starts
+
+pub returns-in-Fails-clause-started : goal.returns-in-Fails-clause-started
+returns-in-Fails-clause-started g c = started_more c.args.runs.now c.steps.runs c.step.new.runs c.steps.invariant.2 c.step.ensures.starts
 
 pub returns-in-Rests-clause-right : goal.returns-in-Rests-clause-right
 returns-in-Rests-clause-right g c =
@@ -57,6 +63,12 @@ returns-in-Many-clause-right g c =
     stops_many (g.F.Files.holds c.args.files.now) (g.F.Files.holds c.steps.files) (g.O.Offers.told c.args.offers.now) (g.O.Offers.told c.steps.offers) c.args.self.now
     c.steps.self c.step.new.self c.args.hand c.steps.hand _ before.4 before.8 before.1.plan before.7 c.in_ok-next.ensures.right c.in-Many.is
 
+pub returns-in-Fails-clause-right : goal.returns-in-Fails-clause-right
+returns-in-Fails-clause-right g c =
+    let before = c.steps.invariant in
+    stops_fails (g.F.Files.holds c.args.files.now) (g.F.Files.holds c.steps.files) (g.O.Offers.told c.args.offers.now) (g.O.Offers.told c.steps.offers) c.args.self.now
+    c.steps.self c.step.new.self c.args.hand c.steps.hand _ before.4 before.8 before.1.plan before.7 c.in_ok-next.ensures.right c.in-Fails.is
+
 pub returns-in-Rests-clause-ran : goal.returns-in-Rests-clause-ran
 returns-in-Rests-clause-ran g c =
     ran_on (g.F.Files.holds c.args.files.now) (g.O.Offers.told c.args.offers.now) c.args.self.now c.steps.self c.step.new.self c.args.hand c.steps.hand
@@ -64,6 +76,11 @@ returns-in-Rests-clause-ran g c =
 
 pub returns-in-Many-clause-ran : goal.returns-in-Many-clause-ran
 returns-in-Many-clause-ran g c =
+    ran_on (g.F.Files.holds c.args.files.now) (g.O.Offers.told c.args.offers.now) c.args.self.now c.steps.self c.step.new.self c.args.hand c.steps.hand
+    c.args.runs.now c.steps.runs c.step.new.runs c.steps.invariant.7 c.in_ok-next.ensures.kept c.in_ok-next.ensures.marks c.steps.invariant.9
+
+pub returns-in-Fails-clause-ran : goal.returns-in-Fails-clause-ran
+returns-in-Fails-clause-ran g c =
     ran_on (g.F.Files.holds c.args.files.now) (g.O.Offers.told c.args.offers.now) c.args.self.now c.steps.self c.step.new.self c.args.hand c.steps.hand
     c.args.runs.now c.steps.runs c.step.new.runs c.steps.invariant.7 c.in_ok-next.ensures.kept c.in_ok-next.ensures.marks c.steps.invariant.9
 
@@ -75,6 +92,12 @@ returns-in-Rests-clause-own g c =
 
 pub returns-in-Many-clause-own : goal.returns-in-Many-clause-own
 returns-in-Many-clause-own g c =
+    let before = c.steps.invariant in
+    own_stepped (g.F.Files.holds c.args.files.now) (g.F.Files.holds c.steps.files) (g.O.Offers.told c.args.offers.now) (g.O.Offers.told c.steps.offers)
+    before.4 before.8 c.args.self.now c.steps.self c.step.new.self c.args.hand c.steps.hand _ before.10 c.in_ok-next.ensures.own
+
+pub returns-in-Fails-clause-own : goal.returns-in-Fails-clause-own
+returns-in-Fails-clause-own g c =
     let before = c.steps.invariant in
     own_stepped (g.F.Files.holds c.args.files.now) (g.F.Files.holds c.steps.files) (g.O.Offers.told c.args.offers.now) (g.O.Offers.told c.steps.offers)
     before.4 before.8 c.args.self.now c.steps.self c.step.new.self c.args.hand c.steps.hand _ before.10 c.in_ok-next.ensures.own

@@ -7,7 +7,7 @@ use Rattle.pie_topdown.specs.inner.Turns.{Keeps, Stands, below, hand_mass, hand_
 use Rattle.pie_topdown.specs.inner.Unoffered.{StaysOwnSo}
 use Rattle.pie_topdown.proofs.builder.Builder.run.Given as goal
 
--- the build stands with what it does next, what may be started has fallen by what was, and it is right or failed, and what ran is marked
+-- the build stands with what it does next, what may be started has fallen by what was, and it is right, and what ran is marked
 abbrev pub invariant-steps : goal.invariant-steps
 invariant-steps g l =
     Stands l.self l.hand × Keeps l.fn.self l.self × Started l.fn.runs l.runs

@@ -2,8 +2,7 @@ use Rattle.std.proofs.Common.{sym, ap, subst, ◌∙◌}
 use Rattle.pie_value.specs.Canonical.{enc_task, IsCanonicalTask}
 use Rattle.pie_value.specs.declared.verdict.Refusal.TheVariants.{Many}
 use Rattle.pie_topdown.specs.inner.Entries.{MayEnter}
-use Rattle.pie_topdown.specs.inner.Right.{IsRefused}
-use Rattle.pie_topdown.specs.inner.Rooted.{lost}
+use Rattle.pie_topdown.specs.inner.Right.{lost, IsRefused}
 use Rattle.pie_topdown.proofs.Rooting.{full_refused, lost_refused}
 use Rattle.pie_topdown.proofs.Totals.{ran_refused, root_lost, root_over}
 use Rattle.pie_topdown.proofs.Owning.{own_none}
@@ -34,7 +33,7 @@ pub returns-in-Unknown-clause-full : goal.returns-in-Unknown-clause-full
 returns-in-Unknown-clause-full g c =
     let t = c.args.root.now in
     root_lost (g.F.Files.holds c.args.files.now) (g.O.Offers.told c.args.offers.now) c.args.self.now t c.args.runs.now c.unknown.result
-    (subst (IsCanonicalTask t) c.in_ok-_bytes.ensures.bytes c.in_ok-_bytes.ensures.canonical) c.requires.absent
+    (c.unknown.ensures ∙ ap lost c.in_ok-copy-in-Unknown.ensures) (subst (IsCanonicalTask t) c.in_ok-_bytes.ensures.bytes c.in_ok-_bytes.ensures.canonical) c.requires.absent
     (subst (MayEnter c.args.self.now t) c.in-Unknown.is c.entry.ensures)
 
 pub returns-clause-full : goal.returns-clause-full

@@ -13,28 +13,28 @@ returns-in-Enters-clause-right g c =
     let held = g.F.Files.holds c.args.files.now in
     let told = g.O.Offers.told c.args.offers.now in
     subst (λ (h : Hand). IfOk c.begin.result (StepsRight held told c.args.self.now h c.begin.new.self)) (sym c.in-Enters.is)
-    (enters_step held told c.args.self.now c.begin.new.self c.begin.result c.in-Enters.no c.in-Enters.code c.begin.ensures.kept c.begin.ensures.right)
+    (enters_step held told c.args.self.now c.begin.new.self c.begin.result c.in-Enters.no c.in-Enters.code c.begin.ensures.right)
 
 pub returns-in-Checks-clause-right : goal.returns-in-Checks-clause-right
 returns-in-Checks-clause-right g c =
     let held = g.F.Files.holds c.args.files.now in
     let told = g.O.Offers.told c.args.offers.now in
     subst (λ (h : Hand). IfOk c.check.result (StepsRight held told c.args.self.now h c.check.new.self)) (sym c.in-Checks.is)
-    (checks_step held told c.args.self.now c.check.new.self c.check.result c.in-Checks.check c.check.ensures.kept c.check.ensures.right)
+    (checks_step held told c.args.self.now c.check.new.self c.check.result c.in-Checks.check c.check.ensures.right)
 
 pub returns-in-Runs-clause-right : goal.returns-in-Runs-clause-right
 returns-in-Runs-clause-right g c =
     let held = g.F.Files.holds c.args.files.now in
     let told = g.O.Offers.told c.args.offers.now in
     subst (λ (h : Hand). IfOk c.event.result (StepsRight held told c.args.self.now h c.event.new.self)) (sym c.in-Runs.is)
-    (runs_step held told c.args.self.now c.event.new.self c.event.result c.in-Runs.task c.event.ensures.kept c.event.ensures.right)
+    (runs_step held told c.args.self.now c.event.new.self c.event.result c.in-Runs.task c.event.ensures.right)
 
 pub returns-in_ok-resume-in-Ended-clause-right : goal.returns-in_ok-resume-in-Ended-clause-right
 returns-in_ok-resume-in-Ended-clause-right g c =
     let held = g.F.Files.holds c.args.files.now in
     let told = g.O.Offers.told c.args.offers.now in
     subst (λ (h : Hand). StepsRight held told c.args.self.now h c.resume.new.self c.in_ok-resume-in-Ended.field-0) (sym c.in-Ended.is)
-    (ended_step held told c.args.self.now c.resume.new.self {E = FilesError} (Ok c.in_ok-resume-in-Ended.field-0) c.in_ok-resume-in-Ended.ensures.kept
+    (ended_step held told c.args.self.now c.resume.new.self {E = FilesError} (Ok c.in_ok-resume-in-Ended.field-0)
     c.in_ok-resume-in-Ended.ensures.right)
 
 pub returns-in-Enters-clause-own : goal.returns-in-Enters-clause-own
