@@ -78,6 +78,21 @@ module _ (x : Setting) (R : Task → Option Record) (root : Task) (fs : List Fra
         fits : (a b : ℕ) → a ≡ suc b → b ≤ a
         fits a b e = omega arith
 
+    v : (v : Value) × (outcome_of below ≡ Ended v)
+    v = with_value (outcome_of below) below_done
+
+    abbrev after : Progress
+    after = required f.progress below (output_answer v.0 h)
+
+    abbrev o : Observation
+    o = observed (Required h u) (value_stamp w v.0 h)
+
+    answered : IsRunning w P G.whole_room [] f.task n after (f.seen ++ o ∷ [])
+    answered = is_answered w P G.whole_room [] f.task n f.progress f.seen h u v.0 q v.1 run
+
+    abbrev rest : List Observation
+    rest = observations_of w (rest_of_run w P G.whole_room [] f.task n after)
+
     is_required : among u (required_by (trace_of (evaluation w P f.task))) ≡ true
     is_required =
         subst (λ z. among u (required_by (trace_of z)) ≡ true) (sym whole)
@@ -85,21 +100,6 @@ module _ (x : Setting) (R : Task → Option Record) (root : Task) (fs : List Fra
         (subst (λ z. among u (needs_of z) ≡ true) (sym answered.observations)
         (subst (λ z. among u z ≡ true) (sym (needs_of-append (f.seen ++ o ∷ []) rest ∙ ap (λ z. z ++ needs_of rest) (needs_of-append f.seen (o ∷ []))))
         (among_left u (needs_of f.seen ++ u ∷ []) (needs_of rest) (among_right u (needs_of f.seen) (u ∷ []) (among_here u []))))))
-      where
-        v : (v : Value) × (outcome_of below ≡ Ended v)
-        v = with_value (outcome_of below) below_done
-
-        abbrev after : Progress
-        after = required f.progress below (output_answer v.0 h)
-
-        abbrev o : Observation
-        o = observed (Required h u) (value_stamp w v.0 h)
-
-        answered : IsRunning w P G.whole_room [] f.task n after (f.seen ++ o ∷ [])
-        answered = is_answered w P G.whole_room [] f.task n f.progress f.seen h u v.0 q v.1 run
-
-        rest : List Observation
-        rest = observations_of w (rest_of_run w P G.whole_room [] f.task n after)
 
     required_done : IsLower x u f.task
     required_done = record {
@@ -120,15 +120,16 @@ module _ (x : Setting) (R : Task → Option Record) (root : Task) where
   stack_lower : (fs : List Frame) (u : Task) → IsWaiting x.world x.now root fs u → AllGo x R root fs → (v : Task) → among v (tasks_of fs) ≡ true
       → is_done (outcome_of (evaluation x.world x.now v)) ≡ true → IsLower x u v
   stack_lower [] u nobody A v i d = clash false i refl
-  stack_lower (g ∷ gs) u (waits h room is_room run next below) A v i d = by (among_split v g.task (tasks_of gs) i)
+  stack_lower (g ∷ gs) u (waits h room is_room ran next below) A v i d =
+      by (among_split v g.task (tasks_of gs) i) (λ j. stack_lower gs g.task below A.1 v j d)
     where
       one : is_done (outcome_of (evaluation x.world x.now g.task)) ≡ true → IsLower x u g.task
       one e = required_done x R root gs (before_wait g) A.0 g.left h u refl next e
 
-      by : (v ≡ g.task) ⊎ (among v (tasks_of gs) ≡ true) → IsLower x u v
-      by (inl e) =
+      by : (v ≡ g.task) ⊎ (among v (tasks_of gs) ≡ true) → (among v (tasks_of gs) ≡ true → IsLower x g.task v) → IsLower x u v
+      by (inl e) later =
           subst (IsLower x u) (sym e) (one (subst (λ t. is_done (outcome_of (evaluation x.world x.now t)) ≡ true) e d))
-      by (inr j) = let s = stack_lower gs g.task below A.1 v j d in through u g.task v (one s.done) s.lower
+      by (inr j) later = let s = later j in through u g.task v (one s.done) s.lower
 
   module _ (names : List Task) (fs : List Frame) (f : Frame) (K : IsStack x R names root fs f) where
     -- no task that waits ends with a value where the one on top doesn't
