@@ -315,7 +315,6 @@ lost_due u b root fs c task plan k needs may canonical = by c.contents k.may.due
     C = k.check.check
 
     undone : is_done (model_outcome (evaluation world (present u) (enc_task task))) ≡ false
-    unfolding world
     undone =
         ap (λ n. is_done (model_outcome n))
         (new_fails world (present u) [] (enc_task task) (fault_of UnknownTask) refl (omega arith) (omega arith)
