@@ -46,7 +46,7 @@ refused_so u done root b fs t k s F = λ rest.
 
 -- a build that fails is, but for that, as it was
 calmed_is : (b c : Builder) (why : Refusal) → c ≡ record b { failure = Some why } → b.failure ≡ None → record c { failure = None } ≡ b
-calmed_is b c why is calm = ap (λ x. record x { failure = None }) is ∙ (λ i. record b { failure = sym calm i })
+calmed_is b c why is calm = ap (λ (x : Builder). record x { failure = None }) is ∙ (λ i. record b { failure = sym calm i })
 
 -- the task on top doesn't end with a value: so the root fails, where that is why the clean build is refused
 module _ (u : Update) (done : List (List ℕ)) (root : List ℕ) (b c : Builder) (why : Refusal) (fs : List ModelFrame) (top : ModelFrame) (n : ℕ) (task : Task)

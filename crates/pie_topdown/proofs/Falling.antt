@@ -8,6 +8,7 @@ use Rattle.pie_value.specs.Canonical.{enc_task}
 use Rattle.pie_graph.specs.Numbers.{numbers, IsMarked}
 use Rattle.pie_record.specs.inner.Records.{record_of as kept_of}
 use Rattle.pie_running.specs.declared.frame.Caller.{Caller}
+use Rattle.pie_running.specs.declared.frame.RunningTask.{RunningTask}
 use Rattle.pie_model.specs.declared.words.How.{How}
 use Rattle.pie_model.specs.declared.words.Event.TheVariants.{Require}
 use Rattle.pie_model.specs.Paths.{among}
@@ -34,6 +35,7 @@ use Rattle.pie_topdown.specs.declared.builder.Builder.{Builder}
 use Rattle.pie_topdown.specs.declared.hand.Check.{Check}
 use Rattle.pie_topdown.specs.declared.hand.Frame.{Frame}
 use Rattle.pie_topdown.specs.declared.hand.Frame.TheVariants as frames
+use Rattle.pie_topdown.specs.inner.Calling.{HasBegun}
 use Rattle.pie_topdown.specs.inner.Due.{IsDue, IsDueAt, IsDueBy}
 use Rattle.pie_topdown.specs.inner.Effects.{HasStarted}
 use Rattle.pie_topdown.specs.inner.Frames.{IsFrame, IsSite}
@@ -43,7 +45,7 @@ use Rattle.pie_topdown.specs.inner.Right.{site_of, build_of, names_of, records_o
 use Rattle.pie_topdown.proofs.Keeping.{same_grows}
 use Rattle.pie_topdown.proofs.Marking.{marks_one, ran_stays, starts_marked, stays_same}
 use Rattle.pie_topdown.proofs.Resumed.{both, rest_waits, split, ups}
-use Rattle.pie_topdown.proofs.Stacking.{popped_site}
+use Rattle.pie_topdown.proofs.Stacking.{popped_frame, popped_site}
 use Rattle.pie_topdown.proofs.Started.{start_same, others_stay, is_started}
 use Rattle.pie_topdown.proofs.Topmost.{one_some, own_site, own_waiting}
 use Rattle.pie_topdown.proofs.Touched.{kept_is, restacked_site, touched_top}
@@ -103,7 +105,7 @@ module _ (u : Update) (done : List (List ℕ)) (root : List ℕ) (b : Builder) (
     goes_after = falls (setting u) (records_of b) (names_of b) root gs g F.top taken.goes
 
     undone_after : is_done (outcome_of (evaluation world (present u) g.task)) ≡ false
-    undone_after = waiting_undone (setting u) root (names_of b) (g ∷ gs) F.top taken.goes g.task (among_here g.task (tasks_of gs)) F.undone
+    undone_after = waiting_undone (setting u) (records_of b) root (names_of b) (g ∷ gs) F.top taken.goes g.task (among_here g.task (tasks_of gs)) F.undone
 
     -- a task without a record is its, waits below it, or has run
     parted : (n : ℕ) (t : Task) → slice_get b.ledger.tables.names n ≡ Some t → kept_of b.ledger.tables.records n ≡ None
@@ -261,6 +263,30 @@ falls_check a b d popped k before now later items same is frame ledger grows res
       check_ran u done root b popped (frames.Checks k) items p is q.0 k.value k refl refl d frame.named ledger rest site first now later grows
           (ap (λ x. x.reused) rest) added q.1,
     )
+
+-- so it is with one whose machine has begun
+pub falls_begun : (a b d : Builder) (popped : Vec Frame Global) (k : Box Check Global) (c : Check) (f : RunningTask) (before now later : List Task)
+    → b.stack.items ≡ popped.items ++ option_to_list (Some (frames.Checks k)) → b.plan ≡ a.plan → IsSite b → c ≡ k.value → HasStarted b.ledger c.no.0 d.ledger
+    → Grows b.ledger d.ledger → d ≡ record b { stack = popped; ledger = d.ledger } → HasBegun (record b { stack = popped }) c.no.0 c.code.now now later f
+    → FallsOn a b before now → FallsOn a d before later
+falls_begun a b d popped k c f before now later items same is one ledger grows rest begun sofar =
+    falls_check a b d popped k before now later items same is frame (subst (λ (x : Check). HasStarted b.ledger x.no.0 d.ledger) one ledger) grows rest
+    (popped_site b (record b { stack = popped }) (Some (frames.Checks k)) is refl refl items)
+    (begun.added ∙ ap (λ (t : Task). now ++ t ∷ []) its) sofar
+  where
+    frame : IsFrame b.ledger (frames.Checks k)
+    frame = popped_frame b popped.items (Some (frames.Checks k)) is items
+
+    its : begun.task ≡ k.value.rec.task
+    its = one_some begun.task k.value.rec.task (sym begun.named ∙ ap (λ (x : Check). slice_get b.ledger.tables.names x.no.0) one ∙ frame.named)
+
+-- ---- only what waits and the ledger change
+
+pub rest_then : (a b d : Builder) (popped : Vec Frame Global) → b ≡ record a { ledger = b.ledger; stack = b.stack }
+    → d ≡ record b { stack = popped; ledger = d.ledger } → d ≡ record a { ledger = d.ledger; stack = d.stack }
+rest_then a b d popped first then =
+    then ∙ ap (λ (x : Builder). record x { stack = popped; ledger = d.ledger }) first
+    ∙ (λ i. record a { ledger = d.ledger; stack = sym (ap (λ (x : Builder). x.stack) then) i })
 
 -- ---- nothing waits any more
 

@@ -239,7 +239,7 @@ module _ (b : Builder) (t : Task) (canonical : IsCanonicalTask t (enc_task t)) (
 
   -- it is of no function
   module _ (plan : IsPlanNow u b.plan) (fewer : length b.ledger.tables.names < 50000) (none : IsCodeFor b.plan.typed.now b.plan.code.now t None) where
-    all : List (List ℕ)
+    abbrev all : List (List ℕ)
     all = names_of b ++ enc_task t ∷ []
 
     few_names : length (names_of b) < 50000

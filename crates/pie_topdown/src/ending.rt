@@ -130,7 +130,7 @@ impl<'a> Builder<'a> {
                     let Check { no, code, .. } = Box::into_inner(check);
                     let _task = self.begin_run(no, code, runs)?;
                 }
-                Some(Frame::Waits(_)) => {}
+                Some(Frame::Waits(_caller)) => {}
                 None => return Ok(()),
             }
         }

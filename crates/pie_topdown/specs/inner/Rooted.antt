@@ -1,10 +1,8 @@
 -- A build without a list, as the model of building knows it, between two roots.
 use Rattle.std.specs.Prelude.{◌≡◌, ◌⊎◌, ℕ, ◌<◌, Bool, true, false, List, [], ◌∷◌, ◌++◌, length, map, All, Option, Some, None}
 use Rattle.std.specs.BTreeMap.{get_by_text}
-use Rattle.pie_base.specs.declared.fault.FaultKind.TheVariants.{Unknown}
 use Rattle.pie_value.specs.declared.task.Task.{Task}
 use Rattle.pie_value.specs.declared.verdict.Refusal.{Refusal}
-use Rattle.pie_value.specs.declared.verdict.Refusal.TheVariants.{Fault}
 use Rattle.pie_value.specs.Canonical.{enc_task}
 use Rattle.pie_code.specs.declared.code.Code.{Code}
 use Rattle.pie_parser.specs.FunctionTrees.{FunctionTree}
@@ -34,7 +32,7 @@ use Rattle.pie_topdown.specs.declared.builder.Builder.{Builder}
 use Rattle.pie_topdown.specs.declared.hand.Hand.{Hand}
 use Rattle.pie_topdown.specs.declared.hand.Turn.TheVariants.{Rests, Many}
 use Rattle.pie_topdown.specs.declared.plan.Plan.{Plan}
-use Rattle.pie_topdown.specs.inner.Right.{names_of, records_of, IsPlanNow, AreOffersHonest, AreWritten, AreTheBusy, IsRefused, IsRightOrFailed, TurnIsRight}
+use Rattle.pie_topdown.specs.inner.Right.{names_of, records_of, IsPlanNow, AreOffersHonest, AreWritten, AreTheBusy, IsRefused, IsRight, IsAtRest, IsFull, FailsRight}
 
 -- ---- between two roots
 

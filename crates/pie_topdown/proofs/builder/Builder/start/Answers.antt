@@ -21,7 +21,7 @@ pub returns-clause-right : goal.returns-clause-right
 returns-clause-right c =
     let begun = c.in_ok-task.ensures.begun in
     starts_turn c.args.self.now c.begin_run.new.self c.args.no.0 c.args.code.now begun.task c.in_ok-task.task c.in_ok-task.ensures.ledger c.begin_run.ensures.rest
-    begun.named c.requires.site begun.started
+    begun.named begun.started c.requires.site
 
 pub returns-clause-marks : goal.returns-clause-marks
 returns-clause-marks c =
