@@ -44,7 +44,7 @@ use Rattle.pie_topdown.specs.inner.Ran.{FallsOn, FallsWhole, HasFallen, HasRunSo
 use Rattle.pie_topdown.specs.inner.Right.{site_of, build_of, names_of, records_of, entries_up, AreWaiting, IsFalling, IsPlanNow, IsRightSite}
 use Rattle.pie_topdown.proofs.Keeping.{same_grows}
 use Rattle.pie_topdown.proofs.Marking.{marks_one, ran_stays, starts_marked, stays_same}
-use Rattle.pie_topdown.proofs.Resumed.{both, rest_waits, split, ups}
+use Rattle.pie_topdown.proofs.Resumed.{both, empty_of, rest_waits, split, ups}
 use Rattle.pie_topdown.proofs.Stacking.{popped_frame, popped_site}
 use Rattle.pie_topdown.proofs.Started.{start_same, others_stay, is_started}
 use Rattle.pie_topdown.proofs.Topmost.{one_some, own_site, own_waiting}
@@ -298,15 +298,11 @@ falls_whole a b popped before now none sofar u done root plan F first so =
       ran_stays b (record b { stack = popped }) first now (same_grows b.ledger b.ledger refl refl) (stays_same b (record b { stack = popped }) refl refl) q.1,
     )
   where
-    empty : (es : List Frame) → length es ≡ 0 → es ≡ []
-    empty [] e = refl
-    empty (x ∷ es) e = absurd (omega (arith, e))
-
     by : (G : IsFalling u done root b) (n : ℕ) (t : Task) → (among (enc_task t) (tasks_of G.fs) ≡ true) ⊎ IsMarked b.ledger.tables.ran.items n
         → IsMarked b.ledger.tables.ran.items n
     by G n t (inr m) = m
     by G n t (inl i) =
-        absurd (no_frames G.fs (subst (λ es. AreEntries (site_of u b) (build_of b) root (entries_up es) G.fs) (empty b.stack.items none) G.waiting.entries) i)
+        absurd (no_frames G.fs (subst (λ es. AreEntries (site_of u b) (build_of b) root (entries_up es) G.fs) (empty_of b.stack.items none) G.waiting.entries) i)
       where
         no_frames : (fs : List ModelFrame) → AreEntries (site_of u b) (build_of b) root [] fs → among (enc_task t) (tasks_of fs) ≡ true → ⊥
         no_frames [] h i = clash {A = ⊥} (among (enc_task t) []) i refl

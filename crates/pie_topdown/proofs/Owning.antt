@@ -183,6 +183,13 @@ own_root held told a b c d h stack reused this runs after left = λ o own.
     let l = runs o (same_own a b stack own) this in
     record { stack = same_own c d after l.stack; reused = left ∙ l.reused ∙ reused }
 
+-- a root failed: nothing waits any more
+pub own_fallen : (held : Option Directory) (told : Directory → Task → List ℕ → List Offered) (a b c d : Builder) (h : Hand) → b.stack.items ≡ a.stack.items
+    → b.reused.items ≡ a.reused.items → IsOwnHand h → RunsOwn held told b h c → d.stack.items ≡ [] → d.reused.items ≡ c.reused.items → EndsOwn held told a d
+own_fallen held told a b c d h stack reused this runs empty left = λ o own.
+    let l = runs o (same_own a b stack own) this in
+    record { stack = subst (All IsOwnFrame) (sym empty) (All-nil IsOwnFrame); reused = left ∙ l.reused ∙ reused }
+
 -- one more root is settled
 pub own_then : (held later : Option Directory) (told after : Directory → Task → List ℕ → List Offered) → later ≡ held → after ≡ told → (a b c : Builder)
     → EndsOwn held told a b → EndsOwn later after b c → EndsOwn held told a c

@@ -117,7 +117,7 @@ caller_resumes b new popped c (Err x) items answers = tt
 caller_resumes b new popped c (Ok turn) items answers = λ u done root fs plan s waiting h.
     caller_back u done root b new popped c items turn s plan answers fs waiting (subst (EndedRight u b root fs) (ups b popped (frames.Waits c) items) h)
 
-empty_of : (es : List Frame) → length es ≡ 0 → es ≡ []
+pub empty_of : (es : List Frame) → length es ≡ 0 → es ≡ []
 empty_of [] e = refl
 empty_of (x ∷ es) e = absurd (omega (arith, e))
 

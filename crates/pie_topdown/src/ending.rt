@@ -1,5 +1,5 @@
 //! Tasks that end.
-ghost use Rattle.std.specs.Prelude.{◌≡◌, ◌<◌, ◌≤◌, ◌+◌, length, true, IfOk, OnOk};
+ghost use Rattle.std.specs.Prelude.{◌≡◌, ◌<◌, ◌≤◌, ◌+◌, [], length, true, IfOk, OnOk};
 ghost use Rattle.pie_running.specs.inner.Noted.{IsSound};
 ghost use Rattle.pie_value.specs.Canonical.{IsEncodable, HasTrueLeaves};
 ghost use Rattle.pie_value.specs.Limits.{is_small};
@@ -120,6 +120,7 @@ impl<'a> Builder<'a> {
         requires site { IsSite self.old }
         ensures rest { OnOk result (self.new ≡ record self.old { ledger = self.new.ledger; stack = self.new.stack }) }
         ensures names { OnOk result (self.new.ledger.tables.names ≡ self.old.ledger.tables.names) }
+        ensures empty { OnOk result (self.new.stack.items ≡ []) }
         ensures started { Started runs.old runs.new }
         ensures few { length runs.new ≤ length runs.old + room self.old }
         ensures falls { OnOk result (FallsWhole self.old self.new runs.old runs.new) }

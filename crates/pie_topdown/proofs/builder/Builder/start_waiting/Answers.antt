@@ -4,6 +4,7 @@ use Rattle.pie_topdown.specs.declared.hand.Frame.TheVariants as frames
 use Rattle.pie_topdown.specs.inner.Turns.{stack_room}
 use Rattle.pie_topdown.proofs.Falling.{falls_begun, falls_caller, falls_whole, rest_then}
 use Rattle.pie_topdown.proofs.Going.{one_longer, started_more}
+use Rattle.pie_topdown.proofs.Resumed.{empty_of}
 use Rattle.pie_topdown.proofs.Stacking.{popped_frame, popped_room, popped_site}
 use Rattle.pie_topdown.proofs.builder.Builder.start_waiting.Goals as goal
 
@@ -70,3 +71,8 @@ pub returns-in-None-clause-falls : goal.returns-in-None-clause-falls
 returns-in-None-clause-falls c =
     let none = c.in-None.ensures.cases.0 in
     falls_whole c.args.self.now c.waiting.self c.pop.new.self c.args.runs.now c.waiting.runs (omega (arith, c.waiting.self.stack.ok.0, none)) c.waiting.invariant.5
+
+pub returns-in-None-clause-empty : goal.returns-in-None-clause-empty
+returns-in-None-clause-empty c =
+    let none = c.in-None.ensures.cases.1 in
+    empty_of c.pop.new.self.items (omega (arith, c.pop.new.self.ok.0, none))
