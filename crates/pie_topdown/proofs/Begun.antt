@@ -1,5 +1,5 @@
 -- An entered task begins with the check of its own record, in the words of the model.
-use Rattle.std.proofs.Common.{◌≡◌, ℕ, Bool, true, false, cond, List, [], ◌∷◌, Option, None, Some, Box, Result, Ok, Err, refl, sym, ap, subst, ◌∙◌, inl, bytes_eq}
+use Rattle.std.proofs.Common.{◌≡◌, ℕ, Bool, true, false, cond, List, [], ◌∷◌, Option, None, Some, Box, Result, Ok, Err, refl, sym, ap, subst, ◌∙◌, bytes_eq}
 use Rattle.std.specs.declared.alloc.Global.{Global}
 use Rattle.std.specs.Prelude.{IfOk, option_map, slice_get}
 use Rattle.std.specs.List.{All}

@@ -40,7 +40,6 @@ use Rattle.pie_core_laws.specs.Update.{Update, present, old_record}
 use Rattle.pie_core_laws.proofs.Joined.{same_codes}
 use Rattle.pie_topdown_laws.specs.Ledgers.{setting, IsRightLedger}
 use Rattle.pie_topdown_laws.proofs.Sinking.{base_among, recorded_done}
-use Rattle.pie_topdown_result_laws.specs.Builds.{AreHonest, IsFromStore, IsNowHere}
 use Rattle.pie_topdown.specs.declared.builder.Builder.{Builder}
 use Rattle.pie_topdown.specs.inner.Due.{HasReason, KnowsCode}
 use Rattle.pie_topdown.specs.inner.Frames.{IsOwnRecord, IsSite}

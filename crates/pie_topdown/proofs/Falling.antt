@@ -1,7 +1,7 @@
 -- A task failed: those of the checks that wait start, each for a reason, since each requires one that doesn't end with a value.
-use Rattle.std.proofs.Common.{◌≡◌, ◌⊎◌, inl, inr, ℕ, Bool, true, false, List, [], ◌∷◌, ◌++◌, Option, None, Some, Box, Vec, length, refl, sym, ap, subst, ◌∙◌, arith}
+use Rattle.std.proofs.Common.{◌≡◌, ◌⊎◌, inl, inr, ℕ, true, false, List, [], ◌∷◌, ◌++◌, Option, None, Some, Box, Vec, length, refl, sym, ap, subst, ◌∙◌}
 use Rattle.std.specs.declared.alloc.Global.{Global}
-use Rattle.std.specs.Prelude.{slice_get, take, drop, map, All}
+use Rattle.std.specs.Prelude.{slice_get, take, drop, map}
 use Rattle.std.specs.Option.{option_to_list}
 use Rattle.pie_value.specs.declared.task.Task.{Task}
 use Rattle.pie_value.specs.Canonical.{enc_task}
@@ -40,7 +40,7 @@ use Rattle.pie_topdown.specs.inner.Due.{IsDue, IsDueAt, IsDueBy}
 use Rattle.pie_topdown.specs.inner.Effects.{HasStarted}
 use Rattle.pie_topdown.specs.inner.Frames.{IsFrame, IsSite}
 use Rattle.pie_topdown.specs.inner.Ledgers.{Grows}
-use Rattle.pie_topdown.specs.inner.Ran.{FallsOn, FallsWhole, HasFallen, HasRunSo}
+use Rattle.pie_topdown.specs.inner.Ran.{FallsOn, FallsWhole, HasRunSo}
 use Rattle.pie_topdown.specs.inner.Right.{site_of, build_of, names_of, records_of, entries_up, AreWaiting, IsFalling, IsPlanNow, IsRightSite}
 use Rattle.pie_topdown.proofs.Keeping.{same_grows}
 use Rattle.pie_topdown.proofs.Marking.{marks_one, ran_stays, starts_marked, stays_same}

@@ -1,5 +1,5 @@
 -- A task that ran is done, in the words of the model.
-use Rattle.std.proofs.Common.{◌≡◌, ℕ, true, false, List, None, Some, Result, Ok, Err, refl, sym, ap, subst, ◌∙◌, inl}
+use Rattle.std.proofs.Common.{◌≡◌, ℕ, true, false, List, None, Some, Result, Ok, Err, refl, sym, ap, subst, ◌∙◌}
 use Rattle.std.specs.Prelude.{slice_get, IfOk}
 use Rattle.pie_base.specs.declared.fault.FaultKind.TheVariants.{Big}
 use Rattle.pie_value.specs.declared.value.Value.{Value}

@@ -1,5 +1,5 @@
 -- Events of the task that runs, in the words of the model.
-use Rattle.std.proofs.Common.{◌≡◌, ℕ, ◌<◌, true, false, Bool, List, ◌∷◌, Option, None, Some, Result, Ok, Err, refl, sym, ap, subst, ◌∙◌, inl}
+use Rattle.std.proofs.Common.{◌≡◌, ℕ, ◌<◌, true, false, Bool, List, ◌∷◌, Option, None, Some, Result, Ok, Err, refl, sym, ap, subst, ◌∙◌}
 use Rattle.std.specs.Prelude.{slice_get, slice_index_or, IfOk, All}
 use Rattle.std.proofs.lemmas.List.Elements.{All-contains}
 use Rattle.pie_base.specs.Path.{is_out}

@@ -1,5 +1,5 @@
 -- A record of the store stands: its task ends with it, in the words of the model.
-use Rattle.std.proofs.Common.{◌≡◌, ℕ, ◌≤◌, true, false, List, ◌∷◌, Option, None, Some, Result, Ok, Err, length, refl, sym, subst, ◌∙◌, inl}
+use Rattle.std.proofs.Common.{◌≡◌, ℕ, ◌≤◌, true, false, List, ◌∷◌, Option, None, Some, Result, Ok, Err, length, refl, sym, subst, ◌∙◌}
 use Rattle.std.specs.Prelude.{slice_get, IfOk}
 use Rattle.std.specs.Option.{option_map}
 use Rattle.std.proofs.lemmas.List.{take_all}

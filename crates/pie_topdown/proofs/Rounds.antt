@@ -44,7 +44,7 @@ use Rattle.pie_topdown.specs.declared.hand.Frame.TheVariants as frames
 use Rattle.pie_topdown.specs.inner.Calling.{number_in, task_in, tasks_from, joins_by, CallsRight, CallsSo, ClosesBy}
 use Rattle.pie_topdown.specs.inner.Right.{site_of, build_of, names_of, records_of, entry_of, entries_up, IsRightSite, AreWaiting, TurnIsRight}
 use Rattle.pie_topdown.proofs.Entered.{canonical_at}
-use Rattle.pie_topdown.proofs.Topmost.{one_some, never}
+use Rattle.pie_topdown.proofs.Topmost.{one_some}
 use Rattle.pie_topdown.proofs.Waited.{task_up, up_same}
 
 -- ---- along a list

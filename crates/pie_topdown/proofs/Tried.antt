@@ -1,5 +1,5 @@
 -- Offers are asked for, and the next of them is checked, in the words of the model.
-use Rattle.std.proofs.Common.{◌≡◌, ℕ, ◌<◌, List, [], ◌∷◌, ◌++◌, Option, Some, Box, Result, Ok, Err, Vec, length, map, take, sym, ap, subst, ◌∙◌, inl, arith, append_assoc}
+use Rattle.std.proofs.Common.{◌≡◌, ℕ, ◌<◌, List, [], ◌∷◌, ◌++◌, Option, Some, Box, Result, Ok, Err, Vec, length, map, take, sym, ap, subst, ◌∙◌, arith, append_assoc}
 use Rattle.std.specs.declared.alloc.Global.{Global}
 use Rattle.std.specs.Prelude.{slice_get, slice_index_or, IfOk, IfSome}
 use Rattle.std.specs.List.{All, remove}

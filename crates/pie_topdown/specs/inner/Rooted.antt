@@ -30,7 +30,6 @@ use Rattle.pie_topdown_laws.specs.Ledgers.{setting, IsRightLedger}
 use Rattle.pie_topdown_result_laws.specs.Results.{IsResultOf}
 use Rattle.pie_topdown.specs.declared.builder.Builder.{Builder}
 use Rattle.pie_topdown.specs.declared.hand.Hand.{Hand}
-use Rattle.pie_topdown.specs.declared.hand.Turn.TheVariants.{Rests, Many}
 use Rattle.pie_topdown.specs.declared.plan.Plan.{Plan}
 use Rattle.pie_topdown.specs.inner.Right.{names_of, records_of, IsPlanNow, AreOffersHonest, AreWritten, AreTheBusy, IsRefused, IsRight, IsAtRest, IsFull, FailsRight}
 
