@@ -1,6 +1,6 @@
 -- What an accepted build without a list leaves is the directory of a clean build.
-use Rattle.std.proofs.Common.{◌≡◌, ℕ, List, length, Vec, Global, Option, None, Some, Result, Ok, Err, sym, ap, subst, ◌∙◌}
-use Rattle.std.specs.Prelude.{Box, Contains, IfSome, IfOk, OnOk, IsTrue}
+use Rattle.std.proofs.Common.{◌≡◌, ℕ, List, [], length, Vec, Global, Option, None, Some, Result, Ok, Err, sym, ap, subst, ◌∙◌}
+use Rattle.std.specs.Prelude.{Box, Contains, IfNone, IfSome, IfOk, OnOk, IsTrue}
 use Rattle.std.specs.List.{filter}
 use Rattle.std.specs.List.Sorted.{IsStrictlySortedBy}
 use Rattle.std.proofs.lemmas.List.Elements.{All-contains}
@@ -13,13 +13,16 @@ use Rattle.pie_core_laws.specs.Update.{Update, present}
 use Rattle.pie_diff.specs.Hashes.{files_paths, is_new}
 use Rattle.pie_diff.proofs.Keeping.{order_filter}
 use Rattle.pie_files.specs.declared.files.FilesError.{FilesError}
+use Rattle.pie_files.proofs.Reading.{if_always}
 use Rattle.pie_files.specs.Directory.{Directory}
 use Rattle.pie_incremental.specs.declared.base.OwnFiles.{OwnFiles}
 use Rattle.pie_incremental.specs.Own.{IsClosed}
+use Rattle.pie_incremental.specs.Starts.{HasStore}
 use Rattle.pie_incremental.specs.inner.Built.{AreFilesOf}
 use Rattle.pie_incremental.specs.inner.Cleaned.{LeavesCleanOf, HasParts, IsPlanFor, TellsPlan}
 use Rattle.pie_incremental.specs.inner.Plans.{HasChanged, IsChangesPlan}
 use Rattle.pie_incremental.proofs.Putting.{all_has}
+use Rattle.pie_left_laws.specs.Held.{HoldsRightly}
 use Rattle.pie_left_laws.specs.Placed.{IsPlaced}
 use Rattle.pie_left_laws.proofs.Provides.{provided_path}
 use Rattle.pie_left_laws.proofs.Putting.{is_built}
@@ -33,14 +36,14 @@ use Rattle.pie_value.specs.declared.task.Task.{Task}
 use Rattle.pie_value.specs.declared.value.Value.{Value}
 use Rattle.pie_value.specs.declared.verdict.Verdict.{Verdict}
 use Rattle.pie_value.specs.declared.verdict.Verdict.TheVariants.{Accepted}
-use Rattle.pie_topdown_build.specs.inner.Cleaned.{HoldsBy, IsExactBuild, IsKnownOf, IsOwnOf, IsStoreIn, LeavesBy, LeavesWhere, PutsWhere}
+use Rattle.pie_topdown_build.specs.inner.Cleaned.{HoldsBy, IsExactBuild, IsKnownOf, IsOwnOf, LeavesBy, LeavesWhere, PutsAnew, PutsWhere}
 use Rattle.pie_topdown_build.proofs.Placing.{puts}
 
 module _ (own : OwnFiles) (held : List (List ℕ × List ℕ)) (funcs : List (List ℕ × List ℕ)) (roots : List Task) (rows : List TaskRecord)
     (contents : List (List ℕ × Vec ℕ Global)) (outputs : List (Task × Value)) (s : StoreImage) (p : Plan) (r : Report) (order : InPathOrder contents)
     (parts : HasParts funcs roots rows s) (planned : IsPlanFor own held s contents p) (tells : TellsPlan p (length rows) outputs r) where
   -- the files are those of live tasks
-  files_of : (u : Update) (d : Directory) → IsExactBuild u rows contents d → AreFilesOf rows contents
+  pub files_of : (u : Update) (d : Directory) → IsExactBuild u rows contents d → AreFilesOf rows contents
   files_of u d e = record {
     ordered = order.ascending;
     written = λ f i.
@@ -108,32 +111,36 @@ module _ (own : OwnFiles) (held : List (List ℕ × List ℕ)) (funcs : List (Li
 
 module _ (store : Option (Vec ℕ Global)) (own : OwnFiles) (held : List (List ℕ × List ℕ)) (funcs : List (List ℕ × List ℕ)) (roots : List Task)
     (rows : List TaskRecord) (contents : List (List ℕ × Vec ℕ Global)) (outputs : List (Task × Value)) where
-  known_of : (o : Option (Vec ℕ Global)) (d : Directory) → HoldsBy o held d → IsOwnOf o d own → IsStoreIn o d → IsKnownOf own held d
-  known_of None d holds is stored = absurd stored
-  known_of (Some text) d holds is stored = record {
+  known_of : (text : Vec ℕ Global) (d : Directory) → HoldsRightly held d → IsOwnOf (Some text) d own → HasStore d text.items → IsKnownOf own held d
+  known_of text d holds is stored = record {
     stored = record { closed = stored.closed; text_is = stored.text_is ∙ ap (λ (v : Vec ℕ Global). Some v.items) (sym is.store_is) };
     pending = is.pending;
     files = holds;
   }
 
+  leaves_where : (o : Option (Vec ℕ Global)) (d : Directory) (r : Report) (after : Option Directory) → HoldsBy o contents held d → IsOwnOf o d own
+      → IfNone o (own.store.items ≡ []) → PutsWhere own held funcs roots rows contents outputs d r after
+      → PutsAnew own held funcs roots rows contents outputs d r after → LeavesWhere o funcs roots rows contents outputs d r after
+  leaves_where None d r after holds is empty put anew = anew (record { store = empty; pending = is.pending; files = holds })
+  leaves_where (Some text) d r after holds is empty put anew = λ u e stored. put (known_of text d holds is stored) u e
+
   pub looked_leaves : (before mid last after : Option Directory) (result : Result (Box Report Global) FilesError) → mid ≡ before → last ≡ mid
-      → IfSome before (HoldsBy store held) → IfSome mid (λ d. IsOwnOf store d own)
+      → IfSome before (HoldsBy store contents held) → IfSome mid (λ d. IsOwnOf store d own) → IfNone store (own.store.items ≡ [])
       → IfSome last (λ d. IfOk result (λ r. PutsWhere own held funcs roots rows contents outputs d r.value after))
+      → IfSome last (λ d. IfOk result (λ r. PutsAnew own held funcs roots rows contents outputs d r.value after))
       → IfSome before (λ d. IfOk result (λ r. LeavesWhere store funcs roots rows contents outputs d r.value after))
-  looked_leaves before mid last after (Err x) same again holds is put = none before
-    where
-      none : (o : Option Directory) → IfSome o (λ d. Unit {0})
-      none None = tt
-      none (Some d) = tt
-  looked_leaves before mid last after (Ok r) same again holds is put =
+  looked_leaves before mid last after (Err x) same again holds is empty put anew = if_always before (tt {0})
+  looked_leaves before mid last after (Ok r) same again holds is empty put anew =
       by before holds (subst (λ o. IfSome o (λ d. IsOwnOf store d own)) same is)
       (subst (λ o. IfSome o (λ d. PutsWhere own held funcs roots rows contents outputs d r.value after)) (again ∙ same) put)
+      (subst (λ o. IfSome o (λ d. PutsAnew own held funcs roots rows contents outputs d r.value after)) (again ∙ same) anew)
     where
-      by : (o : Option Directory) → IfSome o (HoldsBy store held) → IfSome o (λ d. IsOwnOf store d own)
+      by : (o : Option Directory) → IfSome o (HoldsBy store contents held) → IfSome o (λ d. IsOwnOf store d own)
           → IfSome o (λ d. PutsWhere own held funcs roots rows contents outputs d r.value after)
+          → IfSome o (λ d. PutsAnew own held funcs roots rows contents outputs d r.value after)
           → IfSome o (λ d. LeavesWhere store funcs roots rows contents outputs d r.value after)
-      by None a b c = tt
-      by (Some d) a b c = λ u e stored. c (known_of store d a b stored) u e
+      by None a b c e = tt
+      by (Some d) a b c e = leaves_where store d r.value after a b empty c e
 
 -- by the verdict of what was made
 pub left_accepted : (store : Option (Vec ℕ Global)) (funcs : List (List ℕ × List ℕ)) (roots : List Task) (b : Built) (before after : Option Directory)

@@ -20,6 +20,8 @@ use Rattle.pie_value.specs.Canonical.{IsEncodableTask}
 use Rattle.pie_value.specs.declared.task.Task.{Task}
 use Rattle.pie_value.specs.declared.verdict.Verdict.{Verdict}
 use Rattle.pie_value.specs.declared.verdict.Verdict.TheVariants.{Accepted, Refused}
+use Rattle.pie_topdown_build.specs.declared.base.Base.{Base}
+use Rattle.pie_topdown_build.specs.inner.Anew.{IsNoBase}
 use Rattle.pie_topdown_build.specs.inner.Bases.{Quiet}
 
 -- a store whose records stay can be begun from
@@ -58,6 +60,10 @@ pub empty_image : (s : StoreImage) → s.version ≡ 2 → s.pipeline ≡ None �
 empty_image s version table funcs roots rows =
     let can = empty_storable s version table funcs roots rows in
     record { storable = can.rows; parts = subst (All IsTrueRecord) (sym rows) (All-nil IsTrueRecord); order = can.order }
+
+-- a base without a store or a record
+pub no_base_is : (b : Base) → b.store ≡ None → b.image.rows ≡ [] → IsNoBase b
+no_base_is b store rows = record { store = store; rows = rows }
 
 -- the tasks that were added to an empty list have canonical bytes
 pub added_encodable : (old new : List Task) → old ≡ [] → Started old new → All IsEncodableTask new

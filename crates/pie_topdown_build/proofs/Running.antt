@@ -26,14 +26,16 @@ use Rattle.pie_value.specs.declared.task.Task.{Task}
 use Rattle.pie_value.specs.declared.verdict.Verdict.{Verdict}
 use Rattle.pie_value.specs.declared.verdict.Verdict.TheVariants.{Accepted}
 use Rattle.pie_incremental.specs.inner.Clean.{BuildsCleanOf, LeavesAsClean}
+use Rattle.pie_incremental.specs.inner.Cleaned.{LeavesCleanOf}
 use Rattle.pie_incremental.specs.inner.Digested.{digested}
 use Rattle.pie_incremental.specs.inner.Joined.{IsImage}
 use Rattle.pie_topdown_build.specs.declared.base.Base.{Base}
 use Rattle.pie_topdown_build.specs.declared.evaluating.Evaluated.{Evaluated}
 use Rattle.pie_topdown_build.specs.declared.offered.Offered.{Offered}
-use Rattle.pie_topdown_build.specs.inner.Bases.{IsReadFrom}
-use Rattle.pie_topdown_build.specs.inner.Clean.{IsUpdateBy, MakesFrom, RunsAsClean, RunsIfTold}
-use Rattle.pie_topdown_build.specs.inner.Cleaned.{IsStoreIn, LeavesBy}
+use Rattle.pie_topdown_build.specs.inner.Anew.{BuildsAnewOf, LeavesAnewAs}
+use Rattle.pie_topdown_build.specs.inner.Bases.{HasBase, IsReadFrom}
+use Rattle.pie_topdown_build.specs.inner.Clean.{MakesFrom, RunsAsClean, RunsIfTold}
+use Rattle.pie_topdown_build.specs.inner.Cleaned.{IsExactBuild, LeavesBy, LeavesWhere}
 
 -- the offers for each task
 abbrev pub Told : Type 0
@@ -76,36 +78,63 @@ evaluates before mid p codes s t told (Err x) same compiled image rows put makes
 module _ (b : Base) (p : Project) (told : Told) (before mid after : Option Directory) (made : Built) (r : Report) (same : mid ≡ before)
     (makes : MakesFrom before p b.image told made)
     (leaves : IfSome mid (λ d. LeavesBy made.verdict b.store p.digests.items p.roots.items made d r after)) (is : r.verdict ≡ made.verdict) (u : Update)
-    (from : IsUpdateBy u before b p) (honest : AreHonest u p.digests.items told) where
-  result : IsResultOf u made
-  result = makes.each u from.here from.stored honest
+    (here : IsNowHere u before p.typed p.roots.items)
+    (stored : IsFromStore u (digested u.directory p.digests.items b.image).funcs p.digests.items b.image.rows) (honest : AreHonest u p.digests.items told)
+  where
+    result : IsResultOf u made
+    result = makes.each u here stored honest
 
-  left : LeavesBy made.verdict b.store p.digests.items p.roots.items made u.directory r after
-  left = subst (λ m. IfSome m (λ d. LeavesBy made.verdict b.store p.digests.items p.roots.items made d r after)) (same ∙ from.here.holds) leaves
+    abbrev left_by : Option (Vec ℕ Global) → Type 0
+    left_by store = LeavesWhere store p.digests.items p.roots.items made.rows.items made.files.items made.outputs.items u.directory r after
 
-  store_in : (o : Option (Vec ℕ Global)) → IsReadFrom u.directory b.image o → IsStoreIn o u.directory
-  store_in None has = absurd has
-  store_in (Some text) has = has.stored
+    left : made.verdict ≡ Accepted → left_by b.store
+    left accepted =
+        subst (λ (v : Verdict). LeavesBy v b.store p.digests.items p.roots.items made u.directory r after) accepted
+        (subst (λ m. IfSome m (λ d. LeavesBy made.verdict b.store p.digests.items p.roots.items made d r after)) (same ∙ here.holds) leaves)
 
-  leaves_clean : made.verdict ≡ Accepted → LeavesAsClean u p.digests.items p.roots.items r after
-  leaves_clean accepted = record {
-    rows = made.rows.items;
-    outputs = made.outputs.items;
-    rows_are = (result.made accepted).rows;
-    outputs_are = result.outputs accepted;
-    left = (subst (λ (v : Verdict). LeavesBy v b.store p.digests.items p.roots.items made u.directory r after) accepted left) u
-        (record { directory = refl; separates = from.here.separates; met = from.here.met; made = result.made accepted }) (store_in b.store from.base);
-  }
+    exact : made.verdict ≡ Accepted → IsExactBuild u made.rows.items made.files.items u.directory
+    exact accepted = record { directory = refl; separates = here.separates; met = here.met; made = result.made accepted }
 
-  builds_clean : BuildsCleanOf u p.digests.items p.roots.items r after
-  builds_clean = record { verdict = ap verdict_of is ∙ result.verdict; left = λ accepted. leaves_clean (sym is ∙ accepted) }
+    over : made.verdict ≡ Accepted → (o : Option (Vec ℕ Global)) → IsReadFrom u.directory b.image o → left_by o
+        → LeavesCleanOf u p.digests.items p.roots.items made.rows.items made.outputs.items u.directory r after
+    over accepted None has l = absurd has
+    over accepted (Some text) has l = l u (exact accepted) has.stored
+
+    -- from a store
+    builds_clean : HasBase u.directory b → BuildsCleanOf u p.digests.items p.roots.items r after
+    builds_clean base = record { verdict = ap verdict_of is ∙ result.verdict; left = λ accepted. leaves_clean (sym is ∙ accepted) }
+      where
+        leaves_clean : made.verdict ≡ Accepted → LeavesAsClean u p.digests.items p.roots.items r after
+        leaves_clean accepted = record {
+          rows = made.rows.items;
+          outputs = made.outputs.items;
+          rows_are = (result.made accepted).rows;
+          outputs_are = result.outputs accepted;
+          left = over accepted b.store base (left accepted);
+        }
+
+    -- from none
+    builds_anew : b.store ≡ None → BuildsAnewOf u p.digests.items p.roots.items r after
+    builds_anew none = record { verdict = ap verdict_of is ∙ result.verdict; left = λ accepted. leaves_anew (sym is ∙ accepted) }
+      where
+        leaves_anew : made.verdict ≡ Accepted → LeavesAnewAs u p.digests.items p.roots.items r after
+        leaves_anew accepted =
+            let l : left_by None = subst left_by none (left accepted) in
+            record {
+              rows = made.rows.items;
+              outputs = made.outputs.items;
+              rows_are = (result.made accepted).rows;
+              outputs_are = result.outputs accepted;
+              left = l u (exact accepted);
+            }
 
 pub runs_clean : (b : Base) (p : Project) (told : Told) (before mid after : Option Directory) (made : Built) (r : Report) → mid ≡ before
     → MakesFrom before p b.image told made → IfSome mid (λ d. LeavesBy made.verdict b.store p.digests.items p.roots.items made d r after)
     → r.verdict ≡ made.verdict → r.fresh ≡ None → RunsAsClean b p told before after r
 runs_clean b p told before mid after made r same makes leaves is none = record {
   none = none;
-  each = λ u from honest. builds_clean b p told before mid after made r same makes leaves is u from honest;
+  each = λ u from honest. builds_clean b p told before mid after made r same makes leaves is u from.here from.stored honest from.base;
+  anew = λ u from honest. builds_anew b p told before mid after made r same makes leaves is u from.here from.stored honest from.none;
 }
 
 -- ---- the build of a project

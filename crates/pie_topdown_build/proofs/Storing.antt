@@ -2,7 +2,7 @@
 use Rattle.std.proofs.Common.{◌≡◌, ◌∙◌, ℕ, Bool, true, false, cond, List, [], ◌∷◌, Vec, Global, Option, None, Some, Result}
 use Rattle.std.proofs.Common.{Ok, Err, refl, sym, ap, subst, inl, inr, ⊎_elim}
 use Rattle.std.proofs.lemmas.Bool.{false≢true}
-use Rattle.std.specs.Prelude.{◌&&◌, ◌⊎◌, Box, IfNone, IfSome, OnOk}
+use Rattle.std.specs.Prelude.{◌&&◌, ◌⊎◌, All, Box, IfNone, IfSome, OnOk}
 use Rattle.std.specs.List.{list_all}
 use Rattle.std.specs.Option.{option_map}
 use Rattle.pie_base.specs.Path.{is_out, same_text}
@@ -18,7 +18,7 @@ use Rattle.pie_incremental.specs.inner.Plans.{HasChanged, IsChangesPlan, store_c
 use Rattle.pie_incremental.proofs.OwnPaths.{and_left, and_right, places}
 use Rattle.pie_record.specs.declared.task_record.TaskRecord.{TaskRecord}
 use Rattle.pie_report.specs.declared.report.Report.{Report}
-use Rattle.pie_store.specs.Texts.{IsStoreText}
+use Rattle.pie_store.specs.Texts.{IsRow, IsStoreText}
 use Rattle.pie_store.specs.declared.image.StoreImage.{StoreImage}
 use Rattle.pie_value.specs.declared.task.Task.{Task}
 use Rattle.pie_topdown_build.specs.inner.Stored.{IsBegunFrom, IsStoreOrNone, LeavesRows}
@@ -51,7 +51,7 @@ later_same (Bytes b) = refl
 
 module _ (own : OwnFiles) (held : List (List ℕ × List ℕ)) (rows : List TaskRecord) (contents : List (List ℕ × Vec ℕ Global)) (text : Vec ℕ Global)
     (p : Plan) (plan : IsChangesPlan own held rows contents text p) where
-  wanted : changes p store_path ≡ stored (store_change own.store.items text)
+  pub wanted : changes p store_path ≡ stored (store_change own.store.items text)
   wanted =
       let o = places p plan.places in
       let files = later (written p.writes.items store_path) (removed p.removals.items store_path) in
@@ -79,7 +79,7 @@ module _ (own : OwnFiles) (held : List (List ℕ × List ℕ)) (rows : List Task
       by false e m = ap (option_map (λ f. f.0)) m.1
 
 -- the text of a store isn't empty
-some_text : (s : StoreImage) (bs : List ℕ) → IsStoreText s bs → bs ≡ [] → ⊥
+pub some_text : (s : StoreImage) (bs : List ℕ) → IsStoreText s bs → bs ≡ [] → ⊥
 some_text s bs is none = let e = sym none ∙ is.bytes in cc
 
 -- ---- what an accepted build leaves
@@ -87,6 +87,11 @@ some_text s bs is none = let e = sym none ∙ is.bytes in cc
 module _ (own : OwnFiles) (held : List (List ℕ × List ℕ)) (funcs : List (List ℕ × List ℕ)) (roots : List Task) (rows : List TaskRecord)
     (contents : List (List ℕ × Vec ℕ Global)) (s : StoreImage) (p : Plan) (parts : HasParts funcs roots rows s) (planned : IsPlanFor own held s contents p)
   where
+    -- its records have canonical bytes
+    pub rows_planned : (result : Result (Box Report Global) FilesError) → OnOk result (All IsRow rows)
+    rows_planned (Ok r) = subst (All IsRow) parts.rows_are planned.says.store.rows
+    rows_planned (Err e) = tt
+
     pub leaves_rows : (before after : Option Directory) (b : Box Report Global) (result : Result (Box Report Global) FilesError)
         → IfSome before (λ d. IsClosed d → OnOk result (HasChanged p d after))
         → IfSome before (λ d. IsStoreOrNone own.store.items d → OnOk result (LeavesRows funcs rows after))

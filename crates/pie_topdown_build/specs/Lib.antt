@@ -1,4 +1,6 @@
+pub mod Anew
 pub mod Clean
 pub mod Ran
+pub mod Records
 pub mod Refusals
 pub mod inner

@@ -1,8 +1,9 @@
 //! An accepted build put into place.
-ghost use Rattle.std.specs.Prelude.{◌≡◌, [], true, None, is_some, IfNone, IfOk, IfSome, OnOk};
+ghost use Rattle.std.specs.Prelude.{◌≡◌, [], true, false, None, is_some, All, IfNone, IfOk, IfSome, OnOk};
 ghost use Rattle.pie_build.specs.Left.{KeepsRest};
 ghost use Rattle.pie_build.specs.Stored.{MayStand};
-ghost use Rattle.pie_commit.specs.inner.Plans.{is_sound};
+ghost use Rattle.pie_commit.specs.Outcomes.{HasBrought};
+ghost use Rattle.pie_commit.specs.inner.Plans.{is_empty, is_sound, wanted_by};
 ghost use Rattle.pie_files.specs.Reading.{ReadsOnly};
 ghost use Rattle.pie_files.specs.Streams.{Counted};
 ghost use Rattle.pie_incremental.specs.Own.{IsClosed};
@@ -10,18 +11,18 @@ ghost use Rattle.pie_incremental.specs.inner.Cleaned.{HasParts, IsPlanFor, Tells
 ghost use Rattle.pie_incremental.specs.inner.Joined.{ChangesOut, IsDrafted};
 ghost use Rattle.pie_incremental.specs.inner.Plans.{HasChanged};
 ghost use Rattle.pie_results.specs.inner.Files.{InPathOrder};
-ghost use Rattle.pie_store.specs.Texts.{IsStoreText};
+ghost use Rattle.pie_store.specs.Texts.{IsRow, IsStoreText};
 ghost use Rattle.pie_value.specs.declared.verdict.Verdict.TheVariants as verdicts;
-ghost use Rattle.pie_topdown_build.specs.inner.Cleaned.{HoldsBy, IsOwnOf, LeavesWhere, PutsWhere};
+ghost use Rattle.pie_topdown_build.specs.inner.Cleaned.{HoldsBy, IsOwnOf, LeavesWhere, PutsAnew, PutsWhere};
 ghost use Rattle.pie_topdown_build.specs.inner.Stored.{IsBegunFrom, IsStoreOrNone, LeavesRows};
 
 use crate::held::{held_beside, held_under_out, is_pending};
 use pie_base::{OutOfMemory, Path, Text};
 use pie_build::{accepted, copies, copies_of_tasks, paths_of};
-use pie_commit::Plan;
+use pie_commit::{Plan, commit};
 use pie_diff::Held;
 use pie_files::{Files, FilesError};
-use pie_incremental::{OwnFiles, changes_plan, commit_plan};
+use pie_incremental::{OwnFiles, changes_plan};
 use pie_project::Project;
 use pie_record::TaskRecord;
 use pie_report::Report;
@@ -56,6 +57,7 @@ pub(crate) fn accept<F: Files>(
     ensures rest { KeepsRest (F.holds files.old) (F.holds files.new) }
     ensures left { IfSome (F.holds files.old) (λ d. IfOk result (λ r. LeavesWhere store project.now.digests.items project.now.roots.items made.rows.items made.contents.items made.outputs.items d r.value (F.holds files.new))) }
     ensures stored { IfSome (F.holds files.old) (λ d. IsBegunFrom store d → OnOk result (LeavesRows project.now.digests.items made.rows.items (F.holds files.new))) }
+    ensures rows { OnOk result (All IsRow made.rows.items) }
     ensures verdict { IfOk result (λ r. r.value.verdict ≡ verdicts.Accepted) }
     ensures fresh { IfOk result (λ r. r.value.fresh ≡ None) }
     ensures ran { IfOk result (λ r. r.value.ran ≡ ran) }
@@ -74,7 +76,7 @@ fn held_now<F: Files>(
     store: &Option<Vec<u8>>,
     contents: &[(Path, Vec<u8>)],
 ) -> Result<Held, FilesError>
-    ensures held { IfSome (F.holds files.old) (λ d. IfOk result (λ held. HoldsBy store.now held d)) }
+    ensures held { IfSome (F.holds files.old) (λ d. IfOk result (λ held. HoldsBy store.now contents.now held d)) }
     ensures reads { ReadsOnly F.holds F.moment F.left_since F.images F.faults files.old files.new result }
 {
     match store {
@@ -127,8 +129,10 @@ fn put_into_place<F: Files>(
     requires rows { MayStand project.now.digests.items project.now.roots.items made.rows.items }
     requires contents { InPathOrder made.contents.items }
     ensures rest { KeepsRest (F.holds files.old) (F.holds files.new) }
+    ensures anew { IfSome (F.holds files.old) (λ d. IfOk result (λ r. PutsAnew own.now held.now project.now.digests.items project.now.roots.items made.rows.items made.contents.items made.outputs.items d r.value (F.holds files.new))) }
     ensures left { IfSome (F.holds files.old) (λ d. IfOk result (λ r. PutsWhere own.now held.now project.now.digests.items project.now.roots.items made.rows.items made.contents.items made.outputs.items d r.value (F.holds files.new))) }
     ensures stored { IfSome (F.holds files.old) (λ d. IsStoreOrNone own.now.store.items d → OnOk result (LeavesRows project.now.digests.items made.rows.items (F.holds files.new))) }
+    ensures rows { OnOk result (All IsRow made.rows.items) }
     ensures verdict { IfOk result (λ r. r.value.verdict ≡ verdicts.Accepted) }
     ensures fresh { IfOk result (λ r. r.value.fresh ≡ None) }
     ensures ran { IfOk result (λ r. r.value.ran ≡ ran) }
@@ -157,10 +161,11 @@ fn commit_then<F: Files>(
     requires changes { ChangesOut plan.now }
     ensures rest { KeepsRest (F.holds files.old) (F.holds files.new) }
     ensures done { IfSome (F.holds files.old) (λ d. IsClosed d → OnOk result (HasChanged plan.now d (F.holds files.new))) }
+    ensures brought { is_empty plan.now ≡ false → OnOk result (HasBrought (wanted_by plan.now) (F.holds files.old) (F.holds files.new)) }
     ensures report { IfOk result (λ r. r ≡ report) }
     ensures counted { Counted F.faults FilesError.Failed files.old files.new result }
 {
-    match commit_plan(files, plan) {
+    match commit(files, plan) {
         Ok(()) => Ok(report),
         Err(error) => Err(error),
     }

@@ -1,7 +1,8 @@
 //! What a build without a list begins from.
-ghost use Rattle.std.specs.Prelude.{◌≡◌, None, IfOk, IfSome};
+ghost use Rattle.std.specs.Prelude.{IfOk, IfSome};
 ghost use Rattle.pie_files.specs.Reading.{ReadsOnly};
 ghost use Rattle.pie_incremental.specs.inner.Joined.{IsImage};
+ghost use Rattle.pie_topdown_build.specs.inner.Anew.{IsNoBase};
 ghost use Rattle.pie_topdown_build.specs.inner.Bases.{IsWhole, StartsAt, StartsBy};
 
 use pie_base::{OutOfMemory, Path};
@@ -47,10 +48,10 @@ pub(crate) fn find_base<F: Files>(alloc: Global, files: &mut F) -> Result<Start,
 }
 
 /// The store of nothing, for a build that has nothing to build from.
-#[tactic(auto, using(crate::proofs::Making::empty_image))]
+#[tactic(auto, using(crate::proofs::Making::empty_image, crate::proofs::Making::no_base_is))]
 pub(crate) fn no_base(alloc: Global) -> Result<Box<Base>, OutOfMemory>
     ensures image { IfOk result (λ b. IsImage b.value.image) }
-    ensures none { IfOk result (λ b. b.value.store ≡ None) }
+    ensures none { IfOk result (λ b. IsNoBase b.value) }
 {
     let image = StoreImage {
         version: 2,

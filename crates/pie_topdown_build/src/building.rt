@@ -1,5 +1,5 @@
 //! A build that needs no list of changes.
-ghost use Rattle.std.specs.Prelude.{◌≡◌, ◌≤◌, ◌+◌, ◌++◌, [], Some, length, All, IfOk, IfSome};
+ghost use Rattle.std.specs.Prelude.{◌≡◌, ◌≤◌, ◌+◌, ◌++◌, [], Some, length, map, All, IfOk, IfSome};
 ghost use Rattle.pie_build.specs.Left.{KeepsRest};
 ghost use Rattle.pie_build.specs.inner.Rebuilt.{IsRefusal, Tells};
 ghost use Rattle.pie_incremental.specs.Own.{IsClosed};
@@ -7,13 +7,15 @@ ghost use Rattle.pie_incremental.specs.inner.Refused.{RefusesRight};
 ghost use Rattle.pie_incremental.specs.inner.Joined.{IsImage};
 ghost use Rattle.pie_incremental.specs.inner.Updated.{IsAfreshAfter};
 ghost use Rattle.pie_value.specs.Canonical.{IsEncodableTask};
-ghost use Rattle.pie_topdown_build.specs.inner.News.{AreNewsOf};
+ghost use Rattle.pie_topdown_build.specs.inner.News.{as_told, AreNewsOf};
 ghost use Rattle.pie_topdown_build.specs.inner.Offered.{IsNew};
 ghost use Rattle.pie_topdown_build.specs.Clean.{BuildsAsClean};
 ghost use Rattle.pie_topdown_build.specs.inner.Stored.{IsBegunFrom};
 ghost use Rattle.pie_topdown_build.specs.Ran.{RunsForReasons};
+ghost use Rattle.pie_topdown_build.specs.inner.Anew.{AnewAsClean, IsNoBase};
 ghost use Rattle.pie_topdown_build.specs.inner.Clean.{FromAsClean, OffersClean};
 ghost use Rattle.pie_topdown_build.specs.inner.Ran.{FromRuns};
+ghost use Rattle.pie_topdown_build.specs.inner.Records.{OffersOf, TellsAnew};
 ghost use Rattle.pie_topdown_build.specs.Refusals.{KeepsRefused};
 
 use crate::base::{Base, Start, find_base, no_base};
@@ -77,6 +79,7 @@ pub fn build_offered<F: Files, O: Offers>(
     ensures reused { IfOk result (λ o. All IsEncodableTask o.reused.items) }
     ensures new { IfOk result (λ o. All IsNew o.new.items) }
     ensures news { IfOk result (λ o. AreNewsOf IsClosed (F.holds files.old) (F.holds files.new) o) }
+    ensures honest { IfSome (F.holds files.old) (λ d. IfOk result (λ o. OffersOf (O.told offers.old) d o.report.value (map as_told o.new.items))) }
     ensures says { IfSome (F.holds files.old) (λ d. RefusesRight d result) }
     ensures told { Tells F.faults files.old files.new result }
 {
@@ -154,6 +157,7 @@ fn anew<F: Files, O: Offers>(
     ensures rest { KeepsRest (F.holds files.old) (F.holds files.new) }
     ensures refused { IsRefusal result → F.holds files.new ≡ F.holds files.old }
     ensures kept { IfSome (F.holds files.old) (λ d. IfOk result (λ o. KeepsRefused o.report.value.verdict d (F.holds files.new))) }
+    ensures clean { IfSome (F.holds files.old) (λ d. IfOk result (λ o. AnewAsClean (O.told offers.old) d o.report.value (F.holds files.new))) }
     ensures fresh { IfOk result (λ o. o.report.value.fresh ≡ Some cause) }
     ensures ran { IfOk result (λ o. runs.new ≡ runs.old ++ o.report.value.ran.items) }
     ensures few { length runs.new ≤ length runs.old + 50000 }
@@ -161,6 +165,7 @@ fn anew<F: Files, O: Offers>(
     ensures reused { IfOk result (λ o. All IsEncodableTask o.reused.items) }
     ensures new { IfOk result (λ o. All IsNew o.new.items) }
     ensures news { IfOk result (λ o. AreNewsOf IsClosed (F.holds files.old) (F.holds files.new) o) }
+    ensures honest { IfSome (F.holds files.old) (λ d. IfOk result (λ o. TellsAnew (O.told offers.old) d o.report.value.verdict (map as_told o.new.items))) }
     ensures says { IfSome (F.holds files.old) (λ d. RefusesRight d result) }
     ensures told { Tells F.faults files.old files.new result }
 {
@@ -184,6 +189,7 @@ fn anew_from<F: Files, O: Offers>(
     ensures rest { KeepsRest (F.holds files.old) (F.holds files.new) }
     ensures refused { IsRefusal result → F.holds files.new ≡ F.holds files.old }
     ensures kept { IfSome (F.holds files.old) (λ d. IfOk result (λ o. KeepsRefused o.report.value.verdict d (F.holds files.new))) }
+    ensures clean { IfSome (F.holds files.old) (λ d. IfOk result (λ o. IsNoBase base.value → AnewAsClean (O.told offers.old) d o.report.value (F.holds files.new))) }
     ensures fresh { IfOk result (λ o. o.report.value.fresh ≡ Some cause) }
     ensures ran { IfOk result (λ o. runs.new ≡ runs.old ++ o.report.value.ran.items) }
     ensures few { length runs.new ≤ length runs.old + 50000 }
@@ -191,6 +197,7 @@ fn anew_from<F: Files, O: Offers>(
     ensures reused { IfOk result (λ o. All IsEncodableTask o.reused.items) }
     ensures new { IfOk result (λ o. All IsNew o.new.items) }
     ensures news { IfOk result (λ o. AreNewsOf (IsBegunFrom base.value.store) (F.holds files.old) (F.holds files.new) o) }
+    ensures honest { IfSome (F.holds files.old) (λ d. IfOk result (λ o. IsNoBase base.value → TellsAnew (O.told offers.old) d o.report.value.verdict (map as_told o.new.items))) }
     ensures says { IfSome (F.holds files.old) (λ d. RefusesRight d result) }
     ensures told { Tells F.faults files.old files.new result }
 {

@@ -8,7 +8,7 @@ ghost use Rattle.pie_value.specs.Limits.{is_small_task};
 ghost use Rattle.pie_value.specs.declared.verdict.Verdict.TheVariants as verdicts;
 ghost use Rattle.pie_topdown_build.specs.inner.Bases.{Quiet};
 ghost use Rattle.pie_topdown_build.specs.inner.Cleaned.{LeavesBy};
-ghost use Rattle.pie_topdown_build.specs.inner.Stored.{IsBegunFrom, LeavesRowsIf};
+ghost use Rattle.pie_topdown_build.specs.inner.Stored.{AreRowsIf, IsBegunFrom, LeavesRowsIf};
 
 use crate::accepting::{Made, accept};
 use pie_base::OutOfMemory;
@@ -36,6 +36,7 @@ pub(crate) fn finish<F: Files>(
     ensures quiet { IfOk result (λ r. Quiet r.value.verdict (F.holds files.old) (F.holds files.new)) }
     ensures left { IfSome (F.holds files.old) (λ d. IfOk result (λ r. LeavesBy built.value.verdict store project.now.digests.items project.now.roots.items built.value d r.value (F.holds files.new))) }
     ensures stored { IfSome (F.holds files.old) (λ d. IsBegunFrom store d → OnOk result (LeavesRowsIf built.value.verdict project.now.digests.items built.value.rows.items (F.holds files.new))) }
+    ensures rows { OnOk result (AreRowsIf built.value.verdict built.value.rows.items) }
     ensures verdict { IfOk result (λ r. r.value.verdict ≡ built.value.verdict) }
     ensures fresh { IfOk result (λ r. r.value.fresh ≡ None) }
     ensures ran { IfOk result (λ r. r.value.ran ≡ ran) }

@@ -1,15 +1,19 @@
 //! What stands under `out/`, and whether names are pending.
 ghost use Rattle.std.specs.Prelude.{◌≡◌, is_some, IfOk, IfSome, OnOk};
+ghost use Rattle.pie_diff.specs.Hashes.{files_paths};
 ghost use Rattle.pie_diff.specs.inner.Held.{Looks};
 ghost use Rattle.pie_files.specs.Reading.{ReadsOnly};
 ghost use Rattle.pie_incremental.specs.Own.{bytes_at, pending_path};
 ghost use Rattle.pie_left_laws.specs.Held.{HoldsRightly};
+ghost use Rattle.pie_reach.specs.Plan.{IsPlan};
+ghost use Rattle.pie_topdown_build.specs.inner.Anew.{HoldsBeside};
 
 use pie_base::{OutOfMemory, Path};
+use pie_build::paths_of;
 use pie_diff::Held;
 use pie_files::{Files, FilesError};
+use pie_reach::plan_removals;
 use std::alloc::Global;
-use std::collections::BTreeSet;
 
 /// What stands under `out/`: every file is looked at.
 #[tactic(auto, using(pie_files::proofs::Reading::reads))]
@@ -31,6 +35,7 @@ pub(crate) fn held_beside<F: Files>(
     files: &mut F,
     contents: &[(Path, Vec<u8>)],
 ) -> Result<Held, FilesError>
+    ensures held { IfSome (F.holds files.old) (λ d. IfOk result (λ held. HoldsBeside contents.now held d)) }
     ensures reads { ReadsOnly F.holds F.moment F.left_since F.images F.faults files.old files.new result }
 {
     let out = Path::known(alloc, "out")?;
@@ -46,23 +51,12 @@ fn others_of(
     alloc: Global,
     paths: &[Path],
     contents: &[(Path, Vec<u8>)],
-) -> Result<Vec<Path>, OutOfMemory> {
-    let known = known_in(alloc, contents)?;
-    let mut others = Vec::new(alloc);
-    for path in paths {
-        if !known.contains(path) {
-            others.push(path.copy()?)?;
-        }
-    }
+) -> Result<Vec<Path>, OutOfMemory>
+    ensures { IfOk result (λ others. IsPlan paths.now (files_paths contents.now) others.items) }
+{
+    let beside = paths_of(alloc, contents)?;
+    let others = plan_removals(alloc, paths, beside.as_slice())?;
     Ok(others)
-}
-
-fn known_in(alloc: Global, contents: &[(Path, Vec<u8>)]) -> Result<BTreeSet<Path>, OutOfMemory> {
-    let mut known = BTreeSet::new(alloc);
-    for (path, _) in contents {
-        known.insert(path.copy()?)?;
-    }
-    Ok(known)
 }
 
 #[tactic(auto, using(pie_files::proofs::Reading::reads))]

@@ -17,6 +17,7 @@ ghost use Rattle.pie_topdown_build.specs.inner.Bases.{Quiet};
 ghost use Rattle.pie_topdown_build.specs.inner.Stored.{IsBegunFrom};
 ghost use Rattle.pie_topdown_build.specs.inner.Clean.{FromAsClean, RunsAsClean, RunsIfTold};
 ghost use Rattle.pie_topdown_build.specs.inner.Ran.{FromRuns, RunsBy, RunsByIfTold};
+ghost use Rattle.pie_topdown_build.specs.inner.Records.{TellsFrom, TellsOf, TellsOfIfReady};
 
 use crate::base::Base;
 use crate::evaluating::{Evaluated, evaluate};
@@ -56,6 +57,7 @@ pub(crate) fn from<F: Files, O: Offers>(
     ensures reused { IfOk result (λ o. All IsEncodableTask o.reused.items) }
     ensures new { IfOk result (λ o. All IsNew o.new.items) }
     ensures news { tells ≡ true → IfOk result (λ o. AreNewsOf (IsBegunFrom base.value.store) (F.holds files.old) (F.holds files.new) o) }
+    ensures honest { tells ≡ true → IfOk result (λ o. TellsFrom base.value (O.told offers.old) (F.holds files.old) o.report.value.verdict (map as_told o.new.items)) }
     ensures says { IfSome (F.holds files.old) (λ d. RefusesRight d result) }
     ensures told { Tells F.faults files.old files.new result }
 {
@@ -90,6 +92,7 @@ fn with_project<F: Files, O: Offers>(
     ensures reused { IfOk result (λ o. All IsEncodableTask o.reused.items) }
     ensures new { IfOk result (λ o. All IsNew o.new.items) }
     ensures news { tells ≡ true → IfOk result (λ o. TellsNewsOf (IsReadyFrom project.now base.value.store) project.now.digests.items (F.holds files.old) (F.holds files.new) o) }
+    ensures honest { tells ≡ true → IfOk result (λ o. TellsOfIfReady (F.holds files.old) project.now base.value.image (O.told offers.old) o.report.value.verdict (map as_told o.new.items)) }
     ensures says { IfSome (F.holds files.old) (λ d. RefusesRight d result) }
     ensures told { Tells F.faults files.old files.new result }
 {
@@ -156,6 +159,7 @@ fn run<F: Files, O: Offers>(
     ensures reused { IfOk result (λ o. All IsEncodableTask o.reused.items) }
     ensures new { IfOk result (λ o. All IsNew o.new.items) }
     ensures news { tells ≡ true → IfOk result (λ o. TellsNewsOf (IsBegunFrom base.value.store) project.now.digests.items (F.holds files.old) (F.holds files.new) o) }
+    ensures honest { tells ≡ true → IfOk result (λ o. TellsOf (F.holds files.old) project.now base.value.image (O.told offers.old) o.report.value.verdict (map as_told o.new.items)) }
     ensures counted { Counted F.faults FilesError.Failed files.old files.new result }
 {
     let Base { image, store } = Box::into_inner(base);

@@ -1,5 +1,5 @@
 -- What the parts of a build without a list say of an update.
-use Rattle.std.specs.Prelude.{◌≡◌, ℕ, List, [], map, Option, Some, None}
+use Rattle.std.specs.Prelude.{◌≡◌, ℕ, List, [], map, Option, Some, None, IsSome}
 use Rattle.pie_build.specs.Left.{IsProjectOf}
 use Rattle.pie_build.specs.inner.Projects.{IsReady}
 use Rattle.pie_checks.specs.declared.built.Built.{Built}
@@ -21,6 +21,7 @@ use Rattle.pie_value.specs.Canonical.{enc_task}
 use Rattle.pie_value.specs.declared.task.Task.{Task}
 use Rattle.pie_topdown_build.specs.declared.base.Base.{Base}
 use Rattle.pie_topdown_build.specs.Clean.{HasStoreOf, IsStoreCause}
+use Rattle.pie_topdown_build.specs.inner.Anew.{AnewAsClean, BuildsAnewOf, IsNoBase, IsUpdateAnew}
 use Rattle.pie_topdown_build.specs.inner.Bases.{HasBase}
 
 -- what an evaluation makes of each update to this project in what the files hold, from this store with its digests, where honest records are offered, is what
@@ -35,10 +36,12 @@ pub record IsUpdateBy (u : Update) (held : Option Directory) (b : Base) (p : Pro
   pub stored : IsFromStore u (digested u.directory p.digests.items b.image).funcs p.digests.items b.image.rows
   pub base : HasBase u.directory b
 
--- a build of this project from this base tells no cause to start afresh, and is that of each such update, where honest records are offered
+-- a build of this project from this base tells no cause to start afresh, and is that of each such update, where honest records are offered; and so it is where
+-- there was no store
 pub record RunsAsClean (b : Base) (p : Project) (told : Directory → Task → List ℕ → List Offered) (before after : Option Directory) (r : Report) : Type 0 where
   pub none : r.fresh ≡ None
   pub each : (u : Update) → IsUpdateBy u before b p → AreHonest u p.digests.items told → BuildsCleanOf u p.digests.items p.roots.items r after
+  pub anew : (u : Update) → IsUpdateAnew u before b p → AreHonest u p.digests.items told → BuildsAnewOf u p.digests.items p.roots.items r after
 
 -- so it is over files that tell their directory, where the functions are typed and the roots are tasks of them
 pub record RunsIfTold (b : Base) (p : Project) (told : Directory → Task → List ℕ → List Offered) (before after : Option Directory) (r : Report) : Type 0 where
@@ -65,13 +68,16 @@ pub record OffersHonest (e : Earlier) (strings : List (List ℕ)) (d : Directory
   pub each : (funcs : List (List ℕ × List ℕ)) (roots : List Task) (found : IsProjectOf d funcs roots)
       → AreHonest (update_of e strings d found.functions roots) funcs told
 
--- a build from this base tells no cause to start afresh, and is as a clean build where it has the store of an earlier one, and honest records are offered
+-- a build from this base tells no cause to start afresh, and is as a clean build where it has the store of an earlier one, or no store and no record, and honest
+-- records are offered
 pub record FromAsClean (b : Base) (told : Directory → Task → List ℕ → List Offered) (before after : Option Directory) (r : Report) : Type 0 where
   pub none : (d : Directory) → before ≡ Some d → r.fresh ≡ None
   pub each : (d : Directory) → before ≡ Some d → HasBase d b → (e : Earlier) (from : HasStoreOf e d) → OffersHonest e from.strings d told → IsAsClean d r after
+  pub anew : (d : Directory) → before ≡ Some d → IsNoBase b → AnewAsClean told d r after
 
 -- what a build with offers came to: a report that tells no cause to start afresh is as that of a clean build, where the directory has the store of an earlier
--- one, and honest records are offered; a cause that is told holds
+-- one, and honest records are offered; so is one that tells a cause, whatever was there; and the cause holds
 pub record OffersClean (told : Directory → Task → List ℕ → List Offered) (d : Directory) (r : Report) (after : Option Directory) : Type 0 where
   pub goes_on : r.fresh ≡ None → (e : Earlier) (from : HasStoreOf e d) → OffersHonest e from.strings d told → IsAsClean d r after
+  pub afresh : IsSome r.fresh → AnewAsClean told d r after
   pub cause : (c : Cause) → r.fresh ≡ Some c → IsStoreCause d c

@@ -19,6 +19,7 @@ use Rattle.pie_value.specs.declared.task.Task.{Task}
 use Rattle.pie_value.specs.declared.value.Value.{Value}
 use Rattle.pie_value.specs.declared.verdict.Verdict.{Verdict}
 use Rattle.pie_value.specs.declared.verdict.Verdict.TheVariants.{Accepted, Refused}
+use Rattle.pie_topdown_build.specs.inner.Anew.{HoldsBeside, IsKnownBeside, LeavesAnewOf}
 
 -- an update of this directory whose hashes separate what it meets, in which a build accepts and makes these records and files
 pub record IsExactBuild (u : Update) (rows : List TaskRecord) (contents : List (List ℕ × Vec ℕ Global)) (d : Directory) : Type 0 where
@@ -32,11 +33,14 @@ abbrev pub IsStoreIn : Option (Vec ℕ Global) → Directory → Type 0
 IsStoreIn None d = ⊥
 IsStoreIn (Some text) d = HasStore d text.items
 
--- so the directory after is that of the clean build, for each such update
+-- the directory after is that of the clean build, for each such update: where there was no store to build from, whatever was there, and else where no marker
+-- stands and the store is that of the directory
 abbrev pub LeavesWhere : Option (Vec ℕ Global) → List (List ℕ × List ℕ) → List Task → List TaskRecord → List (List ℕ × Vec ℕ Global) → List (Task × Value)
     → Directory → Report → Option Directory → Type 0
-LeavesWhere store funcs roots rows contents outputs d r after =
-    (u : Update) → IsExactBuild u rows contents d → IsStoreIn store d → LeavesCleanOf u funcs roots rows outputs d r after
+LeavesWhere None funcs roots rows contents outputs d r after =
+    (u : Update) → IsExactBuild u rows contents d → LeavesAnewOf u funcs roots rows outputs d r after
+LeavesWhere (Some text) funcs roots rows contents outputs d r after =
+    (u : Update) → IsExactBuild u rows contents d → HasStore d text.items → LeavesCleanOf u funcs roots rows outputs d r after
 
 -- the same of what was made, by its verdict
 abbrev pub LeavesBy : Verdict → Option (Vec ℕ Global) → List (List ℕ × List ℕ) → List Task → Built → Directory → Report → Option Directory → Type 0
@@ -45,10 +49,10 @@ LeavesBy (Refused x) store funcs roots b d r after = Unit {0}
 
 -- ---- what the parts say to each other
 
--- what is held is what the directory has, where there was a store to build from
-abbrev pub HoldsBy : Option (Vec ℕ Global) → List (List ℕ × List ℕ) → Directory → Type 0
-HoldsBy None held d = Unit {0}
-HoldsBy (Some text) held d = HoldsRightly held d
+-- what is held is what the directory has; beside these files where there was no store to build from
+abbrev pub HoldsBy : Option (Vec ℕ Global) → List (List ℕ × Vec ℕ Global) → List (List ℕ × List ℕ) → Directory → Type 0
+HoldsBy None contents held d = HoldsBeside contents held d
+HoldsBy (Some text) contents held d = HoldsRightly held d
 
 -- the bytes of the store that there was to build from, and whether names are pending in a directory
 pub record IsOwnOf (store : Option (Vec ℕ Global)) (d : Directory) (own : OwnFiles) : Type 0 where
@@ -66,3 +70,9 @@ abbrev pub PutsWhere : OwnFiles → List (List ℕ × List ℕ) → List (List �
     → List (Task × Value) → Directory → Report → Option Directory → Type 0
 PutsWhere own held funcs roots rows contents outputs d r after =
     IsKnownOf own held d → (u : Update) → IsExactBuild u rows contents d → LeavesCleanOf u funcs roots rows outputs d r after
+
+-- so it is where there was no store, with what is known then
+abbrev pub PutsAnew : OwnFiles → List (List ℕ × List ℕ) → List (List ℕ × List ℕ) → List Task → List TaskRecord → List (List ℕ × Vec ℕ Global)
+    → List (Task × Value) → Directory → Report → Option Directory → Type 0
+PutsAnew own held funcs roots rows contents outputs d r after =
+    IsKnownBeside own contents held d → (u : Update) → IsExactBuild u rows contents d → LeavesAnewOf u funcs roots rows outputs d r after

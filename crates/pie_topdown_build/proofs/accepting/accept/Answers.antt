@@ -1,3 +1,6 @@
+use Rattle.std.proofs.Common.{ℕ, List, Vec, Global, subst}
+use Rattle.std.specs.Prelude.{IfSome}
+use Rattle.pie_topdown_build.specs.inner.Cleaned.{HoldsBy}
 use Rattle.pie_topdown_build.proofs.Leaving.{looked_leaves}
 use Rattle.pie_topdown_build.proofs.Storing.{rows_from}
 use Rattle.pie_topdown_build.proofs.accepting.accept.Goals as goal
@@ -7,7 +10,11 @@ returns-clause-left g c =
     looked_leaves c.args.store c.in_ok-own.own c.in_ok-held.held c.args.project.now.digests.items c.args.project.now.roots.items c.args.made.rows.items
     c.args.made.contents.items c.args.made.outputs.items (g.F.Files.holds c.args.files.now) (g.F.Files.holds c.held_now.new.files)
     (g.F.Files.holds c.own_files.new.files) (g.F.Files.holds c.put_into_place.new.files) c.put_into_place.result c.in_ok-held.ensures.reads.same
-    c.in_ok-own.ensures.reads.same c.in_ok-held.ensures.held c.in_ok-own.ensures.own c.put_into_place.ensures.left
+    c.in_ok-own.ensures.reads.same
+    (subst (λ (cs : List (List ℕ × Vec ℕ Global)). IfSome (g.F.Files.holds c.args.files.now) (HoldsBy c.args.store cs c.in_ok-held.held))
+    c.as_slice.ensures.value c.in_ok-held.ensures.held)
+    c.in_ok-own.ensures.own c.in_ok-own.ensures.none c.put_into_place.ensures.left
+    c.put_into_place.ensures.anew
 
 pub returns-clause-stored : goal.returns-clause-stored
 returns-clause-stored g c =

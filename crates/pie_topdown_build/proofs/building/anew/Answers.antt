@@ -1,7 +1,19 @@
+use Rattle.pie_topdown_build.proofs.Cleanly.{anew_by}
 use Rattle.pie_topdown_build.proofs.Handing.{told_anew}
+use Rattle.pie_topdown_build.proofs.Offering.{tells_anew}
 use Rattle.pie_topdown_build.proofs.building.anew.Goals as goal
+
+pub returns-in-Ok-clause-clean : goal.returns-in-Ok-clause-clean
+returns-in-Ok-clause-clean g c =
+    anew_by (g.O.Offers.told c.args.offers.now) c.in-Ok.base.value (g.F.Files.holds c.args.files.now) (g.F.Files.holds c.anew_from.new.files) c.anew_from.result
+    c.in-Ok.ensures.none c.anew_from.ensures.clean
 
 pub returns-in-Ok-clause-news : goal.returns-in-Ok-clause-news
 returns-in-Ok-clause-news g c =
-    told_anew c.in-Ok.base (g.F.Files.holds c.args.files.now) (g.F.Files.holds c.anew_from.new.files) c.anew_from.result c.in-Ok.ensures.none
+    told_anew c.in-Ok.base (g.F.Files.holds c.args.files.now) (g.F.Files.holds c.anew_from.new.files) c.anew_from.result c.in-Ok.ensures.none.store
     c.anew_from.ensures.news
+
+pub returns-in-Ok-clause-honest : goal.returns-in-Ok-clause-honest
+returns-in-Ok-clause-honest g c =
+    tells_anew (g.O.Offers.told c.args.offers.now) c.in-Ok.base.value (g.F.Files.holds c.args.files.now) c.anew_from.result c.in-Ok.ensures.none
+    c.anew_from.ensures.honest

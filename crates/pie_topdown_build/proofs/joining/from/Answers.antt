@@ -1,5 +1,6 @@
 use Rattle.pie_topdown_build.proofs.Cleanly.{from_project}
 use Rattle.pie_topdown_build.proofs.Handing.{told_of_project}
+use Rattle.pie_topdown_build.proofs.Offering.{tells_of_project}
 use Rattle.pie_topdown_build.proofs.Reasons.{project_runs}
 use Rattle.pie_topdown_build.proofs.joining.from.Goals as goal
 
@@ -21,3 +22,10 @@ returns-in-Ok-clause-runs g c =
     let e = c.in-Ok.ensures in
     project_runs c.args.base.value c.in-Ok.project (g.O.Offers.told c.args.offers.now) (g.F.Files.holds c.args.files.now)
     (g.F.Files.holds c.read_project.new.files) c.with_project.result e.looks.same e.found e.digests e.names e.funcs c.with_project.ensures.runs
+
+pub returns-in-Ok-clause-honest : goal.returns-in-Ok-clause-honest
+returns-in-Ok-clause-honest g c =
+    let e = c.in-Ok.ensures in
+    tells_of_project c.args.base.value c.in-Ok.project (g.O.Offers.told c.args.offers.now) (g.F.Files.holds c.args.files.now)
+    (g.F.Files.holds c.read_project.new.files) c.args.tells c.with_project.result e.looks.same e.found e.digests e.names e.funcs
+    c.with_project.ensures.honest

@@ -6,7 +6,9 @@ use Rattle.pie_topdown_build.specs.declared.base.Base.{Base}
 use Rattle.pie_topdown_build.specs.inner.Clean.{RunsAsClean}
 use Rattle.pie_topdown_build.specs.inner.News.{as_told, news_in, TellsNews}
 use Rattle.pie_topdown_build.specs.inner.Stored.{IsBegunFrom}
+use Rattle.pie_topdown_build.specs.inner.Records.{TellsOf}
 use Rattle.pie_topdown_build.proofs.Handing.{told_of_made}
+use Rattle.pie_topdown_build.proofs.Offering.{made_tells}
 use Rattle.pie_incremental.proofs.Joining.{told_report}
 use Rattle.pie_topdown_build.specs.inner.Ran.{RunsBy}
 use Rattle.pie_topdown_build.proofs.Running.{runs_clean}
@@ -42,6 +44,21 @@ returns-in-Ok-clause-news g c = λ on.
     subst (λ (x : Base). TellsNews (IsBegunFrom x.store) funcs before after r.verdict r.ran.items told) c.into_inner-image.ensures
     (told_of_made funcs c.into_inner-image.result.store b r ran before (g.F.Files.holds c.evaluate.new.files) after told tells
     (ap (λ (v : Vec Task Global). v.items) c.in-Ok.ensures.ran) c.in-Ok.ensures.verdict c.in_ok-built.ensures.reads.same c.in-Ok.ensures.stored)
+
+pub returns-in-Ok-clause-honest : goal.returns-in-Ok-clause-honest
+returns-in-Ok-clause-honest g c = λ on.
+    let p = c.args.project.now in
+    let offers = g.O.Offers.told c.args.offers.now in
+    let before = g.F.Files.holds c.args.files.now in
+    let b = c.in_ok-built.field-0.built.value in
+    let told = map as_told c.in_ok-new.new.items in
+    let made : c.deref.result.now ≡ b = search rules in
+    let tells : told ≡ news_in p.digests.items b.rows.items (contents_in b.files.items) c.as_slice-2.result.now =
+    c.in_ok-new.ensures.news on
+    ∙ ap (λ (x : Built). news_in p.digests.items x.rows.items (contents_in x.files.items) c.as_slice-2.result.now) made in
+    subst (λ (x : Base). TellsOf before p x.image offers c.in-Ok.report.value.verdict told) c.into_inner-image.ensures
+    (made_tells p c.into_inner-image.result.image offers before b c.in-Ok.report.value.verdict c.as_slice-2.result.now told c.in_ok-built.ensures.clean
+    c.in-Ok.ensures.verdict c.in-Ok.ensures.rows tells)
 
 pub returns-in-Ok-clause-runs : goal.returns-in-Ok-clause-runs
 returns-in-Ok-clause-runs g c =

@@ -4,6 +4,7 @@ use Rattle.pie_value.specs.Limits.{is_small_task}
 use Rattle.pie_value.specs.declared.task.Task.{Task}
 use Rattle.pie_topdown_build.specs.inner.News.{as_told}
 use Rattle.pie_topdown_build.proofs.Handing.{told_if_large, told_if_ready}
+use Rattle.pie_topdown_build.proofs.Offering.{tells_if_large, tells_if_ready}
 use Rattle.pie_topdown_build.proofs.Running.{large_ok, runs_ok}
 use Rattle.pie_topdown_build.proofs.Reasons.{large_ran, ran_ok}
 use Rattle.pie_topdown_build.proofs.joining.with_project.Goals as goal
@@ -42,3 +43,16 @@ returns-then-not-are_small-clause-runs g c =
 pub returns-in-Ok-clause-runs : goal.returns-in-Ok-clause-runs
 returns-in-Ok-clause-runs g c =
     ran_ok c.args.base.value c.args.project.now (g.O.Offers.told c.args.offers.now) (g.F.Files.holds c.args.files.now) c.in-Ok.offered c.in-Ok.ensures.runs
+
+pub returns-then-not-are_small-clause-honest : goal.returns-then-not-are_small-clause-honest
+returns-then-not-are_small-clause-honest g c =
+    tells_if_large c.args.project.now c.args.base.value.image (g.O.Offers.told c.args.offers.now) (g.F.Files.holds c.args.files.now) c.args.tells
+    c.rebuilt.result
+    (subst (λ (roots : List Task). ¬ (All (λ (t : Task). is_small_task t ≡ true) roots)) c.as_slice.ensures.value
+    (c.are_small.ensures.large c.if-not-are_small.true))
+
+pub returns-in-Ok-clause-honest : goal.returns-in-Ok-clause-honest
+returns-in-Ok-clause-honest g c = λ on.
+    let o = c.in-Ok.offered in
+    tells_if_ready c.args.project.now c.args.base.value.image (g.O.Offers.told c.args.offers.now) (g.F.Files.holds c.args.files.now) o.report.value.verdict
+    (map as_told o.new.items) (c.in-Ok.ensures.honest on)
