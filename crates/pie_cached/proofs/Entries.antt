@@ -10,23 +10,22 @@ use Rattle.sha2.specs.Sha256.{sha256}
 use Rattle.pie_cache.proofs.Wholes.{read_again}
 use Rattle.pie_cache.specs.declared.cache_fault.CacheFault.{CacheFault}
 use Rattle.pie_cache.specs.inner.Clearing.{HasCleared}
-use Rattle.pie_cache.specs.inner.Places.{gate}
 use Rattle.pie_cache.specs.inner.Reading.{cache_says}
 use Rattle.pie_cache.specs.inner.Stored.{entries_of, offers_in, or_none}
 use Rattle.pie_cache.specs.inner.Texts.{enc_body, enc_entry, magic, AreContents, IsCacheText, IsEntry}
+use Rattle.pie_core_laws.specs.Update.{Update, MetIn}
 use Rattle.pie_earlier_laws.specs.Functions.{digest_under}
 use Rattle.pie_files.specs.Directory.{Directory, file_at}
 use Rattle.pie_incremental.specs.Earlier.{Earlier}
-use Rattle.pie_parser.specs.FunctionTrees.{FunctionTree}
-use Rattle.pie_report.specs.declared.report.Report.{Report}
+use Rattle.pie_topdown_build.specs.Anew.{IsMetAlone}
+use Rattle.pie_topdown_build.specs.inner.Anew.{update_alone, OffersHonestAlone}
 use Rattle.pie_topdown_build.specs.inner.Clean.{update_of, OffersHonest}
-use Rattle.pie_topdown_result_laws.specs.Builds.{IsHonest}
+use Rattle.pie_topdown_result_laws.specs.Builds.{AreHonest, IsHonest}
 use Rattle.pie_value.specs.declared.task.Task.{Task}
 use Rattle.pie_cached.specs.Cached.{is_cached}
 use Rattle.pie_cached.specs.Kept.{cache_file}
-use Rattle.pie_cached.specs.Clean.{entries_bytes, entry_bytes, AreHonestIn, CachesClean, Entry, HaveHashes, IsFileOf, IsHonestCache, IsHonestEntry}
-use Rattle.pie_cached.specs.Clean.{IsWholeEntry}
-use Rattle.pie_cached.specs.inner.Clean.{CachesCleanBy}
+use Rattle.pie_cached.specs.Clean.{entries_bytes, entry_bytes, AreHonestIn, Entry, HaveHashes, IsFileOf, IsHonestCache, IsHonestEntry}
+use Rattle.pie_cached.specs.Clean.{IsMetBy, IsWholeEntry}
 
 -- ---- the text of a file
 
@@ -35,7 +34,7 @@ unfolding enc_entry
 same_bytes [] = refl
 same_bytes (e ∷ es) = ap (λ (t : List ℕ). entry_bytes e ++ t) (same_bytes es)
 
-same_body : (es : List Entry) → entries_bytes es ≡ enc_body es
+pub same_body : (es : List Entry) → entries_bytes es ≡ enc_body es
 same_body es = ap (λ (t : List ℕ). magic ++ (1 ∷ (length es ∷ t))) (same_bytes es)
 
 same_contents : (writes : List (List ℕ × List ℕ)) (contents : List (List ℕ)) → HaveHashes writes contents → AreContents writes contents
@@ -44,7 +43,7 @@ same_contents [] (c ∷ contents) h = absurd h
 same_contents (w ∷ writes) [] h = absurd h
 same_contents (w ∷ writes) (c ∷ contents) h = (h.0, h.1, same_contents writes contents h.2)
 
-is_text : (es : List Entry) (bytes : List ℕ) → IsFileOf es bytes → IsCacheText es bytes
+pub is_text : (es : List Entry) (bytes : List ℕ) → IsFileOf es bytes → IsCacheText es bytes
 is_text es bytes f = record {
   count = (f.some, f.few);
   each = All-weaker IsWholeEntry IsEntry (λ e w. (w.0, same_contents e.0.writes e.1 w.1)) es f.each;
@@ -69,26 +68,25 @@ under_contains (row ∷ rows) n d h = by (bytes_eq n row.0) refl h (under_contai
         (0, omega arith, (λ z. (sym name z, digest z)))
     by false e k f = let c = f k in (suc c.0, next c.0 (length rows) c.1, c.2)
 
-said : (P : Entry → Type 0) (b : Bool) (r : Result (List Entry) CacheFault) (es : List Entry) → r ≡ Ok es → All P es → All P (cond b [] (or_none r))
+pub said : (P : Entry → Type 0) (b : Bool) (r : Result (List Entry) CacheFault) (es : List Entry) → r ≡ Ok es → All P es → All P (cond b [] (or_none r))
 said P true r es is all = All-nil P
 said P false r es is all = subst (λ (x : Result (List Entry) CacheFault). All P (or_none x)) (sym is) all
 
-long : (P : Entry → Type 0) (b : Bool) (es : List Entry) → b ≡ true → All P (cond b [] es)
+pub long : (P : Entry → Type 0) (b : Bool) (es : List Entry) → b ≡ true → All P (cond b [] es)
 long P true es is = All-nil P
 long P false es is = absurd (cc)
 
-too_long : (n m : ℕ) → n < m → nat_lt n m ≡ true
+pub too_long : (n m : ℕ) → n < m → nat_lt n m ≡ true
 too_long n m lt = lt-ltb n m lt
 
-offered : (P Q : Entry → Type 0) (o : Option (List ℕ × ℕ)) → ((e : Entry) → P e → Q e) → AreHonestIn P o → All Q (entries_of o)
+pub offered : (P Q : Entry → Type 0) (o : Option (List ℕ × ℕ)) → ((e : Entry) → P e → Q e) → AreHonestIn P o → All Q (entries_of o)
 offered P Q None f h = All-nil Q
 offered P Q (Some file) f (inl over) = long Q (nat_lt 16777216 (length file.0)) (or_none (cache_says file.0)) (too_long 16777216 (length file.0) over)
 offered P Q (Some file) f (inr x) =
     said Q (nat_lt 16777216 (length file.0)) (cache_says file.0) x.0 (read_again x.0 file.0 (is_text x.0 file.0 x.1)) (All-weaker P Q f x.0 x.2)
 
-honest_of : (e : Earlier) (strings : List (List ℕ)) (d : Directory) (fs : List FunctionTree) (roots : List Task) (entry : Entry)
-    → IsHonestEntry e strings d fs roots entry → IsHonest (update_of e strings d fs roots) entry
-honest_of e strings d fs roots entry h = record {
+honest_of : (u : Update) (entry : Entry) → IsHonestEntry (MetIn u) u.directory u.functions entry → IsHonest u entry
+honest_of u entry h = record {
   before = h.before;
   was = h.was;
   done = h.done;
@@ -99,30 +97,28 @@ honest_of e strings d fs roots entry h = record {
   wrote = h.wrote;
 }
 
-offers_honest : (e : Earlier) (strings : List (List ℕ)) (d : Directory) → IsHonestCache e strings d → OffersHonest e strings d offers_in
+-- so are all that are offered where the files of the cache are honest
+all_honest : (u : Update) (funcs : List (List ℕ × List ℕ))
+    → ((t : Task) (digest : List ℕ) → Contains funcs (t.func, digest)
+    → AreHonestIn (IsHonestEntry (MetIn u) u.directory u.functions) (file_at u.directory (cache_file t digest)))
+    → AreHonest u funcs offers_in
+all_honest u funcs each t digest has =
+    offered (IsHonestEntry (MetIn u) u.directory u.functions) (IsHonest u) (file_at u.directory (cache_file t digest)) (honest_of u)
+    (each t digest (under_contains funcs t.func digest has))
+
+pub offers_honest : (e : Earlier) (strings : List (List ℕ)) (d : Directory) → IsHonestCache (IsMetBy e strings d) d → OffersHonest e strings d offers_in
 offers_honest e strings d cache = record {
-  each = λ funcs roots found t digest has.
-      offered (IsHonestEntry e strings d found.functions roots) (IsHonest (update_of e strings d found.functions roots)) (file_at d (cache_file t digest))
-      (honest_of e strings d found.functions roots) (cache.each funcs roots found t digest (under_contains funcs t.func digest has));
+  each = λ funcs roots found. all_honest (update_of e strings d found.functions roots) funcs (cache.each funcs roots found);
+}
+
+pub alone_honest : (strings : List (List ℕ)) (d : Directory) → IsHonestCache (IsMetAlone strings d) d → OffersHonestAlone strings d offers_in
+alone_honest strings d cache = record {
+  each = λ funcs roots found. all_honest (update_alone strings d found.functions roots) funcs (cache.each funcs roots found);
 }
 
 -- ---- what opening left
 
-opened_as : (d opened : Directory) (o : Option (List ℕ × ℕ)) → cond (is_some o) (HasCleared (Some opened)) (Some opened ≡ Some d)
+pub opened_as : (d opened : Directory) (o : Option (List ℕ × ℕ)) → cond (is_some o) (HasCleared (Some opened)) (Some opened ≡ Some d)
     → (o ≡ None → opened ≡ d) × (IsSome o → (q : List ℕ) → is_cached q ≡ true → file_at opened q ≡ None)
 opened_as d opened None h = (λ none. cc h, λ some. absurd (false≢true some))
 opened_as d opened (Some f) h = (λ none. absurd (cc none), λ some q in_it. subst (λ (x : Directory). file_at x q ≡ None) (sym (cc (h.1))) (h.2 q in_it))
-
--- ---- the whole
-
-pub clean_of : (d : Directory) (r : Report) (after : Option Directory) → CachesCleanBy d r after → CachesClean d r after
-clean_of d r after by =
-    let opens = opened_as d by.opened (file_at d gate) by.opens in
-    record {
-      opened = by.opened;
-      opens = record { whole = opens.0; emptied = opens.1; same = by.same };
-      left = by.builds.left;
-      goes_on = λ none e from honest. by.builds.clean.goes_on none e from (offers_honest e from.strings by.opened honest);
-      cause = by.builds.clean.cause;
-      keeps = by.builds.keeps;
-    }

@@ -99,7 +99,7 @@ some_same : (d e : Directory) → Some d ≡ Some e → d ≡ e
 some_same d e is = cc
 
 -- a build changes no file of the cache
-cache_stays : (q : List ℕ) → is_cached q ≡ true → may_change q ≡ false
+pub cache_stays : (q : List ℕ) → is_cached q ≡ true → may_change q ≡ false
 cache_stays q on = by (rest_below (codes ".pie/cache") q) refl on
   where
     by : (o : Option (List ℕ)) → rest_below (codes ".pie/cache") q ≡ o → is_some o ≡ true → may_change q ≡ false

@@ -18,21 +18,24 @@ use Rattle.pie_cached.specs.Kept.{opened_file, IsFileOfRan, KeepsCached, KeepsFi
 use Rattle.pie_cached.specs.inner.News.{kept_of, last_told, KeepsIn, LeavesCache}
 
 -- what is told for a path has its task's cache file there
-told_at : (told : List Told) (path : List ℕ) (o : Offered) → last_told told path ≡ Some o
-    → (t : Told) × Contains told t × (path ≡ cache_path t.1.0.task t.0)
+pub told_at : (told : List Told) (path : List ℕ) (o : Offered) → last_told told path ≡ Some o
+    → (t : Told) × Contains told t × (path ≡ cache_path t.1.0.task t.0) × (t.1 ≡ o)
 told_at [] path o e = let f : ⊥ = cc in absurd f
 told_at (t ∷ told) path o e = by (λ q f. told_at told path q f) (last_told told path) refl e
   where
+    one : (x y : Offered) → Some x ≡ Some y → x ≡ y
+    one x y g = cc
+
     here : (b : Bool) → same_text path (cache_path t.1.0.task t.0) ≡ b → cond b (Some t.1) None ≡ Some o
-        → (x : Told) × Contains (t ∷ told) x × (path ≡ cache_path x.1.0.task x.0)
-    here true is f = (t, (0, omega arith, refl), same_path path (cache_path t.1.0.task t.0) is)
+        → (x : Told) × Contains (t ∷ told) x × (path ≡ cache_path x.1.0.task x.0) × (x.1 ≡ o)
+    here true is f = (t, (0, omega arith, refl), same_path path (cache_path t.1.0.task t.0) is, one t.1 o f)
     here false is f = let g : ⊥ = cc in absurd g
 
-    by : ((q : Offered) → last_told told path ≡ Some q → (x : Told) × Contains told x × (path ≡ cache_path x.1.0.task x.0)) → (p : Option Offered)
-        → last_told told path ≡ p → or_else p (cond (same_text path (cache_path t.1.0.task t.0)) (Some t.1) None) ≡ Some o
-        → (x : Told) × Contains (t ∷ told) x × (path ≡ cache_path x.1.0.task x.0)
+    by : ((q : Offered) → last_told told path ≡ Some q → (x : Told) × Contains told x × (path ≡ cache_path x.1.0.task x.0) × (x.1 ≡ q))
+        → (p : Option Offered) → last_told told path ≡ p → or_else p (cond (same_text path (cache_path t.1.0.task t.0)) (Some t.1) None) ≡ Some o
+        → (x : Told) × Contains (t ∷ told) x × (path ≡ cache_path x.1.0.task x.0) × (x.1 ≡ o)
     by more None is f = here (same_text path (cache_path t.1.0.task t.0)) refl f
-    by more (Some q) is f = let r = more q is in (r.0, (suc r.1.0, omega (arith, r.1.1), r.1.2), r.2)
+    by more (Some q) is f = let r = more q is in (r.0, (suc r.1.0, omega (arith, r.1.1), r.1.2), r.2, r.3 ∙ one q o f)
 
 module _ (d : Directory) (r : Report) (after : Option Directory) (l : LeavesCache d r after) where
   -- the cache file of what is told is that of a task that ran

@@ -10,7 +10,7 @@ use Rattle.pie_value.specs.declared.task.Task.{Task}
 use Rattle.pie_value.specs.Canonical.{IsEncodableTask}
 use Rattle.pie_cached.specs.Cached.{StaysIfRefused}
 use Rattle.pie_cached.proofs.Keeping.{after_build}
-use Rattle.pie_cached.proofs.Cleanly.{finished_clean}
+use Rattle.pie_cached.proofs.Cleanly.{all_kept, finished_clean}
 use Rattle.pie_cached.proofs.Others.{both, if_refused, of_build, of_cache}
 use Rattle.pie_cached.proofs.Refusing.{handed_on, never}
 use Rattle.pie_cached.proofs.building.with_cache.Goals as goal
@@ -41,8 +41,10 @@ returns-in-Ok-clause-cache g c =
 
 pub returns-in-Ok-clause-clean : goal.returns-in-Ok-clause-clean
 returns-in-Ok-clause-clean g c =
-    finished_clean c.in-Ok.offered.report.value c.finish.result (g.F.Files.holds c.args.files.now) (g.F.Files.holds c.build_offered.new.files)
-    (g.F.Files.holds c.finish.new.files) c.in-Ok.ensures.rest c.in-Ok.ensures.clean c.finish.ensures.rest c.finish.ensures.report
+    let news = c.in-Ok.offered.new.items in
+    finished_clean c.in-Ok.offered.report.value (map as_told news) (all_kept news c.in-Ok.ensures.new) c.finish.result (g.F.Files.holds c.args.files.now)
+    (g.F.Files.holds c.build_offered.new.files) (g.F.Files.holds c.finish.new.files) c.in-Ok.ensures.rest c.in-Ok.ensures.clean c.in-Ok.ensures.honest
+    c.finish.ensures.rest c.finish.ensures.cache c.finish.ensures.report
 
 pub returns-in-Ok-clause-ran : goal.returns-in-Ok-clause-ran
 returns-in-Ok-clause-ran g c =

@@ -1,7 +1,7 @@
 use Rattle.std.proofs.Common.{inl, inr}
 use Rattle.std.specs.Prelude.{Vec}
 use Rattle.std.specs.declared.alloc.Global.{Global}
-use Rattle.pie_cached.proofs.Entries.{clean_of}
+use Rattle.pie_cached.proofs.Honestly.{clean_of}
 use Rattle.pie_cached.specs.Clean.{CachesClean}
 use Rattle.pie_cached.specs.inner.Clean.{CachesCleanBy}
 use Rattle.pie_files.proofs.Reading.{if_each}
