@@ -2,6 +2,7 @@ pub mod ByBytes
 pub mod Cleanly
 pub mod Complete
 pub mod Contents
+pub mod Crashing
 pub mod Finding
 pub mod Handing
 pub mod Holding

@@ -2,6 +2,7 @@
 pub mod Bases
 pub mod Clean
 pub mod Cleaned
+pub mod Crashes
 pub mod News
 pub mod Offered
 pub mod Ran

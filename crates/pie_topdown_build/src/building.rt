@@ -1,18 +1,24 @@
 //! A build that needs no list of changes.
 ghost use Rattle.std.specs.Prelude.{◌≡◌, ◌≤◌, ◌+◌, ◌++◌, [], Some, length, All, IfOk, IfSome};
-ghost use Rattle.pie_build.specs.Left.{KeepsRest};
+ghost use Rattle.pie_build.specs.Crashes.{IsDone, StaysAtRest};
+ghost use Rattle.pie_build.specs.Left.{KeepsRest, Leaves};
 ghost use Rattle.pie_build.specs.inner.Rebuilt.{IsRefusal, Tells};
+ghost use Rattle.pie_commit.specs.Outcomes.{LeavesFromRest};
+ghost use Rattle.pie_incremental.specs.Crashes.{EndsMarked};
 ghost use Rattle.pie_incremental.specs.Own.{IsClosed};
 ghost use Rattle.pie_incremental.specs.inner.Refused.{RefusesRight};
 ghost use Rattle.pie_incremental.specs.inner.Joined.{IsImage};
 ghost use Rattle.pie_incremental.specs.inner.Updated.{IsAfreshAfter};
+ghost use Rattle.pie_project.specs.Refusals.{IsVerdict};
 ghost use Rattle.pie_value.specs.Canonical.{IsEncodableTask};
 ghost use Rattle.pie_topdown_build.specs.inner.News.{AreNewsOf};
 ghost use Rattle.pie_topdown_build.specs.inner.Offered.{IsNew};
 ghost use Rattle.pie_topdown_build.specs.Clean.{BuildsAsClean};
+ghost use Rattle.pie_topdown_build.specs.Crashes.{HasEnded, KeepsOthers, MayStop, StopsWith};
 ghost use Rattle.pie_topdown_build.specs.inner.Stored.{IsBegunFrom};
 ghost use Rattle.pie_topdown_build.specs.Ran.{RunsForReasons};
 ghost use Rattle.pie_topdown_build.specs.inner.Clean.{FromAsClean, OffersClean};
+ghost use Rattle.pie_topdown_build.specs.inner.Crashes.{Endures, EndsFrom, EndsOffered};
 ghost use Rattle.pie_topdown_build.specs.inner.Ran.{FromRuns};
 ghost use Rattle.pie_topdown_build.specs.Refusals.{KeepsRefused};
 
@@ -42,6 +48,9 @@ pub fn build_topdown<F: Files>(
     ensures refused { IsRefusal result → F.holds files.new ≡ F.holds files.old }
     ensures kept { IfSome (F.holds files.old) (λ d. IfOk result (λ r. KeepsRefused r.verdict d (F.holds files.new))) }
     ensures clean { IfSome (F.holds files.old) (λ d. IfOk result (λ r. BuildsAsClean d r (F.holds files.new))) }
+    ensures crash { LeavesFromRest F.holds F.moment F.left_since F.images MayStop files.old files.new }
+    ensures marked { EndsMarked F.holds F.images HasEnded files.old files.new }
+    ensures durable { IsVerdict result → StaysAtRest F.holds F.images files.old files.new }
     ensures runs { IfSome (F.holds files.old) (λ d. IfOk result (RunsForReasons d)) }
     ensures ran { IfOk result (λ r. runs.new ≡ runs.old ++ r.ran.items) }
     ensures few { length runs.new ≤ length runs.old + 50000 }
@@ -71,6 +80,9 @@ pub fn build_offered<F: Files, O: Offers>(
     ensures refused { IsRefusal result → F.holds files.new ≡ F.holds files.old }
     ensures kept { IfSome (F.holds files.old) (λ d. IfOk result (λ o. KeepsRefused o.report.value.verdict d (F.holds files.new))) }
     ensures clean { IfSome (F.holds files.old) (λ d. IfOk result (λ o. OffersClean (O.told offers.old) d o.report.value (F.holds files.new))) }
+    ensures crash { LeavesFromRest F.holds F.moment F.left_since F.images (StopsWith (EndsOffered (O.told offers.old))) files.old files.new }
+    ensures marked { EndsMarked F.holds F.images (EndsOffered (O.told offers.old)) files.old files.new }
+    ensures durable { IsVerdict result → StaysAtRest F.holds F.images files.old files.new }
     ensures ran { IfOk result (λ o. runs.new ≡ runs.old ++ o.report.value.ran.items) }
     ensures few { length runs.new ≤ length runs.old + 50000 }
     ensures encodable { IfOk result (λ o. All IsEncodableTask o.report.value.ran.items) }
@@ -101,6 +113,7 @@ fn from_store<F: Files>(
     ensures refused { IsRefusal result → F.holds files.new ≡ F.holds files.old }
     ensures kept { IfSome (F.holds files.old) (λ d. IfOk result (λ r. KeepsRefused r.verdict d (F.holds files.new))) }
     ensures clean { IfOk result (FromAsClean base.value (λ d t digest. []) (F.holds files.old) (F.holds files.new)) }
+    ensures crash { Endures F.holds F.moment F.left_since F.images (EndsFrom base.value (λ d t digest. [])) (IsVerdict result) files.old files.new }
     ensures runs { IfOk result (FromRuns base.value (λ d t digest. []) (F.holds files.old)) }
     ensures ran { IfOk result (λ r. runs.new ≡ runs.old ++ r.ran.items) }
     ensures few { length runs.new ≤ length runs.old + 50000 }
@@ -126,6 +139,7 @@ fn afresh<F: Files>(
     ensures refused { IsRefusal result → F.holds files.new ≡ F.holds files.old }
     ensures kept { IfSome (F.holds files.old) (λ d. IfOk result (λ r. KeepsRefused r.verdict d (F.holds files.new))) }
     ensures clean { IfSome (F.holds files.old) (λ d. IfOk result (λ r. IsAfreshAfter d r (F.holds files.new) [])) }
+    ensures crash { Endures F.holds F.moment F.left_since F.images (IsDone Leaves) (IsVerdict result) files.old files.new }
     ensures fresh { IfOk result (λ r. r.fresh ≡ Some cause) }
     ensures ran { IfOk result (λ r. runs.new ≡ runs.old ++ r.ran.items) }
     ensures few { length runs.new ≤ length runs.old + 50000 }
@@ -154,6 +168,7 @@ fn anew<F: Files, O: Offers>(
     ensures rest { KeepsRest (F.holds files.old) (F.holds files.new) }
     ensures refused { IsRefusal result → F.holds files.new ≡ F.holds files.old }
     ensures kept { IfSome (F.holds files.old) (λ d. IfOk result (λ o. KeepsRefused o.report.value.verdict d (F.holds files.new))) }
+    ensures crash { Endures F.holds F.moment F.left_since F.images KeepsOthers (IsVerdict result) files.old files.new }
     ensures fresh { IfOk result (λ o. o.report.value.fresh ≡ Some cause) }
     ensures ran { IfOk result (λ o. runs.new ≡ runs.old ++ o.report.value.ran.items) }
     ensures few { length runs.new ≤ length runs.old + 50000 }
@@ -184,6 +199,7 @@ fn anew_from<F: Files, O: Offers>(
     ensures rest { KeepsRest (F.holds files.old) (F.holds files.new) }
     ensures refused { IsRefusal result → F.holds files.new ≡ F.holds files.old }
     ensures kept { IfSome (F.holds files.old) (λ d. IfOk result (λ o. KeepsRefused o.report.value.verdict d (F.holds files.new))) }
+    ensures crash { Endures F.holds F.moment F.left_since F.images KeepsOthers (IsVerdict result) files.old files.new }
     ensures fresh { IfOk result (λ o. o.report.value.fresh ≡ Some cause) }
     ensures ran { IfOk result (λ o. runs.new ≡ runs.old ++ o.report.value.ran.items) }
     ensures few { length runs.new ≤ length runs.old + 50000 }
