@@ -1,8 +1,12 @@
 //! Builds that find what changed, and what is told of them.
-ghost use Rattle.std.specs.Prelude.{◌≡◌, ◌++◌, true, All, IfOk, string_bytes};
+ghost use Rattle.std.specs.Prelude.{◌≡◌, ◌++◌, true, All, IfOk, OnOk, string_bytes};
 ghost use Rattle.pie_auto.specs.Found.{KeepsOutside};
+ghost use Rattle.pie_build.specs.Crashes.{StaysAtRest};
 ghost use Rattle.pie_build.specs.Left.{KeepsRest};
+ghost use Rattle.pie_commit.specs.Outcomes.{LeavesFromRest};
 ghost use Rattle.pie_files.specs.Streams.{Counted};
+ghost use Rattle.pie_incremental.specs.Crashes.{EndsMarked};
+ghost use Rattle.pie_topdown_build.specs.Crashes.{HasEnded, MayStop};
 ghost use Rattle.pie_value.specs.Canonical.{IsEncodableTask};
 ghost use Rattle.pie_cli.specs.Auto.{AutoSays, IsAutoText, head_line};
 ghost use Rattle.pie_cli.specs.Fresh.{verdict_status};
@@ -31,6 +35,9 @@ pub(crate) fn topdown<F: Files>(
     ensures says { IfOk result (λ told. TopdownSays json (F.holds files.old) (F.holds files.new) (string_bytes told.text) told.status) }
     ensures answer { IfOk result (λ told. is_answer told.status ≡ true) }
     ensures rest { KeepsRest (F.holds files.old) (F.holds files.new) }
+    ensures crash { LeavesFromRest F.holds F.moment F.left_since F.images MayStop files.old files.new }
+    ensures marked { EndsMarked F.holds F.images HasEnded files.old files.new }
+    ensures durable { OnOk result (StaysAtRest F.holds F.images files.old files.new) }
     ensures counted { Counted F.faults FilesError.Failed files.old files.new result }
 {
     let mut runs = Runs::new(alloc);

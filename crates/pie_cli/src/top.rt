@@ -64,7 +64,7 @@ pub fn run<F: Files, I: Source, K: Sink>(
     ensures auto { texts_of words.now ≡ words_of commands.Auto
         → RunsAuto F.holds F.faults I.left I.faults files.old files.new input.old input.new (K.held out.old) (K.held out.new) result }
     ensures topdown { (json : Bool) → texts_of words.now ≡ words_of (commands.Topdown json)
-        → RunsTopdown F.holds F.faults json files.old files.new (K.held out.old) (K.held out.new) result }
+        → RunsTopdown F.holds F.moment F.left_since F.images F.faults json files.old files.new (K.held out.old) (K.held out.new) result }
     ensures cached { texts_of words.now ≡ words_of commands.Cached
         → RunsCached F.holds F.faults files.old files.new (K.held out.old) (K.held out.new) result }
     ensures demo { (seed size : ℕ) → is_allowed (commands.Demo seed size) ≡ true → texts_of words.now ≡ words_of (commands.Demo seed size)
@@ -106,7 +106,7 @@ fn run_command<F: Files, I: Source, K: Sink>(
     ensures auto { command ≡ commands.Auto
         → RunsAuto F.holds F.faults I.left I.faults files.old files.new input.old input.new (K.held out.old) (K.held out.new) result }
     ensures topdown { (json : Bool) → command ≡ commands.Topdown json
-        → RunsTopdown F.holds F.faults json files.old files.new (K.held out.old) (K.held out.new) result }
+        → RunsTopdown F.holds F.moment F.left_since F.images F.faults json files.old files.new (K.held out.old) (K.held out.new) result }
     ensures cached { command ≡ commands.Cached
         → RunsCached F.holds F.faults files.old files.new (K.held out.old) (K.held out.new) result }
     ensures demo { (seed size : ℕ) → command ≡ commands.Demo seed size → RunsDemo seed size files.old files.new (K.held out.old) (K.held out.new) result }
@@ -211,7 +211,7 @@ fn do_by_list<F: Files, K: Sink>(
 
 // A build without a list, with its report.
 fn run_topdown<F: Files, K: Sink>(alloc: Global, files: &mut F, out: &mut K, json: bool) -> Status
-    ensures topdown { RunsTopdown F.holds F.faults json files.old files.new (K.held out.old) (K.held out.new) result }
+    ensures topdown { RunsTopdown F.holds F.moment F.left_since F.images F.faults json files.old files.new (K.held out.old) (K.held out.new) result }
     ensures rest { KeepsRest (F.holds files.old) (F.holds files.new) }
     ensures ends { EndsUnread (F.faults files.old) (F.faults files.new) (K.faults out.old) (K.faults out.new) (K.held out.old) (K.held out.new) result }
     ensures infallible { StaysInfallible K.infallible K.faults out.old out.new }

@@ -296,7 +296,7 @@ pub some_cause : (o : Option Cause) → IsSome o → o ≡ None → ⊥
 some_cause None some is = let f : ⊥ = cc in f
 some_cause (Some c) some is = let f : ⊥ = cc in f
 
-can_begin : (d : Directory) (s : StoreImage) (o : Option (Vec ℕ Global)) → IsReadFrom d s o → CanBegin d
+pub can_begin : (d : Directory) (s : StoreImage) (o : Option (Vec ℕ Global)) → IsReadFrom d s o → CanBegin d
 can_begin d s None has = absurd has
 can_begin d s (Some text) has = record { image = s; text = text.items; readable = has }
 

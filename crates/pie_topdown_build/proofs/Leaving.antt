@@ -1,31 +1,41 @@
 -- What an accepted build without a list leaves is the directory of a clean build.
-use Rattle.std.proofs.Common.{◌≡◌, ℕ, List, [], length, Vec, Global, Option, None, Some, Result, Ok, Err, sym, ap, subst, ◌∙◌}
+use Rattle.std.proofs.Common.{◌≡◌, ℕ, List, [], length, Vec, Global, Option, None, Some, Result, Ok, Err, sym, ap, subst, ◌∙◌, refl}
 use Rattle.std.specs.Prelude.{Box, Contains, IfNone, IfSome, IfOk, OnOk, IsTrue}
 use Rattle.std.specs.List.{filter}
+use Rattle.std.specs.Option.{option_map}
 use Rattle.std.specs.List.Sorted.{IsStrictlySortedBy}
 use Rattle.std.proofs.lemmas.List.Elements.{All-contains}
-use Rattle.pie_base.specs.Path.{is_out}
+use Rattle.pie_base.specs.Path.{is_out, same_text}
 use Rattle.pie_build.specs.Stored.{IsStoreOf}
 use Rattle.pie_check_laws.proofs.Members.{into_map}
 use Rattle.pie_checks.specs.declared.built.Built.{Built}
+use Rattle.pie_commit.proofs.Bringing.{get_without}
+use Rattle.pie_commit.proofs.Standing.{removal_apart}
 use Rattle.pie_commit.specs.declared.plan.Plan.{Plan}
+use Rattle.pie_commit.specs.inner.Plans.{Meets, changes}
+use Rattle.pie_commit.specs.Outcomes.{IsDone}
 use Rattle.pie_core_laws.specs.Update.{Update, present}
 use Rattle.pie_diff.specs.Hashes.{files_paths, is_new}
 use Rattle.pie_diff.proofs.Keeping.{order_filter}
 use Rattle.pie_files.specs.declared.files.FilesError.{FilesError}
 use Rattle.pie_files.proofs.Reading.{if_always}
-use Rattle.pie_files.specs.Directory.{Directory}
+use Rattle.pie_files.specs.Directory.{Directory, file_at, without_file}
 use Rattle.pie_incremental.specs.declared.base.OwnFiles.{OwnFiles}
-use Rattle.pie_incremental.specs.Own.{IsClosed}
+use Rattle.pie_incremental.specs.Own.{IsClosed, open_path}
 use Rattle.pie_incremental.specs.Starts.{HasStore}
+use Rattle.pie_files.specs.Reading.{LeavesAsBefore}
 use Rattle.pie_incremental.specs.inner.Built.{AreFilesOf}
-use Rattle.pie_incremental.specs.inner.Cleaned.{LeavesCleanOf, HasParts, IsPlanFor, TellsPlan}
+use Rattle.pie_incremental.specs.inner.Cleaned.{IsClean, LeavesCleanOf, HasParts, IsPlanFor, TellsPlan}
 use Rattle.pie_incremental.specs.inner.Plans.{HasChanged, IsChangesPlan}
+use Rattle.pie_incremental.proofs.Commits.{changes_wanted}
+use Rattle.pie_incremental.proofs.OwnPaths.{places}
 use Rattle.pie_incremental.proofs.Putting.{all_has}
 use Rattle.pie_left_laws.specs.Held.{HoldsRightly}
+use Rattle.pie_left_laws.specs.Accepted.{live_now}
 use Rattle.pie_left_laws.specs.Placed.{IsPlaced}
-use Rattle.pie_left_laws.proofs.Provides.{provided_path}
+use Rattle.pie_left_laws.proofs.Provides.{one_some, provided_path}
 use Rattle.pie_left_laws.proofs.Putting.{is_built}
+use Rattle.pie_model.specs.Built.{IsBuilt}
 use Rattle.pie_left_laws.proofs.Changing.{new_other, other_new, removed_stray, stray_removed}
 use Rattle.pie_reach.specs.Plan.{path_cmp}
 use Rattle.pie_record.specs.declared.task_record.TaskRecord.{TaskRecord}
@@ -36,7 +46,9 @@ use Rattle.pie_value.specs.declared.task.Task.{Task}
 use Rattle.pie_value.specs.declared.value.Value.{Value}
 use Rattle.pie_value.specs.declared.verdict.Verdict.{Verdict}
 use Rattle.pie_value.specs.declared.verdict.Verdict.TheVariants.{Accepted}
-use Rattle.pie_topdown_build.specs.inner.Cleaned.{HoldsBy, IsExactBuild, IsKnownOf, IsOwnOf, LeavesBy, LeavesWhere, PutsAnew, PutsWhere}
+use Rattle.pie_topdown_build.specs.inner.Cleaned.{HoldsBy, IsExactBuild, IsKnownOf, IsOwnOf, LeavesBy, LeavesWhere, PutsAnew, PutsWhere, IsStoreIn}
+use Rattle.pie_topdown_build.specs.inner.Crashes.{Endures, EndsBy, EndsPut, EndsWhere}
+use Rattle.pie_topdown_build.proofs.Crashing.{done_rest, endures_then, endures_where}
 use Rattle.pie_topdown_build.proofs.Placing.{puts}
 
 module _ (own : OwnFiles) (held : List (List ℕ × List ℕ)) (funcs : List (List ℕ × List ℕ)) (roots : List Task) (rows : List TaskRecord)
@@ -91,6 +103,44 @@ module _ (own : OwnFiles) (held : List (List ℕ × List ℕ)) (funcs : List (Li
       wrote_are : r.wrote.items ≡ files_paths (filter (is_new held) contents)
       wrote_are = tells.wrote ∙ ap files_paths plan.writes
 
+  -- what a crash leaves where the plan is done, without the marker
+  changed_of : (d c : Directory) → IsDone p d c → HasChanged p d (Some (without_file c open_path))
+  changed_of d c done = record {
+    left = without_file c open_path;
+    told = refl;
+    closed = ap (option_map (λ f. f.0)) (get_without c open_path open_path);
+    changed = λ q off. subst (λ o. Meets (changes p q) (file_at d q) o) (sym (removal_apart c open_path q off))
+        (subst (λ w. Meets w (file_at d q) (file_at c q)) (changes_wanted p plan.places q off)
+        (done q (ap (same_text q) (places p plan.places).marker ∙ off)));
+  }
+
+  done_clean : (u : Update) (d c : Directory) → IsDone p d c → IsKnownOf own held d → IsExactBuild u rows contents d
+      → IsClean u funcs roots rows d (without_file c open_path)
+  done_clean u d c done known e = record {
+    text = planned.text.items;
+    built = subst (λ x. IsBuilt planned.text.items x (without_file c open_path) (live_now u)) e.directory
+        (is_built u rows (contents_in contents) e.separates e.met e.made planned.text.items (without_file c open_path)
+        (subst (λ x. IsPlaced rows (contents_in contents) planned.text.items x (without_file c open_path)) (sym e.directory) placed));
+    store = is_store;
+  }
+    where
+      put : (left : Directory) × (Some (without_file c open_path) ≡ Some left) × IsPlaced rows (contents_in contents) planned.text.items d left
+      put = puts own held rows contents planned.text p plan d known (files_of u d e) (Some (without_file c open_path)) (λ closed. changed_of d c done)
+
+      placed : IsPlaced rows (contents_in contents) planned.text.items d (without_file c open_path)
+      placed =
+          subst (λ x. IsPlaced rows (contents_in contents) planned.text.items d x) (sym (one_some (without_file c open_path) put.0 put.1)) put.2
+
+  pub put_endures : {S : Type 0} (holds : S → Option Directory) (moment : S → ℕ) (left_since : S → ℕ → Directory → Type 0) (images : S → Directory → Type 0)
+      (settled : Type 0) (old new : S) → Endures holds moment left_since images (IsDone p) settled old new
+      → Endures holds moment left_since images (EndsPut own held funcs roots rows contents) settled old new
+  put_endures holds moment left_since images settled old new h =
+      endures_where holds moment left_since images (IsDone p) (EndsPut own held funcs roots rows contents) settled old new
+      (λ d c told done. record {
+        rest = done_rest p (record { places = plan.places; removals = plan.removals_out; writes = plan.writes_out }) d c done;
+        clean = λ known u e. done_clean u d c done known e;
+      }) h
+
   leaves : (d : Directory) (after : Option Directory) → (IsClosed d → HasChanged p d after)
       → PutsWhere own held funcs roots rows contents outputs d r after
   leaves d after changed known u e =
@@ -118,6 +168,10 @@ module _ (store : Option (Vec ℕ Global)) (own : OwnFiles) (held : List (List �
     files = holds;
   }
 
+  known_in : (o : Option (Vec ℕ Global)) (d : Directory) → HoldsBy o contents held d → IsOwnOf o d own → IsStoreIn o d → IsKnownOf own held d
+  known_in None d holds is stored = absurd stored
+  known_in (Some text) d holds is stored = known_of text d holds is stored
+
   leaves_where : (o : Option (Vec ℕ Global)) (d : Directory) (r : Report) (after : Option Directory) → HoldsBy o contents held d → IsOwnOf o d own
       → IfNone o (own.store.items ≡ []) → PutsWhere own held funcs roots rows contents outputs d r after
       → PutsAnew own held funcs roots rows contents outputs d r after → LeavesWhere o funcs roots rows contents outputs d r after
@@ -142,6 +196,24 @@ module _ (store : Option (Vec ℕ Global)) (own : OwnFiles) (held : List (List �
       by None a b c e = tt
       by (Some d) a b c e = leaves_where store d r.value after a b empty c e
 
+  -- what a crash leaves, after what was looked at
+  pub looked_endures : {S : Type 0} (holds : S → Option Directory) (moment : S → ℕ) (left_since : S → ℕ → Directory → Type 0)
+      (images : S → Directory → Type 0) (settled : Type 0) (old mid last new : S) → holds mid ≡ holds old → LeavesAsBefore holds moment left_since images old mid
+      → holds last ≡ holds mid → LeavesAsBefore holds moment left_since images mid last → IfSome (holds old) (HoldsBy store contents held)
+      → IfSome (holds mid) (λ d. IsOwnOf store d own)
+      → Endures holds moment left_since images (EndsPut own held funcs roots rows contents) settled last new
+      → Endures holds moment left_since images (EndsWhere store funcs roots rows contents) settled old new
+  looked_endures holds moment left_since images settled old mid last new same before again between known is h =
+      endures_then holds moment left_since images (EndsPut own held funcs roots rows contents) (EndsWhere store funcs roots rows contents) settled old mid new
+      same before
+      (λ d c told put. record {
+        rest = put.rest;
+        clean = λ u e stored. put.clean (known_in store d (subst (λ o. IfSome o (HoldsBy store contents held)) told known)
+            (subst (λ o. IfSome o (λ x. IsOwnOf store x own)) (same ∙ told) is) stored) u e;
+      })
+      (endures_then holds moment left_since images (EndsPut own held funcs roots rows contents) (EndsPut own held funcs roots rows contents) settled mid last new
+      again between (λ d c told put. put) h)
+
 -- by the verdict of what was made
 pub left_accepted : (store : Option (Vec ℕ Global)) (funcs : List (List ℕ × List ℕ)) (roots : List Task) (b : Built) (before after : Option Directory)
     (result : Result (Box Report Global) FilesError) → b.verdict ≡ Accepted
@@ -149,3 +221,10 @@ pub left_accepted : (store : Option (Vec ℕ Global)) (funcs : List (List ℕ ×
     → IfSome before (λ d. IfOk result (λ r. LeavesBy b.verdict store funcs roots b d r.value after))
 left_accepted store funcs roots b before after result is h =
     subst (λ (v : Verdict). IfSome before (λ d. IfOk result (λ r. LeavesBy v store funcs roots b d r.value after))) (sym is) h
+
+pub accepted_endures : {S : Type 0} (holds : S → Option Directory) (moment : S → ℕ) (left_since : S → ℕ → Directory → Type 0) (images : S → Directory → Type 0)
+    (settled : Type 0) (old new : S) (store : Option (Vec ℕ Global)) (funcs : List (List ℕ × List ℕ)) (roots : List Task) (b : Built) → b.verdict ≡ Accepted
+    → Endures holds moment left_since images (EndsWhere store funcs roots b.rows.items b.files.items) settled old new
+    → Endures holds moment left_since images (EndsBy b.verdict store funcs roots b) settled old new
+accepted_endures holds moment left_since images settled old new store funcs roots b is h =
+    subst (λ (v : Verdict). Endures holds moment left_since images (EndsBy v store funcs roots b) settled old new) (sym is) h

@@ -3,6 +3,7 @@ pub mod Cleanly
 pub mod Complete
 pub mod Contents
 pub mod Evaluated
+pub mod Crashing
 pub mod Finding
 pub mod Handing
 pub mod Holding

@@ -32,13 +32,13 @@ off_out q path off on = by (same_text q path) refl
     by true e = absurd (false≢true (sym off ∙ ap is_out (same_path q path e) ∙ on))
     by false e = refl
 
-none_written : (q : List ℕ) (ws : List (List ℕ × Vec ℕ Global)) → is_out q ≡ false → list_all (λ w. is_out w.0) ws ≡ true → written ws q ≡ Same
+pub none_written : (q : List ℕ) (ws : List (List ℕ × Vec ℕ Global)) → is_out q ≡ false → list_all (λ w. is_out w.0) ws ≡ true → written ws q ≡ Same
 none_written q [] off all = refl
 none_written q (w ∷ ws) off all =
     ap (λ x. later x (at w.0 (Bytes w.1.items) q)) (none_written q ws off (and_right (is_out w.0) (list_all (λ v. is_out v.0) ws) all))
     ∙ ap (λ b. later Same (cond b (Bytes w.1.items) Same)) (off_out q w.0 off (and_left (is_out w.0) (list_all (λ v. is_out v.0) ws) all))
 
-none_removed : (q : List ℕ) (ps : List (List ℕ)) → is_out q ≡ false → list_all is_out ps ≡ true → removed ps q ≡ Same
+pub none_removed : (q : List ℕ) (ps : List (List ℕ)) → is_out q ≡ false → list_all is_out ps ≡ true → removed ps q ≡ Same
 none_removed q [] off all = refl
 none_removed q (p ∷ ps) off all =
     ap (λ x. later x (at p Gone q)) (none_removed q ps off (and_right (is_out p) (list_all is_out ps) all))

@@ -1,5 +1,6 @@
 pub mod Anew
 pub mod Clean
+pub mod Crashes
 pub mod Ran
 pub mod Records
 pub mod Refusals

@@ -3,6 +3,7 @@ pub mod Anew
 pub mod Bases
 pub mod Clean
 pub mod Cleaned
+pub mod Crashes
 pub mod News
 pub mod Offered
 pub mod Ran

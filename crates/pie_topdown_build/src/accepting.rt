@@ -1,8 +1,8 @@
 //! An accepted build put into place.
-ghost use Rattle.std.specs.Prelude.{◌≡◌, [], true, false, None, is_some, All, IfNone, IfOk, IfSome, OnOk};
+ghost use Rattle.std.specs.Prelude.{◌≡◌, [], true, false, None, is_some, All, IfNone, IfOk, IfSome, OnOk, IsOk};
 ghost use Rattle.pie_build.specs.Left.{KeepsRest};
 ghost use Rattle.pie_build.specs.Stored.{MayStand};
-ghost use Rattle.pie_commit.specs.Outcomes.{HasBrought};
+ghost use Rattle.pie_commit.specs.Outcomes.{HasBrought, IsDone};
 ghost use Rattle.pie_commit.specs.inner.Plans.{is_empty, is_sound, wanted_by};
 ghost use Rattle.pie_files.specs.Reading.{ReadsOnly};
 ghost use Rattle.pie_files.specs.Streams.{Counted};
@@ -14,6 +14,7 @@ ghost use Rattle.pie_results.specs.inner.Files.{InPathOrder};
 ghost use Rattle.pie_store.specs.Texts.{IsRow, IsStoreText};
 ghost use Rattle.pie_value.specs.declared.verdict.Verdict.TheVariants as verdicts;
 ghost use Rattle.pie_topdown_build.specs.inner.Cleaned.{HoldsBy, IsOwnOf, LeavesWhere, PutsAnew, PutsWhere};
+ghost use Rattle.pie_topdown_build.specs.inner.Crashes.{Endures, EndsPut, EndsWhere};
 ghost use Rattle.pie_topdown_build.specs.inner.Stored.{IsBegunFrom, IsStoreOrNone, LeavesRows};
 
 use crate::held::{held_beside, held_under_out, is_pending};
@@ -43,7 +44,7 @@ pub(crate) struct Made {
 
 /// Writes and removes what isn't as it was made, and reports it. Where there was no store to build from, it writes all. The plan and the report are made
 /// before the first write.
-#[tactic(auto, using(pie_build::proofs::OwnPaths::same_keeps, pie_incremental::proofs::Joining::rest_then))]
+#[tactic(auto, using(pie_build::proofs::OwnPaths::same_keeps, pie_incremental::proofs::Joining::rest_then, crate::proofs::Crashing::endures_still))]
 pub(crate) fn accept<F: Files>(
     alloc: Global,
     files: &mut F,
@@ -58,6 +59,7 @@ pub(crate) fn accept<F: Files>(
     ensures left { IfSome (F.holds files.old) (λ d. IfOk result (λ r. LeavesWhere store project.now.digests.items project.now.roots.items made.rows.items made.contents.items made.outputs.items d r.value (F.holds files.new))) }
     ensures stored { IfSome (F.holds files.old) (λ d. IsBegunFrom store d → OnOk result (LeavesRows project.now.digests.items made.rows.items (F.holds files.new))) }
     ensures rows { OnOk result (All IsRow made.rows.items) }
+    ensures crash { Endures F.holds F.moment F.left_since F.images (EndsWhere store project.now.digests.items project.now.roots.items made.rows.items made.contents.items) (IsOk result) files.old files.new }
     ensures verdict { IfOk result (λ r. r.value.verdict ≡ verdicts.Accepted) }
     ensures fresh { IfOk result (λ r. r.value.fresh ≡ None) }
     ensures ran { IfOk result (λ r. r.value.ran ≡ ran) }
@@ -116,7 +118,7 @@ fn own_with(alloc: Global, store: Option<Vec<u8>>, pending: bool) -> OwnFiles
 }
 
 // The same with what is held.
-#[tactic(auto, using(pie_build::proofs::OwnPaths::same_keeps))]
+#[tactic(auto, using(pie_build::proofs::OwnPaths::same_keeps, crate::proofs::Crashing::endures_none))]
 fn put_into_place<F: Files>(
     alloc: Global,
     files: &mut F,
@@ -133,6 +135,7 @@ fn put_into_place<F: Files>(
     ensures left { IfSome (F.holds files.old) (λ d. IfOk result (λ r. PutsWhere own.now held.now project.now.digests.items project.now.roots.items made.rows.items made.contents.items made.outputs.items d r.value (F.holds files.new))) }
     ensures stored { IfSome (F.holds files.old) (λ d. IsStoreOrNone own.now.store.items d → OnOk result (LeavesRows project.now.digests.items made.rows.items (F.holds files.new))) }
     ensures rows { OnOk result (All IsRow made.rows.items) }
+    ensures crash { Endures F.holds F.moment F.left_since F.images (EndsPut own.now held.now project.now.digests.items project.now.roots.items made.rows.items made.contents.items) (IsOk result) files.old files.new }
     ensures verdict { IfOk result (λ r. r.value.verdict ≡ verdicts.Accepted) }
     ensures fresh { IfOk result (λ r. r.value.fresh ≡ None) }
     ensures ran { IfOk result (λ r. r.value.ran ≡ ran) }
@@ -162,6 +165,7 @@ fn commit_then<F: Files>(
     ensures rest { KeepsRest (F.holds files.old) (F.holds files.new) }
     ensures done { IfSome (F.holds files.old) (λ d. IsClosed d → OnOk result (HasChanged plan.now d (F.holds files.new))) }
     ensures brought { is_empty plan.now ≡ false → OnOk result (HasBrought (wanted_by plan.now) (F.holds files.old) (F.holds files.new)) }
+    ensures crash { Endures F.holds F.moment F.left_since F.images (IsDone plan.now) (IsOk result) files.old files.new }
     ensures report { IfOk result (λ r. r ≡ report) }
     ensures counted { Counted F.faults FilesError.Failed files.old files.new result }
 {

@@ -3,7 +3,7 @@ ghost use Rattle.std.specs.Prelude.{IfOk, IfSome};
 ghost use Rattle.pie_files.specs.Reading.{ReadsOnly};
 ghost use Rattle.pie_incremental.specs.inner.Joined.{IsImage};
 ghost use Rattle.pie_topdown_build.specs.inner.Anew.{IsNoBase};
-ghost use Rattle.pie_topdown_build.specs.inner.Bases.{IsWhole, StartsAt, StartsBy};
+ghost use Rattle.pie_topdown_build.specs.inner.Bases.{IsWhole, StartsAt, StartsBy, FailsOnly, StartsOnly};
 
 use pie_base::{OutOfMemory, Path};
 use pie_files::{Files, FilesError};
@@ -33,6 +33,7 @@ pub(crate) struct Base {
 #[tactic(auto, using(pie_files::proofs::Reading::reads))]
 pub(crate) fn find_base<F: Files>(alloc: Global, files: &mut F) -> Result<Start, FilesError>
     ensures starts { IfSome (F.holds files.old) (λ d. IfOk result (StartsAt d)) }
+    ensures only { IfSome (F.holds files.old) (λ d. IfOk result (StartsOnly d)) }
     ensures whole { IfOk result IsWhole }
     ensures reads { ReadsOnly F.holds F.moment F.left_since F.images F.faults files.old files.new result }
 {
@@ -67,6 +68,7 @@ pub(crate) fn no_base(alloc: Global) -> Result<Box<Base>, OutOfMemory>
 // What a build begins from where these are the bytes of the store.
 fn with_store(alloc: Global, store: Vec<u8>) -> Result<Start, OutOfMemory>
     ensures starts { IfOk result (StartsBy store) }
+    ensures only { IfOk result (FailsOnly store) }
     ensures whole { IfOk result IsWhole }
 {
     match decode_store(alloc, store.as_slice()) {

@@ -1,19 +1,25 @@
 //! A build that needs no list of changes.
 ghost use Rattle.std.specs.Prelude.{◌≡◌, ◌≤◌, ◌+◌, ◌++◌, [], Some, length, map, All, IfOk, IfSome};
-ghost use Rattle.pie_build.specs.Left.{KeepsRest};
+ghost use Rattle.pie_build.specs.Left.{KeepsRest, Leaves};
+ghost use Rattle.pie_build.specs.Crashes.{IsDone, StaysAtRest};
 ghost use Rattle.pie_build.specs.inner.Rebuilt.{IsRefusal, Tells};
+ghost use Rattle.pie_commit.specs.Outcomes.{LeavesFromRest};
+ghost use Rattle.pie_incremental.specs.Crashes.{EndsMarked};
 ghost use Rattle.pie_incremental.specs.Own.{IsClosed};
 ghost use Rattle.pie_incremental.specs.inner.Refused.{RefusesRight};
 ghost use Rattle.pie_incremental.specs.inner.Joined.{IsImage};
 ghost use Rattle.pie_incremental.specs.inner.Updated.{IsAfreshAfter};
+ghost use Rattle.pie_project.specs.Refusals.{IsVerdict};
 ghost use Rattle.pie_value.specs.Canonical.{IsEncodableTask};
 ghost use Rattle.pie_topdown_build.specs.inner.News.{as_told, AreNewsOf};
 ghost use Rattle.pie_topdown_build.specs.inner.Offered.{IsNew};
 ghost use Rattle.pie_topdown_build.specs.Clean.{BuildsAsClean};
+ghost use Rattle.pie_topdown_build.specs.Crashes.{HasEnded, KeepsOthers, MayStop, StopsWith};
 ghost use Rattle.pie_topdown_build.specs.inner.Stored.{IsBegunFrom};
 ghost use Rattle.pie_topdown_build.specs.Ran.{RunsForReasons};
 ghost use Rattle.pie_topdown_build.specs.inner.Anew.{AnewAsClean, IsNoBase};
 ghost use Rattle.pie_topdown_build.specs.inner.Clean.{FromAsClean, OffersClean};
+ghost use Rattle.pie_topdown_build.specs.inner.Crashes.{Endures, EndsFrom, EndsOffered};
 ghost use Rattle.pie_topdown_build.specs.inner.Ran.{FromRuns};
 ghost use Rattle.pie_topdown_build.specs.inner.Records.{OffersOf, TellsAnew};
 ghost use Rattle.pie_topdown_build.specs.Refusals.{KeepsRefused};
@@ -44,6 +50,9 @@ pub fn build_topdown<F: Files>(
     ensures refused { IsRefusal result → F.holds files.new ≡ F.holds files.old }
     ensures kept { IfSome (F.holds files.old) (λ d. IfOk result (λ r. KeepsRefused r.verdict d (F.holds files.new))) }
     ensures clean { IfSome (F.holds files.old) (λ d. IfOk result (λ r. BuildsAsClean d r (F.holds files.new))) }
+    ensures crash { LeavesFromRest F.holds F.moment F.left_since F.images MayStop files.old files.new }
+    ensures marked { EndsMarked F.holds F.images HasEnded files.old files.new }
+    ensures durable { IsVerdict result → StaysAtRest F.holds F.images files.old files.new }
     ensures runs { IfSome (F.holds files.old) (λ d. IfOk result (RunsForReasons d)) }
     ensures ran { IfOk result (λ r. runs.new ≡ runs.old ++ r.ran.items) }
     ensures few { length runs.new ≤ length runs.old + 50000 }
@@ -73,6 +82,9 @@ pub fn build_offered<F: Files, O: Offers>(
     ensures refused { IsRefusal result → F.holds files.new ≡ F.holds files.old }
     ensures kept { IfSome (F.holds files.old) (λ d. IfOk result (λ o. KeepsRefused o.report.value.verdict d (F.holds files.new))) }
     ensures clean { IfSome (F.holds files.old) (λ d. IfOk result (λ o. OffersClean (O.told offers.old) d o.report.value (F.holds files.new))) }
+    ensures crash { LeavesFromRest F.holds F.moment F.left_since F.images (StopsWith (EndsOffered (O.told offers.old))) files.old files.new }
+    ensures marked { EndsMarked F.holds F.images (EndsOffered (O.told offers.old)) files.old files.new }
+    ensures durable { IsVerdict result → StaysAtRest F.holds F.images files.old files.new }
     ensures ran { IfOk result (λ o. runs.new ≡ runs.old ++ o.report.value.ran.items) }
     ensures few { length runs.new ≤ length runs.old + 50000 }
     ensures encodable { IfOk result (λ o. All IsEncodableTask o.report.value.ran.items) }
@@ -104,6 +116,7 @@ fn from_store<F: Files>(
     ensures refused { IsRefusal result → F.holds files.new ≡ F.holds files.old }
     ensures kept { IfSome (F.holds files.old) (λ d. IfOk result (λ r. KeepsRefused r.verdict d (F.holds files.new))) }
     ensures clean { IfOk result (FromAsClean base.value (λ d t digest. []) (F.holds files.old) (F.holds files.new)) }
+    ensures crash { Endures F.holds F.moment F.left_since F.images (EndsFrom base.value (λ d t digest. [])) (IsVerdict result) files.old files.new }
     ensures runs { IfOk result (FromRuns base.value (λ d t digest. []) (F.holds files.old)) }
     ensures ran { IfOk result (λ r. runs.new ≡ runs.old ++ r.ran.items) }
     ensures few { length runs.new ≤ length runs.old + 50000 }
@@ -129,6 +142,7 @@ fn afresh<F: Files>(
     ensures refused { IsRefusal result → F.holds files.new ≡ F.holds files.old }
     ensures kept { IfSome (F.holds files.old) (λ d. IfOk result (λ r. KeepsRefused r.verdict d (F.holds files.new))) }
     ensures clean { IfSome (F.holds files.old) (λ d. IfOk result (λ r. IsAfreshAfter d r (F.holds files.new) [])) }
+    ensures crash { Endures F.holds F.moment F.left_since F.images (IsDone Leaves) (IsVerdict result) files.old files.new }
     ensures fresh { IfOk result (λ r. r.fresh ≡ Some cause) }
     ensures ran { IfOk result (λ r. runs.new ≡ runs.old ++ r.ran.items) }
     ensures few { length runs.new ≤ length runs.old + 50000 }
@@ -158,6 +172,7 @@ fn anew<F: Files, O: Offers>(
     ensures refused { IsRefusal result → F.holds files.new ≡ F.holds files.old }
     ensures kept { IfSome (F.holds files.old) (λ d. IfOk result (λ o. KeepsRefused o.report.value.verdict d (F.holds files.new))) }
     ensures clean { IfSome (F.holds files.old) (λ d. IfOk result (λ o. AnewAsClean (O.told offers.old) d o.report.value (F.holds files.new))) }
+    ensures crash { Endures F.holds F.moment F.left_since F.images KeepsOthers (IsVerdict result) files.old files.new }
     ensures fresh { IfOk result (λ o. o.report.value.fresh ≡ Some cause) }
     ensures ran { IfOk result (λ o. runs.new ≡ runs.old ++ o.report.value.ran.items) }
     ensures few { length runs.new ≤ length runs.old + 50000 }
@@ -190,6 +205,7 @@ fn anew_from<F: Files, O: Offers>(
     ensures refused { IsRefusal result → F.holds files.new ≡ F.holds files.old }
     ensures kept { IfSome (F.holds files.old) (λ d. IfOk result (λ o. KeepsRefused o.report.value.verdict d (F.holds files.new))) }
     ensures clean { IfSome (F.holds files.old) (λ d. IfOk result (λ o. IsNoBase base.value → AnewAsClean (O.told offers.old) d o.report.value (F.holds files.new))) }
+    ensures crash { Endures F.holds F.moment F.left_since F.images KeepsOthers (IsVerdict result) files.old files.new }
     ensures fresh { IfOk result (λ o. o.report.value.fresh ≡ Some cause) }
     ensures ran { IfOk result (λ o. runs.new ≡ runs.old ++ o.report.value.ran.items) }
     ensures few { length runs.new ≤ length runs.old + 50000 }

@@ -1,11 +1,13 @@
 //! A build from a base, from its project to its report.
-ghost use Rattle.std.specs.Prelude.{◌≡◌, ◌≤◌, ◌+◌, ◌++◌, [], true, length, map, All, IfOk, IfSome};
-ghost use Rattle.pie_build.specs.Left.{KeepsRest};
+ghost use Rattle.std.specs.Prelude.{◌≡◌, ◌≤◌, ◌+◌, ◌++◌, [], true, length, map, All, IfOk, IfSome, IsOk};
+ghost use Rattle.pie_build.specs.Crashes.{IsDone};
+ghost use Rattle.pie_build.specs.Left.{KeepsRest, Leaves};
 ghost use Rattle.pie_build.specs.inner.Rebuilt.{IsRefusal, Tells};
 ghost use Rattle.pie_digest.specs.Digests.{HasNames};
 ghost use Rattle.pie_files.specs.Streams.{Counted};
 ghost use Rattle.pie_incremental.specs.inner.Refused.{RefusesRight};
 ghost use Rattle.pie_incremental.specs.inner.Joined.{IsImage};
+ghost use Rattle.pie_project.specs.Refusals.{IsVerdict};
 ghost use Rattle.pie_record.specs.Canonical.{IsStorable};
 ghost use Rattle.pie_results.specs.inner.Files.{contents_in};
 ghost use Rattle.pie_store.specs.Canonical.{AreFuncs};
@@ -16,6 +18,7 @@ ghost use Rattle.pie_topdown_build.specs.Refusals.{KeepsRefused};
 ghost use Rattle.pie_topdown_build.specs.inner.Bases.{Quiet};
 ghost use Rattle.pie_topdown_build.specs.inner.Stored.{IsBegunFrom};
 ghost use Rattle.pie_topdown_build.specs.inner.Clean.{FromAsClean, RunsAsClean, RunsIfTold};
+ghost use Rattle.pie_topdown_build.specs.inner.Crashes.{Endures, EndsFrom, EndsReady, EndsRun};
 ghost use Rattle.pie_topdown_build.specs.inner.Ran.{FromRuns, RunsBy, RunsByIfTold};
 ghost use Rattle.pie_topdown_build.specs.inner.Records.{TellsFrom, TellsOf, TellsOfIfReady};
 
@@ -51,6 +54,7 @@ pub(crate) fn from<F: Files, O: Offers>(
     ensures kept { IfSome (F.holds files.old) (λ d. IfOk result (λ o. KeepsRefused o.report.value.verdict d (F.holds files.new))) }
     ensures clean { IfOk result (λ o. FromAsClean base.value (O.told offers.old) (F.holds files.old) (F.holds files.new) o.report.value) }
     ensures runs { IfOk result (λ o. FromRuns base.value (O.told offers.old) (F.holds files.old) o.report.value) }
+    ensures crash { Endures F.holds F.moment F.left_since F.images (EndsFrom base.value (O.told offers.old)) (IsVerdict result) files.old files.new }
     ensures ran { IfOk result (λ o. runs.new ≡ runs.old ++ o.report.value.ran.items) }
     ensures few { length runs.new ≤ length runs.old + 50000 }
     ensures encodable { IfOk result (λ o. All IsEncodableTask o.report.value.ran.items) }
@@ -86,6 +90,7 @@ fn with_project<F: Files, O: Offers>(
     ensures kept { IfSome (F.holds files.old) (λ d. IfOk result (λ o. KeepsRefused o.report.value.verdict d (F.holds files.new))) }
     ensures clean { IfOk result (λ o. RunsIfTold base.value project.now (O.told offers.old) (F.holds files.old) (F.holds files.new) o.report.value) }
     ensures runs { IfOk result (λ o. RunsByIfTold base.value project.now (O.told offers.old) (F.holds files.old) o.report.value) }
+    ensures crash { Endures F.holds F.moment F.left_since F.images (EndsReady base.value project.now (O.told offers.old)) (IsVerdict result) files.old files.new }
     ensures ran { IfOk result (λ o. runs.new ≡ runs.old ++ o.report.value.ran.items) }
     ensures few { length runs.new ≤ length runs.old + 50000 }
     ensures encodable { IfOk result (λ o. All IsEncodableTask o.report.value.ran.items) }
@@ -112,6 +117,7 @@ fn rebuilt<F: Files>(alloc: Global, files: &mut F, runs: &mut Runs) -> Result<Of
     ensures rest { KeepsRest (F.holds files.old) (F.holds files.new) }
     ensures refused { IsRefusal result → F.holds files.new ≡ F.holds files.old }
     ensures kept { IfSome (F.holds files.old) (λ d. IfOk result (λ o. KeepsRefused o.report.value.verdict d (F.holds files.new))) }
+    ensures crash { Endures F.holds F.moment F.left_since F.images (IsDone Leaves) (IsVerdict result) files.old files.new }
     ensures ran { IfOk result (λ o. runs.new ≡ runs.old ++ o.report.value.ran.items) }
     ensures few { length runs.new ≤ length runs.old + 50000 }
     ensures encodable { IfOk result (λ o. All IsEncodableTask o.report.value.ran.items) }
@@ -135,7 +141,7 @@ fn rebuilt<F: Files>(alloc: Global, files: &mut F, runs: &mut Runs) -> Result<Of
 }
 
 // Settles the roots, and puts into place what was made.
-#[tactic(auto, using(pie_build::proofs::OwnPaths::same_keeps, pie_incremental::proofs::Joining::rest_then, pie_incremental::proofs::Joining::still_there, pie_incremental::proofs::Joining::told_all, pie_incremental::proofs::Joining::told_encodable, crate::proofs::Making::quiet_then))]
+#[tactic(auto, using(pie_build::proofs::OwnPaths::same_keeps, pie_incremental::proofs::Joining::rest_then, pie_incremental::proofs::Joining::still_there, pie_incremental::proofs::Joining::told_all, pie_incremental::proofs::Joining::told_encodable, crate::proofs::Making::quiet_then, crate::proofs::Crashing::endures_still))]
 fn run<F: Files, O: Offers>(
     alloc: Global,
     files: &mut F,
@@ -153,6 +159,7 @@ fn run<F: Files, O: Offers>(
     ensures quiet { IfOk result (λ o. Quiet o.report.value.verdict (F.holds files.old) (F.holds files.new)) }
     ensures clean { IfOk result (λ o. RunsAsClean base.value project.now (O.told offers.old) (F.holds files.old) (F.holds files.new) o.report.value) }
     ensures runs { IfOk result (λ o. RunsBy base.value project.now (O.told offers.old) (F.holds files.old) o.report.value) }
+    ensures crash { Endures F.holds F.moment F.left_since F.images (EndsRun base.value project.now (O.told offers.old)) (IsOk result) files.old files.new }
     ensures ran { IfOk result (λ o. runs.new ≡ runs.old ++ o.report.value.ran.items) }
     ensures few { length runs.new ≤ length runs.old + 50000 }
     ensures encodable { IfOk result (λ o. All IsEncodableTask o.report.value.ran.items) }

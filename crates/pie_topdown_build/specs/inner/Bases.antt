@@ -16,7 +16,7 @@ use Rattle.pie_incremental.specs.inner.Joined.{IsImage}
 use Rattle.pie_topdown_build.specs.declared.base.Base.{Base}
 use Rattle.pie_topdown_build.specs.declared.base.Start.{Start}
 use Rattle.pie_topdown_build.specs.declared.base.Start.TheVariants.{Afresh, From}
-use Rattle.pie_topdown_build.specs.Clean.{IsStoreCause}
+use Rattle.pie_topdown_build.specs.Clean.{CanBegin, IsStoreCause}
 
 -- a store that was read has records that can be stored and stand in order
 abbrev pub IsWhole : Start → Type 0
@@ -43,6 +43,11 @@ abbrev pub StartsAt : Directory → Start → Type 0
 StartsAt d (Afresh cause) = IsStoreCause d cause
 StartsAt d (From b) = HasBase d b.value
 
+-- it starts afresh only where a marker stands or no store can be read
+abbrev pub StartsOnly : Directory → Start → Type 0
+StartsOnly d (Afresh cause) = CanBegin d → ⊥
+StartsOnly d (From b) = Unit {0}
+
 -- a cause is that these bytes are no store
 abbrev pub IsFaultOf : Vec ℕ Global → Cause → Type 0
 IsFaultOf text causes.Interrupted = ⊥
@@ -62,3 +67,8 @@ pub record IsTextOf (text : Vec ℕ Global) (b : Base) : Type 0 where
 abbrev pub StartsBy : Vec ℕ Global → Start → Type 0
 StartsBy text (Afresh cause) = IsFaultOf text cause
 StartsBy text (From b) = IsTextOf text b.value
+
+-- only where these are no store does it start afresh
+abbrev pub FailsOnly : Vec ℕ Global → Start → Type 0
+FailsOnly text (Afresh cause) = (s : StoreImage) → IsStoreText s text.items → ⊥
+FailsOnly text (From b) = Unit {0}

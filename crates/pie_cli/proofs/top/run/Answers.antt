@@ -17,6 +17,8 @@ use Rattle.pie_cached.proofs.Others.{others_same}
 use Rattle.pie_cli.specs.Auto.{AutoSays}
 use Rattle.pie_cli.specs.Cached.{CachedSays}
 use Rattle.pie_cli.specs.Scan.{ScanSays}
+use Rattle.pie_topdown_build.proofs.Crashing.{endures_none}
+use Rattle.pie_topdown_build.specs.Crashes.{HasEnded}
 use Rattle.pie_cli.specs.Topdown.{TopdownSays}
 use Rattle.pie_cli.proofs.Making.{made_none}
 use Rattle.pie_cli.proofs.Listing.{runs_memory}
@@ -192,7 +194,13 @@ returns-in-Err-Usage-clause-topdown g c = λ json is. absurd (c.in-Err-Usage.ens
 
 pub returns-in-Err-OutOfMemory-clause-topdown : goal.returns-in-Err-OutOfMemory-clause-topdown
 returns-in-Err-OutOfMemory-clause-topdown g c = λ json is.
-    made_none (TopdownSays json) g.F.Files.holds g.F.Files.faults c.args.files.now c.args.files.now (g.K.Sink.held c.args.out.now)
+    (let none = endures_none g.F.Files.holds g.F.Files.moment g.F.Files.left_since g.F.Files.images HasEnded ⊥ c.args.files.now in
+    record {
+      built = made_none (TopdownSays json) g.F.Files.holds g.F.Files.faults c.args.files.now c.args.files.now (g.K.Sink.held c.args.out.now);
+      crash = none.crash;
+      marked = none.marked;
+      durable = λ answer. absurd (memory_is_no_answer answer);
+    })
 
 pub returns-in-Ok-clause-cached : goal.returns-in-Ok-clause-cached
 returns-in-Ok-clause-cached g c = λ is. c.run_command.ensures.cached (same_command _ _ c.in-Ok.ensures.allowed refl (sym c.in-Ok.ensures.accepted ∙ is))

@@ -123,8 +123,8 @@ returns-in-Auto-clause-ends g c =
 pub returns-in-Topdown-clause-topdown : goal.returns-in-Topdown-clause-topdown
 returns-in-Topdown-clause-topdown g c = λ json is.
     at_topdown_flag
-    (λ b. RunsTopdown g.F.Files.holds g.F.Files.faults b c.args.files.now c.run_topdown.new.files (g.K.Sink.held c.args.out.now)
-    (g.K.Sink.held c.run_topdown.new.out) c.run_topdown.result)
+    (λ b. RunsTopdown g.F.Files.holds g.F.Files.moment g.F.Files.left_since g.F.Files.images g.F.Files.faults b c.args.files.now c.run_topdown.new.files
+    (g.K.Sink.held c.args.out.now) (g.K.Sink.held c.run_topdown.new.out) c.run_topdown.result)
     c.args.command c.in-Topdown.json json c.in-Topdown.is is c.run_topdown.ensures.topdown
 
 pub returns-in-Topdown-clause-ends : goal.returns-in-Topdown-clause-ends

@@ -1,7 +1,8 @@
 use Rattle.std.proofs.Common.{ℕ, List, Vec, Global, subst}
-use Rattle.std.specs.Prelude.{IfSome}
+use Rattle.std.specs.Prelude.{IfSome, IsOk}
 use Rattle.pie_topdown_build.specs.inner.Cleaned.{HoldsBy}
-use Rattle.pie_topdown_build.proofs.Leaving.{looked_leaves}
+use Rattle.pie_topdown_build.proofs.Leaving.{looked_leaves, looked_endures}
+use Rattle.pie_topdown_build.proofs.Crashing.{endures_both}
 use Rattle.pie_topdown_build.proofs.Storing.{rows_from}
 use Rattle.pie_topdown_build.proofs.accepting.accept.Goals as goal
 
@@ -21,3 +22,17 @@ returns-clause-stored g c =
     rows_from c.args.store c.in_ok-own.own c.args.project.now.digests.items c.args.made.rows.items (g.F.Files.holds c.args.files.now)
     (g.F.Files.holds c.held_now.new.files) (g.F.Files.holds c.own_files.new.files) (g.F.Files.holds c.put_into_place.new.files) c.put_into_place.result
     c.in_ok-held.ensures.reads.same c.in_ok-own.ensures.reads.same c.in_ok-own.ensures.some c.in_ok-own.ensures.none c.put_into_place.ensures.stored
+
+pub returns-clause-crash : goal.returns-clause-crash
+returns-clause-crash g c =
+    looked_endures c.args.store c.in_ok-own.own c.in_ok-held.held c.args.project.now.digests.items c.args.project.now.roots.items c.args.made.rows.items
+    c.args.made.contents.items c.args.made.outputs.items g.F.Files.holds g.F.Files.moment g.F.Files.left_since g.F.Files.images
+    (IsOk c.put_into_place.result) c.args.files.now c.held_now.new.files c.own_files.new.files c.put_into_place.new.files c.in_ok-held.ensures.reads.same
+    c.in_ok-held.ensures.reads.crash c.in_ok-own.ensures.reads.same c.in_ok-own.ensures.reads.crash
+    (subst (λ (cs : List (List ℕ × Vec ℕ Global)). IfSome (g.F.Files.holds c.args.files.now) (HoldsBy c.args.store cs c.in_ok-held.held))
+    c.as_slice.ensures.value c.in_ok-held.ensures.held) c.in_ok-own.ensures.own c.put_into_place.ensures.crash
+
+pub returns-in_err-own-clause-crash : goal.returns-in_err-own-clause-crash
+returns-in_err-own-clause-crash g c =
+    endures_both g.F.Files.holds g.F.Files.moment g.F.Files.left_since g.F.Files.images _ _ c.args.files.now c.held_now.new.files c.own_files.new.files
+    c.in_ok-held.ensures.reads.same c.in_ok-held.ensures.reads.crash c.in_err-own.ensures.reads.same c.in_err-own.ensures.reads.crash

@@ -1,14 +1,15 @@
 use Rattle.std.proofs.Common.{rules, ◌≡◌, ℕ, false, length, refl, subst}
-use Rattle.std.specs.Prelude.{IfSome, OnOk}
-use Rattle.pie_commit.specs.Outcomes.{HasBrought}
+use Rattle.std.specs.Prelude.{IfSome, OnOk, IsOk}
+use Rattle.pie_commit.specs.Outcomes.{HasBrought, IsDone}
 use Rattle.pie_commit.specs.declared.plan.Plan.{Plan}
 use Rattle.pie_commit.specs.inner.Plans.{is_empty, wanted_by}
 use Rattle.pie_incremental.specs.Own.{IsClosed}
 use Rattle.pie_incremental.specs.inner.Cleaned.{IsPlanFor, TellsPlan}
 use Rattle.pie_incremental.specs.inner.Plans.{HasChanged}
-use Rattle.pie_topdown_build.proofs.Leaving.{leaves_by}
+use Rattle.pie_topdown_build.proofs.Leaving.{leaves_by, put_endures}
 use Rattle.pie_topdown_build.proofs.Replacing.{leaves_anew}
 use Rattle.pie_topdown_build.proofs.Storing.{leaves_rows, rows_planned}
+use Rattle.pie_topdown_build.specs.inner.Crashes.{Endures}
 use Rattle.pie_topdown_build.proofs.accepting.put_into_place.Goals as goal
 
 pub returns-clause-anew : goal.returns-clause-anew
@@ -75,3 +76,23 @@ returns-clause-rows g c =
     let image : c.deref.result.now ≡ s = search rules in
     rows_planned own held c.args.project.now.digests.items c.args.project.now.roots.items c.args.made.rows.items c.args.made.contents.items s p
     c.in_ok-image.ensures.parts (subst (λ x. IsPlanFor own held x c.args.made.contents.items p) image c.in_ok-plan.ensures.plan) c.commit_then.result
+
+pub returns-clause-crash : goal.returns-clause-crash
+returns-clause-crash g c =
+    let own = c.args.own.now in
+    let held = c.args.held.now in
+    let outputs = c.args.made.outputs.items in
+    let s = c.in_ok-image.image.value in
+    let p = c.in_ok-plan.plan.value in
+    let r = c.in_ok-report.report.value in
+    let image : c.deref.result.now ≡ s = search rules in
+    let plan : c.deref-2.result.now ≡ p = search rules in
+    let again : c.deref-3.result.now ≡ p = search rules in
+    let live : c.len-live.result ≡ length c.args.made.rows.items = search rules in
+    put_endures own held c.args.project.now.digests.items c.args.project.now.roots.items c.args.made.rows.items c.args.made.contents.items outputs s p r
+    c.requires.contents c.in_ok-image.ensures.parts
+    (subst (λ x. IsPlanFor own held x c.args.made.contents.items p) image c.in_ok-plan.ensures.plan)
+    (subst (λ (n : ℕ). TellsPlan p n outputs r) live (subst (λ (x : Plan). TellsPlan x c.len-live.result outputs r) plan c.in_ok-report.ensures.tells))
+    g.F.Files.holds g.F.Files.moment g.F.Files.left_since g.F.Files.images (IsOk c.commit_then.result) c.args.files.now c.commit_then.new.files
+    (subst (λ (x : Plan). Endures g.F.Files.holds g.F.Files.moment g.F.Files.left_since g.F.Files.images (IsDone x) (IsOk c.commit_then.result) c.args.files.now
+    c.commit_then.new.files) again c.commit_then.ensures.crash)

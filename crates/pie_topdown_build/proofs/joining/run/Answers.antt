@@ -3,7 +3,10 @@ use Rattle.pie_checks.specs.declared.built.Built.{Built}
 use Rattle.pie_results.specs.inner.Files.{contents_in}
 use Rattle.pie_value.specs.declared.task.Task.{Task}
 use Rattle.pie_topdown_build.specs.declared.base.Base.{Base}
+use Rattle.std.specs.Prelude.{IsOk}
 use Rattle.pie_topdown_build.specs.inner.Clean.{RunsAsClean}
+use Rattle.pie_topdown_build.specs.inner.Crashes.{Endures, EndsRun}
+use Rattle.pie_topdown_build.proofs.Crashing.{evaluated_endures}
 use Rattle.pie_topdown_build.specs.inner.News.{as_told, news_in, TellsNews}
 use Rattle.pie_topdown_build.specs.inner.Stored.{IsBegunFrom}
 use Rattle.pie_topdown_build.specs.inner.Records.{TellsOf}
@@ -74,3 +77,25 @@ returns-in-Ok-clause-runs g c =
     subst (λ (b : Base). RunsBy b p told before r) c.into_inner-image.ensures
     (runs_ran c.into_inner-image.result p told before c.args.runs.now c.evaluate.new.runs made.field-0.reused.items made.field-0.built.value r made.ensures.runs
     c.in-Ok.ensures.verdict gained)
+
+pub returns-in-Ok-clause-crash : goal.returns-in-Ok-clause-crash
+returns-in-Ok-clause-crash g c =
+    let p = c.args.project.now in
+    let told = g.O.Offers.told c.args.offers.now in
+    let made = c.in_ok-built in
+    let settled = IsOk c.finish.result in
+    subst (λ (b : Base). Endures g.F.Files.holds g.F.Files.moment g.F.Files.left_since g.F.Files.images (EndsRun b p told) settled c.args.files.now c.finish.new.files)
+    c.into_inner-image.ensures
+    (evaluated_endures g.F.Files.holds g.F.Files.moment g.F.Files.left_since g.F.Files.images c.into_inner-image.result p told settled c.args.files.now
+    c.evaluate.new.files c.finish.new.files made.field-0.built.value made.ensures.reads.same made.ensures.reads.crash made.ensures.clean c.finish.ensures.crash)
+
+pub returns-in-Err-clause-crash : goal.returns-in-Err-clause-crash
+returns-in-Err-clause-crash g c =
+    let p = c.args.project.now in
+    let told = g.O.Offers.told c.args.offers.now in
+    let made = c.in_ok-built in
+    let settled = IsOk c.finish.result in
+    subst (λ (b : Base). Endures g.F.Files.holds g.F.Files.moment g.F.Files.left_since g.F.Files.images (EndsRun b p told) settled c.args.files.now c.finish.new.files)
+    c.into_inner-image.ensures
+    (evaluated_endures g.F.Files.holds g.F.Files.moment g.F.Files.left_since g.F.Files.images c.into_inner-image.result p told settled c.args.files.now
+    c.evaluate.new.files c.finish.new.files made.field-0.built.value made.ensures.reads.same made.ensures.reads.crash made.ensures.clean c.finish.ensures.crash)

@@ -1,8 +1,9 @@
-use Rattle.std.proofs.Common.{◌≡◌, true, List, map, subst}
+use Rattle.std.proofs.Common.{◌≡◌, true, List, map, refl, subst}
 use Rattle.std.specs.List.{All}
 use Rattle.pie_value.specs.Limits.{is_small_task}
 use Rattle.pie_value.specs.declared.task.Task.{Task}
 use Rattle.pie_topdown_build.specs.inner.News.{as_told}
+use Rattle.pie_topdown_build.proofs.Crashing.{large_endures, run_endures}
 use Rattle.pie_topdown_build.proofs.Handing.{told_if_large, told_if_ready}
 use Rattle.pie_topdown_build.proofs.Offering.{tells_if_large, tells_if_ready}
 use Rattle.pie_topdown_build.proofs.Running.{large_ok, runs_ok}
@@ -56,3 +57,25 @@ returns-in-Ok-clause-honest g c = λ on.
     let o = c.in-Ok.offered in
     tells_if_ready c.args.project.now c.args.base.value.image (g.O.Offers.told c.args.offers.now) (g.F.Files.holds c.args.files.now) o.report.value.verdict
     (map as_told o.new.items) (c.in-Ok.ensures.honest on)
+
+pub returns-then-not-are_small-clause-crash : goal.returns-then-not-are_small-clause-crash
+returns-then-not-are_small-clause-crash g c =
+    large_endures g.F.Files.holds g.F.Files.moment g.F.Files.left_since g.F.Files.images c.args.base.value c.args.project.now (g.O.Offers.told c.args.offers.now)
+    _ c.args.files.now c.rebuilt.new.files
+    (subst (λ (roots : List Task). ¬ (All (λ (t : Task). is_small_task t ≡ true) roots)) c.as_slice.ensures.value
+    (c.are_small.ensures.large c.if-not-are_small.true)) c.rebuilt.ensures.crash
+
+pub returns-in-Ok-clause-crash : goal.returns-in-Ok-clause-crash
+returns-in-Ok-clause-crash g c =
+    run_endures g.F.Files.holds g.F.Files.moment g.F.Files.left_since g.F.Files.images c.args.base.value c.args.project.now (g.O.Offers.told c.args.offers.now) _ _
+    c.args.files.now c.run.new.files (λ says. refl) c.in-Ok.ensures.crash
+
+pub returns-in-Err-Failed-clause-crash : goal.returns-in-Err-Failed-clause-crash
+returns-in-Err-Failed-clause-crash g c =
+    run_endures g.F.Files.holds g.F.Files.moment g.F.Files.left_since g.F.Files.images c.args.base.value c.args.project.now (g.O.Offers.told c.args.offers.now) _ _
+    c.args.files.now c.run.new.files (λ says. absurd says) c.in-Err-Failed.ensures.crash
+
+pub returns-in-Err-OutOfMemory-clause-crash : goal.returns-in-Err-OutOfMemory-clause-crash
+returns-in-Err-OutOfMemory-clause-crash g c =
+    run_endures g.F.Files.holds g.F.Files.moment g.F.Files.left_since g.F.Files.images c.args.base.value c.args.project.now (g.O.Offers.told c.args.offers.now) _ _
+    c.args.files.now c.run.new.files (λ says. absurd says) c.in-Err-OutOfMemory.ensures.crash

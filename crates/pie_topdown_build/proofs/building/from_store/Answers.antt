@@ -1,0 +1,12 @@
+use Rattle.pie_report.specs.declared.report.Report.{Report}
+use Rattle.pie_topdown_build.specs.declared.offered.Offered.{Offered}
+use Rattle.pie_topdown_build.proofs.Crashing.{endures_settled, error_verdict}
+use Rattle.pie_topdown_build.proofs.building.from_store.Goals as goal
+
+pub returns-in-Ok-clause-crash : goal.returns-in-Ok-clause-crash
+returns-in-Ok-clause-crash g c = c.in-Ok.ensures.crash
+
+pub returns-in-Err-clause-crash : goal.returns-in-Err-clause-crash
+returns-in-Err-clause-crash g c =
+    endures_settled g.F.Files.holds g.F.Files.moment g.F.Files.left_since g.F.Files.images _ _ _ c.args.files.now c.from.new.files
+    (error_verdict Report Offered c.in-Err.error) c.in-Err.ensures.crash
