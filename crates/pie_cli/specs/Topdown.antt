@@ -15,8 +15,8 @@ use Rattle.pie_cli.specs.Fresh.{IsPrinted, verdict_status}
 use Rattle.pie_cli.specs.Listed.{RunsSaying}
 use Rattle.pie_cli.specs.Run.{is_answer}
 
--- there is a report of at most 50,000 tasks, a refused build left the directory as it was, the report and what is left are those of a clean build, no task of
--- an accepted one from an earlier store ran twice, and each for a reason, and the text is that of the report
+-- there is a report of at most 50,000 tasks, a refused build left the directory as it was, the report and what is left are those of a clean build, no task of a
+-- build from an earlier store ran twice, and each for a reason, and the text is that of the report
 pub record TellsTopdown (json : Bool) (before after : Option Directory) (text : List ℕ) (ended : Status) : Type 0 where
   pub report : Report
   pub few : length report.ran.items ≤ 50000
