@@ -1,5 +1,5 @@
 -- What an honest cache offers.
-use Rattle.std.proofs.Common.{◌≡◌, ℕ, suc, ◌<◌, ◌++◌, ◌∷◌, [], Bool, true, false, cond, List, length, map, Option, None, Some, Result, Ok, refl, sym, ap, subst, ◌∙◌, inl, inr, arith, lt-ltb}
+use Rattle.std.proofs.Common.{◌≡◌, ℕ, suc, ◌<◌, ◌++◌, ◌∷◌, [], Bool, true, false, cond, List, length, Option, None, Some, Result, Ok, refl, sym, ap, subst, ◌∙◌, inl, inr, arith, lt-ltb}
 use Rattle.std.specs.Prelude.{All, Contains, IsSome, is_some, nat_lt}
 use Rattle.std.specs.List.{flat_map}
 use Rattle.std.specs.Str.{bytes_eq}

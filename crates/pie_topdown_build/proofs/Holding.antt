@@ -2,7 +2,7 @@
 use Rattle.std.proofs.Common.{◌≡◌, Vec, Global, ℕ, Bool, true, false, cond, List, [], ◌∷◌, Option, Some, None, refl, sym, ap, subst, ◌∙◌, codes}
 use Rattle.std.proofs.lemmas.Bool.{false≢true}
 use Rattle.std.specs.FinMap as fin
-use Rattle.std.specs.Prelude.{◌&&◌, ◌||◌, Contains, IfSome, IfOk, Result, Ok, Err, is_some}
+use Rattle.std.specs.Prelude.{◌&&◌, ◌||◌, Contains, IfSome, IfOk, Result, is_some}
 use Rattle.std.specs.List.{filter, list_any}
 use Rattle.std.specs.Option.{option_map}
 use Rattle.std.specs.Ordering.{nat_cmp, eq_by_cmp}

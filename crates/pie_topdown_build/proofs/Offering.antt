@@ -16,7 +16,6 @@ use Rattle.pie_project.specs.Fronts.{ProjectSays}
 use Rattle.pie_project.specs.declared.fault.BuildError.{BuildError}
 use Rattle.pie_project.specs.declared.project.Project.{Project}
 use Rattle.pie_project.specs.inner.Projects.{front_of}
-use Rattle.pie_report.specs.declared.report.Report.{Report}
 use Rattle.pie_results.specs.inner.Files.{contents_in}
 use Rattle.pie_store.specs.Canonical.{AreFuncs}
 use Rattle.pie_store.specs.declared.cause.Cause.{Cause}

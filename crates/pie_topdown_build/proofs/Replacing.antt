@@ -21,7 +21,7 @@ use Rattle.pie_commit.specs.declared.plan.Plan.{Plan}
 use Rattle.pie_commit.specs.inner.Plans.{Wanted, Same, Gone, Bytes, Meets, later, at, removed, written, pended, stored, stores_none, is_empty, is_none, keeps}
 use Rattle.pie_commit.specs.inner.Plans.{changes, wanted_by}
 use Rattle.pie_core_laws.specs.Update.{Update, present}
-use Rattle.pie_diff.specs.Hashes.{files_paths, hash_in, held_at, is_hash, is_new}
+use Rattle.pie_diff.specs.Hashes.{files_paths, hash_in, is_hash, is_new}
 use Rattle.pie_diff.specs.Removals.{written_by}
 use Rattle.pie_files.specs.Directory.{Directory, file_at, with_file}
 use Rattle.pie_files.specs.declared.files.FilesError.{FilesError}

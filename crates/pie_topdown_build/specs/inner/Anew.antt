@@ -7,14 +7,13 @@ use Rattle.std.proofs.Common.{Vec}
 use Rattle.pie_base.specs.Path.{is_out, same_text}
 use Rattle.pie_build.specs.Left.{IsProjectOf}
 use Rattle.pie_build.specs.Stored.{IsStoreOf}
-use Rattle.pie_core_laws.specs.Keeping.{Separates}
 use Rattle.pie_core_laws.specs.Update.{Update, present}
 use Rattle.pie_diff.specs.Hashes.{files_paths, hash_in, held_at}
 use Rattle.pie_files.specs.Directory.{Directory}
 use Rattle.pie_incremental.specs.declared.base.OwnFiles.{OwnFiles}
 use Rattle.pie_incremental.specs.Own.{bytes_at, pending_path}
 use Rattle.pie_incremental.specs.inner.Digested.{digested}
-use Rattle.pie_left_laws.specs.Accepted.{OutIsMet, IsAccepted, live_now}
+use Rattle.pie_left_laws.specs.Accepted.{live_now}
 use Rattle.pie_left_laws.specs.Reported.{IsOther, IsStray}
 use Rattle.pie_model.specs.Built.{provided_at, store_rows, IsBuilt}
 use Rattle.pie_model.specs.Verdict.{verdict}
@@ -26,7 +25,6 @@ use Rattle.pie_project.specs.declared.project.Project.{Project}
 use Rattle.pie_reach.specs.Plan.{path_cmp}
 use Rattle.pie_record.specs.declared.task_record.TaskRecord.{TaskRecord}
 use Rattle.pie_report.specs.declared.report.Report.{Report}
-use Rattle.pie_results.specs.inner.Files.{contents_in}
 use Rattle.pie_store.specs.inner.Offers.{Offered}
 use Rattle.pie_topdown_result_laws.specs.Builds.{AreHonest, IsFromStore, IsNowHere}
 use Rattle.pie_value.specs.Canonical.{enc_task}

@@ -26,7 +26,7 @@ returns-in-Ok-clause-crash g c =
     (ends_told g.F.Files.holds g.F.Files.images c.args.plan.now c.args.files.now c.commit.new.files c.commit.result c.commit.ensures.done
     c.commit.ensures.durable c.commit.ensures.empty c.commit.ensures.failed)
     (λ settled.
-    commit_rests {A = Unit {0}} g.F.Files.holds g.F.Files.images c.args.plan.now c.args.files.now c.commit.new.files (Ok tt) c.in-Ok.ensures.durable
+    commit_rests g.F.Files.holds g.F.Files.images c.args.plan.now c.args.files.now c.commit.new.files {A = Unit {0}} (Ok tt) c.in-Ok.ensures.durable
     c.commit.ensures.empty)
 
 pub returns-in-Err-clause-crash : goal.returns-in-Err-clause-crash
