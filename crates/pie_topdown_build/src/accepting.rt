@@ -44,7 +44,7 @@ pub(crate) struct Made {
 
 /// Writes and removes what isn't as it was made, and reports it. Where there was no store to build from, it writes all. The plan and the report are made
 /// before the first write.
-#[tactic(auto, using(pie_build::proofs::OwnPaths::same_keeps, pie_incremental::proofs::Joining::rest_then, crate::proofs::Crashing::endures_still))]
+#[tactic(auto, using(pie_build::proofs::OwnPaths::same_keeps, pie_incremental::proofs::Joining::rest_then))]
 pub(crate) fn accept<F: Files>(
     alloc: Global,
     files: &mut F,
@@ -118,7 +118,7 @@ fn own_with(alloc: Global, store: Option<Vec<u8>>, pending: bool) -> OwnFiles
 }
 
 // The same with what is held.
-#[tactic(auto, using(pie_build::proofs::OwnPaths::same_keeps, crate::proofs::Crashing::endures_none))]
+#[tactic(auto, using(pie_build::proofs::OwnPaths::same_keeps))]
 fn put_into_place<F: Files>(
     alloc: Global,
     files: &mut F,

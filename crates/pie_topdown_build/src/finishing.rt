@@ -23,7 +23,7 @@ use pie_vm::Runs;
 use std::alloc::Global;
 
 /// Puts an accepted build into place, and reports it.
-#[tactic(auto, using(pie_build::proofs::OwnPaths::same_keeps, crate::proofs::Crashing::endures_none))]
+#[tactic(auto, using(pie_build::proofs::OwnPaths::same_keeps))]
 pub(crate) fn finish<F: Files>(
     alloc: Global,
     files: &mut F,

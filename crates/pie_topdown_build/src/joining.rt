@@ -141,7 +141,7 @@ fn rebuilt<F: Files>(alloc: Global, files: &mut F, runs: &mut Runs) -> Result<Of
 }
 
 // Settles the roots, and puts into place what was made.
-#[tactic(auto, using(pie_build::proofs::OwnPaths::same_keeps, pie_incremental::proofs::Joining::rest_then, pie_incremental::proofs::Joining::still_there, pie_incremental::proofs::Joining::told_all, pie_incremental::proofs::Joining::told_encodable, crate::proofs::Making::quiet_then, crate::proofs::Crashing::endures_still))]
+#[tactic(auto, using(pie_build::proofs::OwnPaths::same_keeps, pie_incremental::proofs::Joining::rest_then, pie_incremental::proofs::Joining::still_there, pie_incremental::proofs::Joining::told_all, pie_incremental::proofs::Joining::told_encodable, crate::proofs::Making::quiet_then))]
 fn run<F: Files, O: Offers>(
     alloc: Global,
     files: &mut F,

@@ -2,7 +2,7 @@ use Rattle.std.proofs.Common.{ℕ, List, Vec, Global, subst}
 use Rattle.std.specs.Prelude.{IfSome, IsOk}
 use Rattle.pie_topdown_build.specs.inner.Cleaned.{HoldsBy}
 use Rattle.pie_topdown_build.proofs.Leaving.{looked_leaves, looked_endures}
-use Rattle.pie_topdown_build.proofs.Crashing.{endures_both}
+use Rattle.pie_topdown_build.proofs.Crashing.{endures_both, endures_still}
 use Rattle.pie_topdown_build.proofs.Storing.{rows_from}
 use Rattle.pie_topdown_build.proofs.accepting.accept.Goals as goal
 
@@ -36,3 +36,8 @@ pub returns-in_err-own-clause-crash : goal.returns-in_err-own-clause-crash
 returns-in_err-own-clause-crash g c =
     endures_both g.F.Files.holds g.F.Files.moment g.F.Files.left_since g.F.Files.images _ _ c.args.files.now c.held_now.new.files c.own_files.new.files
     c.in_ok-held.ensures.reads.same c.in_ok-held.ensures.reads.crash c.in_err-own.ensures.reads.same c.in_err-own.ensures.reads.crash
+
+pub returns-in_err-held-clause-crash : goal.returns-in_err-held-clause-crash
+returns-in_err-held-clause-crash g c =
+    endures_still g.F.Files.holds g.F.Files.moment g.F.Files.left_since g.F.Files.images _ _ c.args.files.now c.held_now.new.files
+    c.in_err-held.ensures.reads.same c.in_err-held.ensures.reads.crash

@@ -6,6 +6,7 @@ use Rattle.pie_commit.specs.inner.Plans.{is_empty, wanted_by}
 use Rattle.pie_incremental.specs.Own.{IsClosed}
 use Rattle.pie_incremental.specs.inner.Cleaned.{IsPlanFor, TellsPlan}
 use Rattle.pie_incremental.specs.inner.Plans.{HasChanged}
+use Rattle.pie_topdown_build.proofs.Crashing.{endures_none}
 use Rattle.pie_topdown_build.proofs.Leaving.{leaves_by, put_endures}
 use Rattle.pie_topdown_build.proofs.Replacing.{leaves_anew}
 use Rattle.pie_topdown_build.proofs.Storing.{leaves_rows, rows_planned}
@@ -96,3 +97,12 @@ returns-clause-crash g c =
     g.F.Files.holds g.F.Files.moment g.F.Files.left_since g.F.Files.images (IsOk c.commit_then.result) c.args.files.now c.commit_then.new.files
     (subst (λ (x : Plan). Endures g.F.Files.holds g.F.Files.moment g.F.Files.left_since g.F.Files.images (IsDone x) (IsOk c.commit_then.result) c.args.files.now
     c.commit_then.new.files) again c.commit_then.ensures.crash)
+
+pub returns-in_err-image-clause-crash : goal.returns-in_err-image-clause-crash
+returns-in_err-image-clause-crash g c = endures_none g.F.Files.holds g.F.Files.moment g.F.Files.left_since g.F.Files.images _ _ c.args.files.now
+
+pub returns-in_err-plan-clause-crash : goal.returns-in_err-plan-clause-crash
+returns-in_err-plan-clause-crash g c = endures_none g.F.Files.holds g.F.Files.moment g.F.Files.left_since g.F.Files.images _ _ c.args.files.now
+
+pub returns-in_err-report-clause-crash : goal.returns-in_err-report-clause-crash
+returns-in_err-report-clause-crash g c = endures_none g.F.Files.holds g.F.Files.moment g.F.Files.left_since g.F.Files.images _ _ c.args.files.now

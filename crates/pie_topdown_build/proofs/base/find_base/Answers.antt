@@ -13,8 +13,8 @@ returns-clause-starts g c =
     c.in_ok-found.field-0 c.in_ok-marker.ensures c.if-branch.false c.in_ok-exists.ensures.found c.in_ok-exists.ensures.same c.in_ok-place.ensures
     c.in_ok-found.ensures.found c.in-None.is
 
-pub returns-then-if-clause-only : goal.returns-then-if-clause-only
-returns-then-if-clause-only g c =
+pub returns-then-branch-clause-only : goal.returns-then-branch-clause-only
+returns-then-branch-clause-only g c =
     interrupted_only (g.F.Files.holds c.args.files.now) c.in_ok-marker.marker c.in_ok-exists.field-0 c.in_ok-marker.ensures c.if-branch.true
     c.in_ok-exists.ensures.found
 

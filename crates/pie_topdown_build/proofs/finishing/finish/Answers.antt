@@ -3,6 +3,7 @@ use Rattle.std.specs.Prelude.{IfSome, IfOk, IsOk}
 use Rattle.pie_checks.specs.declared.built.Built.{Built}
 use Rattle.pie_topdown_build.specs.inner.Cleaned.{LeavesBy}
 use Rattle.pie_topdown_build.specs.inner.Crashes.{Endures, EndsBy}
+use Rattle.pie_topdown_build.proofs.Crashing.{endures_none}
 use Rattle.pie_topdown_build.proofs.Leaving.{accepted_endures, left_accepted}
 use Rattle.pie_topdown_build.proofs.finishing.finish.Goals as goal
 
@@ -25,3 +26,6 @@ returns-in-Accepted-clause-crash g c =
     c.args.files.now c.accept.new.files) c.into_inner-verdict.ensures
     (accepted_endures g.F.Files.holds g.F.Files.moment g.F.Files.left_since g.F.Files.images settled c.args.files.now c.accept.new.files c.args.store funcs roots
     c.into_inner-verdict.result c.in-Accepted.is c.accept.ensures.crash)
+
+pub returns-in_ok-refused_report-in-Refused-clause-crash : goal.returns-in_ok-refused_report-in-Refused-clause-crash
+returns-in_ok-refused_report-in-Refused-clause-crash g c = endures_none g.F.Files.holds g.F.Files.moment g.F.Files.left_since g.F.Files.images _ _ c.args.files.now

@@ -1,12 +1,11 @@
-use Rattle.std.proofs.Common.{◌≡◌, ◌++◌, ◌∙◌, Vec, Global, ap, map, rules, subst}
+use Rattle.std.proofs.Common.{◌≡◌, ◌++◌, ◌∙◌, Vec, Global, ap, true, false, map, rules, subst}
 use Rattle.pie_checks.specs.declared.built.Built.{Built}
 use Rattle.pie_results.specs.inner.Files.{contents_in}
 use Rattle.pie_value.specs.declared.task.Task.{Task}
 use Rattle.pie_topdown_build.specs.declared.base.Base.{Base}
-use Rattle.std.specs.Prelude.{IsOk}
 use Rattle.pie_topdown_build.specs.inner.Clean.{RunsAsClean}
 use Rattle.pie_topdown_build.specs.inner.Crashes.{Endures, EndsRun}
-use Rattle.pie_topdown_build.proofs.Crashing.{evaluated_endures}
+use Rattle.pie_topdown_build.proofs.Crashing.{endures_still, evaluated_endures}
 use Rattle.pie_topdown_build.specs.inner.News.{as_told, news_in, TellsNews}
 use Rattle.pie_topdown_build.specs.inner.Stored.{IsBegunFrom}
 use Rattle.pie_topdown_build.specs.inner.Records.{TellsOf}
@@ -83,19 +82,39 @@ returns-in-Ok-clause-crash g c =
     let p = c.args.project.now in
     let told = g.O.Offers.told c.args.offers.now in
     let made = c.in_ok-built in
-    let settled = IsOk c.finish.result in
+    let settled = true ≡ true in
     subst (λ (b : Base). Endures g.F.Files.holds g.F.Files.moment g.F.Files.left_since g.F.Files.images (EndsRun b p told) settled c.args.files.now c.finish.new.files)
     c.into_inner-image.ensures
     (evaluated_endures g.F.Files.holds g.F.Files.moment g.F.Files.left_since g.F.Files.images c.into_inner-image.result p told settled c.args.files.now
-    c.evaluate.new.files c.finish.new.files made.field-0.built.value made.ensures.reads.same made.ensures.reads.crash made.ensures.clean c.finish.ensures.crash)
+    c.evaluate.new.files c.finish.new.files made.field-0.built.value made.ensures.reads.same made.ensures.reads.crash made.ensures.clean c.in-Ok.ensures.crash)
 
-pub returns-in-Err-clause-crash : goal.returns-in-Err-clause-crash
-returns-in-Err-clause-crash g c =
+pub returns-clause-crash : goal.returns-clause-crash
+returns-clause-crash g c =
     let p = c.args.project.now in
     let told = g.O.Offers.told c.args.offers.now in
     let made = c.in_ok-built in
-    let settled = IsOk c.finish.result in
+    let settled = false ≡ true in
     subst (λ (b : Base). Endures g.F.Files.holds g.F.Files.moment g.F.Files.left_since g.F.Files.images (EndsRun b p told) settled c.args.files.now c.finish.new.files)
     c.into_inner-image.ensures
     (evaluated_endures g.F.Files.holds g.F.Files.moment g.F.Files.left_since g.F.Files.images c.into_inner-image.result p told settled c.args.files.now
-    c.evaluate.new.files c.finish.new.files made.field-0.built.value made.ensures.reads.same made.ensures.reads.crash made.ensures.clean c.finish.ensures.crash)
+    c.evaluate.new.files c.finish.new.files made.field-0.built.value made.ensures.reads.same made.ensures.reads.crash made.ensures.clean c.in-Err.ensures.crash)
+
+pub returns-in_err-built-clause-crash : goal.returns-in_err-built-clause-crash
+returns-in_err-built-clause-crash g c =
+    endures_still g.F.Files.holds g.F.Files.moment g.F.Files.left_since g.F.Files.images _ _ c.args.files.now c.evaluate.new.files
+    c.in_err-built.ensures.reads.same c.in_err-built.ensures.reads.crash
+
+pub returns-in_err-ran-clause-crash : goal.returns-in_err-ran-clause-crash
+returns-in_err-ran-clause-crash g c =
+    endures_still g.F.Files.holds g.F.Files.moment g.F.Files.left_since g.F.Files.images _ _ c.args.files.now c.evaluate.new.files
+    c.in_ok-built.ensures.reads.same c.in_ok-built.ensures.reads.crash
+
+pub returns-in_err-reused-clause-crash : goal.returns-in_err-reused-clause-crash
+returns-in_err-reused-clause-crash g c =
+    endures_still g.F.Files.holds g.F.Files.moment g.F.Files.left_since g.F.Files.images _ _ c.args.files.now c.evaluate.new.files
+    c.in_ok-built.ensures.reads.same c.in_ok-built.ensures.reads.crash
+
+pub returns-in_err-new-clause-crash : goal.returns-in_err-new-clause-crash
+returns-in_err-new-clause-crash g c =
+    endures_still g.F.Files.holds g.F.Files.moment g.F.Files.left_since g.F.Files.images _ _ c.args.files.now c.evaluate.new.files
+    c.in_ok-built.ensures.reads.same c.in_ok-built.ensures.reads.crash
