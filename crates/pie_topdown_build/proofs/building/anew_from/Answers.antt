@@ -1,5 +1,8 @@
-use Rattle.std.proofs.Common.{Some, map, refl}
+use Rattle.std.proofs.Common.{◌≡◌, Some, map, refl, rules, subst, sym}
+use Rattle.pie_report.specs.declared.report.Report.{Report}
+use Rattle.pie_topdown_build.specs.inner.Clean.{FromAsClean}
 use Rattle.pie_topdown_build.specs.inner.News.{as_told}
+use Rattle.pie_topdown_build.specs.inner.Records.{TellsFrom}
 use Rattle.pie_topdown_build.proofs.Cleanly.{caused_from}
 use Rattle.pie_topdown_build.proofs.Offering.{tells_none}
 use Rattle.pie_topdown_build.proofs.building.anew_from.Goals as goal
@@ -7,14 +10,25 @@ use Rattle.pie_topdown_build.proofs.Crashing.{endures_rest}
 
 pub returns-in-Ok-clause-clean : goal.returns-in-Ok-clause-clean
 returns-in-Ok-clause-clean g c =
-    caused_from (g.O.Offers.told c.args.offers.now) (g.F.Files.holds c.args.files.now) (g.F.Files.holds c.from.new.files) c.args.base.value
-    c.in-Ok.offered.report.value _ (Some c.args.cause) refl c.in-Ok.ensures.clean
+    let b = c.args.base.value in
+    let told = g.O.Offers.told c.args.offers.now in
+    let before = g.F.Files.holds c.args.files.now in
+    let after = g.F.Files.holds c.from.new.files in
+    let r = c.deref_mut.result.now in
+    let same : r ≡ c.in-Ok.offered.report.value = search rules in
+    caused_from told before after b r _ (Some c.args.cause) refl
+    (subst (λ (x : Report). FromAsClean b told before after x) (sym same) c.in-Ok.ensures.clean)
 
 pub returns-in-Ok-clause-honest : goal.returns-in-Ok-clause-honest
 returns-in-Ok-clause-honest g c =
+    let b = c.args.base.value in
+    let offers = g.O.Offers.told c.args.offers.now in
+    let before = g.F.Files.holds c.args.files.now in
     let o = c.in-Ok.offered in
-    tells_none (g.O.Offers.told c.args.offers.now) (g.F.Files.holds c.args.files.now) c.args.base.value o.report.value.verdict (map as_told o.new.items)
-    (c.in-Ok.ensures.honest refl)
+    let r = c.deref_mut.result.now in
+    let same : r ≡ o.report.value = search rules in
+    tells_none offers before b r.verdict (map as_told o.new.items)
+    (subst (λ (x : Report). TellsFrom b offers before x.verdict (map as_told o.new.items)) (sym same) (c.in-Ok.ensures.honest refl))
 
 pub returns-in-Ok-clause-crash : goal.returns-in-Ok-clause-crash
 returns-in-Ok-clause-crash g c =

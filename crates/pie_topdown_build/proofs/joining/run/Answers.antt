@@ -77,6 +77,12 @@ returns-in-Ok-clause-runs g c =
     (runs_ran c.into_inner-image.result p told before c.args.runs.now c.evaluate.new.runs made.field-0.reused.items made.field-0.built.value r made.ensures.runs
     c.in-Ok.ensures.verdict gained)
 
+pub returns-in-Ok-clause-encodable : goal.returns-in-Ok-clause-encodable
+returns-in-Ok-clause-encodable g c =
+    let started = c.in_ok-built.ensures.started in
+    (told_report c.count-before.result c.args.runs.now c.evaluate.new.runs c.in_ok-ran.ran c.in-Ok.report.value c.count-before.ensures
+    (record { gained = started.gained; is = started.is; encodable = started.encodable }) c.in_ok-ran.ensures c.in-Ok.ensures.ran).1
+
 pub returns-in-Ok-clause-crash : goal.returns-in-Ok-clause-crash
 returns-in-Ok-clause-crash g c =
     let p = c.args.project.now in
