@@ -62,7 +62,7 @@ module _ (b : Builder) (n : ℕ) (code : Code) (u : Update) (done : List (List �
 
   pub begins_check : c.no.0 ≡ n → c.code.now ≡ code → c.at ≡ 0 → numbers c.required.items ≡ [] → IsOldRecord (setting u) before (enc_task c.rec.task) (record_of c.rec)
       → TellsApart (setting u) before → IsTrueRecord c.rec → IsSourced u c.rec c.contents → IsDueBy u b.plan c.rec c.contents
-      → AreHonest u c.rest → ChecksRight u b root fs c
+      → AreHonest u c.rec.task c.rest → ChecksRight u b root fs c
   begins_check number coded at none old apart parts source due rest =
       let first = begins_at u before b.ledger.tables.names b.ledger.tables.records root fs c.rec s.listed old top_of.goes in
       let it : ChecksAt u before b.ledger.tables.names b.ledger.tables.records root fs c.rec c.at (numbers c.required.items) =
@@ -92,7 +92,8 @@ begins_with b n code rec contents rest c number coded same held more at none nam
     at none (subst (λ (x : TaskRecord). IsOldRecord (setting u) before (enc_task x.task) (record_of x)) (sym same) old) apart
     (subst IsTrueRecord (sym same) parts)
     (subst (IsSourced u c.rec) (sym held) (subst (λ (x : TaskRecord). IsSourced u x contents) (sym same) source))
-    (subst (IsDueBy u b.plan c.rec) (sym held) (subst (λ (x : TaskRecord). IsDueBy u b.plan x contents) (sym same) due)) (subst (AreHonest u) (sym more) honest)
+    (subst (IsDueBy u b.plan c.rec) (sym held) (subst (λ (x : TaskRecord). IsDueBy u b.plan x contents) (sym same) due))
+    (subst (AreHonest u c.rec.task) (sym more) (subst (λ (x : TaskRecord). AreHonest u x.task rest) (sym same) honest))
 
 -- ---- it passes an observation
 

@@ -21,15 +21,17 @@ use Rattle.pie_walk.specs.States.{WalkState}
 use Rattle.pie_model.specs.declared.words.Kind.TheVariants.{Source}
 use Rattle.pie_model.specs.Paths.{Path, among, kind_of}
 use Rattle.pie_model.specs.Trees.{is_done, outcome_of as model_outcome}
-use Rattle.pie_model.specs.Evaluation.{evaluation}
-use Rattle.pie_model.specs.Records.{Record, needs_of, task_asked}
-use Rattle.pie_model.specs.StampNow.{Told, by_records, by_evaluation, stamp_now}
+use Rattle.pie_model.specs.Evaluation.{World, Project, evaluation}
+use Rattle.pie_model.specs.Records.{Observation, Record, needs_of, task_asked, record_of as model_record}
+use Rattle.pie_model.specs.Separate.{NeverWritesWhatItSaw}
+use Rattle.pie_model.specs.StampNow.{Told, Teller, by_records, by_evaluation, stamp_now, asked_before, StampsAgree, RecordAgrees}
 use Rattle.pie_model.specs.Reasons.{Differs}
 use Rattle.pie_model.specs.Reasons.RunReason.{stamp}
 use Rattle.pie_model.specs.inner.Consistent.{IsRecorded}
 use Rattle.pie_model.specs.inner.CoreLaws.{TellsRight}
 use Rattle.pie_model.specs.inner.Stack.{Frame as ModelFrame, tasks_of}
 use Rattle.pie_model.proofs.Basics.{clash}
+use Rattle.pie_model.proofs.ItselfLemmas.{agrees_itself}
 use Rattle.pie_step_laws.proofs.Tables.{among_one}
 use Rattle.pie_check_laws.proofs.Members.{none_in, here_or_there}
 use Rattle.pie_model_pipeline.specs.Rows.{how_by, asked_of, query_of, stamp_of, observation_of, record_of}
@@ -38,16 +40,16 @@ use Rattle.pie_builder_laws.specs.Names.{called_in}
 use Rattle.pie_builder_laws.proofs.Naming.{among_at, named_back, place, placed}
 use Rattle.pie_builder_laws.proofs.Tabled.{needs_called, record_by_number}
 use Rattle.pie_earlier_laws.specs.Telling.{told_by}
-use Rattle.pie_earlier_laws.proofs.OldRows.{old_row}
 use Rattle.pie_earlier_laws.proofs.Pipelines.{kind_source, manners_of}
 use Rattle.pie_earlier_laws.proofs.Unnamed.{ListSources, record_lists}
+use Rattle.pie_earlier_laws.specs.Sources.{ListsSources}
 use Rattle.pie_compare_laws.specs.Agreeing.{OutputsAreCanonical}
 use Rattle.pie_compare_laws.proofs.Ways.{task_of}
-use Rattle.pie_core_laws.specs.Update.{Update, earlier, present, old_record}
+use Rattle.pie_core_laws.specs.Update.{Update, present}
 use Rattle.pie_core_laws.specs.Exact.{is_done as is_ended, rank_by}
 use Rattle.pie_core_laws.proofs.Exactly.{tells}
 use Rattle.pie_core_laws.proofs.Kept.{done_settled, settled_done, are_present}
-use Rattle.pie_topdown_laws.specs.Checks.{AreUnderWay, IsChecked}
+use Rattle.pie_topdown_laws.specs.Checks.{AreUnderWay, IsChecked, IsOldRecord}
 use Rattle.pie_topdown_laws.specs.CheckLaws.{MayPass}
 use Rattle.pie_topdown_laws.specs.Ledgers.{setting, walk_of, IsAsExact}
 use Rattle.pie_topdown_laws.specs.Places.{ChecksAt, StandsAbove}
@@ -58,9 +60,10 @@ use Rattle.pie_topdown_laws.proofs.Exactness.{as_exact, kept_settled, settled_ke
 use Rattle.pie_topdown.specs.declared.builder.Builder.{Builder}
 use Rattle.pie_topdown.specs.declared.hand.Check.{Check}
 use Rattle.pie_topdown.specs.inner.Due.{IsDue, IsDueBy}
-use Rattle.pie_topdown.specs.inner.Frames.{IsOwnRecord, IsSite}
+use Rattle.pie_topdown.specs.inner.Frames.{IsSite}
 use Rattle.pie_topdown.specs.inner.Places.{DiffersHere, NeedsNext}
 use Rattle.pie_topdown.specs.inner.Right.{names_of, records_of, IsPlanNow, IsRightSite, ChecksRight}
+use Rattle.pie_topdown.specs.inner.Trying.{GivesWay}
 use Rattle.pie_base.specs.declared.fault.FaultKind.TheVariants.{Unknown as UnknownTask}
 use Rattle.pie_topdown.specs.declared.entering.Entry.TheVariants.{Unknown}
 use Rattle.pie_topdown.specs.inner.Entries.{MayEnter}
@@ -95,25 +98,24 @@ listed_source (x ∷ deps) l dep p i k w = by (here_or_there x dep deps i) (λ j
     by (inl e) f = l.0 p (ap (λ (z : Dep). query_of z.kind z.what) e ∙ ap (λ (k : DepKind). query_of k dep.what) k ∙ ap (query_of kinds.List) w)
     by (inr j) f = f j
 
-module _ (u : Update) (b : Builder) (plan : IsPlanNow u b.plan) (rec : TaskRecord) (left : old_record u (enc_task rec.task) ≡ Some (record_of rec)) where
+module _ (u : Update) (before : Project) (rec : TaskRecord) (old : IsOldRecord (setting u) before (enc_task rec.task) (record_of rec)) where
   old_lists : ListSources (map observation_of rec.deps)
   old_lists =
-      let q = old_row world (earlier u) u.old_roots plan.build.accepted (enc_task rec.task) (record_of rec) left in
-      subst (λ (z : Record). ListSources z.observations) (sym q.was)
-      (record_lists world (earlier u) (enc_task rec.task) ((manners_of u.old_functions u.built).lists (enc_task rec.task)))
+      subst (λ (z : Record). ListSources z.observations) (sym old.was)
+      (record_lists world before (enc_task rec.task)
+      (subst ListsSources (sym old.meaning) ((manners_of u.functions u.directory).lists (enc_task rec.task))))
 
   -- it has no more observations than a task can make
   few_observed : length rec.deps ≤ 1000001
   unfolding world
   few_observed =
-      let q = old_row world (earlier u) u.old_roots plan.build.accepted (enc_task rec.task) (record_of rec) left in
       subst (λ n. n ≤ 1000001) (length-map rec.deps observation_of)
-      (subst (λ (z : Record). length z.observations ≤ 1000001) (sym q.was) (evaluated_few world (earlier u) 50000 [] (enc_task rec.task)))
+      (subst (λ (z : Record). length z.observations ≤ 1000001) (sym old.was) (evaluated_few world before 50000 [] (enc_task rec.task)))
 
 -- ---- the check of one
 
-module _ (u : Update) (done : List (List ℕ)) (root : List ℕ) (b : Builder) (fs : List ModelFrame) (c : Check) (plan : IsPlanNow u b.plan) (is : IsSite b)
-    (s : IsRightSite u done root b) (k : ChecksRight u b root fs c) (differs : DiffersHere b c) (own : IsOwnRecord b.plan c.rec) where
+module _ (u : Update) (done : List (List ℕ)) (root : List ℕ) (b : Builder) (fs : List ModelFrame) (c : Check) (is : IsSite b)
+    (s : IsRightSite u done root b) (k : ChecksRight u b root fs c) (differs : DiffersHere b c) (storable : IsStorable c.rec) where
   abbrev R : List ℕ → Option Record
   R = records_of b
 
@@ -126,14 +128,8 @@ module _ (u : Update) (done : List (List ℕ)) (root : List ℕ) (b : Builder) (
   abbrev C : ChecksAt u k.check.before b.ledger.tables.names b.ledger.tables.records root fs c.rec c.at (numbers c.required.items)
   C = k.check.check
 
-  left : old_record u (enc_task c.rec.task) ≡ Some (record_of c.rec)
-  left = (plan.old own.number c.rec own.kept).left
-
-  storable : IsStorable c.rec
-  storable = (plan.old own.number c.rec own.kept).storable
-
   few : c.at ≤ 1000000
-  few = let size = few_observed u b plan c.rec left in let inside = differs.inside in omega (arith, size, inside)
+  few = let size = few_observed u k.check.before c.rec C.old in let inside = differs.inside in omega (arith, size, inside)
 
   exact : IsAsExact u b.ledger.tables.names b.ledger.tables.records b.ledger.rows b.ledger.places.items
   exact = as_exact u b.ledger.tables.names b.ledger.tables.records b.ledger.rows b.ledger.places.items s.ledger
@@ -238,7 +234,7 @@ module _ (u : Update) (done : List (List ℕ)) (root : List ℕ) (b : Builder) (
           leaves = subst IsTrueStamp e (All-contains IsTrueDep c.rec.deps dep k.may.parts.deps among_deps).1;
           bytes = refl;
         };
-        listed = λ p what kind. kind_source p (listed_source c.rec.deps (old_lists u b plan c.rec left) dep p among_deps kind what);
+        listed = λ p what kind. kind_source p (listed_source c.rec.deps (old_lists u k.check.before c.rec C.old) dep p among_deps kind what);
         ready = ready;
       }
 
@@ -292,6 +288,25 @@ module _ (u : Update) (done : List (List ℕ)) (root : List ℕ) (b : Builder) (
   differs_now : Differs world (present u) (by_evaluation world (present u)) c.rec.writes [] (record_of c.rec).observations
   differs_now = let dep = slice_inside c.rec.deps c.at differs.inside in differs_there dep.0 dep.1
 
+-- ---- a record with another stamp than now
+
+disagrees : (w : World) (P : Project) (by : Teller) (own : List (Path × List ℕ)) (before : List (List ℕ)) (os : List Observation)
+    → StampsAgree w P by own before os → Differs w P by own before os → ⊥
+disagrees w P by own before [] agrees differs = differs
+disagrees w P by own before (o ∷ os) agrees (inl apart) = apart agrees.0
+disagrees w P by own before (o ∷ os) agrees (inr more) = disagrees w P by own (asked_before before o.query) os agrees.1 more
+
+-- it isn't that of its task's evaluation now
+gives_way : (u : Update) (before : Project) (rec : TaskRecord) → IsOldRecord (setting u) before (enc_task rec.task) (record_of rec)
+    → Differs world (present u) (by_evaluation world (present u)) rec.writes [] (record_of rec).observations
+    → record_of rec ≡ model_record world (evaluation world (present u) (enc_task rec.task)) → ⊥
+gives_way u before rec old differs is =
+    disagrees world (present u) (by_evaluation world (present u)) rec.writes [] (record_of rec).observations
+    (subst (RecordAgrees world (present u) (by_evaluation world (present u))) (sym is)
+    (agrees_itself world (present u) (enc_task rec.task) (subst NeverWritesWhatItSaw old.meaning old.polite)
+    (ap (λ (r : Record). is_done r.outcome) (sym is) ∙ old.done)))
+    differs
+
 -- ---- a check that differs
 
 pub differs_due : (u : Update) (done : List (List ℕ)) (root : List ℕ) (b : Builder) (fs : List ModelFrame) (c : Check) → IsPlanNow u b.plan → IsSite b
@@ -301,30 +316,39 @@ differs_due u done root b fs c plan is s k differs = by c.contents k.may.due
     by : (o : Option (Vec (Vec ℕ Global) Global)) → IsDueBy u b.plan c.rec o → IsDue u b.plan c.rec.task
     by (Some contents) due = due
     by None own = λ funcs digests knows.
-        stamp (record_of c.rec) (plan.old own.number c.rec own.kept).left (differs_now u done root b fs c plan is s k differs own)
+        let old = plan.old own.number c.rec own.kept in
+        stamp (record_of c.rec) old.left (differs_now u done root b fs c is s k differs old.storable)
+
+pub differs_gives : (u : Update) (done : List (List ℕ)) (root : List ℕ) (b : Builder) (fs : List ModelFrame) (c : Check) → IsSite b → IsRightSite u done root b
+    → ChecksRight u b root fs c → DiffersHere b c → IsStorable c.rec → GivesWay u c
+differs_gives u done root b fs c is s k differs storable =
+    gives_way u k.check.before c.rec k.check.check.old (differs_now u done root b fs c is s k differs storable)
 
 -- ---- its next observation is of a task of no function
 
 -- so that one fails
-pub lost_due : (u : Update) (b : Builder) (root : List ℕ) (fs : List ModelFrame) (c : Check) (task : Task) → IsPlanNow u b.plan → ChecksRight u b root fs c
-    → NeedsNext c task → MayEnter b task Unknown → IsCanonicalTask task (enc_task task) → IsDue u b.plan c.rec.task
-unfolding world
-lost_due u b root fs c task plan k needs may canonical = by c.contents k.may.due
-  where
-    C : ChecksAt u k.check.before b.ledger.tables.names b.ledger.tables.records root fs c.rec c.at (numbers c.required.items)
-    C = k.check.check
+module _ (u : Update) (b : Builder) (root : List ℕ) (fs : List ModelFrame) (c : Check) (task : Task) (plan : IsPlanNow u b.plan) (k : ChecksRight u b root fs c)
+    (needs : NeedsNext c task) (may : MayEnter b task Unknown) (canonical : IsCanonicalTask task (enc_task task)) where
+  lost_undone : is_done (model_outcome (evaluation world (present u) (enc_task task))) ≡ false
+  unfolding world
+  lost_undone =
+      ap (λ n. is_done (model_outcome n))
+      (new_fails world (present u) [] (enc_task task) (fault_of UnknownTask) refl (omega arith) (omega arith)
+      (unknown_fails u.functions task [] (no_function u b task plan may.1) canonical))
 
-    undone : is_done (model_outcome (evaluation world (present u) (enc_task task))) ≡ false
-    undone =
-        ap (λ n. is_done (model_outcome n))
-        (new_fails world (present u) [] (enc_task task) (fault_of UnknownTask) refl (omega arith) (omega arith)
-        (unknown_fails u.functions task [] (no_function u b task plan may.1) canonical))
+  lost_differs : Differs world (present u) (by_evaluation world (present u)) c.rec.writes [] (record_of c.rec).observations
+  lost_differs =
+      required_reason (setting u) k.check.before (records_of b) root fs (enc_task c.rec.task) (record_of c.rec) (map observation_of (take c.at c.rec.deps))
+      (map observation_of (drop c.at c.rec.deps)) k.check.check.checked (how_by needs.dep.kind) (enc_task task)
+      (requires_at u k.check.before b.ledger.tables.names b.ledger.tables.records root fs c.rec c.at (numbers c.required.items) k.check.check needs.dep task
+      needs.next needs.what).next lost_undone
 
-    by : (o : Option (Vec (Vec ℕ Global) Global)) → IsDueBy u b.plan c.rec o → IsDue u b.plan c.rec.task
-    by (Some contents) due = due
-    by None own = λ funcs digests knows.
-        stamp (record_of c.rec) (plan.old own.number c.rec own.kept).left
-        (required_reason (setting u) k.check.before (records_of b) root fs (enc_task c.rec.task) (record_of c.rec) (map observation_of (take c.at c.rec.deps))
-        (map observation_of (drop c.at c.rec.deps)) C.checked (how_by needs.dep.kind) (enc_task task)
-        (requires_at u k.check.before b.ledger.tables.names b.ledger.tables.records root fs c.rec c.at (numbers c.required.items) C needs.dep task needs.next
-        needs.what).next undone)
+  pub lost_due : IsDue u b.plan c.rec.task
+  lost_due = by c.contents k.may.due
+    where
+      by : (o : Option (Vec (Vec ℕ Global) Global)) → IsDueBy u b.plan c.rec o → IsDue u b.plan c.rec.task
+      by (Some contents) due = due
+      by None own = λ funcs digests knows. stamp (record_of c.rec) (plan.old own.number c.rec own.kept).left lost_differs
+
+  pub lost_gives : GivesWay u c
+  lost_gives = gives_way u k.check.before c.rec k.check.check.old lost_differs

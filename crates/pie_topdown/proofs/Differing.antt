@@ -37,13 +37,16 @@ use Rattle.pie_topdown.specs.declared.hand.Turn.TheVariants.{Many}
 use Rattle.pie_topdown.specs.inner.Calling.{ChecksSo}
 use Rattle.pie_topdown.specs.inner.Frames.{IsCheck, IsSite}
 use Rattle.pie_topdown.specs.inner.Offering.{OffersOrRuns, TriesSo, DiffersSo, ComparesSo, GoesOnSo, RequiresSo}
-use Rattle.pie_topdown.specs.inner.Due.{IsDueAt}
+use Rattle.pie_topdown.specs.inner.Due.{IsDue}
 use Rattle.pie_topdown.specs.inner.Entries.{MayEnter}
 use Rattle.pie_topdown.specs.inner.Places.{Finds, FindsHere, MayGiveWay, NeedsNext}
 use Rattle.pie_topdown.specs.inner.Right.{names_of, records_of, IsPlanNow, AreHonest, AreOffersHonest, EntersRight, ChecksRight, PassesRight, KeepsRight}
 use Rattle.pie_topdown.proofs.Differences.{differs_due, lost_due}
 use Rattle.pie_topdown.proofs.Learnt.{site_by, waiting_by, checks_by}
 use Rattle.pie_topdown.proofs.Pushed.{check_full}
+
+one_some : (x y : Task) → Some x ≡ Some y → x ≡ y
+one_some x y e = cc
 
 -- ---- a check gives way
 
@@ -76,7 +79,7 @@ pub asked_differs : {E : Type 0} (held : Option Directory) (told : Directory →
     → IfOk r (DiffersSo held told b c new)
 asked_differs held told b new c offers (Err x) is tries = tt
 asked_differs held told b new c offers (Ok t) is tries = λ u done root fs holds plan honest s waiting e due rest.
-    tries u done root fs (subst (AreHonest u) is rest) s waiting e due
+    tries u done root fs s waiting e (subst (AreHonest u e.task) is rest) due
 
 -- ---- the tasks that were required have the numbers that the check has
 
@@ -106,7 +109,7 @@ renumbered u b root fs from r is k = record {
   busy = k.busy;
 }
 
-right_after : (u : Update) (b : Builder) (root : List ℕ) (fs : List ModelFrame) (c from : Check) → c ≡ record from { required = c.required } → IsCheck b.ledger c
+pub right_after : (u : Update) (b : Builder) (root : List ℕ) (fs : List ModelFrame) (c from : Check) → c ≡ record from { required = c.required } → IsCheck b.ledger c
     → ChecksRight u b root fs from → ChecksRight u b root fs c
 right_after u b root fs c from same is k =
     subst (ChecksRight u b root fs) (sym same) (renumbered u b root fs from c.required (subst (IsCheck b.ledger) same is) k)
@@ -128,15 +131,17 @@ pub differs_goes : {E : Type 0} (held : Option Directory) (told : Directory → 
     → IsSite b → MayGiveWay b.ledger c → IfOk r (DiffersSo held told b c new) → IfOk r (GoesOnSo held told b c Differs new)
 differs_goes held told b new c (Err x) is may differs = tt
 differs_goes held told b new c (Ok t) is may differs = λ u done root fs before from holds plan honest known s waiting k same found.
-    differs u done root fs holds plan honest s waiting
-    (subst (λ (x : Check). EntersRight u b root fs x.no.0 x.code.now) (sym same)
-    (gives_enters u b root fs from (subst (λ (x : Check). slice_get b.ledger.tables.names x.no.0 ≡ Some x.rec.task) same may.named) k))
-    (subst (λ (x : Check). IsDueAt u b x.no.0) (sym same) (record {
-      task = from.rec.task;
-      named = subst (λ (x : Check). slice_get b.ledger.tables.names x.no.0 ≡ Some x.rec.task) same may.named;
-      due = differs_due u done root b fs from plan is s k found;
-    }))
-    (subst (λ (x : Check). AreHonest u x.rest) (sym same) k.may.rest)
+    let its = ap (λ (x : Check). x.rec) same in
+    let e = subst (λ (x : Check). EntersRight u b root fs x.no.0 x.code.now) (sym same)
+    (gives_enters u b root fs from (subst (λ (x : Check). slice_get b.ledger.tables.names x.no.0 ≡ Some x.rec.task) same may.named) k) in
+    differs u done root fs holds plan honest s waiting e
+    (record {
+      task = c.rec.task;
+      named = may.named;
+      due = subst (λ (x : TaskRecord). IsDue u b.plan x.task) (sym its) (differs_due u done root b fs from plan is s k found);
+    })
+    (subst (AreHonest u e.task) (sym (ap (λ (x : Check). x.rest) same))
+    (subst (λ (x : Task). AreHonest u x from.rest) (ap (λ (x : TaskRecord). x.task) (sym its) ∙ one_some c.rec.task e.task (sym may.named ∙ e.named)) k.may.rest))
 
 pub needs_goes : {E : Type 0} (held : Option Directory) (told : Directory → Task → List ℕ → List Offered) (b new : Builder) (c : Check) (task : Task)
     (r : Result Turn E) → IsCheck b.ledger c → IfOk r (RequiresSo held told b c task new) → IfOk r (GoesOnSo held told b c (Needs task) new)
@@ -153,7 +158,7 @@ pushed_requires held told b new c task (Err x) checks = tt
 pushed_requires held told b new c task (Ok t) checks = λ u done root fs holds plan honest s waiting k needs. checks u done root fs plan s waiting k needs
 
 -- what a record observed has canonical parts
-called_true : (rec : TaskRecord) (at : ℕ) (dep : Dep) (task : Task) → IsTrueRecord rec → slice_get rec.deps at ≡ Some dep → dep.what ≡ Called task → IsTrueTask task
+pub called_true : (rec : TaskRecord) (at : ℕ) (dep : Dep) (task : Task) → IsTrueRecord rec → slice_get rec.deps at ≡ Some dep → dep.what ≡ Called task → IsTrueTask task
 called_true rec at dep task parts next what =
     subst IsTrueOn what
     (subst IsTrueDep (get_or_from_slice_get rec.deps at dep dep next) (parts.deps at dep (slice_get_within rec.deps at dep next))).0
@@ -165,11 +170,12 @@ pub lost_requires : {E : Type 0} (held : Option Directory) (told : Directory →
 lost_requires held told b new c task (Err x) named differs may encodable absent = tt
 lost_requires held told b new c task (Ok t) named differs may encodable absent = λ u done root fs holds plan honest s waiting k needs.
     let parts : IsTrueTask task = called_true c.rec c.at needs.dep task k.may.parts needs.next needs.what in
-    differs u done root fs holds plan honest s waiting (gives_enters u b root fs c named k) (record {
+    let e = gives_enters u b root fs c named k in
+    differs u done root fs holds plan honest s waiting e (record {
       task = c.rec.task;
       named = named;
       due = lost_due u b root fs c task plan k needs may (record { encodable = encodable; name = parts.0; leaves = parts.1; bytes = refl });
-    }) k.may.rest
+    }) (subst (λ (x : Task). AreHonest u x c.rest) (one_some c.rec.task e.task (sym named ∙ e.named)) k.may.rest)
 
 pub full_requires : (held : Option Directory) (told : Directory → Task → List ℕ → List Offered) (b : Builder) (c : Check) (task : Task)
     → 50000 ≤ length b.ledger.tables.names → IsEncodableTask task → ¬ (Contains b.ledger.tables.names task) → RequiresSo held told b c task b Many

@@ -9,6 +9,7 @@ use Rattle.pie_graph.specs.Numbers.{numbers, IsMarked}
 use Rattle.pie_record.specs.inner.Records.{record_of as kept_of}
 use Rattle.pie_running.specs.declared.frame.Caller.{Caller}
 use Rattle.pie_running.specs.declared.frame.RunningTask.{RunningTask}
+use Rattle.pie_store.specs.inner.Offers.{Offered}
 use Rattle.pie_model.specs.declared.words.How.{How}
 use Rattle.pie_model.specs.declared.words.Event.TheVariants.{Require}
 use Rattle.pie_model.specs.Paths.{among}
@@ -40,12 +41,15 @@ use Rattle.pie_topdown.specs.inner.Due.{IsDue, IsDueAt, IsDueBy}
 use Rattle.pie_topdown.specs.inner.Effects.{HasStarted}
 use Rattle.pie_topdown.specs.inner.Frames.{IsFrame, IsSite}
 use Rattle.pie_topdown.specs.inner.Ledgers.{Grows}
+use Rattle.pie_topdown.specs.inner.Marks.{RunsOne}
 use Rattle.pie_topdown.specs.inner.Ran.{FallsOn, FallsWhole, HasRunSo}
+use Rattle.pie_topdown.specs.inner.Trying.{AreHonestTo, NoneStands}
 use Rattle.pie_topdown.specs.inner.Right.{site_of, build_of, names_of, records_of, entries_up, AreWaiting, IsFalling, IsPlanNow, IsRightSite}
 use Rattle.pie_topdown.proofs.Keeping.{same_grows}
 use Rattle.pie_topdown.proofs.Marking.{marks_one, ran_stays, starts_marked, stays_same}
 use Rattle.pie_topdown.proofs.Resumed.{both, empty_of, rest_waits, split, ups}
 use Rattle.pie_topdown.proofs.Stacking.{popped_frame, popped_site}
+use Rattle.pie_topdown.proofs.Honest.{undone_none}
 use Rattle.pie_topdown.proofs.Started.{start_same, others_stay, is_started}
 use Rattle.pie_topdown.proofs.Topmost.{one_some, own_site, own_waiting}
 use Rattle.pie_topdown.proofs.Touched.{kept_is, restacked_site, touched_top}
@@ -228,27 +232,35 @@ module _ (u : Update) (done : List (List ℕ)) (root : List ℕ) (b : Builder) (
             by n t at (inr (inl on)) = inl on
             by n t at (inr (inr was)) = inr (still n was (same_or_not k.no.0 n))
 
-        pub check_ran : (first now later : List Task) → Grows after.ledger d.ledger → d.reused ≡ b.reused → later ≡ now ++ k.rec.task ∷ [] → HasRunSo b first now
-            → HasRunSo d first later
-        check_ran first now later grows reused added so =
-            marks_one after d k.no.0 first now later grows F.site.ledger.tasks
+        pub check_ran : (offers : Task → List Offered) (first now later : List Task) → AreHonestTo u offers → Grows after.ledger d.ledger → d.reused ≡ b.reused
+            → later ≡ now ++ k.rec.task ∷ [] → HasRunSo u offers b first now → HasRunSo u offers d first later
+        check_ran offers first now later honest grows reused added so =
+            marks_one u offers after d k.no.0 first now later grows F.site.ledger.tasks
             (split b popped (frames.Checks box) popped_check u root g gs taken.waiting).1.untouched.rested
-            (starts_marked after d k.no.0 k.rec.task now later is.ledger.tables named ledger.ran added (ap (λ v. v.items) reused))
-            (ran_stays b after first now (same_grows b.ledger b.ledger refl refl) (stays_same b after refl refl) so)
+            (inr (record {
+              one = one;
+              none = subst (NoneStands u offers) (one_some k.rec.task one.marks.task (sym named ∙ one.marks.named))
+                  (undone_none u offers k.rec.task honest
+                  (subst (λ x. is_done (outcome_of (evaluation world (present u) x)) ≡ false) its_task undone_after));
+            }))
+            (ran_stays u offers b after first now (same_grows b.ledger b.ledger refl refl) (stays_same b after refl refl) so)
+          where
+            one : RunsOne after k.no.0 d now later
+            one = starts_marked after d k.no.0 k.rec.task now later is.ledger.tables named ledger.ran added (ap (λ v. v.items) reused)
 
 -- ---- from frame to frame
 
 pub falls_first : (b : Builder) (runs : List Task) → FallsOn b b runs runs
-falls_first b runs u done root plan F first so = (F, so)
+falls_first b runs u done root offers plan honest F first so = (F, so)
 
 -- a task that runs waits
 pub falls_caller : (a b : Builder) (popped : Vec Frame Global) (c : Caller) (before now : List Task)
     → b.stack.items ≡ popped.items ++ option_to_list (Some (frames.Waits c)) → b.plan ≡ a.plan → IsSite b → IsFrame b.ledger (frames.Waits c)
     → FallsOn a b before now → FallsOn a (record b { stack = popped }) before now
-falls_caller a b popped c before now items same is frame sofar u done root plan F first so =
-    let q = sofar u done root plan F first so in (
+falls_caller a b popped c before now items same is frame sofar u done root offers plan honest F first so =
+    let q = sofar u done root offers plan honest F first so in (
       caller_falls u done root b popped (frames.Waits c) items (subst (IsPlanNow u) (sym same) plan) is q.0 c refl frame.noted.task,
-      ran_stays b (record b { stack = popped }) first now (same_grows b.ledger b.ledger refl refl) (stays_same b (record b { stack = popped }) refl refl) q.1,
+      ran_stays u offers b (record b { stack = popped }) first now (same_grows b.ledger b.ledger refl refl) (stays_same b (record b { stack = popped }) refl refl) q.1,
     )
 
 -- a check waits: its task starts
@@ -256,12 +268,12 @@ pub falls_check : (a b d : Builder) (popped : Vec Frame Global) (k : Box Check G
     → b.stack.items ≡ popped.items ++ option_to_list (Some (frames.Checks k)) → b.plan ≡ a.plan → IsSite b → IsFrame b.ledger (frames.Checks k)
     → HasStarted b.ledger k.value.no.0 d.ledger → Grows b.ledger d.ledger → d ≡ record b { stack = popped; ledger = d.ledger } → IsSite (record b { stack = popped })
     → later ≡ now ++ k.value.rec.task ∷ [] → FallsOn a b before now → FallsOn a d before later
-falls_check a b d popped k before now later items same is frame ledger grows rest site added sofar u done root plan F first so =
-    let q = sofar u done root plan F first so in
+falls_check a b d popped k before now later items same is frame ledger grows rest site added sofar u done root offers plan honest F first so =
+    let q = sofar u done root offers plan honest F first so in
     let p = subst (IsPlanNow u) (sym same) plan in (
       check_falls u done root b popped (frames.Checks k) items p is q.0 k.value k refl refl d frame.named ledger rest site,
-      check_ran u done root b popped (frames.Checks k) items p is q.0 k.value k refl refl d frame.named ledger rest site first now later grows
-          (ap (λ x. x.reused) rest) added q.1,
+      check_ran u done root b popped (frames.Checks k) items p is q.0 k.value k refl refl d frame.named ledger rest site offers first now
+          later honest grows (ap (λ x. x.reused) rest) added q.1,
     )
 
 -- so it is with one whose machine has begun
@@ -292,10 +304,10 @@ rest_then a b d popped first then =
 
 pub falls_whole : (a b : Builder) (popped : Vec Frame Global) (before now : List Task) → length b.stack.items ≡ 0 → FallsOn a b before now
     → FallsWhole a (record b { stack = popped }) before now
-falls_whole a b popped before now none sofar u done root plan F first so =
-    let q = sofar u done root plan F first so in (
+falls_whole a b popped before now none sofar u done root offers plan honest F first so =
+    let q = sofar u done root offers plan honest F first so in (
       record { site = restacked_site b popped u done root q.0.site; marked = λ n t at rest. by q.0 n t (q.0.marked n t at rest) },
-      ran_stays b (record b { stack = popped }) first now (same_grows b.ledger b.ledger refl refl) (stays_same b (record b { stack = popped }) refl refl) q.1,
+      ran_stays u offers b (record b { stack = popped }) first now (same_grows b.ledger b.ledger refl refl) (stays_same b (record b { stack = popped }) refl refl) q.1,
     )
   where
     by : (G : IsFalling u done root b) (n : ℕ) (t : Task) → (among (enc_task t) (tasks_of G.fs) ≡ true) ⊎ IsMarked b.ledger.tables.ran.items n

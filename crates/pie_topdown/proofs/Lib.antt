@@ -47,3 +47,8 @@ pub mod Knowing
 pub mod Concluding
 pub mod Telling
 pub mod Owning
+pub mod Honest
+pub mod Trying
+pub mod Stepped
+pub mod Distinct
+pub mod Filing

@@ -14,10 +14,14 @@ use Rattle.pie_old.specs.inner.Rows.{tasks_at}
 use Rattle.pie_tables.specs.Tabled.{IsTables}
 use Rattle.pie_builder_laws.specs.Names.{AreTasks}
 use Rattle.pie_builder_laws.proofs.Naming.{one_place}
+use Rattle.pie_store.specs.inner.Offers.{Offered}
+use Rattle.pie_core_laws.specs.Update.{Update}
 use Rattle.pie_core_laws.proofs.Exactly.{same_or_not}
 use Rattle.pie_topdown.specs.declared.builder.Builder.{Builder}
 use Rattle.pie_topdown.specs.inner.Ledgers.{Grows}
-use Rattle.pie_topdown.specs.inner.Ran.{flag, StaysMarked, MarksOne, Marks, HasRunAs, IsOneOf, HasRunSo}
+use Rattle.pie_topdown.specs.inner.Marks.{flag, StaysMarked, MarksOne, Marks, RunsOne}
+use Rattle.pie_topdown.specs.inner.Ran.{HasRunAs, IsOneOf, HasRunSo}
+use Rattle.pie_topdown.specs.inner.Trying.{MarksTried, NoneStands, OneStands}
 use Rattle.pie_topdown.proofs.Growing.{tasks_push}
 use Rattle.pie_topdown.proofs.Keeping.{named_more, all_named_more}
 
@@ -65,10 +69,14 @@ one_marked b c n t is named ran = record {
 -- it was started
 pub starts_marked : (b c : Builder) (n : ℕ) (t : Task) (before after : List Task) → IsTables b.ledger.tables → slice_get b.ledger.tables.names n ≡ Some t
     → c.ledger.tables.ran.items ≡ slice_set b.ledger.tables.ran.items n true → after ≡ before ++ t ∷ [] → c.reused.items ≡ b.reused.items
-    → Marks b n c before after
+    → RunsOne b n c before after
 unfolding one_marked
-starts_marked b c n t before after is named ran added reused =
-    inr (record { marks = one_marked b c n t is named ran; added = added; reused = reused })
+starts_marked b c n t before after is named ran added reused = record { marks = one_marked b c n t is named ran; added = added; reused = reused }
+
+pub one_marks : {A E : Type 0} (b c : Builder) (n : ℕ) (before after : List Task) (r : Result A E) → OnOk r (RunsOne b n c before after)
+    → OnOk r (Marks b n c before after)
+one_marks b c n before after (Ok x) one = inr one
+one_marks b c n before after (Err e) one = tt
 
 -- ---- after calls that mark none
 
@@ -88,6 +96,27 @@ marks_then a b c n before after s names (inl (same, inr r)) =
     inl (same, inr (record { marks = marks_after a b c n s names r.marks; numbers_are = r.numbers_are ∙ ap (λ v. numbers v ++ n ∷ []) s.reused }))
 marks_then a b c n before after s names (inr r) =
     inr (record { marks = marks_after a b c n s names r.marks; added = r.added; reused = r.reused ∙ s.reused })
+
+pub tried_after : (u : Update) (offers : Task → List Offered) (a b c : Builder) (n : ℕ) (before after : List Task) → StaysMarked a b
+    → b.ledger.tables.names ≡ a.ledger.tables.names → MarksTried u offers b n c before after → MarksTried u offers a n c before after
+unfolding marks_after
+tried_after u offers a b c n before after s names (inl (same, inl more)) = inl (same, inl (stays_then a b c s more))
+tried_after u offers a b c n before after s names (inl (same, inr r)) =
+    inl (
+      same,
+      inr (record {
+        one = record {
+          marks = marks_after a b c n s names r.one.marks;
+          numbers_are = r.one.numbers_are ∙ ap (λ v. numbers v ++ n ∷ []) s.reused;
+        };
+        stands = r.stands;
+      }),
+    )
+tried_after u offers a b c n before after s names (inr r) =
+    inr (record {
+      one = record { marks = marks_after a b c n s names r.one.marks; added = r.one.added; reused = r.one.reused ∙ s.reused };
+      none = r.none;
+    })
 
 pub marks_with : {A E : Type 0} (r : Result A E) (a b c : Builder) (n : ℕ) (before after : List Task) → StaysMarked a b
     → b.ledger.tables.names ≡ a.ledger.tables.names → OnOk r (Marks b n c before after) → OnOk r (Marks a n c before after)
@@ -113,8 +142,9 @@ module _ (b c : Builder) (g : Grows b.ledger c.ledger) (still : (n : ℕ) → Is
       subst (λ (xs : List Task). tasks_at xs ns ≡ map Some ts) (sym g.names) (all_named_more b.ledger.tables.names g.rest ns ts e)
 
 -- none more is marked
-pub ran_stays : (b c : Builder) (first now : List Task) → Grows b.ledger c.ledger → StaysMarked b c → HasRunSo b first now → HasRunSo c first now
-ran_stays b c first now g s h = record {
+pub ran_stays : (u : Update) (offers : Task → List Offered) (b c : Builder) (first now : List Task) → Grows b.ledger c.ledger → StaysMarked b c
+    → HasRunSo u offers b first now → HasRunSo u offers c first now
+ran_stays u offers b c first now g s h = record {
   gained = h.gained;
   is = h.is;
   once = h.once;
@@ -125,6 +155,8 @@ ran_stays b c first now g s h = record {
   reused_marked = All-weaker (HasRunAs b) (HasRunAs c) (run_stays b c g still) h.reused h.reused_marked;
   apart = h.apart;
   only = λ n is. by n (h.only n (sym (s.flags n) ∙ is));
+  without = h.without;
+  standing = h.standing;
 }
   where
     still : (n : ℕ) → IsMarked b.ledger.tables.ran.items n → IsMarked c.ledger.tables.ran.items n
@@ -140,7 +172,8 @@ pairs_push ts t all new = all_pairs_push (λ (x y : Task). x ≢ y) ts t all (λ
 
 -- ---- one more
 
-module _ (b c : Builder) (n : ℕ) (g : Grows b.ledger c.ledger) (are : AreTasks b.ledger.tables.names) (rested : flag b n ≡ false) (m : MarksOne b n c) where
+module _ (u : Update) (offers : Task → List Offered) (b c : Builder) (n : ℕ) (g : Grows b.ledger c.ledger) (are : AreTasks b.ledger.tables.names)
+    (rested : flag b n ≡ false) (m : MarksOne b n c) where
   still : (k : ℕ) → IsMarked b.ledger.tables.ran.items k → IsMarked c.ledger.tables.ran.items k
   still k was = by (same_or_not n k)
     where
@@ -167,9 +200,9 @@ module _ (b c : Builder) (n : ℕ) (g : Grows b.ledger c.ledger) (are : AreTasks
   pushed ts = record { task = m.task; named = names_stay b c g still n m.task m.named; listed = Contains-push ts m.task }
 
   -- it was started
-  pub ran_one : (first before after : List Task) → after ≡ before ++ m.task ∷ [] → c.reused.items ≡ b.reused.items → HasRunSo b first before
-      → HasRunSo c first after
-  ran_one first before after added reused h = record {
+  pub ran_one : (first before after : List Task) → after ≡ before ++ m.task ∷ [] → c.reused.items ≡ b.reused.items → NoneStands u offers m.task
+      → HasRunSo u offers b first before → HasRunSo u offers c first after
+  ran_one first before after added reused none h = record {
     gained = h.gained ++ m.task ∷ [];
     is = added ∙ ap (λ (ts : List Task). ts ++ m.task ∷ []) h.is ∙ append_assoc first h.gained (m.task ∷ []);
     once = pairs_push h.gained m.task h.once (others_of h.gained h.marked);
@@ -180,6 +213,8 @@ module _ (b c : Builder) (n : ℕ) (g : Grows b.ledger c.ledger) (are : AreTasks
     reused_marked = all_run h.reused h.reused_marked;
     apart = λ t i j. by t j (Contains-push_cases h.gained m.task t i);
     only = λ k is. which k is (same_or_not n k);
+    without = All-push (NoneStands u offers) h.gained m.task h.without none;
+    standing = h.standing;
   }
     where
       by : (t : Task) → Contains h.reused t → Contains h.gained t ⊎ (m.task ≡ t) → ⊥
@@ -196,8 +231,9 @@ module _ (b c : Builder) (n : ℕ) (g : Grows b.ledger c.ledger) (are : AreTasks
       which k is (inr apart) = more k (h.only k (sym (m.others k apart) ∙ is))
 
   -- it was reused
-  pub reused_one : (first now : List Task) → numbers c.reused.items ≡ numbers b.reused.items ++ n ∷ [] → HasRunSo b first now → HasRunSo c first now
-  reused_one first now numbers_are h = record {
+  pub reused_one : (first now : List Task) → numbers c.reused.items ≡ numbers b.reused.items ++ n ∷ [] → OneStands u offers m.task
+      → HasRunSo u offers b first now → HasRunSo u offers c first now
+  reused_one first now numbers_are stands h = record {
     gained = h.gained;
     is = h.is;
     once = h.once;
@@ -210,6 +246,8 @@ module _ (b c : Builder) (n : ℕ) (g : Grows b.ledger c.ledger) (are : AreTasks
     reused_marked = All-push (HasRunAs c) h.reused m.task (all_run h.reused h.reused_marked) has_run;
     apart = λ t i j. by t i (Contains-push_cases h.reused m.task t j);
     only = λ k is. which k is (same_or_not n k);
+    without = h.without;
+    standing = All-push (OneStands u offers) h.reused m.task h.standing stands;
   }
     where
       by : (t : Task) → Contains h.gained t → Contains h.reused t ⊎ (m.task ≡ t) → ⊥
@@ -226,9 +264,12 @@ module _ (b c : Builder) (n : ℕ) (g : Grows b.ledger c.ledger) (are : AreTasks
       which k is (inr apart) = more k (h.only k (sym (m.others k apart) ∙ is))
 
 -- at most this one
-pub marks_one : (b c : Builder) (n : ℕ) (first before after : List Task) → Grows b.ledger c.ledger → AreTasks b.ledger.tables.names → flag b n ≡ false
-    → Marks b n c before after → HasRunSo b first before → HasRunSo c first after
-marks_one b c n first before after g are rested (inl (same, inl s)) h = subst (HasRunSo c first) (sym same) (ran_stays b c first before g s h)
-marks_one b c n first before after g are rested (inl (same, inr r)) h =
-    subst (HasRunSo c first) (sym same) (reused_one b c n g are rested r.marks first before r.numbers_are h)
-marks_one b c n first before after g are rested (inr r) h = ran_one b c n g are rested r.marks first before after r.added r.reused h
+pub marks_one : (u : Update) (offers : Task → List Offered) (b c : Builder) (n : ℕ) (first before after : List Task) → Grows b.ledger c.ledger
+    → AreTasks b.ledger.tables.names → flag b n ≡ false → MarksTried u offers b n c before after → HasRunSo u offers b first before
+    → HasRunSo u offers c first after
+marks_one u offers b c n first before after g are rested (inl (same, inl s)) h =
+    subst (HasRunSo u offers c first) (sym same) (ran_stays u offers b c first before g s h)
+marks_one u offers b c n first before after g are rested (inl (same, inr r)) h =
+    subst (HasRunSo u offers c first) (sym same) (reused_one u offers b c n g are rested r.one.marks first before r.one.numbers_are r.stands h)
+marks_one u offers b c n first before after g are rested (inr r) h =
+    ran_one u offers b c n g are rested r.one.marks first before after r.one.added r.one.reused r.none h

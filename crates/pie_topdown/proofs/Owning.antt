@@ -23,27 +23,72 @@ use Rattle.pie_topdown.specs.declared.hand.Hand.{Hand}
 use Rattle.pie_topdown.specs.declared.hand.Hand.TheVariants as hands
 use Rattle.pie_topdown.specs.declared.hand.Rest.TheVariants as rests
 use Rattle.pie_topdown.specs.declared.hand.Turn.{Turn}
-use Rattle.pie_topdown.specs.declared.hand.Turn.TheVariants.{Goes, Rests}
+use Rattle.pie_topdown.specs.declared.hand.Turn.TheVariants.{Goes, Rests, Many, Fails}
 use Rattle.pie_topdown.specs.inner.Offering.{Takes}
-use Rattle.pie_topdown.specs.inner.Ran.{AddsNamed, StaysMarked}
+use Rattle.pie_topdown.specs.inner.Marks.{StaysMarked}
+use Rattle.pie_topdown.specs.inner.Ran.{AddsNamed}
 use Rattle.pie_topdown.specs.inner.Rooted.{IsUnbegun}
-use Rattle.pie_topdown.specs.inner.Unoffered.{OffersNothing, HasNoOffers, IsOwnCheck, IsOwnFrame, IsOwnHand, IsOwnTurn, AreOwn, GoesMarked, HoldsOwn, BeginsOwn, ChecksOwn, StepsOwn, StaysOwnSo, RunsOwn, EndsOwn}
+use Rattle.pie_topdown.specs.inner.Unoffered.{ComparesNothing, IsNoCheck, OffersNothing, HasNoOffers, IsOwnCheck, IsOwnFrame, IsOwnHand, IsOwnTurn, AreOwn, GoesMarked, HoldsOwn, BeginsOwn, ChecksOwn, StepsOwn, StaysOwnSo, RunsOwn, EndsOwn}
+use Rattle.pie_topdown.proofs.Marking.{stays_same, stays_then}
+use Rattle.pie_topdown.proofs.Trying.{pushed_tried, same_tried}
 
 -- ---- single calls
 
 pub same_own : (b c : Builder) → c.stack.items ≡ b.stack.items → AreOwn b → AreOwn c
 same_own b c stack own = subst (All IsOwnFrame) (sym stack) own
 
+pub pushed_own : (b c : Builder) (e : Frame) → c.stack.items ≡ b.stack.items ++ e ∷ [] → IsOwnFrame e → AreOwn b → AreOwn c
+pushed_own b c e stack this own = subst (All IsOwnFrame) (sym stack) (All-push IsOwnFrame b.stack.items e own this)
+
 -- nothing is compared, and what waits stays
-pub goes_marked : (b c : Builder) (t : Turn) → StaysMarked b c → c.stack.items ≡ b.stack.items → IsOwnTurn t → GoesMarked b c t
-goes_marked b c t marks stack turn = record { marks = marks; stack = same_own b c stack; turn = turn }
+pub goes_marked : (b c : Builder) (t : Turn) → StaysMarked b c → c.stack.items ≡ b.stack.items → ComparesNothing t → GoesMarked b c t
+goes_marked b c t marks stack turn = record {
+  marks = marks;
+  stack = same_own b c stack;
+  tried = λ u offers. same_tried u offers b c stack;
+  turn = turn;
+}
 
 -- after something that leaves what waits
 pub goes_after : (a b c : Builder) (t : Turn) → StaysMarked a c → b.stack.items ≡ a.stack.items → GoesMarked b c t → GoesMarked a c t
-goes_after a b c t marks stack g = record { marks = marks; stack = λ own. g.stack (same_own a b stack own); turn = g.turn }
+goes_after a b c t marks stack g = record {
+  marks = marks;
+  stack = λ own. g.stack (same_own a b stack own);
+  tried = λ u offers so. g.tried u offers (same_tried u offers a b stack so);
+  turn = g.turn;
+}
+
+-- after something that changes neither records nor what waits
+pub goes_on_after : {E : Type 0} (a b c : Builder) (r : Result Turn E) → b.ledger ≡ a.ledger → b.reused ≡ a.reused → b.stack ≡ a.stack
+    → IfOk r (GoesMarked b c) → IfOk r (GoesMarked a c)
+goes_on_after a b c (Err e) ledger reused stack goes = tt
+goes_on_after a b c (Ok t) ledger reused stack goes =
+    goes_after a b c t (stays_then a b c (stays_same a b ledger reused) goes.marks) (ap (λ v. v.items) stack) goes
+
+-- a caller waits
+pub goes_waiting : (b mid c : Builder) (x : Caller) (n : TaskNo) (code : Bor Code) → StaysMarked b c → mid.stack.items ≡ b.stack.items
+    → c.stack.items ≡ mid.stack.items ++ frames.Waits x ∷ [] → GoesMarked b c (Goes (hands.Enters n code))
+goes_waiting b mid c x n code marks same stack = record {
+  marks = marks;
+  stack = λ own. pushed_own mid c (frames.Waits x) stack tt (same_own b mid same own);
+  tried = λ u offers so. pushed_tried u offers mid c (frames.Waits x) stack tt (same_tried u offers b mid same so);
+  turn = tt;
+}
+
+own_hand : (h : Hand) → IsNoCheck h → IsOwnHand h
+own_hand (hands.Enters n code) none = tt
+own_hand (hands.Checks c) none = absurd none
+own_hand (hands.Runs f) none = tt
+own_hand hands.Ended none = tt
+
+own_turn : (t : Turn) → ComparesNothing t → IsOwnTurn t
+own_turn (Goes h) none = own_hand h none
+own_turn Rests none = tt
+own_turn Many none = tt
+own_turn Fails none = tt
 
 pub holds_goes : (b c : Builder) (t : Turn) → GoesMarked b c t → HoldsOwn b c t
-holds_goes b c t g = λ own. record { stack = g.stack own; turn = g.turn; reused = g.marks.reused }
+holds_goes b c t g = λ own. record { stack = g.stack own; turn = own_turn t g.turn; reused = g.marks.reused }
 
 pub holds_here : (b c : Builder) (t : Turn) → c.stack.items ≡ b.stack.items → c.reused.items ≡ b.reused.items → IsOwnTurn t → HoldsOwn b c t
 holds_here b c t stack reused turn = λ own. record { stack = same_own b c stack own; turn = turn; reused = reused }
@@ -70,8 +115,8 @@ never_offered c contents is this = absurd (never (sym is ∙ this.own))
     never e = cc
 
 -- with what is offered there is nothing to try
-pub nothing_taken : {A : Type 0} (before after : List Offer) (o : Box Offer Global) → Takes before after (Some o) → before ≡ [] → A
-nothing_taken before after o (over, is) none = absurd (by over (sym is ∙ none))
+pub nothing_taken : {A : Type 0} (b : Builder) (n : ℕ) (before after : List Offer) (o : Box Offer Global) → Takes b n before after (Some o) → before ≡ [] → A
+nothing_taken b n before after o takes none = absurd (by takes.0 (sym takes.1 ∙ none))
   where
     by : (over : List Offer) → over ++ o.value ∷ after ≡ [] → ⊥
     by [] e = cc
@@ -122,9 +167,6 @@ module _ (held : Option Directory) (told : Directory → Task → List ℕ → L
       by (Err e) s = tt
 
 -- ---- what waits
-
-pub pushed_own : (b c : Builder) (e : Frame) → c.stack.items ≡ b.stack.items ++ e ∷ [] → IsOwnFrame e → AreOwn b → AreOwn c
-pushed_own b c e stack this own = subst (All IsOwnFrame) (sym stack) (All-push IsOwnFrame b.stack.items e own this)
 
 pub popped_own : (b c : Builder) (e : Frame) → b.stack.items ≡ c.stack.items ++ e ∷ [] → AreOwn b → AreOwn c × IsOwnFrame e
 popped_own b c e stack own = All-pop IsOwnFrame b.stack.items c.stack.items (Some e) stack own

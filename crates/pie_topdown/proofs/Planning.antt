@@ -60,7 +60,7 @@ row_among (r ∷ rs) (suc n) rec d e =
 
 -- ---- digests
 
-digests_same : (rows : List (List ℕ × List ℕ)) (name : List ℕ) → digest_in rows name ≡ digest_under rows name
+pub digests_same : (rows : List (List ℕ × List ℕ)) (name : List ℕ) → digest_in rows name ≡ digest_under rows name
 digests_same [] name = refl
 digests_same (r ∷ rows) name = by (bytes_eq name r.0) (digests_same rows name)
   where
@@ -85,7 +85,7 @@ flagged_same funcs digests names same e n t flag named =
 module _ (fs : List FunctionTree) (codes : List Code) (funcs digests : List (List ℕ × List ℕ)) (rows : List TaskRecord) (p : Plan)
     (is : IsPlanOf fs codes funcs digests rows p) where
   -- its records are rows, of the tasks by their numbers
-  old_row : (n : ℕ) (rec : TaskRecord) → kept_of p.earlier.records n ≡ Some rec → (slice_get rows n ≡ Some rec) × (p.earlier.names ≡ tasks_in rows)
+  pub old_row : (n : ℕ) (rec : TaskRecord) → kept_of p.earlier.records n ≡ Some rec → (slice_get rows n ≡ Some rec) × (p.earlier.names ≡ tasks_in rows)
   old_row n rec have = by is.old
     where
       by : AreOldTables rows p.earlier → (slice_get rows n ≡ Some rec) × (p.earlier.names ≡ tasks_in rows)

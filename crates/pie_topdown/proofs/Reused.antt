@@ -1,7 +1,7 @@
 -- An offered record stands: its task ends with it as one that ran, in the words of the model.
 use Rattle.std.proofs.Common.{◌≡◌, ℕ, ◌≤◌, true, false, List, [], ◌∷◌, Option, None, Some, Vec, Result, Ok, Err, length, map, refl, sym, ap, subst, ◌∙◌, arith}
 use Rattle.std.specs.declared.alloc.Global.{Global}
-use Rattle.std.specs.Prelude.{slice_index_or, IfOk}
+use Rattle.std.specs.Prelude.{slice_index_or, IfOk, OnOk}
 use Rattle.std.specs.Option.{option_map, option_or}
 use Rattle.std.proofs.lemmas.List.{take_all, get_or-set_same, get_or-set_other}
 use Rattle.std.proofs.lemmas.Option.{slice_get_within}
@@ -182,6 +182,10 @@ module _ (b c : Builder) (check : Check) (contents : Vec (Vec ℕ Global) Global
   whole = ends_at u k.check.before b.ledger.tables.names b.ledger.tables.records root fs check.rec check.at (numbers check.required.items) k.check.check
       c.ledger.tables.records s.listed above over change
 
+  -- its record is that of the evaluation now
+  pub stands_now : record_of check.rec ≡ model_record world (evaluation world (present u) (enc_task check.rec.task))
+  stands_now = whole.right.is
+
   row : RowIs b.ledger.tables.names (row_with (numbers check.required.items) (paths_in check.rec.writes)) (Some check.rec)
   row = (
     subst (λ ds. AreNumbersOf b.ledger.tables.names (numbers check.required.items) (called_in ds)) (take_all check.at check.rec.deps over) k.check.check.numbers,
@@ -226,7 +230,17 @@ module _ (b c : Builder) (check : Check) (contents : Vec (Vec ℕ Global) Global
         row wrote k.may.parts.outcome k.check.check.checked.frame fs output.value k.check.check.checked.task canonical top waiting_then busy output.is small;
   }
 
--- so it does where it is an offered one
+-- so it is where it is an offered one
+pub stands_if : {E : Type 0} (b c : Builder) (check : Check) (contents : Vec (Vec ℕ Global) Global) (r : Result Turn E) → IsSite b → IsCheck b.ledger check
+    → length check.rec.deps ≤ check.at → check.contents ≡ Some contents
+    → IfOk r (EndsReused b check.no.0 check.rec (numbers check.required.items) (bytes_in contents.items) c)
+    → OnOk r ((u : Update) (done : List (List ℕ)) (root : List ℕ) (fs : List ModelFrame) → IsRightSite u done root b → AreWaiting u b root fs
+    → ChecksRight u b root fs check → record_of check.rec ≡ model_record world (evaluation world (present u) (enc_task check.rec.task)))
+stands_if b c check contents (Ok t) is checks over own h = λ u done root fs s waiting k.
+    stands_now b c check contents h.0 u done root fs s waiting k own is checks over
+stands_if b c check contents (Err e) is checks over own h = tt
+
+-- and the task ends with it
 pub reuses_if : {E : Type 0} (b c : Builder) (check : Check) (contents : Vec (Vec ℕ Global) Global) (r : Result Turn E) → IsSite b → IsCheck b.ledger check
     → length check.rec.deps ≤ check.at → check.contents ≡ Some contents
     → IfOk r (EndsReused b check.no.0 check.rec (numbers check.required.items) (bytes_in contents.items) c) → IfOk r (KeepsRight b check c)

@@ -1,6 +1,8 @@
 -- What was started and reused since the beginning, from step to step and from root to root.
 use Rattle.std.proofs.Common.{◌≡◌, ◌⊎◌, ℕ, ◌+◌, ◌<◌, Bool, true, false, List, [], ◌∷◌, Option, None, Some, Bor, length, map, take, drop, get_or, refl, sym, ap, subst, ◌∙◌, inl, inr}
 use Rattle.std.specs.Prelude.{slice_get, option_map, Contains}
+use Rattle.std.specs.List.{All}
+use Rattle.std.proofs.lemmas.List.Elements.{All-nil}
 use Rattle.pie_value.specs.declared.task.Task.{Task}
 use Rattle.pie_value.specs.declared.verdict.Refusal.{Refusal}
 use Rattle.pie_value.specs.declared.verdict.Refusal.TheVariants.{Many}
@@ -22,15 +24,20 @@ use Rattle.pie_topdown.specs.declared.hand.Hand.{Hand}
 use Rattle.pie_topdown.specs.declared.hand.Hand.TheVariants as hands
 use Rattle.pie_topdown.specs.inner.Entries.{HasEntered, MayBe, MayEnter}
 use Rattle.pie_topdown.specs.inner.Frames.{IsSite}
-use Rattle.pie_topdown.specs.inner.Ran.{FallsWhole, StaysMarked, MarksBy, HasRunSo, RansOn, SettlesRan, StopsRan, HasSettledRan, SettlesAllRan, StopsAllRan}
+use Rattle.pie_topdown.specs.inner.Marks.{StaysMarked, MarksBy}
+use Rattle.pie_topdown.specs.inner.Ran.{FallsWhole, HasRunRefused, HasRunSo, RansOn, SettlesRan, StopsRan, HasSettledRan, SettlesAllRan, StopsAllRan}
 use Rattle.pie_topdown.specs.inner.Roots.{IsSettledRoot}
 use Rattle.pie_topdown.specs.inner.Right.{lost, names_of, AreWritten, EntersSite, HasEnteredAll, IsLost, IsPlanNow, IsRight}
 use Rattle.pie_topdown.specs.inner.Rooted.{HasSettledRight, IsBuildOf, IsSettledSoFar, RunsOnRight, StaysRight, StopsRight}
+use Rattle.pie_topdown.specs.declared.hand.Turn.{Turn}
+use Rattle.pie_topdown.specs.declared.hand.Turn.TheVariants.{Goes}
+use Rattle.pie_topdown.specs.inner.Trying.{offers_to, IsTriedFrame, IsTriedTurn, IsTriedSoFar, StaysTried, StaysTriedSo, StepsTried}
 use Rattle.pie_topdown.specs.inner.Turns.{Keeps}
 use Rattle.pie_topdown.proofs.Entered.{last_unrecorded}
 use Rattle.pie_topdown.proofs.Keeping.{same_grows}
 use Rattle.pie_topdown.proofs.Marking.{marks_one, ran_stays, stays_same}
 use Rattle.pie_topdown.proofs.Rooting.{is_settled, lost_ends, lost_enters, rest_is_none, root_begins, stops, stops_fallen, stops_over, unfailed_written}
+use Rattle.pie_topdown.proofs.Honest.{honest_offers}
 use Rattle.pie_topdown.proofs.Turning.{build_then, listed, split}
 
 never : {A : Type 0} (x : A) → None ≡ Some x → ⊥
@@ -48,22 +55,69 @@ one_refusal w e = by (Many) w e
 -- ---- the steps of a root
 
 -- a step, with what is in hand
-hand_marks : (u : Update) (done : List (List ℕ)) (root : List ℕ) (b c : Builder) (h : Hand) (first now after : List Task) → Keeps b c → IsRight u done root b h
-    → MarksBy b h c now after → HasRunSo b first now → HasRunSo c first after
-hand_marks u done root b c (hands.Enters n code) first now after kept r m so =
-    marks_one b c n.0 first now after kept.grows r.site.ledger.tasks r.hand.untouched.rested m so
-hand_marks u done root b c (hands.Checks k) first now after kept r m so =
-    marks_one b c k.value.no.0 first now after kept.grows r.site.ledger.tasks r.hand.may.untouched.rested m so
-hand_marks u done root b c (hands.Runs f) first now after kept r m so = subst (HasRunSo c first) (sym m.0) (ran_stays b c first now kept.grows m.1 so)
-hand_marks u done root b c hands.Ended first now after kept r m so = subst (HasRunSo c first) (sym m.0) (ran_stays b c first now kept.grows m.1 so)
+hand_marks : (u : Update) (done : List (List ℕ)) (root : List ℕ) (held : Option Directory) (told : Directory → Task → List ℕ → List Offered) (b c : Builder) (h : Hand)
+    (t : Turn) (first now after : List Task) → IsBuildOf u held told b.plan → Keeps b c → IsRight u done root b h → MarksBy b h c now after
+    → StepsTried held told b h c now after t → IsTriedSoFar u (offers_to b.plan told u.directory) b h
+    → HasRunSo u (offers_to b.plan told u.directory) b first now → HasRunSo u (offers_to b.plan told u.directory) c first after
+hand_marks u done root held told b c (hands.Enters n code) t first now after of kept r m steps tried so =
+    marks_one u (offers_to b.plan told u.directory) b c n.0 first now after kept.grows r.site.ledger.tasks r.hand.untouched.rested
+    (steps u of.holds of.honest r.site.ledger.tasks tried.stack).marks so
+hand_marks u done root held told b c (hands.Checks k) t first now after of kept r m steps tried so =
+    marks_one u (offers_to b.plan told u.directory) b c k.value.no.0 first now after kept.grows r.site.ledger.tasks r.hand.may.untouched.rested
+    (steps u done root r.fs of.holds of.plan of.honest r.site r.waiting r.hand tried.stack tried.hand).marks so
+hand_marks u done root held told b c (hands.Runs f) t first now after of kept r m steps tried so =
+    let offers = offers_to b.plan told u.directory in
+    subst (HasRunSo u offers c first) (sym m.0) (ran_stays u offers b c first now kept.grows m.1 so)
+hand_marks u done root held told b c hands.Ended t first now after of kept r m steps tried so =
+    let offers = offers_to b.plan told u.directory in
+    subst (HasRunSo u offers c first) (sym m.0) (ran_stays u offers b c first now kept.grows m.1 so)
+
+-- what is tried is still
+hand_stays : (u : Update) (done : List (List ℕ)) (root : List ℕ) (held : Option Directory) (told : Directory → Task → List ℕ → List Offered) (b c : Builder) (h : Hand)
+    (t : Turn) (now after : List Task) → IsBuildOf u held told b.plan → IsRight u done root b h → StepsTried held told b h c now after t
+    → IsTriedSoFar u (offers_to b.plan told u.directory) b h → StaysTried u (offers_to b.plan told u.directory) c t
+hand_stays u done root held told b c (hands.Enters n code) t now after of r steps tried = (steps u of.holds of.honest r.site.ledger.tasks tried.stack).stays
+hand_stays u done root held told b c (hands.Checks k) t now after of r steps tried =
+    (steps u done root r.fs of.holds of.plan of.honest r.site r.waiting r.hand tried.stack tried.hand).stays
+hand_stays u done root held told b c (hands.Runs f) t now after of r steps tried = steps u (offers_to b.plan told u.directory) tried.stack
+hand_stays u done root held told b c hands.Ended t now after of r steps tried = steps u (offers_to b.plan told u.directory) tried.stack
+
+pub tried_first : (held : Option Directory) (told : Directory → Task → List ℕ → List Offered) (b : Builder) (h : Hand) → StaysTriedSo held told b h b h
+tried_first held told b h u done root of is tried = tried
 
 pub ran_first : (held : Option Directory) (told : Directory → Task → List ℕ → List Offered) (b : Builder) (h : Hand) (runs : List Task) → RansOn held told b h b runs runs
-ran_first held told b h runs u done root of is first so = so
+ran_first held told b h runs u done root of is tried first so = so
 
-pub ran_on : (held : Option Directory) (told : Directory → Task → List ℕ → List Offered) (a b c : Builder) (h g : Hand) (before now after : List Task)
-    → StaysRight held told a h b g → Keeps b c → MarksBy b g c now after → RansOn held told a h b before now → RansOn held told a h c before after
-ran_on held told a b c h g before now after stays kept marks sofar u done root of is first so =
-    hand_marks u done root b c g first now after kept (stays u done root of is) marks (sofar u done root of is first so)
+-- the offers are those of the beginning
+offers_still : (told later : Directory → Task → List ℕ → List Offered) (a b : Builder) → later ≡ told → b.plan ≡ a.plan → (d : Directory)
+    → offers_to b.plan later d ≡ offers_to a.plan told d
+offers_still told later a b same plan d = ap (λ p. offers_to p later d) plan ∙ ap (λ f. offers_to a.plan f d) same
+
+-- over the same files
+module _ (held mid : Option Directory) (told later : Directory → Task → List ℕ → List Offered) (a b c : Builder) (h g : Hand) (t : Turn)
+    (before now after : List Task) (same : mid ≡ held) (same_told : later ≡ told) (plan : b.plan ≡ a.plan) (stays : StaysRight held told a h b g)
+    (steps : StepsTried mid later b g c now after t) (tried : StaysTriedSo held told a h b g) where
+  build_at : (u : Update) → IsBuildOf u held told a.plan → IsBuildOf u mid later b.plan
+  build_at u of = build_then u held mid told later a.plan b.plan same same_told plan of
+
+  offers_same : (u : Update) → offers_to b.plan later u.directory ≡ offers_to a.plan told u.directory
+  offers_same u = offers_still told later a b same_told plan u.directory
+
+  tried_at : (u : Update) (done : List (List ℕ)) (root : List ℕ) → IsBuildOf u held told a.plan → IsRight u done root a h
+      → IsTriedSoFar u (offers_to a.plan told u.directory) a h → IsTriedSoFar u (offers_to b.plan later u.directory) b g
+  tried_at u done root of is so = subst (λ o. IsTriedSoFar u o b g) (sym (offers_same u)) (tried u done root of is so)
+
+  pub tried_on : (next : Hand) → t ≡ Goes next → StaysTriedSo held told a h c next
+  tried_on next turn u done root of is so =
+      let s = hand_stays u done root mid later b c g t now after (build_at u of) (stays u done root of is) steps (tried_at u done root of is so) in
+      subst (λ o. IsTriedSoFar u o c next) (offers_same u)
+      (record { stack = s.stack; hand = subst (IsTriedTurn u (offers_to b.plan later u.directory)) turn s.turn })
+
+  pub ran_on : Keeps b c → MarksBy b g c now after → RansOn held told a h b before now → RansOn held told a h c before after
+  ran_on kept marks sofar u done root of is so first ran =
+      subst (λ o. HasRunSo u o c first after) (offers_same u)
+      (hand_marks u done root mid later b c g t first now after (build_at u of) kept (stays u done root of is) marks steps (tried_at u done root of is so)
+      (subst (λ o. HasRunSo u o b first now) (sym (offers_same u)) (sofar u done root of is so first ran)))
 
 -- ---- a root
 
@@ -87,15 +141,24 @@ module _ (held : Option Directory) (told : Directory → Task → List ℕ → L
 
   -- what ran until then
   ran_there : (u : Update) (done : List (List ℕ)) → IsBuildOf u held told a.plan → among (enc_task t) u.roots ≡ true → IsSettledSoFar u done a
-      → (first : List Task) → HasRunSo a first before → HasRunSo (record c { failure = None }) first after
+      → (first : List Task) → HasRunSo u (offers_to a.plan told u.directory) a first before
+      → HasRunSo u (offers_to a.plan told u.directory) (record c { failure = None }) first after
   ran_there u done of here s first so =
-      ran_stays c (record c { failure = None }) first after (same_grows c.ledger c.ledger refl refl) (stays_same c (record c { failure = None }) refl refl)
-      (runs u done (enc_task t) (build_then u held held told told a.plan b.plan refl refl (ap (λ x. x.plan) e.rest) of)
-      (root_begins a b t code at number e enters may (last_unrecorded a.ledger site.ledger) absent u done of.plan here s) first
-      (ran_stays a b first before kept.grows marks so))
+      let plan = ap (λ x. x.plan) e.rest in
+      let offers = offers_to a.plan told u.directory in
+      let then = offers_to b.plan told u.directory in
+      let same : then ≡ offers = ap (λ p. offers_to p told u.directory) plan in
+      ran_stays u offers c (record c { failure = None }) first after (same_grows c.ledger c.ledger refl refl)
+      (stays_same c (record c { failure = None }) refl refl)
+      (subst (λ o. HasRunSo u o c first after) same
+      (runs u done (enc_task t) (build_then u held held told told a.plan b.plan refl refl plan of)
+      (root_begins a b t code at number e enters may (last_unrecorded a.ledger site.ledger) absent u done of.plan here s)
+      (record { stack = subst (All (IsTriedFrame u then)) (sym (ap (λ x. x.stack.items) e.rest ∙ s.free)) (All-nil (IsTriedFrame u then)); hand = tt }) first
+      (subst (λ o. HasRunSo u o b first before) (sym same) (ran_stays u offers a b first before kept.grows marks so))))
 
   pub ran_root : (new : Builder) (why : Option Refusal) → new ≡ record c { failure = None } → SettlesRan held told a t new before after why
-  ran_root new why is u done of here s first so none = subst (λ x. HasRunSo x first after) (sym is) (ran_there u done of here s first so)
+  ran_root new why is u done of here s first so none =
+      subst (λ x. HasRunSo u (offers_to a.plan told u.directory) x first after) (sym is) (ran_there u done of here s first so)
 
   -- a task failed, and those of the checks that waited were started
   pub root_fails : (new : Builder) (later : List Task) (why : Refusal) → c.failure ≡ Some why → new.ledger.tables.names ≡ c.ledger.tables.names
@@ -103,7 +166,8 @@ module _ (held : Option Directory) (told : Directory → Task → List ℕ → L
   root_fails new later why failed names falls u done of here s first so w is =
       let f = stops_fallen u done (enc_task t) c rests why (ends_so u done of here s) failed in
       let plan : IsPlanNow u c.plan = subst (IsPlanNow u) (sym (went.plan ∙ ap (λ x. x.plan) e.rest)) of.plan in
-      let q = falls u done (enc_task t) plan f.falls first (ran_there u done of here s first so) in
+      let q = falls u done (enc_task t) (offers_to a.plan told u.directory) plan (honest_offers u a.plan told of.honest) f.falls first
+      (ran_there u done of here s first so) in
       let same : f.why ≡ w = one_some f.why w (sym f.kept ∙ failed ∙ is) in
       record {
         ran = q.1;
@@ -127,7 +191,7 @@ module _ (held : Option Directory) (told : Directory → Task → List ℕ → L
   root_full new is no_rest calm u done of here s first so w some =
       let full = stops_over u done (enc_task t) c (subst (StopsRight u done (enc_task t) c) no_rest (ends_so u done of here s)) calm in
       record {
-        ran = subst (λ x. HasRunSo x first after) (sym is) (ran_there u done of here s first so);
+        ran = subst (λ x. HasRunSo u (offers_to a.plan told u.directory) x first after) (sym is) (ran_there u done of here s first so);
         written = subst (AreWritten u) (sym is) (unfailed_written u c full.written);
         failed = inl (one_refusal w some);
       }
@@ -192,8 +256,11 @@ pub ran_one_more : (held mid : Option Directory) (told later : Directory → Tas
     → (offers : later ≡ told) → (plan : b.plan ≡ a.plan) → (right : HasSettledRight held told a roots (take i roots) b)
     → SettlesRan mid later b t c now after why → why ≡ None → HasSettledRan held told a roots b before now → HasSettledRan held told a roots c before after
 ran_one_more held mid told later a b c roots i t before now after why inside at same offers plan right settles none sofar u of are begun first so =
-    settles u (map enc_task (take i roots)) (build_then u held mid told later a.plan b.plan same offers plan of)
-    (listed held mid told later a b c roots i t inside at same offers plan right u are) (right u of are begun) first (sofar u of are begun first so) none
+    let one = offers_still told later a b offers plan u.directory in
+    subst (λ o. HasRunSo u o c first after) one
+    (settles u (map enc_task (take i roots)) (build_then u held mid told later a.plan b.plan same offers plan of)
+    (listed held mid told later a b c roots i t inside at same offers plan right u are) (right u of are begun) first
+    (subst (λ o. HasRunSo u o b first now) (sym one) (sofar u of are begun first so)) none)
 
 -- a root isn't settled
 pub stops_one_more : (held mid : Option Directory) (told later : Directory → Task → List ℕ → List Offered) (a b c : Builder) (roots : List Task) (i : ℕ) (t : Task)
@@ -205,8 +272,12 @@ stops_one_more held mid told later a b c roots i t before now after why inside a
   root = enc_task t;
   rest = map enc_task (drop (i + 1) roots);
   roots = split held mid told later a b c roots i t inside at same offers plan right ∙ are;
-  refused = stops u (map enc_task (take i roots)) (build_then u held mid told later a.plan b.plan same offers plan of)
-      (listed held mid told later a b c roots i t inside at same offers plan right u are) (right u of are begun) first (sofar u of are begun first so) w some;
+  refused =
+      let one = offers_still told later a b offers plan u.directory in
+      subst (λ o. HasRunRefused u o (map enc_task (take i roots)) (enc_task t) c first after w) one
+      (stops u (map enc_task (take i roots)) (build_then u held mid told later a.plan b.plan same offers plan of)
+      (listed held mid told later a b c roots i t inside at same offers plan right u are) (right u of are begun) first
+      (subst (λ o. HasRunSo u o b first now) (sym one) (sofar u of are begun first so)) w some);
 }
 
 pub stops_none : (held : Option Directory) (told : Directory → Task → List ℕ → List Offered) (a b : Builder) (roots before after : List Task)

@@ -15,5 +15,8 @@ pub mod Asking
 pub mod Calling
 pub mod Rooted
 pub mod Offering
+pub mod Marks
+pub mod Trying
 pub mod Ran
 pub mod Unoffered
+pub mod Filed

@@ -10,7 +10,8 @@ ghost use Rattle.pie_topdown.specs.inner.Ledgers.{Grows};
 ghost use Rattle.pie_topdown.specs.inner.Frames.{AreOffers, IsCheck, IsOwnRecord, MayStart, IsSite};
 ghost use Rattle.pie_topdown.specs.inner.Offering.{BeginsSo, BeginsWith};
 ghost use Rattle.pie_topdown.specs.inner.Right.{BeginsCheck};
-ghost use Rattle.pie_topdown.specs.inner.Ran.{Marks};
+ghost use Rattle.pie_topdown.specs.inner.Marks.{Marks, RunsOne};
+ghost use Rattle.pie_topdown.specs.inner.Trying.{TriesFrom, HoldsTried};
 ghost use Rattle.pie_topdown.specs.inner.Turns.{TurnsTo, check_mass, rest_mass, below, Nearer, room, Spends, StartsOne, Keeps};
 ghost use Rattle.pie_topdown.specs.inner.Unoffered.{BeginsOwn, HoldsOwn};
 
@@ -51,6 +52,7 @@ impl<'a> Builder<'a> {
         ensures reads { ReadsOnly F.holds F.moment F.left_since F.images F.faults files.old files.new result }
         ensures told { O.told offers.new ≡ O.told offers.old }
         ensures own { IfOk result (BeginsOwn (F.holds files.old) (O.told offers.old) self.old self.new) }
+        ensures tried { IfOk result (TriesFrom (F.holds files.old) (O.told offers.old) self.old no.0 self.new runs.old runs.new) }
         ensures right { IfOk result (BeginsSo (F.holds files.old) (O.told offers.old) self.old no.0 code.now self.new) }
     {
         match self.old_record(no)? {
@@ -111,6 +113,7 @@ impl<'a> Builder<'a> {
         ensures reads { ReadsOnly F.holds F.moment F.left_since F.images F.faults files.old files.new result }
         ensures told { O.told offers.new ≡ O.told offers.old }
         ensures own { IfOk result (BeginsOwn (F.holds files.old) (O.told offers.old) self.old self.new) }
+        ensures tried { IfOk result (TriesFrom (F.holds files.old) (O.told offers.old) self.old no.0 self.new runs.old runs.new) }
         ensures right { IfOk result (BeginsWith (F.holds files.old) (O.told offers.old) self.old no.0 code.now rec.value self.new) }
     {
         if !writes_stand(&mut self.named, rec.writes.as_slice(), files)? {
@@ -135,7 +138,7 @@ impl<'a> Builder<'a> {
         requires rest { AreOffers rest }
         ensures check { IfOk result (λ c. IsCheck self.now.ledger c.value) }
         ensures mass { IfOk result (λ c. check_mass c.value ≡ 3000005 + rest_mass rest) }
-        ensures parts { IfOk result (λ c. (c.value.contents ≡ contents) × (c.value.rest ≡ rest)) }
+        ensures parts { IfOk result (λ c. (c.value.contents ≡ contents) × (c.value.rest ≡ rest) × (c.value.rec ≡ rec.value)) }
         ensures right { IfOk result (λ c. BeginsCheck self.now no.0 code.now rec.value contents rest c.value) }
     {
         let check = Check {
@@ -167,8 +170,9 @@ impl<'a> Builder<'a> {
         ensures starts { StartsOne runs.old runs.new }
         ensures few { length runs.new ≤ length runs.old + (room self.old + 1) }
         ensures kept { OnOk result (Keeps self.old self.new) }
-        ensures marks { OnOk result (Marks self.old no.0 self.new runs.old runs.new) }
+        ensures marks { OnOk result (RunsOne self.old no.0 self.new runs.old runs.new) }
         ensures own { IfOk result (HoldsOwn self.old self.new) }
+        ensures tried { IfOk result (HoldsTried self.old self.new) }
         ensures right { IfOk result (StartsSo self.old no.0 code.now self.new) }
     {
         let task = self.begin_run(no, code, runs)?;

@@ -4,7 +4,8 @@ ghost use Rattle.pie_files.specs.Reading.{ReadsOnly};
 ghost use Rattle.pie_topdown.specs.inner.Calling.{ResumesSo};
 ghost use Rattle.pie_topdown.specs.inner.Frames.{IsSite};
 ghost use Rattle.pie_topdown.specs.inner.Right.{StepsRight};
-ghost use Rattle.pie_topdown.specs.inner.Ran.{StaysMarked, MarksBy};
+ghost use Rattle.pie_topdown.specs.inner.Marks.{StaysMarked, MarksBy};
+ghost use Rattle.pie_topdown.specs.inner.Trying.{HoldsTried, StepsTried};
 ghost use Rattle.pie_topdown.specs.inner.Turns.{Stands, TurnsTo, hand_mass, below, Nearer, hand_room, room, Fits, Spends, StartsOne, Keeps};
 ghost use Rattle.pie_topdown.specs.inner.Unoffered.{HoldsOwn, StepsOwn};
 
@@ -59,6 +60,7 @@ impl<'a> Builder<'a> {
         ensures reads { ReadsOnly F.holds F.moment F.left_since F.images F.faults files.old files.new result }
         ensures told { O.told offers.new ≡ O.told offers.old }
         ensures own { IfOk result (StepsOwn (F.holds files.old) (O.told offers.old) self.old hand.entry self.new) }
+        ensures tried { IfOk result (StepsTried (F.holds files.old) (O.told offers.old) self.old hand.entry self.new runs.old runs.new) }
         ensures right { IfOk result (StepsRight (F.holds files.old) (O.told offers.old) self.old hand.entry self.new) }
     {
         match hand {
@@ -78,6 +80,7 @@ impl<'a> Builder<'a> {
         ensures kept { OnOk result (Keeps self.old self.new) }
         ensures marks { OnOk result (StaysMarked self.old self.new) }
         ensures own { IfOk result (HoldsOwn self.old self.new) }
+        ensures tried { IfOk result (HoldsTried self.old self.new) }
         ensures right { IfOk result (ResumesSo self.old self.new) }
     {
         match self.stack.pop() {

@@ -13,7 +13,8 @@ ghost use Rattle.pie_topdown.specs.inner.Frames.{IsCheck, IsSite};
 ghost use Rattle.pie_topdown.specs.inner.Offering.{ComparesSo, GoesOnSo, RequiresSo};
 ghost use Rattle.pie_topdown.specs.inner.Places.{beside, AsksSource, Finds, IsPassed, IsPlace, IsUnentered};
 ghost use Rattle.pie_topdown.specs.inner.Right.{PassesRight};
-ghost use Rattle.pie_topdown.specs.inner.Ran.{StaysMarked, Marks};
+ghost use Rattle.pie_topdown.specs.inner.Marks.{StaysMarked, Marks};
+ghost use Rattle.pie_topdown.specs.inner.Trying.{ComparesTried, GoesOnTried, RequiresTried, WaitsTried};
 ghost use Rattle.pie_topdown.specs.inner.Turns.{TurnsTo, check_mass, below, Nearer, room, Fits, Spends, StartsOne, Keeps};
 ghost use Rattle.pie_topdown.specs.inner.Unoffered.{ChecksOwn, HoldsOwn, IsOwnCheck, IsOwnTurn};
 
@@ -64,6 +65,7 @@ impl<'a> Builder<'a> {
         ensures reads { ReadsOnly F.holds F.moment F.left_since F.images F.faults files.old files.new result }
         ensures told { O.told offers.new ≡ O.told offers.old }
         ensures own { IfOk result (ChecksOwn (F.holds files.old) (O.told offers.old) self.old check.entry.value self.new) }
+        ensures tried { IfOk result (ComparesTried (F.holds files.old) (O.told offers.old) self.old check.entry.value self.new runs.old runs.new) }
         ensures right { IfOk result (ComparesSo (F.holds files.old) (O.told offers.old) self.old check.entry.value self.new) }
     {
         let mut check = check;
@@ -93,6 +95,7 @@ impl<'a> Builder<'a> {
         ensures reads { ReadsOnly F.holds F.moment F.left_since F.images F.faults files.old files.new result }
         ensures told { O.told offers.new ≡ O.told offers.old }
         ensures own { IfOk result (ChecksOwn (F.holds files.old) (O.told offers.old) self.old check.entry.value self.new) }
+        ensures tried { IfOk result (GoesOnTried (F.holds files.old) (O.told offers.old) self.old check.entry.value place self.new runs.old runs.new) }
         ensures right { IfOk result (GoesOnSo (F.holds files.old) (O.told offers.old) self.old check.entry.value place self.new) }
     {
         match place {
@@ -111,6 +114,7 @@ impl<'a> Builder<'a> {
         ensures nearer { Nearer (below self.now + check_mass check.entry.value) self.now result }
         ensures fits { Fits (room self.now + 1) self.now result }
         ensures own { IsOwnCheck check.entry.value → IsOwnTurn result }
+        ensures tried { WaitsTried self.now check.entry.value self.now result }
         ensures right { PassesRight self.now check.entry.value result }
     {
         let mut check = check;
@@ -142,6 +146,7 @@ impl<'a> Builder<'a> {
         ensures reads { ReadsOnly F.holds F.moment F.left_since F.images F.faults files.old files.new result }
         ensures told { O.told offers.new ≡ O.told offers.old }
         ensures own { IfOk result (ChecksOwn (F.holds files.old) (O.told offers.old) self.old check.entry.value self.new) }
+        ensures tried { IfOk result (RequiresTried (F.holds files.old) (O.told offers.old) self.old check.entry.value task self.new runs.old runs.new) }
         ensures right { IfOk result (RequiresSo (F.holds files.old) (O.told offers.old) self.old check.entry.value task self.new) }
     {
         match self.entry(&task) {
@@ -169,6 +174,7 @@ impl<'a> Builder<'a> {
         ensures kept { OnOk result (Keeps self.old self.new) }
         ensures marks { OnOk result (StaysMarked self.old self.new) }
         ensures own { IsOwnCheck check.entry.value → IfOk result (HoldsOwn self.old self.new) }
+        ensures tried { IfOk result (WaitsTried self.old check.entry.value self.new) }
         ensures right { IfOk result (ChecksSo self.old check.entry.value task self.new) }
     {
         let no = self.enter(task, code)?;

@@ -6,7 +6,7 @@ ghost use Rattle.pie_value.specs.Canonical.{IsEncodableTask};
 ghost use Rattle.pie_topdown.specs.inner.Entries.{HasEntered, MayEnter};
 ghost use Rattle.pie_topdown.specs.inner.Frames.{MayStart, IsSite};
 ghost use Rattle.pie_topdown.specs.inner.Right.{EntersSite};
-ghost use Rattle.pie_topdown.specs.inner.Ran.{StaysMarked};
+ghost use Rattle.pie_topdown.specs.inner.Marks.{StaysMarked};
 ghost use Rattle.pie_topdown.specs.inner.Turns.{Keeps};
 
 use crate::builder::Builder;

@@ -4,9 +4,10 @@ ghost use Rattle.pie_files.specs.Reading.{ReadsOnly};
 ghost use Rattle.pie_record.specs.Canonical.{IsStorable};
 ghost use Rattle.pie_store.specs.inner.Offers.{IsOffer};
 ghost use Rattle.pie_topdown.specs.inner.Frames.{MayStart, IsSite};
-ghost use Rattle.pie_topdown.specs.inner.Offering.{OffersOrRuns, DiffersSo, OffersSo, Takes, TriesSo, ChecksOffer};
+ghost use Rattle.pie_topdown.specs.inner.Offering.{OffersOrRuns, DiffersSo, FitsSo, HaveHashes, OffersSo, Takes, TellsOnce, TriesSo, ChecksOffer};
 ghost use Rattle.pie_topdown.specs.inner.Places.{MayGiveWay};
-ghost use Rattle.pie_topdown.specs.inner.Ran.{Marks};
+ghost use Rattle.pie_topdown.specs.inner.Marks.{Marks};
+ghost use Rattle.pie_topdown.specs.inner.Trying.{AsksFor, ChecksTried, DiffersTried, TriesFrom, TriesOffers};
 ghost use Rattle.pie_topdown.specs.inner.Turns.{TurnsTo, check_mass, below, Nearer, room, Fits, Spends, StartsOne, Keeps};
 ghost use Rattle.pie_topdown.specs.inner.Unoffered.{BeginsOwn, ChecksOwn, HoldsOwn, OffersNothing};
 
@@ -48,6 +49,7 @@ impl<'a> Builder<'a> {
         ensures reads { ReadsOnly F.holds F.moment F.left_since F.images F.faults files.old files.new result }
         ensures told { O.told offers.new ≡ O.told offers.old }
         ensures own { IfOk result (ChecksOwn (F.holds files.old) (O.told offers.old) self.old check.entry.value self.new) }
+        ensures tried { IfOk result (DiffersTried (F.holds files.old) (O.told offers.old) self.old check.entry.value self.new runs.old runs.new) }
         ensures right { IfOk result (DiffersSo (F.holds files.old) (O.told offers.old) self.old check.entry.value self.new) }
     {
         let Check { no, code, rest, .. } = Box::into_inner(check);
@@ -79,6 +81,7 @@ impl<'a> Builder<'a> {
         ensures reads { ReadsOnly F.holds F.moment F.left_since F.images F.faults files.old files.new result }
         ensures told { O.told offers.new ≡ O.told offers.old }
         ensures own { IfOk result (BeginsOwn (F.holds files.old) (O.told offers.old) self.old self.new) }
+        ensures tried { IfOk result (TriesFrom (F.holds files.old) (O.told offers.old) self.old no.0 self.new runs.old runs.new) }
         ensures right { IfOk result (OffersOrRuns (F.holds files.old) (O.told offers.old) self.old no.0 code.now self.new) }
     {
         let rest = self.offered(no, offers, files)?;
@@ -99,7 +102,8 @@ impl<'a> Builder<'a> {
         ensures reads { ReadsOnly F.holds F.moment F.left_since F.images F.faults files.old files.new result }
         ensures told { O.told offers.new ≡ O.told offers.old }
         ensures none { OffersNothing (F.holds files.old) (O.told offers.old) → IfOk result (λ found. found.items ≡ []) }
-        ensures right { IfOk result (λ found. OffersSo (F.holds files.old) (O.told offers.old) self.now found.items) }
+        ensures right { IfOk result (λ found. OffersSo (F.holds files.old) (O.told offers.old) self.now no.0 found.items) }
+        ensures asks { IfOk result (λ found. AsksFor (F.holds files.old) (O.told offers.old) self.now no.0 found.items) }
     {
         let _names = self.ledger.tables.names.as_slice();
         let task = self.ledger.tables.names.task(no);
@@ -130,6 +134,7 @@ impl<'a> Builder<'a> {
         ensures kept { OnOk result (Keeps self.old self.new) }
         ensures marks { OnOk result (Marks self.old no.0 self.new runs.old runs.new) }
         ensures own { rest.items ≡ [] → IfOk result (HoldsOwn self.old self.new) }
+        ensures tried { IfOk result (TriesOffers self.old no.0 rest.items self.new runs.old runs.new) }
         ensures right { IfOk result (TriesSo self.old no.0 code.now rest.items self.new) }
     {
         let mut rest = rest;
@@ -150,7 +155,7 @@ impl<'a> Builder<'a> {
         ensures fewer { IfOk result (λ found. IfSome found (λ _. length rest.new.items < length rest.old.items)) }
         ensures storable { IfOk result (λ found. IfSome found (λ o. IsStorable o.value.row)) }
         ensures named { IfOk result (λ found. IfSome found (λ o. slice_get self.now.ledger.tables.names no.0 ≡ Some o.value.row.task)) }
-        ensures takes { IfOk result (Takes rest.old.items rest.new.items) }
+        ensures takes { IfOk result (Takes self.now no.0 rest.old.items rest.new.items) }
     {
         'offers: loop {
             if rest.is_empty() {
@@ -166,7 +171,7 @@ impl<'a> Builder<'a> {
     // Whether an offer may be of an entered task: it is a record of it with an output, writes no path twice, and has the contents of its writes.
     fn fits(&self, no: TaskNo, offer: &Offer) -> Result<bool, OutOfMemory>
         requires { IsOffer offer.now }
-        ensures { IfOk result (λ fits. fits ≡ true → slice_get self.now.ledger.tables.names no.0 ≡ Some offer.now.row.task) }
+        ensures { IfOk result (FitsSo self.now no.0 offer.now) }
     {
         let writes = offer.row.writes.as_slice();
         if !is_done(&offer.row.outcome) || !are_contents(writes, offer.contents.as_slice()) {
@@ -198,6 +203,7 @@ impl<'a> Builder<'a> {
         ensures nearer { IfOk result (Nearer (below self.now + (length rest.items * 1000003 + 3000006)) self.now) }
         ensures fits { IfOk result (Fits (room self.now + 1) self.now) }
         ensures right { IfOk result (ChecksOffer self.now no.0 code.now offer.value rest.items self.now) }
+        ensures tried { IfOk result (ChecksTried self.now no.0 offer.value rest.items) }
     {
         let Offer { row, contents } = Box::into_inner(offer);
         let rec = Box::new(self.alloc, row)?;
@@ -207,7 +213,9 @@ impl<'a> Builder<'a> {
 }
 
 // Whether these are the contents of the writes, one for each.
-fn are_contents(writes: &[(Path, [u8; 32])], contents: &[Vec<u8>]) -> bool {
+fn are_contents(writes: &[(Path, [u8; 32])], contents: &[Vec<u8>]) -> bool
+    ensures { HaveHashes contents.now writes.now → result ≡ true }
+{
     if writes.len() != contents.len() {
         return false;
     }
@@ -220,7 +228,9 @@ fn are_contents(writes: &[(Path, [u8; 32])], contents: &[Vec<u8>]) -> bool {
 }
 
 // Whether no path stands twice.
-fn are_distinct(alloc: Global, writes: &[(Path, [u8; 32])]) -> Result<bool, OutOfMemory> {
+fn are_distinct(alloc: Global, writes: &[(Path, [u8; 32])]) -> Result<bool, OutOfMemory>
+    ensures { IfOk result (TellsOnce writes.now) }
+{
     let mut seen = BTreeSet::new(alloc);
     for (path, _) in writes {
         if !seen.insert(path.copy()?)? {

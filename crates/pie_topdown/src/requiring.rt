@@ -12,7 +12,7 @@ ghost use Rattle.pie_topdown.specs.inner.Entries.{MayEnter};
 ghost use Rattle.pie_topdown.specs.inner.Frames.{IsNoted, IsCaller, IsSite};
 ghost use Rattle.pie_topdown.specs.inner.Ledgers.{HasOutput};
 ghost use Rattle.pie_topdown.specs.inner.Turns.{TurnsTo, below, Nearer, room, Fits, Keeps};
-ghost use Rattle.pie_topdown.specs.inner.Unoffered.{GoesMarked, IsOwnTurn};
+ghost use Rattle.pie_topdown.specs.inner.Unoffered.{ComparesNothing, GoesMarked};
 
 use crate::builder::Builder;
 use crate::entering::Entry;
@@ -109,7 +109,7 @@ impl<'a> Builder<'a> {
         ensures turns { IfOk result (TurnsTo self.now) }
         ensures nearer { IfOk result (Nearer (below self.now + (2 * caller.entry.waiting.notes.left + 1)) self.now) }
         ensures fits { IfOk result (Fits (room self.now) self.now) }
-        ensures turn { IfOk result IsOwnTurn }
+        ensures turn { IfOk result ComparesNothing }
         ensures right { IfOk result (GivesSo self.now caller.entry callee.0 output self.now) }
     {
         let Caller {

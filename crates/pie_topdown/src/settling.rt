@@ -11,6 +11,7 @@ ghost use Rattle.pie_value.specs.Canonical.{IsEncodableTask};
 ghost use Rattle.pie_value.specs.declared.verdict.Verdict.TheVariants.{Refused};
 ghost use Rattle.pie_topdown_result_laws.specs.Builds.{MakesClean};
 ghost use Rattle.pie_topdown.specs.inner.Ended.{StoredIf};
+ghost use Rattle.pie_topdown.specs.inner.Filed.{MakesFiles, MakesFilesOf};
 ghost use Rattle.pie_topdown.specs.inner.Frames.{IsSite};
 ghost use Rattle.pie_topdown.specs.inner.Ran.{AddsNamed, AddsOne, RunsForReasons};
 ghost use Rattle.pie_topdown.specs.inner.Rooted.{AreOldTables, IsPlanOf, IsProgram, IsUnbegun, MakesSettled};
@@ -73,6 +74,9 @@ pub fn topdown<F: Files, O: Offers>(
     ensures ran { IsProgram typed.now code.now image.rows
         → IfOk result (λ b. RunsForReasons (F.holds files.old) typed.now image.funcs digests.now image.rows (O.told offers.old) roots.now runs.old runs.new
         reused.old.items reused.new.items b.verdict) }
+    ensures files { IsProgram typed.now code.now image.rows
+        → IfOk result (λ b. MakesFilesOf (F.holds files.old) typed.now image.funcs digests.now image.rows (O.told offers.old) roots.now runs.old runs.new
+        reused.old.items reused.new.items b) }
 {
     let mut builder = begun(alloc, typed, code, digests, image)?;
     let why = builder.settle_all(roots, offers, files, runs)?;
@@ -200,6 +204,7 @@ impl<'a> Builder<'a> {
         ensures kept { IfOk result IsKept }
         ensures stored { IfOk result (λ b. StoredIf b.verdict self.now.plan.typed.now roots.now b) }
         ensures clean { IfOk result (MakesSettled self.now roots.now) }
+        ensures files { IfOk result (MakesFiles self.now) }
     {
         let _names = self.ledger.tables.names.as_slice();
         let built = results(

@@ -8,7 +8,8 @@ ghost use Rattle.pie_topdown.specs.inner.Frames.{IsCheck, IsSite};
 ghost use Rattle.pie_topdown.specs.inner.Ledgers.{HasOutput};
 ghost use Rattle.pie_topdown.specs.inner.Offering.{EndsReused, StagesAll};
 ghost use Rattle.pie_topdown.specs.inner.Right.{KeepsRight, EndsKept};
-ghost use Rattle.pie_topdown.specs.inner.Ran.{StaysMarked, ReusesOne, KeepsMarks};
+ghost use Rattle.pie_topdown.specs.inner.Marks.{StaysMarked, ReusesOne, KeepsMarks};
+ghost use Rattle.pie_topdown.specs.inner.Trying.{HoldsTried, KeepsTried};
 ghost use Rattle.pie_topdown.specs.inner.Turns.{TurnsTo, below, Nearer, room, Fits, Keeps};
 ghost use Rattle.pie_topdown.specs.inner.Unoffered.{HoldsOwn, IsOwnCheck};
 
@@ -31,6 +32,7 @@ impl<'a> Builder<'a> {
         ensures kept { OnOk result (Keeps self.old self.new) }
         ensures marks { OnOk result (KeepsMarks self.old check.entry.value.no.0 self.new) }
         ensures own { IsOwnCheck check.entry.value → IfOk result (HoldsOwn self.old self.new) }
+        ensures tried { IfOk result (KeepsTried self.old check.entry.value self.new) }
         ensures right { IfOk result (KeepsRight self.old check.entry.value self.new) }
     {
         let Check {
@@ -64,6 +66,7 @@ impl<'a> Builder<'a> {
         ensures kept { OnOk result (Keeps self.old self.new) }
         ensures marks { OnOk result (StaysMarked self.old self.new) }
         ensures own { IfOk result (HoldsOwn self.old self.new) }
+        ensures tried { IfOk result (HoldsTried self.old self.new) }
         ensures ended { IfOk result (EndsKept self.old no.0 rec (numbers required.items) self.new) }
     {
         self.ledger.end(no, rec, required)?;
@@ -88,6 +91,7 @@ impl<'a> Builder<'a> {
         ensures fits { IfOk result (Fits (room self.old) self.new) }
         ensures kept { OnOk result (Keeps self.old self.new) }
         ensures marks { OnOk result (ReusesOne self.old no.0 self.new) }
+        ensures tried { IfOk result (HoldsTried self.old self.new) }
         ensures ended { IfOk result (EndsReused self.old no.0 rec (numbers required.items) (map (λ v. v.items) contents.items) self.new) }
     {
         self.reuse(no, rec.writes.as_slice(), contents)?;

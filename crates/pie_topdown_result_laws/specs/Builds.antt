@@ -1,5 +1,6 @@
 -- Builds without a list of an update, from the store of the earlier build.
-use Rattle.std.specs.Prelude.{◌≡◌, ℕ, true, List, map, All, Option, Some}
+use Rattle.std.specs.Prelude.{◌≡◌, ◌≢◌, ℕ, true, List, map, All, Option, Some}
+use Rattle.std.specs.List.{AllPairs}
 use Rattle.pie_value.specs.declared.task.Task.{Task}
 use Rattle.pie_value.specs.Canonical.{enc_task, IsCanonicalTask}
 use Rattle.pie_parser.specs.FunctionTrees.{FunctionTree}
@@ -49,9 +50,23 @@ pub record IsHonest (u : Update) (o : Offered) : Type 0 where
   pub apart : StampsSeparate world before (present u) (MetIn u)
   pub wrote : map (λ (w : List ℕ × List ℕ). w.1) (writes_of (trace_of (evaluation world before (enc_task o.0.task)))) ≡ o.1
 
+-- so is an offer to a task, if its record is of that task: others are passed over
+abbrev pub IsHonestTo : Update → Task → Offered → Type 0
+IsHonestTo u t o = o.0.task ≡ t → IsHonest u o
+
 -- so are all that are offered to a task by the present digest of its function; where nothing is offered, nothing is asked
 abbrev pub AreHonest : Update → List (List ℕ × List ℕ) → (Directory → Task → List ℕ → List Offered) → Type 0
-AreHonest u digests told = (t : Task) (digest : List ℕ) → digest_under digests t.func ≡ Some digest → All (IsHonest u) (told u.directory t digest)
+AreHonest u digests told = (t : Task) (digest : List ℕ) → digest_under digests t.func ≡ Some digest → All (IsHonestTo u t) (told u.directory t digest)
+
+-- no path is written twice
+abbrev pub WritesOnce : List (List ℕ × List ℕ) → Type 0
+WritesOnce writes = AllPairs (λ (v w : List ℕ × List ℕ). v.0 ≢ w.0) writes
+
+-- an offer to a task stands: it is of that task, writes no path twice, and its record is that of the task's evaluation now
+pub record IsStanding (u : Update) (t : Task) (o : Offered) : Type 0 where
+  pub of : o.0.task ≡ t
+  pub once : WritesOnce o.0.writes
+  pub is : record_of o.0 ≡ model_record world (evaluation world (present u) (enc_task t))
 
 -- what a build makes of each such update from these records, where offers are honest, is what a clean build makes
 pub record MakesClean (held : Option Directory) (fs : List FunctionTree) (funcs digests : List (List ℕ × List ℕ)) (rows : List TaskRecord)

@@ -1,20 +1,24 @@
 -- Checks of a build without a list, and records that are offered, as the model of building knows them.
-use Rattle.std.specs.Prelude.{◌≡◌, ℕ, List, [], ◌∷◌, ◌++◌, All, Option, None, Some, Box}
+use Rattle.std.specs.Prelude.{◌≡◌, ℕ, Bool, true, false, List, [], ◌∷◌, ◌++◌, All, map, Option, None, Some, Box, slice_get}
 use Rattle.std.specs.Option.{option_or}
 use Rattle.std.specs.declared.alloc.Global.{Global}
+use Rattle.std.proofs.Common.{Vec}
+use Rattle.sha2.specs.Sha256.{sha256}
 use Rattle.pie_value.specs.declared.task.Task.{Task}
 use Rattle.pie_code.specs.declared.code.Code.{Code}
 use Rattle.pie_files.specs.Directory.{Directory}
 use Rattle.pie_record.specs.Canonical.{IsTrueRecord}
 use Rattle.pie_record.specs.declared.task_record.TaskRecord.{TaskRecord}
+use Rattle.pie_results.specs.inner.Failures.{is_done}
 use Rattle.pie_store.specs.declared.offers.Offer.{Offer}
 use Rattle.pie_store.specs.inner.Offers.{Offered, offered}
 use Rattle.pie_view.specs.Content.{Staged, content}
 use Rattle.pie_named.specs.inner.Known.{IsTrueOf}
 use Rattle.pie_model.specs.Seen.{first_write}
 use Rattle.pie_model.specs.inner.Stack.{Frame as ModelFrame}
+use Rattle.pie_builder_laws.specs.Names.{AreTasks}
 use Rattle.pie_core_laws.specs.Update.{Update}
-use Rattle.pie_topdown_result_laws.specs.Builds.{IsHonest}
+use Rattle.pie_topdown_result_laws.specs.Builds.{IsHonestTo, WritesOnce}
 use Rattle.pie_topdown.specs.declared.builder.Builder.{Builder}
 use Rattle.pie_topdown.specs.declared.ledger.Ledger.{Ledger}
 use Rattle.pie_topdown.specs.declared.hand.Check.{Check}
@@ -52,19 +56,38 @@ OffersOrRuns held told old n code new t =
 -- ---- offers
 
 -- what is offered to an entered task is honest, where offers are
-abbrev pub OffersSo : Option Directory → (Directory → Task → List ℕ → List Offered) → Builder → List Offer → Type 0
-OffersSo held told b offers = (u : Update) → held ≡ Some u.directory → AreOffersHonest u b.plan told → All (λ o. IsHonest u (offered o)) offers
+abbrev pub OffersSo : Option Directory → (Directory → Task → List ℕ → List Offered) → Builder → ℕ → List Offer → Type 0
+OffersSo held told b n offers =
+    (u : Update) (task : Task) → slice_get b.ledger.tables.names n ≡ Some task → held ≡ Some u.directory → AreOffersHonest u b.plan told
+    → All (λ o. IsHonestTo u task (offered o)) offers
+
+-- these contents have the hashes of these writes, one each
+abbrev pub HaveHashes : List (Vec ℕ Global) → List (List ℕ × List ℕ) → Type 0
+HaveHashes contents writes = map (λ (v : Vec ℕ Global). sha256 v.items) contents ≡ map (λ (w : List ℕ × List ℕ). w.1) writes
+
+-- it is told whether no path is written twice
+abbrev pub TellsOnce : List (List ℕ × List ℕ) → Bool → Type 0
+TellsOnce writes true = WritesOnce writes
+TellsOnce writes false = WritesOnce writes → ⊥
+
+-- an offer fits an entered task, and writes no path twice; or it is passed over: it is of another task, has no output, writes a path twice, or hasn't the
+-- contents of its writes
+abbrev pub FitsSo : Builder → ℕ → Offer → Bool → Type 0
+FitsSo b n o true = (slice_get b.ledger.tables.names n ≡ Some o.row.task) × WritesOnce o.row.writes
+FitsSo b n o false =
+    AreTasks b.ledger.tables.names → slice_get b.ledger.tables.names n ≡ Some o.row.task → is_done o.row.outcome ≡ true
+    → HaveHashes o.contents.items o.row.writes → WritesOnce o.row.writes → ⊥
 
 -- of these offers some are passed over, and the one after them is taken out, if there is one
-abbrev pub Takes : List Offer → List Offer → Option (Box Offer Global) → Type 0
-Takes old new None = Unit {0}
-Takes old new (Some o) = (over : List Offer) × (old ≡ over ++ o.value ∷ new)
+abbrev pub Takes : Builder → ℕ → List Offer → List Offer → Option (Box Offer Global) → Type 0
+Takes b n old new None = All (λ o. FitsSo b n o false) old
+Takes b n old new (Some o) = (over : List Offer) × (old ≡ over ++ o.value ∷ new) × All (λ x. FitsSo b n x false) over × FitsSo b n o.value true
 
 -- an entered task that has a reason to run is checked against one of these offers, where they are honest, or runs
 abbrev pub TriesSo : Builder → ℕ → Code → List Offer → Builder → Turn → Type 0
 TriesSo old n code offers new t =
-    (u : Update) (done : List (List ℕ)) (root : List ℕ) (fs : List ModelFrame) → All (λ o. IsHonest u (offered o)) offers → IsRightSite u done root old
-    → AreWaiting u old root fs → EntersRight u old root fs n code → IsDueAt u old n → TurnIsRight u done root new t
+    (u : Update) (done : List (List ℕ)) (root : List ℕ) (fs : List ModelFrame) → IsRightSite u done root old → AreWaiting u old root fs
+    → (e : EntersRight u old root fs n code) → All (λ o. IsHonestTo u e.task (offered o)) offers → IsDueAt u old n → TurnIsRight u done root new t
 
 -- so it is where the first of them has canonical parts
 abbrev pub ChecksOffer : Builder → ℕ → Code → Offer → List Offer → Builder → Turn → Type 0
@@ -74,8 +97,8 @@ ChecksOffer old n code offer rest new t = IsTrueRecord offer.row → TriesSo old
 abbrev pub DiffersSo : Option Directory → (Directory → Task → List ℕ → List Offered) → Builder → Check → Builder → Turn → Type 0
 DiffersSo held told old c new t =
     (u : Update) (done : List (List ℕ)) (root : List ℕ) (fs : List ModelFrame) → held ≡ Some u.directory → IsPlanNow u old.plan
-    → AreOffersHonest u old.plan told → IsRightSite u done root old → AreWaiting u old root fs → EntersRight u old root fs c.no.0 c.code.now
-    → IsDueAt u old c.no.0 → AreHonest u c.rest → TurnIsRight u done root new t
+    → AreOffersHonest u old.plan told → IsRightSite u done root old → AreWaiting u old root fs → (e : EntersRight u old root fs c.no.0 c.code.now)
+    → IsDueAt u old c.no.0 → AreHonest u e.task c.rest → TurnIsRight u done root new t
 
 -- ---- checks
 

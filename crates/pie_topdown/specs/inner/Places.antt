@@ -6,6 +6,7 @@ use Rattle.pie_value.specs.declared.task.Task.{Task}
 use Rattle.pie_value.specs.Canonical.{IsEncodableTask}
 use Rattle.pie_files.specs.Directory.{Directory}
 use Rattle.pie_graph.specs.Numbers.{numbers}
+use Rattle.pie_record.specs.Canonical.{IsStorable}
 use Rattle.pie_record.specs.declared.dep.Dep.{Dep}
 use Rattle.pie_record.specs.declared.dep.DepOn.{DepOn}
 use Rattle.pie_record.specs.declared.dep.DepOn.TheVariants.{File, Called}
@@ -37,6 +38,7 @@ pub record IsPassed (l : Ledger) (c : Check) : Type 0 where
 pub record MayGiveWay (l : Ledger) (c : Check) : Type 0 where
   pub named : slice_get l.tables.names c.no.0 ≡ Some c.rec.task
   pub takes : length c.rec.task.args ≡ c.code.now.params
+  pub storable : IsStorable c.rec
   pub rest : AreOffers c.rest
 
 -- what is found at the next observation of a check

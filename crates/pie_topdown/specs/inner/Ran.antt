@@ -1,5 +1,5 @@
 -- Which tasks a build without a list runs and reuses.
-use Rattle.std.specs.Prelude.{◌≡◌, ◌≢◌, ◌⊎◌, ℕ, Bool, true, false, List, [], ◌∷◌, ◌++◌, map, All, Option, None, Some, slice_get, slice_index_or}
+use Rattle.std.specs.Prelude.{◌≡◌, ◌≢◌, ◌⊎◌, ℕ, true, false, List, [], ◌∷◌, ◌++◌, map, All, take, Option, None, Some, slice_get}
 use Rattle.std.specs.List.{AllPairs, Contains}
 use Rattle.pie_value.specs.declared.task.Task.{Task}
 use Rattle.pie_value.specs.declared.verdict.Refusal.{Refusal}
@@ -22,57 +22,14 @@ use Rattle.pie_topdown_laws.specs.Ledgers.{IsRightLedger}
 use Rattle.pie_model.specs.Paths.{among}
 use Rattle.pie_model_pipeline.specs.World.{world}
 use Rattle.pie_core_laws.specs.Update.{Update, present}
-use Rattle.pie_topdown_result_laws.specs.Builds.{IsNowHere, IsFromStore, AreHonest}
+use Rattle.pie_earlier_laws.specs.Functions.{digest_under}
+use Rattle.pie_topdown_result_laws.specs.Builds.{AreHonest, IsFromStore, IsNowHere, IsStanding}
 use Rattle.pie_topdown.specs.declared.builder.Builder.{Builder}
 use Rattle.pie_topdown.specs.declared.hand.Hand.{Hand}
-use Rattle.pie_topdown.specs.declared.hand.Hand.TheVariants as hands
 use Rattle.pie_topdown.specs.inner.Due.{HasReason}
 use Rattle.pie_topdown.specs.inner.Right.{lost, records_of, AreWritten, HasEnteredAll, IsFalling, IsPlanNow, IsRight, IsRightSite}
 use Rattle.pie_topdown.specs.inner.Rooted.{IsBuildOf, IsSettledSoFar}
-
--- ---- what a step marks
-
--- whether the task with a number ran, or was reused
-abbrev pub flag : Builder → ℕ → Bool
-flag b n = slice_index_or b.ledger.tables.ran.items n false
-
--- no task was marked, and none counts as reused that didn't
-pub record StaysMarked (old new : Builder) : Type 0 where
-  pub flags : (n : ℕ) → flag new n ≡ flag old n
-  pub reused : new.reused.items ≡ old.reused.items
-
--- one task was marked
-pub record MarksOne (old : Builder) (n : ℕ) (new : Builder) : Type 0 where
-  pub task : Task
-  pub named : slice_get old.ledger.tables.names n ≡ Some task
-  pub here : IsMarked new.ledger.tables.ran.items n
-  pub others : (k : ℕ) → (k ≡ n → ⊥) → flag new k ≡ flag old k
-
--- it counts as reused
-pub record ReusesOne (old : Builder) (n : ℕ) (new : Builder) : Type 0 where
-  pub marks : MarksOne old n new
-  pub numbers_are : numbers new.reused.items ≡ numbers old.reused.items ++ n ∷ []
-
--- it was started
-pub record RunsOne (old : Builder) (n : ℕ) (new : Builder) (before after : List Task) : Type 0 where
-  pub marks : MarksOne old n new
-  pub added : after ≡ before ++ marks.task ∷ []
-  pub reused : new.reused.items ≡ old.reused.items
-
--- a record that stands may be an offered one
-abbrev pub KeepsMarks : Builder → ℕ → Builder → Type 0
-KeepsMarks old n new = StaysMarked old new ⊎ ReusesOne old n new
-
--- at most this one was marked: it was reused, or started
-abbrev pub Marks : Builder → ℕ → Builder → List Task → List Task → Type 0
-Marks old n new before after = ((after ≡ before) × KeepsMarks old n new) ⊎ RunsOne old n new before after
-
--- so it is in a step, with the task in hand
-abbrev pub MarksBy : Builder → Hand → Builder → List Task → List Task → Type 0
-MarksBy old (hands.Enters n code) new before after = Marks old n.0 new before after
-MarksBy old (hands.Checks c) new before after = Marks old c.value.no.0 new before after
-MarksBy old (hands.Runs f) new before after = (after ≡ before) × StaysMarked old new
-MarksBy old hands.Ended new before after = (after ≡ before) × StaysMarked old new
+use Rattle.pie_topdown.specs.inner.Trying.{offers_to, AreHonestTo, IsTriedSoFar, NoneStands, OneStands}
 
 -- ---- what is marked
 
@@ -88,8 +45,9 @@ pub record IsOneOf (b : Builder) (tasks : List Task) (n : ℕ) : Type 0 where
   pub named : slice_get b.ledger.tables.names n ≡ Some task
   pub listed : Contains tasks task
 
--- since the beginning some were started and some were reused, each once, none both, and no others are marked
-pub record HasRunSo (b : Builder) (before after : List Task) : Type 0 where
+-- since the beginning some were started, none of whose offers stands, and some were reused, one of whose offers does, each once, none both, and no others are
+-- marked
+pub record HasRunSo (u : Update) (offers : Task → List Offered) (b : Builder) (before after : List Task) : Type 0 where
   pub gained : List Task
   pub is : after ≡ before ++ gained
   pub once : AllPairs (λ t v. t ≢ v) gained
@@ -100,19 +58,23 @@ pub record HasRunSo (b : Builder) (before after : List Task) : Type 0 where
   pub reused_marked : All (HasRunAs b) reused
   pub apart : (t : Task) → Contains gained t → Contains reused t → ⊥
   pub only : (n : ℕ) → IsMarked b.ledger.tables.ran.items n → IsOneOf b gained n ⊎ IsOneOf b reused n
+  pub without : All (NoneStands u offers) gained
+  pub standing : All (OneStands u offers) reused
 
 -- so it is still while a build is right
 abbrev pub RansOn : Option Directory → (Directory → Task → List ℕ → List Offered) → Builder → Hand → Builder → List Task → List Task → Type 0
 RansOn held told old h new before after =
-    (u : Update) (done : List (List ℕ)) (root : List ℕ) → IsBuildOf u held told old.plan → IsRight u done root old h → (first : List Task)
-    → HasRunSo old first before → HasRunSo new first after
+    (u : Update) (done : List (List ℕ)) (root : List ℕ) → IsBuildOf u held told old.plan → IsRight u done root old h
+    → IsTriedSoFar u (offers_to old.plan told u.directory) old h → (first : List Task) → HasRunSo u (offers_to old.plan told u.directory) old first before
+    → HasRunSo u (offers_to old.plan told u.directory) new first after
 
 -- and with a root that has an output
 abbrev pub SettlesRan : Option Directory → (Directory → Task → List ℕ → List Offered) → Builder → Task → Builder → List Task → List Task → Option Refusal
     → Type 0
 SettlesRan held told old root new before after why =
     (u : Update) (done : List (List ℕ)) → IsBuildOf u held told old.plan → among (enc_task root) u.roots ≡ true → IsSettledSoFar u done old
-    → (first : List Task) → HasRunSo old first before → why ≡ None → HasRunSo new first after
+    → (first : List Task) → HasRunSo u (offers_to old.plan told u.directory) old first before → why ≡ None
+    → HasRunSo u (offers_to old.plan told u.directory) new first after
 
 -- ---- a build that is refused
 
@@ -124,14 +86,14 @@ pub record HasFallen (u : Update) (done : List (List ℕ)) (root : List ℕ) (b 
 -- some of those that waited have gone, and the tasks of their checks were started
 abbrev pub FallsOn : Builder → Builder → List Task → List Task → Type 0
 FallsOn old new before after =
-    (u : Update) (done : List (List ℕ)) (root : List ℕ) → IsPlanNow u old.plan → IsFalling u done root old → (first : List Task) → HasRunSo old first before
-    → IsFalling u done root new × HasRunSo new first after
+    (u : Update) (done : List (List ℕ)) (root : List ℕ) (offers : Task → List Offered) → IsPlanNow u old.plan → AreHonestTo u offers → IsFalling u done root old
+    → (first : List Task) → HasRunSo u offers old first before → IsFalling u done root new × HasRunSo u offers new first after
 
 -- so it is once the tasks of all checks that wait were started
 abbrev pub FallsWhole : Builder → Builder → List Task → List Task → Type 0
 FallsWhole old new before after =
-    (u : Update) (done : List (List ℕ)) (root : List ℕ) → IsPlanNow u old.plan → IsFalling u done root old → (first : List Task) → HasRunSo old first before
-    → HasFallen u done root new × HasRunSo new first after
+    (u : Update) (done : List (List ℕ)) (root : List ℕ) (offers : Task → List Offered) → IsPlanNow u old.plan → AreHonestTo u offers → IsFalling u done root old
+    → (first : List Task) → HasRunSo u offers old first before → HasFallen u done root new × HasRunSo u offers new first after
 
 -- a root fails: each task is recorded or has run that the clean build enters up to it, but for one of no function which is why the build is refused
 pub record HasFailed (u : Update) (done : List (List ℕ)) (root : List ℕ) (b : Builder) (why : Refusal) : Type 0 where
@@ -142,8 +104,9 @@ pub record HasFailed (u : Update) (done : List (List ℕ)) (root : List ℕ) (b 
   pub all : HasEnteredAll u done root b why
 
 -- a build is refused at a root: what ran did for a reason, and it is for too many tasks, or the root fails
-pub record HasRunRefused (u : Update) (done : List (List ℕ)) (root : List ℕ) (b : Builder) (first after : List Task) (why : Refusal) : Type 0 where
-  pub ran : HasRunSo b first after
+pub record HasRunRefused (u : Update) (offers : Task → List Offered) (done : List (List ℕ)) (root : List ℕ) (b : Builder) (first after : List Task) (why : Refusal)
+    : Type 0 where
+  pub ran : HasRunSo u offers b first after
   pub written : AreWritten u b
   pub failed : (why ≡ Many) ⊎ HasFailed u done root b why
 
@@ -151,28 +114,30 @@ pub record HasRunRefused (u : Update) (done : List (List ℕ)) (root : List ℕ)
 abbrev pub StopsRan : Option Directory → (Directory → Task → List ℕ → List Offered) → Builder → Task → Builder → List Task → List Task → Option Refusal → Type 0
 StopsRan held told old root new before after why =
     (u : Update) (done : List (List ℕ)) → IsBuildOf u held told old.plan → among (enc_task root) u.roots ≡ true → IsSettledSoFar u done old
-    → (first : List Task) → HasRunSo old first before → (w : Refusal) → why ≡ Some w → HasRunRefused u done (enc_task root) new first after w
+    → (first : List Task) → HasRunSo u (offers_to old.plan told u.directory) old first before → (w : Refusal) → why ≡ Some w
+    → HasRunRefused u (offers_to old.plan told u.directory) done (enc_task root) new first after w
 
 -- at one of the roots
-pub record HasStopped (u : Update) (b : Builder) (first after : List Task) (why : Refusal) : Type 0 where
+pub record HasStopped (u : Update) (offers : Task → List Offered) (b : Builder) (first after : List Task) (why : Refusal) : Type 0 where
   pub done : List (List ℕ)
   pub root : List ℕ
   pub rest : List (List ℕ)
   pub roots : done ++ root ∷ rest ≡ u.roots
-  pub refused : HasRunRefused u done root b first after why
+  pub refused : HasRunRefused u offers done root b first after why
 
 -- and where some root isn't
 abbrev pub StopsAllRan : Option Directory → (Directory → Task → List ℕ → List Offered) → Builder → List Task → Builder → List Task → List Task
     → Option Refusal → Type 0
 StopsAllRan held told old roots new before after why =
-    (u : Update) → IsBuildOf u held told old.plan → map enc_task roots ≡ u.roots → IsSettledSoFar u [] old → (first : List Task) → HasRunSo old first before
-    → (w : Refusal) → why ≡ Some w → HasStopped u new first after w
+    (u : Update) → IsBuildOf u held told old.plan → map enc_task roots ≡ u.roots → IsSettledSoFar u [] old → (first : List Task)
+    → HasRunSo u (offers_to old.plan told u.directory) old first before → (w : Refusal) → why ≡ Some w
+    → HasStopped u (offers_to old.plan told u.directory) new first after w
 
 -- and with some roots
 abbrev pub HasSettledRan : Option Directory → (Directory → Task → List ℕ → List Offered) → Builder → List Task → Builder → List Task → List Task → Type 0
 HasSettledRan held told old roots new before after =
-    (u : Update) → IsBuildOf u held told old.plan → map enc_task roots ≡ u.roots → IsSettledSoFar u [] old → (first : List Task) → HasRunSo old first before
-    → HasRunSo new first after
+    (u : Update) → IsBuildOf u held told old.plan → map enc_task roots ≡ u.roots → IsSettledSoFar u [] old → (first : List Task)
+    → HasRunSo u (offers_to old.plan told u.directory) old first before → HasRunSo u (offers_to old.plan told u.directory) new first after
 
 -- and with all, where each has an output
 abbrev pub SettlesAllRan : Option Directory → (Directory → Task → List ℕ → List Offered) → Builder → List Task → Builder → List Task → List Task
@@ -194,9 +159,18 @@ pub record IsEntered (u : Update) (t : Task) : Type 0 where
   pub canonical : IsCanonicalTask t (enc_task t)
   pub entered : among (enc_task t) (entered_tasks world (present u) u.roots) ≡ true
 
--- these tasks were started and those reused, each once, none both, each for a reason; and unless there are too many, each that a clean build enters and that has
+-- an offer stands that a task may have: one of the first four that are told by the present digest of its function
+pub record HasStanding (u : Update) (digests : List (List ℕ × List ℕ)) (told : Directory → Task → List ℕ → List Offered) (t : Task) : Type 0 where
+  pub digest : List ℕ
+  pub is : digest_under digests t.func ≡ Some digest
+  pub offer : Offered
+  pub listed : Contains (take 4 (told u.directory t digest)) offer
+  pub stands : IsStanding u t offer
+
+-- these tasks were started, without an offer that stands, and those reused, each with one, each once, none both, each for a reason; and unless there are too many, each that a clean build enters and that has
 -- one is among them, or is of no function, which is why the build is refused
-pub record RanFor (u : Update) (funcs digests : List (List ℕ × List ℕ)) (before after old new : List Task) (v : Verdict) : Type 0 where
+pub record RanFor (u : Update) (funcs digests : List (List ℕ × List ℕ)) (told : Directory → Task → List ℕ → List Offered) (before after old new : List Task)
+    (v : Verdict) : Type 0 where
   pub ran : List Task
   pub ran_are : after ≡ before ++ ran
   pub reused : List Task
@@ -206,6 +180,8 @@ pub record RanFor (u : Update) (funcs digests : List (List ℕ × List ℕ)) (be
   pub apart : (t : Task) → Contains ran t → Contains reused t → ⊥
   pub reasons : All (HasReason u funcs digests) ran
   pub reused_reasons : All (HasReason u funcs digests) reused
+  pub without : All (λ t. HasStanding u digests told t → ⊥) ran
+  pub standing : All (HasStanding u digests told) reused
   pub all : (v ≡ Refused Many → ⊥) → (t : Task) → IsEntered u t → HasReason u funcs digests t
       → Contains ran t ⊎ Contains reused t ⊎ (v ≡ Refused (lost t))
 
@@ -213,4 +189,4 @@ pub record RanFor (u : Update) (funcs digests : List (List ℕ × List ℕ)) (be
 pub record RunsForReasons (held : Option Directory) (fs : List FunctionTree) (funcs digests : List (List ℕ × List ℕ)) (rows : List TaskRecord)
     (told : Directory → Task → List ℕ → List Offered) (roots before after old new : List Task) (v : Verdict) : Type 0 where
   pub each : (u : Update) → IsNowHere u held fs roots → IsFromStore u funcs digests rows → AreHonest u digests told
-      → RanFor u funcs digests before after old new v
+      → RanFor u funcs digests told before after old new v

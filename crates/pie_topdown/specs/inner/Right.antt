@@ -49,7 +49,7 @@ use Rattle.pie_topdown_laws.specs.Checks.{IsOldRecord}
 use Rattle.pie_topdown_laws.specs.CheckLaws.{TellsApart}
 use Rattle.pie_topdown_laws.specs.Running.{IsTop, RunsAbove, FailsAbove}
 use Rattle.pie_topdown_laws.specs.Whole.{Entry, checks, waits, AreEntries, IsCheckOf}
-use Rattle.pie_topdown_result_laws.specs.Builds.{IsHonest}
+use Rattle.pie_topdown_result_laws.specs.Builds.{IsHonest, IsHonestTo}
 use Rattle.pie_topdown.specs.declared.builder.Builder.{Builder}
 use Rattle.pie_topdown.specs.declared.hand.Check.{Check}
 use Rattle.pie_topdown.specs.declared.hand.Frame.{Frame}
@@ -145,10 +145,10 @@ pub record IsUntouched (b : Builder) (n : ℕ) : Type 0 where
   pub rested : slice_index_or b.ledger.tables.ran.items n false ≡ false
   pub unstaged : (path : List ℕ) → content b.stage n path ≡ None
 
--- offers that are still to be tried are honest
-abbrev pub AreHonest : Update → Rest → Type 0
-AreHonest u rests.Unasked = Unit {0}
-AreHonest u (rests.Asked offers) = All (λ o. IsHonest u (offered o)) offers.items
+-- offers to a task that are still to be tried are honest
+abbrev pub AreHonest : Update → Task → Rest → Type 0
+AreHonest u t rests.Unasked = Unit {0}
+AreHonest u t (rests.Asked offers) = All (λ o. IsHonestTo u t (offered o)) offers.items
 
 -- what the store's own record wrote is there, and an offered one is honest
 abbrev pub IsSourced : Update → TaskRecord → Option (Vec (Vec ℕ Global) Global) → Type 0
@@ -162,7 +162,7 @@ pub record MayStillRun (u : Update) (b : Builder) (c : Check) : Type 0 where
   pub parts : IsTrueRecord c.rec
   pub source : IsSourced u c.rec c.contents
   pub due : IsDueBy u b.plan c.rec c.contents
-  pub rest : AreHonest u c.rest
+  pub rest : AreHonest u c.rec.task c.rest
 
 -- a check that waits may, and a task that waits is marked
 abbrev pub IsBesides : Update → Builder → Frame → Type 0
@@ -300,7 +300,7 @@ TurnIsRight u done root b Fails = FailsRight u done root b
 
 -- what is offered to a task by the present digest of its function is honest
 abbrev pub AreOffersHonest : Update → Plan → (Directory → Task → List ℕ → List Offered) → Type 0
-AreOffersHonest u p told = (t : Task) (digest : List ℕ) → get_by_text p.digests t.func ≡ Some digest → All (IsHonest u) (told u.directory t digest)
+AreOffersHonest u p told = (t : Task) (digest : List ℕ) → get_by_text p.digests t.func ≡ Some digest → All (IsHonestTo u t) (told u.directory t digest)
 
 -- so it is over files that hold the directory of an update, where offers are honest
 abbrev pub StepsRight : Option Directory → (Directory → Task → List ℕ → List Offered) → Builder → Hand → Builder → Turn → Type 0
@@ -326,7 +326,7 @@ abbrev pub BeginsCheck : Builder → ℕ → Code → TaskRecord → Option (Vec
 BeginsCheck b n code rec contents rest c =
     (u : Update) (done : List (List ℕ)) (root : List ℕ) (fs : List ModelFrame) (before : Project) → IsRightSite u done root b → EntersRight u b root fs n code
     → IsOldRecord (setting u) before (enc_task rec.task) (record_of rec) → TellsApart (setting u) before → IsTrueRecord rec → IsSourced u rec contents
-    → IsDueBy u b.plan rec contents → AreHonest u rest → ChecksRight u b root fs c
+    → IsDueBy u b.plan rec contents → AreHonest u rec.task rest → ChecksRight u b root fs c
 
 -- a check whose next observation was found to stand, with what it requires then, goes on by it
 abbrev pub PassesRight : Builder → Check → Turn → Type 0

@@ -13,7 +13,9 @@ use Rattle.pie_topdown.specs.declared.hand.Rest.{Rest}
 use Rattle.pie_topdown.specs.declared.hand.Rest.TheVariants as rests
 use Rattle.pie_topdown.specs.declared.hand.Turn.{Turn}
 use Rattle.pie_topdown.specs.declared.hand.Turn.TheVariants.{Goes, Rests, Many, Fails}
-use Rattle.pie_topdown.specs.inner.Ran.{StaysMarked}
+use Rattle.pie_core_laws.specs.Update.{Update}
+use Rattle.pie_topdown.specs.inner.Marks.{StaysMarked}
+use Rattle.pie_topdown.specs.inner.Trying.{AreTried}
 
 -- over files that tell what they hold, nothing is offered to any task
 pub record OffersNothing (held : Option Directory) (told : Directory → Task → List ℕ → List Offered) : Type 0 where
@@ -60,11 +62,25 @@ pub record StaysOwn (old new : Builder) (t : Turn) : Type 0 where
   pub turn : IsOwnTurn t
   pub reused : new.reused.items ≡ old.reused.items
 
--- a step that compares nothing leaves what is marked, and checks of own records alone
+-- no record is compared next
+abbrev pub IsNoCheck : Hand → Type 0
+IsNoCheck (hands.Enters n code) = Unit {0}
+IsNoCheck (hands.Checks c) = ⊥
+IsNoCheck (hands.Runs f) = Unit {0}
+IsNoCheck hands.Ended = Unit {0}
+
+abbrev pub ComparesNothing : Turn → Type 0
+ComparesNothing (Goes h) = IsNoCheck h
+ComparesNothing Rests = Unit {0}
+ComparesNothing Many = Unit {0}
+ComparesNothing Fails = Unit {0}
+
+-- a step that compares nothing leaves what is marked, and the checks that wait
 pub record GoesMarked (old new : Builder) (t : Turn) : Type 0 where
   pub marks : StaysMarked old new
   pub stack : AreOwn old → AreOwn new
-  pub turn : IsOwnTurn t
+  pub tried : (u : Update) (offers : Task → List Offered) → AreTried u offers old → AreTried u offers new
+  pub turn : ComparesNothing t
 
 -- so it is where nothing is compared, or what is compared is a task's own record
 abbrev pub HoldsOwn : Builder → Builder → Turn → Type 0

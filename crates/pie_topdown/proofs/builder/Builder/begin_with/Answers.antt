@@ -5,6 +5,7 @@ use Rattle.pie_topdown.specs.inner.Written.{IsThereIn, IsOneGone, FindsThere, Fi
 use Rattle.pie_topdown.proofs.Begun.{own_begins, other_begins}
 use Rattle.pie_topdown.proofs.Marking.{marks_with, stays_same}
 use Rattle.pie_topdown.proofs.Owning.{begins_after, own_check}
+use Rattle.pie_topdown.proofs.Trying.{from_after, own_from}
 use Rattle.pie_topdown.proofs.builder.Builder.begin_with.Goals as goal
 
 pub returns-then-not-branch-clause-right : goal.returns-then-not-branch-clause-right
@@ -43,3 +44,16 @@ returns-then-not-branch-clause-own g c =
 pub returns-clause-own : goal.returns-clause-own
 returns-clause-own g c = λ o own.
     record { stack = own; turn = own_check c.in_ok-check.check.value c.in_ok-check.ensures.parts.0 c.in_ok-check.ensures.parts.1; reused = refl }
+
+pub returns-then-not-branch-clause-tried : goal.returns-then-not-branch-clause-tried
+returns-then-not-branch-clause-tried g c =
+    let mid = record c.args.self.now { named = c.writes_stand.new.named } in
+    from_after (g.F.Files.holds c.args.files.now) (g.F.Files.holds c.writes_stand.new.files) (g.O.Offers.told c.args.offers.now) c.args.self.now mid
+    c.ask.new.self c.args.no.0 c.args.runs.now c.ask.new.runs c.ask.result c.writes_stand.ensures.reads.same refl (stays_same c.args.self.now mid refl refl)
+    c.ask.ensures.tried
+
+pub returns-clause-tried : goal.returns-clause-tried
+returns-clause-tried g c =
+    let mid = record c.args.self.now { named = c.writes_stand.new.named } in
+    own_from (g.F.Files.holds c.args.files.now) (g.O.Offers.told c.args.offers.now) c.args.self.now mid c.args.no.0 c.in_ok-check.check c.args.runs.now refl
+    (stays_same c.args.self.now mid refl refl) c.in_ok-check.ensures.parts.0 c.in_ok-check.ensures.parts.1

@@ -1,6 +1,10 @@
+use Rattle.pie_topdown.proofs.Filing.{made_filed}
 use Rattle.pie_topdown.proofs.Resulting.{made_settled}
 use Rattle.pie_topdown.proofs.builder.Builder.built.Goals as goal
 
 pub returns-clause-clean : goal.returns-clause-clean
 returns-clause-clean c =
     made_settled c.args.self.now c.args.roots.now c.in_ok-built.built c.requires.settled c.in_ok-built.ensures.makes c.in_ok-built.ensures.stored
+
+pub returns-clause-files : goal.returns-clause-files
+returns-clause-files c = made_filed c.args.self.now c.args.roots.now c.in_ok-built.built c.in_ok-built.ensures.makes

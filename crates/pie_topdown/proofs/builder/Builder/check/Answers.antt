@@ -2,12 +2,13 @@ use Rattle.std.proofs.Common.{◌≡◌, ℕ, ap, subst}
 use Rattle.std.specs.Prelude.{OnOk}
 use Rattle.pie_topdown.specs.declared.hand.Check.{Check}
 use Rattle.pie_topdown.specs.inner.Places.{Finds}
-use Rattle.pie_topdown.specs.inner.Ran.{Marks}
+use Rattle.pie_topdown.specs.inner.Marks.{Marks}
 use Rattle.pie_topdown.proofs.Twice.{reads_then}
 use Rattle.pie_topdown.proofs.Differing.{compares}
 use Rattle.pie_topdown.proofs.Marking.{marks_with, stays_same}
 use Rattle.pie_topdown.proofs.Stacking.{same_site}
 use Rattle.pie_topdown.proofs.Owning.{checks_after}
+use Rattle.pie_topdown.proofs.Stepped.{compares_tried}
 use Rattle.pie_topdown.proofs.builder.Builder.check.Goals as goal
 
 pub go_on-requires-clause-site : goal.go_on-requires-clause-site
@@ -46,3 +47,13 @@ returns-clause-own g c =
     checks_after (g.F.Files.holds c.args.files.now) (g.O.Offers.told c.args.offers.now) c.look.new.self c.go_on.new.self c.go_on.result
     (g.F.Files.holds c.look.new.files) c.in_ok-place.ensures.reads.same c.args.self.now c.args.check.value c.look.new.check (ap (λ b. b.stack.items) e)
     (ap (λ b. b.reused.items) e) (ap (λ (x : Check). x.contents) one) (ap (λ (x : Check). x.rest) one) c.go_on.ensures.own
+
+pub returns-clause-tried : goal.returns-clause-tried
+returns-clause-tried g c =
+    let held = g.F.Files.holds c.args.files.now in
+    let same = c.deref_mut.ensures.value in
+    compares_tried held (g.F.Files.holds c.look.new.files) (g.O.Offers.told c.args.offers.now) c.args.self.now c.look.new.self c.go_on.new.self
+    c.args.check.value c.look.new.check c.in_ok-place.place c.args.runs.now c.go_on.new.runs c.go_on.result c.in_ok-place.ensures.reads.same
+    c.look.ensures.same (subst (λ (x : Check). c.look.new.check ≡ record x { required = c.look.new.check.required }) same c.look.ensures.check)
+    (subst (λ (x : Check). Finds held c.args.self.now c.look.new.self x c.look.new.check c.in_ok-place.place) same c.in_ok-place.ensures.finds)
+    c.go_on.ensures.tried

@@ -4,6 +4,7 @@ use Rattle.pie_topdown.proofs.Growing.{noted_below}
 use Rattle.pie_topdown.proofs.Stacking.{same_site}
 use Rattle.pie_value.specs.declared.event.Event.TheVariants as events
 use Rattle.pie_topdown.proofs.Happening.{fetched_looks}
+use Rattle.pie_topdown.proofs.Owning.{goes_on_after}
 use Rattle.pie_topdown.proofs.builder.Builder.exists.Goals as goal
 
 pub fetch-requires : goal.fetch-requires
@@ -24,3 +25,9 @@ returns-clause-right g c =
     fetched_looks (g.F.Files.holds c.args.files.now) (g.F.Files.holds c.fetch.new.files) c.args.self.now c.fetch.new.self c.exists_there.new.self c.args.waiting
     (events.Exists c.args.path) c.args.path c.exists_there.result c.in_ok-fetch.ensures.reads.same c.fetch.ensures.same c.requires.site c.requires.noted.ended
     c.in_ok-fetch.ensures.fetches c.exists_there.ensures.right
+
+pub returns-clause-marks : goal.returns-clause-marks
+returns-clause-marks g c =
+    let e = c.fetch.ensures.same in
+    goes_on_after c.args.self.now c.fetch.new.self c.exists_there.new.self c.exists_there.result (ap (λ b. b.ledger) e) (ap (λ b. b.reused) e) (ap (λ b. b.stack) e)
+    c.exists_there.ensures.marks

@@ -1,11 +1,13 @@
 use Rattle.std.proofs.Common.{sym, ap, subst, ◌∙◌}
-use Rattle.std.specs.Prelude.{IfOk}
+use Rattle.std.specs.Prelude.{IfOk, OnOk}
 use Rattle.pie_graph.specs.Numbers.{numbers}
 use Rattle.pie_topdown.specs.declared.hand.Check.{Check}
 use Rattle.pie_topdown.specs.inner.Offering.{EndsReused}
 use Rattle.pie_topdown.specs.inner.Right.{EndsKept}
 use Rattle.pie_topdown.proofs.Kept.{keeps_if}
-use Rattle.pie_topdown.proofs.Reused.{reuses_if}
+use Rattle.pie_topdown.specs.inner.Marks.{ReusesOne}
+use Rattle.pie_topdown.proofs.Reused.{reuses_if, stands_if}
+use Rattle.pie_topdown.proofs.Stepped.{offer_kept, own_kept}
 use Rattle.pie_topdown.proofs.Staging.{bytes_in}
 use Rattle.pie_topdown.proofs.Owning.{never_offered}
 use Rattle.pie_topdown.proofs.builder.Builder.keep.Goals as goal
@@ -30,3 +32,19 @@ returns-in-Some-clause-own c =
 
 pub returns-in-None-clause-own : goal.returns-in-None-clause-own
 returns-in-None-clause-own c = λ this. c.keep_own.ensures.own
+
+pub returns-in-Some-clause-tried : goal.returns-in-Some-clause-tried
+returns-in-Some-clause-tried c =
+    let own = ap (λ (x : Check). x.contents) (sym c.into_inner-rec.ensures) ∙ c.in-Some.is in
+    offer_kept c.args.self.now c.keep_offered.new.self c.args.check.value c.in-Some.contents c.keep_offered.result own c.requires.check.named
+    (stands_if c.args.self.now c.keep_offered.new.self c.args.check.value c.in-Some.contents c.keep_offered.result c.requires.site c.requires.check
+    c.requires.over own
+    (subst (λ (x : Check). IfOk c.keep_offered.result (EndsReused c.args.self.now x.no.0 x.rec (numbers x.required.items) (bytes_in c.in-Some.contents.items)
+    c.keep_offered.new.self)) c.into_inner-rec.ensures c.keep_offered.ensures.ended))
+    c.keep_offered.ensures.tried
+    (subst (λ (x : Check). OnOk c.keep_offered.result (ReusesOne c.args.self.now x.no.0 c.keep_offered.new.self)) c.into_inner-rec.ensures
+    c.keep_offered.ensures.marks)
+
+pub returns-in-None-clause-tried : goal.returns-in-None-clause-tried
+returns-in-None-clause-tried c =
+    own_kept c.args.self.now c.keep_own.new.self c.args.check.value c.keep_own.result c.keep_own.ensures.tried c.keep_own.ensures.marks

@@ -7,6 +7,8 @@ use Rattle.pie_topdown.specs.inner.Entries.{HasEntered}
 use Rattle.pie_topdown.specs.inner.Right.{EntersSite}
 use Rattle.pie_topdown.proofs.Entered.{last_unrecorded}
 use Rattle.pie_topdown.proofs.Required.{caller_descends}
+use Rattle.pie_topdown.proofs.Marking.{stays_same, stays_then}
+use Rattle.pie_topdown.proofs.Owning.{goes_waiting}
 use Rattle.pie_topdown.proofs.builder.Builder.push_caller.Goals as goal
 
 pub returns-clause-turns : goal.returns-clause-turns
@@ -37,3 +39,10 @@ returns-clause-right c =
     (subst (λ (t : Task). HasEntered c.args.self.now t c.enter.new.self) same c.in_ok-no.ensures.added)
     (subst (λ (t : Task). EntersSite c.args.self.now t c.enter.new.self) same c.in_ok-no.ensures.right) c.requires.may
     (last_unrecorded c.args.self.now.ledger c.requires.site.ledger) c.requires.absent c.requires.caller.waits.left c.in_ok-push.ensures.items
+
+pub returns-clause-marks : goal.returns-clause-marks
+returns-clause-marks c =
+    goes_waiting c.args.self.now c.enter.new.self (record c.enter.new.self { stack = c.push.new.self }) c.args.caller c.in_ok-no.no c.args.code
+    (stays_then c.args.self.now c.enter.new.self (record c.enter.new.self { stack = c.push.new.self }) c.in_ok-no.ensures.marks
+    (stays_same c.enter.new.self (record c.enter.new.self { stack = c.push.new.self }) refl refl))
+    (ap (λ v. v.items) c.in_ok-no.ensures.stack) c.in_ok-push.ensures.items

@@ -6,6 +6,7 @@ use Rattle.pie_topdown.proofs.Growing.{check_grows}
 use Rattle.pie_topdown.proofs.Pushed.{check_pushed}
 use Rattle.pie_topdown.proofs.Stacking.{pushed_site, pushed_nearer, pushed_room}
 use Rattle.pie_topdown.proofs.Owning.{pushed_own, same_own}
+use Rattle.pie_topdown.proofs.Trying.{check_waits}
 use Rattle.pie_topdown.proofs.builder.Builder.push_check.Goals as goal
 
 pub returns-clause-turns : goal.returns-clause-turns
@@ -42,3 +43,8 @@ returns-clause-own c = λ this own. record {
   turn = tt;
   reused = c.in_ok-no.ensures.marks.reused;
 }
+
+pub returns-clause-tried : goal.returns-clause-tried
+returns-clause-tried c =
+    check_waits c.args.self.now c.enter.new.self (record c.enter.new.self { stack = c.push.new.self }) c.args.check c.in_ok-no.no c.args.code
+    (ap (λ v. v.items) c.in_ok-no.ensures.stack) c.in_ok-push.ensures.items

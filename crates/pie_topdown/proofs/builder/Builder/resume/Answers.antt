@@ -6,6 +6,7 @@ use Rattle.pie_topdown.specs.inner.Turns.{Fits, Nearer}
 use Rattle.pie_topdown.proofs.Resumed.{caller_resumes, check_resumes, none_resumes}
 use Rattle.pie_topdown.proofs.Stacking.{popped_mass, popped_room}
 use Rattle.pie_topdown.proofs.Owning.{none_holds, popped_holds, waited_holds}
+use Rattle.pie_topdown.proofs.Trying.{caller_popped, check_popped, none_popped}
 use Rattle.pie_topdown.proofs.builder.Builder.resume.Goals as goal
 
 pub returns-in-Some-Checks-clause-nearer : goal.returns-in-Some-Checks-clause-nearer
@@ -66,3 +67,18 @@ pub returns-in-None-clause-own : goal.returns-in-None-clause-own
 returns-in-None-clause-own c =
     let no_new = c.in-None.ensures.cases.1 in
     none_holds c.args.self.now _ (omega (arith, c.pop.new.self.ok.0, no_new)) refl
+
+pub returns-in-Some-Checks-clause-tried : goal.returns-in-Some-Checks-clause-tried
+returns-in-Some-Checks-clause-tried c =
+    check_popped c.args.self.now _ c.in-Some-Checks.check
+    (c.in-Some-Checks.ensures.items ∙ ap (λ x. c.pop.new.self.items ++ option_to_list (Some x)) c.in-Some-Checks.field-0-is)
+
+pub returns-in-Some-Waits-clause-tried : goal.returns-in-Some-Waits-clause-tried
+returns-in-Some-Waits-clause-tried c =
+    caller_popped c.args.self.now (record c.args.self.now { stack = c.pop.new.self }) c.answer_again.new.self c.in-Some-Waits.caller c.answer_again.result
+    (c.in-Some-Waits.ensures.items ∙ ap (λ x. c.pop.new.self.items ++ option_to_list (Some x)) c.in-Some-Waits.field-0-is) c.answer_again.ensures.marks
+
+pub returns-in-None-clause-tried : goal.returns-in-None-clause-tried
+returns-in-None-clause-tried c =
+    let no_new = c.in-None.ensures.cases.1 in
+    none_popped c.args.self.now _ (omega (arith, c.pop.new.self.ok.0, no_new))

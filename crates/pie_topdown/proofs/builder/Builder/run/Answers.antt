@@ -2,7 +2,7 @@ use Rattle.std.proofs.Common.{◌∙◌, ◌+◌, subst, arith}
 use Rattle.pie_files.proofs.Reading.{both_before}
 use Rattle.pie_topdown.specs.inner.Turns.{Spends, TurnsTo, hand_room, room}
 use Rattle.pie_topdown.proofs.Going.{keeps_then, started_more}
-use Rattle.pie_topdown.proofs.Totals.{ran_on}
+use Rattle.pie_topdown.proofs.Totals.{ran_on, tried_on}
 use Rattle.pie_topdown.proofs.Turning.{stays_on, stops_fails, stops_many, stops_rests}
 use Rattle.pie_topdown.proofs.Owning.{own_on, own_stepped}
 use Rattle.pie_topdown.proofs.builder.Builder.run.Goals as goal
@@ -23,10 +23,14 @@ steps-preserved g c =
       stays_on (g.F.Files.holds c.args.files.now) (g.F.Files.holds c.steps.files) (g.O.Offers.told c.args.offers.now) (g.O.Offers.told c.steps.offers) c.args.self.now
           c.steps.self c.step.new.self c.args.hand c.steps.hand _ before.4 before.8 before.1.plan before.7 c.in_ok-next.ensures.right c.in-Goes.next c.in-Goes.is,
       c.step.ensures.told ∙ before.8,
-      ran_on (g.F.Files.holds c.args.files.now) (g.O.Offers.told c.args.offers.now) c.args.self.now c.steps.self c.step.new.self c.args.hand c.steps.hand
-          c.args.runs.now c.steps.runs c.step.new.runs before.7 c.in_ok-next.ensures.kept c.in_ok-next.ensures.marks before.9,
+      ran_on (g.F.Files.holds c.args.files.now) (g.F.Files.holds c.steps.files) (g.O.Offers.told c.args.offers.now) (g.O.Offers.told c.steps.offers) c.args.self.now
+          c.steps.self c.step.new.self c.args.hand c.steps.hand _ c.args.runs.now c.steps.runs c.step.new.runs before.4 before.8 before.1.plan before.7
+          c.in_ok-next.ensures.tried before.11 c.in_ok-next.ensures.kept c.in_ok-next.ensures.marks before.9,
       own_on (g.F.Files.holds c.args.files.now) (g.F.Files.holds c.steps.files) (g.O.Offers.told c.args.offers.now) (g.O.Offers.told c.steps.offers)
           before.4 before.8 c.args.self.now c.steps.self c.step.new.self c.args.hand c.steps.hand _ before.10 c.in_ok-next.ensures.own c.in-Goes.next c.in-Goes.is,
+      tried_on (g.F.Files.holds c.args.files.now) (g.F.Files.holds c.steps.files) (g.O.Offers.told c.args.offers.now) (g.O.Offers.told c.steps.offers)
+          c.args.self.now c.steps.self c.step.new.self c.args.hand c.steps.hand _ c.args.runs.now c.steps.runs c.step.new.runs before.4 before.8 before.1.plan
+          before.7 c.in_ok-next.ensures.tried before.11 c.in-Goes.next c.in-Goes.is,
     )
 
 pub returns-in_err-next-clause-started : goal.returns-in_err-next-clause-started
@@ -71,18 +75,24 @@ returns-in-Fails-clause-right g c =
 
 pub returns-in-Rests-clause-ran : goal.returns-in-Rests-clause-ran
 returns-in-Rests-clause-ran g c =
-    ran_on (g.F.Files.holds c.args.files.now) (g.O.Offers.told c.args.offers.now) c.args.self.now c.steps.self c.step.new.self c.args.hand c.steps.hand
-    c.args.runs.now c.steps.runs c.step.new.runs c.steps.invariant.7 c.in_ok-next.ensures.kept c.in_ok-next.ensures.marks c.steps.invariant.9
+    let before = c.steps.invariant in
+    ran_on (g.F.Files.holds c.args.files.now) (g.F.Files.holds c.steps.files) (g.O.Offers.told c.args.offers.now) (g.O.Offers.told c.steps.offers) c.args.self.now
+    c.steps.self c.step.new.self c.args.hand c.steps.hand _ c.args.runs.now c.steps.runs c.step.new.runs before.4 before.8 before.1.plan before.7
+    c.in_ok-next.ensures.tried before.11 c.in_ok-next.ensures.kept c.in_ok-next.ensures.marks before.9
 
 pub returns-in-Many-clause-ran : goal.returns-in-Many-clause-ran
 returns-in-Many-clause-ran g c =
-    ran_on (g.F.Files.holds c.args.files.now) (g.O.Offers.told c.args.offers.now) c.args.self.now c.steps.self c.step.new.self c.args.hand c.steps.hand
-    c.args.runs.now c.steps.runs c.step.new.runs c.steps.invariant.7 c.in_ok-next.ensures.kept c.in_ok-next.ensures.marks c.steps.invariant.9
+    let before = c.steps.invariant in
+    ran_on (g.F.Files.holds c.args.files.now) (g.F.Files.holds c.steps.files) (g.O.Offers.told c.args.offers.now) (g.O.Offers.told c.steps.offers) c.args.self.now
+    c.steps.self c.step.new.self c.args.hand c.steps.hand _ c.args.runs.now c.steps.runs c.step.new.runs before.4 before.8 before.1.plan before.7
+    c.in_ok-next.ensures.tried before.11 c.in_ok-next.ensures.kept c.in_ok-next.ensures.marks before.9
 
 pub returns-in-Fails-clause-ran : goal.returns-in-Fails-clause-ran
 returns-in-Fails-clause-ran g c =
-    ran_on (g.F.Files.holds c.args.files.now) (g.O.Offers.told c.args.offers.now) c.args.self.now c.steps.self c.step.new.self c.args.hand c.steps.hand
-    c.args.runs.now c.steps.runs c.step.new.runs c.steps.invariant.7 c.in_ok-next.ensures.kept c.in_ok-next.ensures.marks c.steps.invariant.9
+    let before = c.steps.invariant in
+    ran_on (g.F.Files.holds c.args.files.now) (g.F.Files.holds c.steps.files) (g.O.Offers.told c.args.offers.now) (g.O.Offers.told c.steps.offers) c.args.self.now
+    c.steps.self c.step.new.self c.args.hand c.steps.hand _ c.args.runs.now c.steps.runs c.step.new.runs before.4 before.8 before.1.plan before.7
+    c.in_ok-next.ensures.tried before.11 c.in_ok-next.ensures.kept c.in_ok-next.ensures.marks before.9
 
 pub returns-in-Rests-clause-own : goal.returns-in-Rests-clause-own
 returns-in-Rests-clause-own g c =

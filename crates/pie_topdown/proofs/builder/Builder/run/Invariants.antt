@@ -4,6 +4,7 @@ use Rattle.pie_topdown.specs.inner.Ran.{RansOn}
 use Rattle.pie_topdown.specs.inner.Rooted.{StaysRight}
 use Rattle.pie_topdown.specs.inner.Roots.{Started}
 use Rattle.pie_topdown.specs.inner.Turns.{Keeps, Stands, below, hand_mass, hand_room, room}
+use Rattle.pie_topdown.specs.inner.Trying.{StaysTriedSo}
 use Rattle.pie_topdown.specs.inner.Unoffered.{StaysOwnSo}
 use Rattle.pie_topdown.proofs.builder.Builder.run.Given as goal
 
@@ -18,6 +19,7 @@ invariant-steps g l =
     × (g.O.Offers.told l.offers ≡ g.O.Offers.told l.fn.offers)
     × RansOn (g.F.Files.holds l.fn.files) (g.O.Offers.told l.fn.offers) l.fn.self l.fn.hand l.self l.fn.runs l.runs
     × StaysOwnSo (g.F.Files.holds l.fn.files) (g.O.Offers.told l.fn.offers) l.fn.self l.fn.hand l.self l.hand
+    × StaysTriedSo (g.F.Files.holds l.fn.files) (g.O.Offers.told l.fn.offers) l.fn.self l.fn.hand l.self l.hand
 
 abbrev pub decreases-steps : goal.decreases-steps
 decreases-steps g l = below l.self + hand_mass l.hand
