@@ -1,4 +1,4 @@
--- Opening the cache: at each moment the gate stands, or all is as before, or no file is in the cache.
+-- Opening the cache: at each moment the gate stands, or all is as before, or it stood and no file is in the cache.
 use Rattle.std.proofs.Common.{◌≡◌, ℕ, Bool, true, false, cond, List, [], ◌∷◌, refl, sym, ap, ◌∙◌, subst, inl, inr, ⊎_elim}
 use Rattle.std.specs.Prelude.{not, ◌||◌, All, Option, None, Some, IfSome, codes, is_some}
 use Rattle.std.specs.List.{filter, list_any}
@@ -78,7 +78,7 @@ module _ (d e : Directory) (there : HasGate d)
           (subst (λ x. Meets (removed (filter is_other (files_under d (codes ".pie/cache"))) q) (file_at d q) x) (sym (removal_apart e gate q f)) (brings q))
 
   at_end : (c : Directory) → IsEnding gate e c → OpensWhole d c
-  at_end c ending = ⊎_elim (λ same. inl (subst HasGate (sym same) still_gated)) (λ gone. inr (inr (subst IsEmptied (sym gone) emptied))) ending
+  at_end c ending = ⊎_elim (λ same. inl (subst HasGate (sym same) still_gated)) (λ gone. inr (inr (there, subst IsEmptied (sym gone) emptied))) ending
 
 -- ---- moment by moment
 

@@ -14,4 +14,5 @@ pub mod Clearing
 pub mod Kept
 pub mod Gating
 pub mod Emptying
+pub mod Resting
 pub mod Apart

@@ -6,7 +6,7 @@ ghost use Rattle.pie_commit.specs.inner.Steps.{Makes, Writes, Syncs, writing};
 ghost use Rattle.pie_files.specs.Images.{MayLeave, MayWrite};
 ghost use Rattle.pie_files.specs.Streams.{Counted};
 ghost use Rattle.pie_cache.specs.inner.Places.{gate as specs_gate, is_in_cache};
-ghost use Rattle.pie_cache.specs.inner.Changes.{KeepsOutside, LeavesAlike};
+ghost use Rattle.pie_cache.specs.inner.Changes.{EndsAtRest, KeepsOutside, LeavesAlike, StaysAtRest};
 ghost use Rattle.pie_cache.specs.inner.Contents.{IsNews, IsDraft};
 ghost use Rattle.pie_cache.specs.inner.Gated.{AllGated, IsBegun, IsWhole, KeepsGate, KeepsWhole};
 ghost use Rattle.pie_cache.specs.inner.Keeping.{HasKept};
@@ -36,6 +36,7 @@ impl Cache {
         ensures done { is_none fresh.items ≡ false → OnOk result (HasKept fresh.items (F.holds files.old) (F.holds files.new)) }
         ensures changes { is_none fresh.items ≡ false → OnOk result (IfSome (F.holds files.old) (λ d. ChangesFor fresh.items d (F.asked files.old) (F.asked files.new))) }
         ensures whole { LeavesFromRest F.holds F.moment F.left_since F.images (KeepsWhole fresh.items) files.old files.new }
+        ensures durable { OnOk result (StaysAtRest F.holds F.images files.old files.new) }
         ensures kept { KeepsOutside (F.holds files.old) (F.holds files.new) }
         ensures crash { LeavesAlike F.holds F.moment F.left_since F.images files.old files.new }
         ensures counted { Counted F.faults FilesError.Failed files.old files.new result }
@@ -61,6 +62,7 @@ fn put_drafts<F: Files>(
     ensures done { OnOk result (HasBrought (λ q. later (at specs_gate Gone q) (written drafts.now q)) (F.holds files.old) (F.holds files.new)) }
     ensures makes { Makes F.asked (putting drafts.now) files.old files.new result }
     ensures whole { LeavesFromRest F.holds F.moment F.left_since F.images (IsWhole (written drafts.now)) files.old files.new }
+    ensures durable { OnOk result (EndsAtRest F.holds F.images files.old files.new) }
     ensures kept { KeepsOutside (F.holds files.old) (F.holds files.new) }
     ensures crash { LeavesAlike F.holds F.moment F.left_since F.images files.old files.new }
     ensures counted { Counted F.faults FilesError.Failed files.old files.new result }

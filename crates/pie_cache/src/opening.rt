@@ -8,7 +8,7 @@ ghost use Rattle.pie_files.specs.Directory.{files_under};
 ghost use Rattle.pie_files.specs.Images.{MayLeave, MayRemove, Only, Stays};
 ghost use Rattle.pie_files.specs.Streams.{Counted};
 ghost use Rattle.pie_cache.specs.inner.Places.{gate as specs_gate, is_in_cache};
-ghost use Rattle.pie_cache.specs.inner.Changes.{KeepsOutside, LeavesAlike};
+ghost use Rattle.pie_cache.specs.inner.Changes.{EndsAtRest, KeepsOutside, LeavesAlike, StaysAtRest};
 ghost use Rattle.pie_cache.specs.inner.Clearing.{HasCleared, IsApart, IsOpened, IsInside, is_other};
 ghost use Rattle.pie_cache.specs.inner.Gated.{HasGate, KeepsGate, OpensWhole};
 ghost use Rattle.pie_cache.specs.inner.Steps.{clearing, closing, opening, Changes};
@@ -26,6 +26,7 @@ impl Cache {
         ensures cleared { OnOk result (IfSome (F.holds files.old) (λ d. IsOpened d (F.holds files.new))) }
         ensures changes { OnOk result (IfSome (F.holds files.old) (λ d. Changes (opening d) (F.asked files.old) (F.asked files.new))) }
         ensures whole { LeavesFromRest F.holds F.moment F.left_since F.images OpensWhole files.old files.new }
+        ensures durable { OnOk result (StaysAtRest F.holds F.images files.old files.new) }
         ensures kept { KeepsOutside (F.holds files.old) (F.holds files.new) }
         ensures crash { LeavesAlike F.holds F.moment F.left_since F.images files.old files.new }
         ensures counted { Counted F.faults FilesError.Failed files.old files.new result }
@@ -63,6 +64,7 @@ fn clear_if_gated<F: Files>(
     ensures cleared { OnOk result (IfSome (F.holds files.old) (λ d. IsOpened d (F.holds files.new))) }
     ensures changes { OnOk result (IfSome (F.holds files.old) (λ d. Changes (opening d) (F.asked files.old) (F.asked files.new))) }
     ensures whole { LeavesFromRest F.holds F.moment F.left_since F.images OpensWhole files.old files.new }
+    ensures durable { OnOk result (StaysAtRest F.holds F.images files.old files.new) }
     ensures kept { KeepsOutside (F.holds files.old) (F.holds files.new) }
     ensures crash { LeavesAlike F.holds F.moment F.left_since F.images files.old files.new }
     ensures counted { Counted F.faults FilesError.Failed files.old files.new result }
@@ -82,6 +84,7 @@ fn clear<F: Files>(alloc: Global, files: &mut F, gate: &Path, dir: &Path) -> Res
     ensures cleared { OnOk result (IfSome (F.holds files.old) (λ d. HasCleared (F.holds files.new))) }
     ensures changes { OnOk result (IfSome (F.holds files.old) (λ d. Changes (clearing (filter is_other (files_under d (codes ".pie/cache")))) (F.asked files.old) (F.asked files.new))) }
     ensures whole { LeavesFromRest F.holds F.moment F.left_since F.images OpensWhole files.old files.new }
+    ensures durable { OnOk result (EndsAtRest F.holds F.images files.old files.new) }
     ensures kept { KeepsOutside (F.holds files.old) (F.holds files.new) }
     ensures crash { LeavesAlike F.holds F.moment F.left_since F.images files.old files.new }
     ensures counted { Counted F.faults FilesError.Failed files.old files.new result }
@@ -164,6 +167,7 @@ pub(crate) fn close<F: Files>(files: &mut F, gate: &Path) -> Result<(), FilesErr
     ensures done { OnOk result (HasBrought (at specs_gate Gone) (F.holds files.old) (F.holds files.new)) }
     ensures makes { Makes F.asked closing files.old files.new result }
     ensures ending { LeavesFromRest F.holds F.moment F.left_since F.images (IsEnding specs_gate) files.old files.new }
+    ensures durable { OnOk result (EndsAtRest F.holds F.images files.old files.new) }
     ensures kept { KeepsOutside (F.holds files.old) (F.holds files.new) }
     ensures crash { LeavesAlike F.holds F.moment F.left_since F.images files.old files.new }
     ensures counted { Counted F.faults FilesError.Failed files.old files.new result }

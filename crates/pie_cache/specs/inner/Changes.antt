@@ -1,6 +1,8 @@
 -- What calls leave that change no file outside the cache, at their end and at each moment.
 use Rattle.std.specs.Prelude.{◌≡◌, ℕ, false, List, Option, Some, IfSome}
+use Rattle.pie_commit.specs.Outcomes.{IsAtRest}
 use Rattle.pie_files.specs.Directory.{Directory, file_at}
+use Rattle.pie_files.specs.Images.{Only}
 use Rattle.pie_files.specs.Reading.{Leaves}
 use Rattle.pie_cache.specs.inner.Places.{is_in_cache}
 
@@ -19,3 +21,11 @@ IsAlikeOneOf images c = (b : Directory) × images b × AlikeOutside b c
 -- a crash leaves nothing else outside the cache than it might have left before
 abbrev pub LeavesAlike : {S : Type 0} → (S → Option Directory) → (S → ℕ) → (S → ℕ → Directory → Type 0) → (S → Directory → Type 0) → S → S → Type 0
 LeavesAlike holds moment left_since images old new = IfSome (holds old) (λ d. Leaves moment left_since images (IsAlikeOneOf (images old)) old new)
+
+-- where nothing was pending, nothing is
+abbrev pub StaysAtRest : {S : Type 0} → (S → Option Directory) → (S → Directory → Type 0) → S → S → Type 0
+StaysAtRest holds images old new = IfSome (holds old) (λ d. Only d (images old) → IsAtRest (holds new) (images new))
+
+-- nothing is pending
+abbrev pub EndsAtRest : {S : Type 0} → (S → Option Directory) → (S → Directory → Type 0) → S → S → Type 0
+EndsAtRest holds images old new = IfSome (holds old) (λ d. IsAtRest (holds new) (images new))

@@ -41,6 +41,6 @@ KeepsWhole fresh before c = IsWhole (λ q. kept (last_for fresh q) (file_at befo
 abbrev pub IsEmptied : Directory → Type 0
 IsEmptied c = (q : List ℕ) → is_in_cache q ≡ true → file_at c q ≡ None
 
--- while the cache is opened: the gate stands, or all is as before, or no file is in the cache
+-- while the cache is opened: the gate stands, or all is as before, or it stood and no file is in the cache
 abbrev pub OpensWhole : Directory → Directory → Type 0
-OpensWhole before c = HasGate c ⊎ ((c ≡ before) ⊎ IsEmptied c)
+OpensWhole before c = HasGate c ⊎ ((c ≡ before) ⊎ (HasGate before × IsEmptied c))

@@ -11,6 +11,8 @@ use Rattle.pie_cache.proofs.Kept.{gate_gone}
 use Rattle.std.proofs.Common.{Ok}
 use Rattle.pie_commit.proofs.Standing.{rests, told_both}
 use Rattle.pie_cache.proofs.Gating.{both_gated, sync_gated, told_of, whole_begun, whole_changed, whole_ended}
+use Rattle.pie_commit.specs.Outcomes.{IsAtRest}
+use Rattle.pie_cache.proofs.Resting.{rests_from}
 use Rattle.pie_cache.proofs.keeping.put_drafts.Goals as goal
 
 pub returns-in_err-write_all-clause-kept : goal.returns-in_err-write_all-clause-kept
@@ -121,3 +123,13 @@ returns-clause-whole g c =
     (whole_changed g.F.Files.holds g.F.Files.moment g.F.Files.left_since g.F.Files.images (written drafts) c.args.files.now c.set.new.files c.make_last.new.files begun c.in_ok-set.ensures.begun c.in_ok-set.ensures.stands
     (both_gated g.F.Files.holds g.F.Files.moment g.F.Files.left_since g.F.Files.images c.set.new.files c.write_all.new.files c.make_last.new.files went c.in_ok-write_all.ensures.gated
     (sync_gated g.F.Files.holds g.F.Files.moment g.F.Files.left_since g.F.Files.images c.write_all.new.files c.make_last.new.files c.in_ok-make_last.ensures.may)))
+
+pub returns-clause-durable : goal.returns-clause-durable
+returns-clause-durable g c =
+    let before = g.F.Files.holds c.args.files.now in
+    let set = g.F.Files.holds c.set.new.files in
+    let wrote = g.F.Files.holds c.write_all.new.files in
+    let last = g.F.Files.holds c.make_last.new.files in
+    rests_from (IsAtRest (g.F.Files.holds c.close.new.files) (g.F.Files.images c.close.new.files)) before last c.close.result
+    (told_of before last (keeps_both before set last c.in_ok-set.ensures.kept
+    (keeps_both set wrote last c.in_ok-write_all.ensures.kept c.in_ok-make_last.ensures.kept))) c.close.ensures.durable

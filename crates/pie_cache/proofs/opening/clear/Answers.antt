@@ -1,7 +1,7 @@
 use Rattle.std.proofs.Common.{◌≡◌, ◌∷◌, ◌∙◌, [], ℕ, List, ap, subst}
 use Rattle.std.specs.Prelude.{IfSome, Ok, codes}
 use Rattle.std.specs.List.{filter}
-use Rattle.pie_commit.specs.Outcomes.{HasBrought}
+use Rattle.pie_commit.specs.Outcomes.{HasBrought, IsAtRest}
 use Rattle.pie_commit.specs.inner.Plans.{Gone, at, later, removed}
 use Rattle.pie_commit.proofs.Bringing.{brought_both, brought_still, on_ok}
 use Rattle.pie_files.proofs.Reading.{if_each}
@@ -16,6 +16,7 @@ use Rattle.pie_cache.proofs.Looking.{changes_both, changes_by, changes_made, cle
 use Rattle.pie_commit.proofs.Standing.{Told, rests}
 use Rattle.pie_cache.proofs.Emptying.{opens_ended, opens_gated, opens_looked}
 use Rattle.pie_cache.proofs.Gating.{both_gated, sync_gated, told_of}
+use Rattle.pie_cache.proofs.Resting.{rests_from}
 use Rattle.pie_cache.proofs.opening.clear.Goals as goal
 
 pub returns-clause-kept : goal.returns-clause-kept
@@ -143,3 +144,13 @@ returns-clause-whole g c =
     (sync_gated F.holds F.moment F.left_since F.images before listed c.in_ok-paths.ensures.crash)
     (both_gated F.holds F.moment F.left_since F.images listed gone last went c.in_ok-remove_all.ensures.gated
     (sync_gated F.holds F.moment F.left_since F.images gone last c.in_ok-make_last.ensures.may))))
+
+pub returns-clause-durable : goal.returns-clause-durable
+returns-clause-durable g c =
+    let before = g.F.Files.holds c.args.files.now in
+    let listed = g.F.Files.holds c.all_under.new.self in
+    let gone = g.F.Files.holds c.remove_all.new.files in
+    let last = g.F.Files.holds c.make_last.new.files in
+    rests_from (IsAtRest (g.F.Files.holds c.close.new.files) (g.F.Files.images c.close.new.files)) before last c.close.result
+    (told_of before last (keeps_both before listed last (keeps_same before listed c.in_ok-paths.ensures.same)
+    (keeps_both listed gone last c.in_ok-remove_all.ensures.kept c.in_ok-make_last.ensures.kept))) c.close.ensures.durable

@@ -5,6 +5,7 @@ use Rattle.std.specs.Prelude.{◌≡◌, is_some}
 use Rattle.pie_cache.specs.inner.Gated.{HasGate}
 use Rattle.pie_cache.specs.inner.Places.{gate}
 use Rattle.pie_cache.proofs.Emptying.{found_gate, opens_looked, opens_then}
+use Rattle.pie_cache.proofs.Resting.{rests_looked, rests_then}
 use Rattle.pie_cache.proofs.opening.clear_if_gated.Goals as goal
 
 pub clear-requires-clause-stands : goal.clear-requires-clause-stands
@@ -18,3 +19,13 @@ pub returns-then-branch-clause-whole : goal.returns-then-branch-clause-whole
 returns-then-branch-clause-whole g c =
     opens_then g.F.Files.holds g.F.Files.moment g.F.Files.left_since g.F.Files.images c.args.files.now c.exists.new.self c.clear.new.files
     c.in_ok-exists.ensures.same c.in_ok-exists.ensures.crash c.clear.ensures.whole
+
+pub returns-then-branch-clause-durable : goal.returns-then-branch-clause-durable
+returns-then-branch-clause-durable g c =
+    rests_then g.F.Files.holds g.F.Files.moment g.F.Files.left_since g.F.Files.images c.args.files.now c.exists.new.self c.clear.new.files c.clear.result
+    c.in_ok-exists.ensures.same c.clear.ensures.durable
+
+pub returns-clause-durable : goal.returns-clause-durable
+returns-clause-durable g c =
+    rests_looked g.F.Files.holds g.F.Files.moment g.F.Files.left_since g.F.Files.images c.args.files.now c.exists.new.self c.in_ok-exists.ensures.same
+    c.in_ok-exists.ensures.crash

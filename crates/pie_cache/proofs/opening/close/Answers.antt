@@ -8,7 +8,7 @@ use Rattle.pie_commit.specs.inner.Steps.{Makes, Removes, Syncs}
 use Rattle.pie_cache.proofs.Changing.{keeps_both}
 use Rattle.pie_cache.specs.inner.Places.{gate}
 use Rattle.std.proofs.Common.{inl, refl}
-use Rattle.pie_commit.proofs.Standing.{call_rest, ending_still, sync_rest}
+use Rattle.pie_commit.proofs.Standing.{call_rest, ending_still, rests, sync_rest}
 use Rattle.pie_commit.specs.Outcomes.{IsEnding}
 use Rattle.pie_files.specs.Images.{MayLeave, MayRemove}
 use Rattle.pie_cache.proofs.Gating.{told_of}
@@ -53,3 +53,9 @@ returns-clause-ending g c =
     (call_rest g.F.Files.holds g.F.Files.moment g.F.Files.left_since g.F.Files.images (MayRemove gate) (IsEnding gate) c.args.files.now c.remove.new.files (ending_still gate) (λ d. inl refl)
     (subst (λ p. MayLeave g.F.Files.holds g.F.Files.moment g.F.Files.left_since g.F.Files.images (MayRemove p) c.args.files.now c.remove.new.files) c.requires c.in_ok-remove.ensures.may))
     c.make_last.ensures.may
+
+pub returns-clause-durable : goal.returns-clause-durable
+returns-clause-durable g c =
+    rests (g.F.Files.images c.make_last.new.files) (g.F.Files.holds c.args.files.now) (g.F.Files.holds c.remove.new.files) (g.F.Files.holds c.make_last.new.files)
+    c.make_last.result (told_of (g.F.Files.holds c.args.files.now) (g.F.Files.holds c.remove.new.files) c.in_ok-remove.ensures.kept) c.make_last.ensures.same
+    c.make_last.ensures.durable

@@ -16,6 +16,7 @@ use Rattle.pie_files.specs.Directory.{file_at}
 use Rattle.pie_cache.specs.inner.Gated.{IsWhole, KeepsWhole}
 use Rattle.pie_cache.specs.inner.Keeping.{kept, last_for}
 use Rattle.pie_cache.proofs.Gating.{whole_as}
+use Rattle.pie_cache.proofs.Resting.{rests_none, rests_then}
 use Rattle.pie_cache.proofs.cache.Cache.keep.Goals as goal
 
 pub returns-clause-done : goal.returns-clause-done
@@ -57,3 +58,11 @@ returns-clause-whole g c =
 pub returns-in_err-drafts-clause-whole : goal.returns-in_err-drafts-clause-whole
 returns-in_err-drafts-clause-whole g c =
     before_rest g.F.Files.holds g.F.Files.moment g.F.Files.left_since g.F.Files.images (KeepsWhole c.args.fresh.items) (λ d. inr (inl refl)) c.args.files.now c.drafts.new.files c.drafts.ensures.reads.crash
+
+pub returns-then-is_empty-clause-durable : goal.returns-then-is_empty-clause-durable
+returns-then-is_empty-clause-durable g c = rests_none g.F.Files.holds g.F.Files.moment g.F.Files.left_since g.F.Files.images c.args.files.now
+
+pub returns-clause-durable : goal.returns-clause-durable
+returns-clause-durable g c =
+    rests_then g.F.Files.holds g.F.Files.moment g.F.Files.left_since g.F.Files.images c.args.files.now c.drafts.new.files c.put_drafts.new.files
+    c.put_drafts.result c.in_ok-drafts.ensures.reads.same c.put_drafts.ensures.durable
