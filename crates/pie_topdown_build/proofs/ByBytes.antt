@@ -1,6 +1,6 @@
 -- Tasks that were put to their canonical bytes stand in the order of these, each once.
 use Rattle.std.proofs.Common.{◌≡◌, ℕ, suc, ◌+◌, ◌<◌, true, List, [], ◌∷◌, length, get_or, map, Vec, Global, refl, sym, ap, subst, ◌∙◌, arith}
-use Rattle.std.specs.Prelude.{All, Contains, ◌↔◌}
+use Rattle.std.specs.Prelude.{All, Contains}
 use Rattle.std.specs.BTreeMap.{insert_entry}
 use Rattle.std.specs.BTreeSet.{insert_key}
 use Rattle.std.specs.List.{fold}
@@ -9,7 +9,7 @@ use Rattle.std.specs.Ordering.{is_lt, match_ordering}
 use Rattle.std.specs.declared.cmp.Ordering.{Ordering}
 use Rattle.std.specs.declared.cmp.Ordering.TheVariants.{Less, Equal, Greater}
 use Rattle.std.proofs.lemmas.Cmp.{nat_list_cmp_total}
-use Rattle.std.proofs.lemmas.List.Elements.{All-nil, All-cons, All-head, All-tail, All-contains}
+use Rattle.std.proofs.lemmas.List.Elements.{All-nil, All-cons, All-head, All-tail, All-contains, All-contains_itself}
 use Rattle.std.proofs.lemmas.Map.Keys.{sorted_from_all_adjacent}
 use Rattle.std.proofs.lemmas.Map.Lookups.{exact_bytes}
 use Rattle.pie_store.specs.Pending.{in_order, AreAscending}
@@ -147,6 +147,9 @@ module _ (tasks found : List Task) (es : List (Vec ℕ Global × Task)) (held : 
           λ i. subst (λ (bs : List (List ℕ)). Contains bs b) (sym bytes_of)
               (All-contains (λ (p : List ℕ). Contains (in_order (map enc_task tasks)) p) (map enc_task tasks) b order.all i),
         );
+        from = λ t i.
+            All-contains (Contains tasks) found t
+            (subst (All (Contains tasks)) (sym found_is) (all_of (Contains tasks) [] tasks (All-nil (Contains tasks)) (All-contains_itself tasks))) i;
       }
 
   -- each has canonical bytes

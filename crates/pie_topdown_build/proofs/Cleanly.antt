@@ -28,7 +28,7 @@ use Rattle.pie_report.specs.declared.report.Report.{Report}
 use Rattle.pie_store.specs.Canonical.{AreFuncs}
 use Rattle.pie_store.specs.declared.cause.Cause.{Cause}
 use Rattle.pie_store.specs.declared.image.StoreImage.{StoreImage}
-use Rattle.pie_topdown_result_laws.specs.Builds.{IsFromStore, IsHonest, IsNowHere}
+use Rattle.pie_topdown_result_laws.specs.Builds.{IsFromStore, IsHonestTo, IsNowHere}
 use Rattle.pie_value.specs.declared.task.Task.{Task}
 use Rattle.pie_value.specs.declared.value.Value.{Value}
 use Rattle.pie_incremental.specs.Clean.{IsAsClean, IsOther, IsStray, LeavesClean}
@@ -44,7 +44,7 @@ use Rattle.pie_topdown_build.specs.declared.offered.Offered.{Offered}
 use Rattle.pie_topdown_build.specs.Anew.{nothing, IsAsCleanAnew, IsSeparate, LeavesAnew}
 use Rattle.pie_topdown_build.specs.Clean.{BuildsAsClean, CanBegin, HasStoreOf, IsStoreCause}
 use Rattle.pie_topdown_build.specs.inner.Anew.{update_alone, AnewAsClean, BuildsAnewOf, IsNoBase, LeavesAnewAs}
-use Rattle.pie_topdown_build.specs.inner.Bases.{HasBase, IsReadFrom, StartsAt}
+use Rattle.pie_topdown_build.specs.inner.Bases.{HasBase, IsReadFrom, StartsAt, StartsOnly}
 use Rattle.pie_topdown_build.specs.inner.Clean.{update_of, FromAsClean, OffersClean, OffersHonest, RunsAsClean, RunsIfTold}
 use Rattle.pie_topdown_build.proofs.Meaning.{means_same}
 use Rattle.pie_topdown_build.proofs.Running.{Told}
@@ -148,9 +148,6 @@ module _ (d : Directory) (p : Project) (apart : IsSeparate d) (says : ProjectSay
   pub stored_alone : (kept : List (List ℕ × List ℕ)) (rows : List TaskRecord) → rows ≡ [] → IsFromStore alone kept p.digests.items rows
   stored_alone kept rows none = record { rows_are = ap (map record_of) none; meaning = λ t canonical same. refl }
 
-  other_alone : (path : List ℕ) → IsOther (live_of p.typed d p.roots.items) d path → IsOtherOf alone path
-  other_alone path o = record { bytes = o.bytes; provided = o.provided; other = o.other }
-
   stray_now : (path : List ℕ) → IsStrayOf alone path → IsStray (live_of p.typed d p.roots.items) d path
   stray_now path s = record { out = s.out; there = s.there; absent = s.absent }
 
@@ -172,7 +169,6 @@ module _ (d : Directory) (p : Project) (apart : IsSeparate d) (says : ProjectSay
         live = c.live;
         outputs = ap (λ (os : List (Task × Value)). map output_bytes os) c.outputs_are ∙ l.outputs_are;
         wrote = c.wrote;
-        others = λ path o. c.others path (other_alone path o);
         removed = λ path. (λ i. stray_now path ((c.removed path).0 i), λ o. (c.removed path).1 (stray_alone path o));
         ordered = c.ordered;
       }
@@ -229,6 +225,7 @@ from_clean b p told before mid after r same says has names funcs runs = record {
           here = here_alone d p apart says has names funcs mid (same ∙ is);
           stored = stored_alone d p apart says has names funcs (digested d p.digests.items b.image).funcs b.image.rows bare.rows;
           none = bare.store;
+          rows = bare.rows;
         })
         (honest.each p.digests.items p.roots.items (found_alone d p apart says has names funcs)))
 
@@ -259,7 +256,6 @@ caused_anew d r cause after a = record {
     live = l.live;
     outputs = l.outputs;
     wrote = l.wrote;
-    others = l.others;
     removed = l.removed;
     ordered = l.ordered;
   };
@@ -283,7 +279,7 @@ anew_by told b (Some d) after (Err e) bare h = tt
 -- nothing is offered by nobody
 pub nothing_offered : (e : Earlier) (strings : List (List ℕ)) (d : Directory) → OffersHonest e strings d (λ x t digest. [])
 nothing_offered e strings d = record {
-  each = λ funcs roots found t digest has. All-nil (IsHonest (update_of e strings d found.functions roots));
+  each = λ funcs roots found t digest has. All-nil (IsHonestTo (update_of e strings d found.functions roots) t);
 }
 
 pub differs : (c : Cause) (o : Option Cause) → o ≡ Some c → o ≡ None → ⊥
@@ -338,18 +334,21 @@ from_cleans start b before mid after (Ok r) is begins same h = by before same be
 -- ---- the same with offers
 
 pub anew_cleans : (told : Told) (start : Start) (cause : Cause) (before mid after : Option Directory) (result : Result Offered BuildError)
-    → start ≡ Afresh cause → IfSome before (λ d. StartsAt d start) → mid ≡ before
+    → start ≡ Afresh cause → IfSome before (λ d. StartsAt d start) → IfSome before (λ d. StartsOnly d start) → mid ≡ before
     → IfSome mid (λ d. IfOk result (λ o. AnewAsClean told d o.report.value after)) → IfOk result (λ o. o.report.value.fresh ≡ Some cause)
     → IfSome before (λ d. IfOk result (λ o. OffersClean told d o.report.value after))
-anew_cleans told start cause before mid after (Err e) starts begins same anew why = if_always before (tt {0})
-anew_cleans told start cause before mid after (Ok o) starts begins same anew why =
-    if_two (λ d. StartsAt d start) (λ d. AnewAsClean told d o.report.value after) (λ d. OffersClean told d o.report.value after) before
+anew_cleans told start cause before mid after (Err e) starts begins only same anew why = if_always before (tt {0})
+anew_cleans told start cause before mid after (Ok o) starts begins only same anew why =
+    if_two (λ d. StartsAt d start × StartsOnly d start) (λ d. AnewAsClean told d o.report.value after) (λ d. OffersClean told d o.report.value after) before
     (λ d begun clean. record {
       goes_on = λ none. absurd (differs cause o.report.value.fresh why none);
       afresh = λ some. clean;
-      cause = λ c is. subst (IsStoreCause d) (one_cause cause c o.report.value.fresh why is) (subst (StartsAt d) starts begun);
+      cause = λ c is. subst (IsStoreCause d) (one_cause cause c o.report.value.fresh why is) (subst (StartsAt d) starts begun.0);
+      begins = λ none. absurd (differs cause o.report.value.fresh why none);
+      only = λ some. subst (StartsOnly d) starts begun.1;
     })
-    begins (subst (λ m. IfSome m (λ d. AnewAsClean told d o.report.value after)) same anew)
+    (if_two (λ d. StartsAt d start) (λ d. StartsOnly d start) (λ d. StartsAt d start × StartsOnly d start) before (λ d a b. (a, b)) begins only)
+    (subst (λ m. IfSome m (λ d. AnewAsClean told d o.report.value after)) same anew)
 
 pub offered_cleans : (told : Told) (start : Start) (b : Box Base Global) (before mid after : Option Directory) (result : Result Offered BuildError)
     → start ≡ From b → IfSome before (λ d. StartsAt d start) → mid ≡ before → IfOk result (λ o. FromAsClean b.value told mid after o.report.value)
@@ -363,4 +362,6 @@ offered_cleans told start b before mid after (Ok o) is begins same h = by before
       goes_on = λ none e from honest. h.each d holds (subst (StartsAt d) is begun) e from honest;
       afresh = λ some. absurd (some_cause o.report.value.fresh some (h.none d holds));
       cause = λ c caused. absurd (differs c o.report.value.fresh caused (h.none d holds));
+      begins = λ none. can_begin d b.value.image b.value.store (subst (StartsAt d) is begun);
+      only = λ some. absurd (some_cause o.report.value.fresh some (h.none d holds));
     }

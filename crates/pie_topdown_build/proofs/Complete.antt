@@ -1,5 +1,5 @@
 -- Where nothing of a record is missing, it is told if its task ran.
-use Rattle.std.proofs.Common.{◌≡◌, ℕ, zero, suc, ◌<◌, ◌≤◌, ◌^◌, Bool, true, false, ◌&&◌, cond, List, [], ◌∷◌, length, map, refl, sym, ap, subst, ◌∙◌, arith}
+use Rattle.std.proofs.Common.{◌≡◌, ℕ, zero, suc, ◌<◌, ◌^◌, Bool, true, false, ◌&&◌, cond, List, [], ◌∷◌, ◌++◌, length, map, get_or, Vec, Global, refl, sym, ap, subst, ◌∙◌, arith}
 use Rattle.std.specs.Prelude.{All, Contains, IsSome, Option, None, Some, bytes_eq, is_some, nat_le}
 use Rattle.std.specs.Cmp.Lexicographic.{slice_cmp}
 use Rattle.std.specs.List.{AllByRecursion, cons_option, filter}
@@ -9,21 +9,29 @@ use Rattle.std.specs.Ordering.{nat_cmp, ordering_reverse}
 use Rattle.std.specs.declared.cmp.Ordering.TheVariants.{Less, Greater}
 use Rattle.std.proofs.lemmas.Bool.{false≢true}
 use Rattle.std.proofs.lemmas.Cmp.{nat_list_cmp_total}
-use Rattle.std.proofs.lemmas.List.Elements.{All-head, All-tail, All-weaker}
+use Rattle.std.proofs.lemmas.List.Elements.{All-contains, All-head, All-tail, All-weaker, Contains-get_or}
 use Rattle.std.proofs.lemmas.Map.Keys.{sorted_head, sorted_tail}
 use Rattle.std.proofs.lemmas.Slice.Eq.{bytes_eq-Decides}
 use Rattle.sha2.specs.Sha256.{sha256}
 use Rattle.pie_base.specs.Path.{same_text}
 use Rattle.pie_build.specs.Stored.{IsStoreOf}
+use Rattle.pie_check_laws.proofs.Members.{from_map}
+use Rattle.pie_checks.specs.declared.built.Built.{Built}
 use Rattle.pie_commit.proofs.Standing.{same_itself, same_path}
+use Rattle.pie_core_laws.specs.Update.{Update}
 use Rattle.pie_files.specs.inner.Held.{is_among}
+use Rattle.pie_left_laws.specs.Accepted.{IsAccepted, live_now}
+use Rattle.pie_model.specs.Built.{provided_at}
 use Rattle.pie_old.specs.inner.Code.{digest_in, kept as first_of}
 use Rattle.pie_record.specs.declared.task_record.TaskRecord.{TaskRecord}
+use Rattle.pie_results.specs.inner.Files.{contents_in, paths_in, InPathOrder}
 use Rattle.pie_store.specs.Canonical.{names_of}
 use Rattle.pie_store.specs.Texts.{AreKnown}
+use Rattle.pie_topdown.specs.inner.Filed.{HasFile, HasFilesOf}
 use Rattle.pie_value.specs.Canonical.{enc_task}
 use Rattle.pie_value.specs.declared.task.Task.{Task}
 use Rattle.pie_topdown_build.specs.inner.News.{Told, bytes_in, contents_of, news_in, told_with, with_hash, with_more, IsComplete, IsThere}
+use Rattle.pie_topdown_build.proofs.Ran.{among_in}
 
 abbrev Pairs : Type 0
 Pairs = List (List ℕ × List ℕ)
@@ -141,3 +149,37 @@ all_have_digests funcs roots rows text s =
     (λ row i. has_digest funcs row.task.func i) rows
     (subst (λ (rs : List TaskRecord). All (λ (row : TaskRecord). Contains (names_of funcs) row.task.func) rs) s.rows
     (subst (λ (fs : Pairs). All (λ (row : TaskRecord). Contains (names_of fs) row.task.func) s.image.rows) s.funcs known))
+
+-- ---- of an accepted build
+
+same_paths : (files : List (List ℕ × Vec ℕ Global)) → paths (contents_in files) ≡ paths_in files
+same_paths [] = refl
+same_paths (f ∷ files) = ap (λ ps. f.0 ∷ ps) (same_paths files)
+
+module _ (u : Update) (b : Built) (funcs : Pairs) (rows : List TaskRecord) (first after reused ran : List Task)
+    (made : IsAccepted u b.rows.items (contents_in b.files.items)) (filed : HasFilesOf rows first after [] reused b) (gained : after ≡ first ++ ran)
+    (order : InPathOrder b.files.items) (known : All (λ (row : TaskRecord). Contains (names_of funcs) row.task.func) b.rows.items)
+    (short : (path bytes : List ℕ) → provided_at (live_now u) path ≡ Some bytes → length bytes < 2 ^ 32) where
+  abbrev files : Pairs
+  files = contents_in b.files.items
+
+  ordered : IsStrictlySortedBy (slice_cmp nat_cmp) (paths files)
+  ordered = subst (λ ps. IsStrictlySortedBy (slice_cmp nat_cmp) ps) (sym (same_paths b.files.items)) order.ascending
+
+  there_so : (w : List ℕ × List ℕ) → HasFile files w → IsThere files w
+  there_so w f = (f.0, there_once files w.0 f.0 ordered f.1, f.2, short w.0 f.0 (made.only w.0 f.0 f.1))
+
+  -- nothing of a record is missing whose task ran
+  complete : (row : TaskRecord) → Contains b.rows.items row → is_among (enc_task row.task) (map enc_task ran) ≡ true → IsComplete funcs files row
+  complete row i ran_too =
+      let m = from_map enc_task ran (enc_task row.task) (among_in (enc_task row.task) (map enc_task ran) ran_too) in
+      record {
+        digest = has_digest funcs row.task.func (All-contains (λ (r : TaskRecord). Contains (names_of funcs) r.task.func) b.rows.items row known i);
+        writes = All-weaker (HasFile files) (IsThere files) (λ w f. there_so w f) row.writes (filed.ran ran gained row i (m.0, m.1, m.2));
+      }
+
+  pub told_whole : map (λ (t : Told). t.1.0) (news_in funcs b.rows.items files ran)
+      ≡ filter (λ (row : TaskRecord). is_among (enc_task row.task) (map enc_task ran)) b.rows.items
+  told_whole =
+      none_left_out funcs files b.rows.items ran
+      (λ k d within. complete (get_or b.rows.items k d) (Contains-get_or b.rows.items k d within))

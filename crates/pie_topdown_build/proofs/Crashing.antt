@@ -1,6 +1,6 @@
 -- What a crash leaves of a build without a list, from part to part.
-use Rattle.std.proofs.Common.{◌≡◌, ◌⊎◌, inl, inr, ⊎_elim, ℕ, true, false, cond, List, [], Vec, Global, Option, None, Some, Ok, Err, refl, sym, ap, subst, ◌∙◌}
-use Rattle.std.specs.Prelude.{◌||◌, All, Box, IfSome, codes}
+use Rattle.std.proofs.Common.{◌≡◌, inl, inr, ⊎_elim, ℕ, true, false, cond, List, [], Vec, Global, Option, None, Some, Ok, Err, refl, sym, ap, subst, ◌∙◌}
+use Rattle.std.specs.Prelude.{◌||◌, All, Box, IfSome}
 use Rattle.std.proofs.lemmas.List.Elements.{All-weaker}
 use Rattle.pie_base.specs.Path.{is_out, same_text}
 use Rattle.pie_build.proofs.Cleaning.{is_ready}
@@ -15,7 +15,7 @@ use Rattle.pie_commit.proofs.Standing.{removal_apart}
 use Rattle.pie_commit.specs.Outcomes as commits
 use Rattle.pie_commit.specs.Outcomes.{HasFile, LeavesFromRest, Underway}
 use Rattle.pie_commit.specs.declared.plan.Plan.{Plan}
-use Rattle.pie_commit.specs.inner.Plans.{Same, Meets, at, changes, later, pended, removed, stored, wanted_by, written}
+use Rattle.pie_commit.specs.inner.Plans.{Same, Meets, at, later, pended, removed, stored, wanted_by, written}
 use Rattle.pie_core_laws.specs.Update.{Update}
 use Rattle.pie_digest.specs.Digests.{HasNames}
 use Rattle.pie_files.proofs.Reading.{both_before, if_each, none_before}
@@ -27,12 +27,13 @@ use Rattle.pie_incremental.proofs.Commits.{changes_wanted}
 use Rattle.pie_incremental.proofs.Crashing.{leaves_where, same_directory}
 use Rattle.pie_incremental.proofs.Marking.{marked_still, marked_where}
 use Rattle.pie_incremental.proofs.OwnPaths.{places}
-use Rattle.pie_incremental.specs.Crashes.{EndsMarked, IsCleanBuilt, MarkedBy}
+use Rattle.pie_incremental.specs.Crashes.{IsCleanBuilt, MarkedBy}
 use Rattle.pie_incremental.specs.Earlier.{Earlier}
 use Rattle.pie_incremental.specs.Own.{open_path, pending_path, store_path}
+use Rattle.pie_incremental.specs.inner.Crashed.{IsCleanOf}
+use Rattle.pie_incremental.specs.inner.Digested.{digested}
 use Rattle.pie_incremental.specs.inner.Joined.{ChangesOut}
 use Rattle.pie_left_laws.proofs.Provides.{one_some}
-use Rattle.pie_parser.specs.FunctionTrees.{FunctionTree}
 use Rattle.pie_project.specs.Digested.{HasDigests}
 use Rattle.pie_project.specs.Fronts.{ProjectSays}
 use Rattle.pie_project.specs.Refusals.{IsVerdict}
@@ -40,11 +41,9 @@ use Rattle.pie_project.specs.declared.fault.BuildError.{BuildError}
 use Rattle.pie_project.specs.declared.fault.BuildError.TheVariants as errors
 use Rattle.pie_project.specs.declared.project.Project.{Project}
 use Rattle.pie_project.specs.inner.Projects.{front_of}
-use Rattle.pie_report.specs.declared.report.Report.{Report}
 use Rattle.pie_store.specs.Canonical.{AreFuncs}
 use Rattle.pie_store.specs.declared.cause.Cause.{Cause}
-use Rattle.pie_store.specs.declared.image.StoreImage.{StoreImage}
-use Rattle.pie_topdown_result_laws.specs.Builds.{AreHonest}
+use Rattle.pie_topdown_result_laws.specs.Builds.{AreHonest, IsFromStore, IsNowHere}
 use Rattle.pie_topdown_result_laws.specs.Results.{IsResultOf}
 use Rattle.pie_value.specs.Limits.{is_small_task}
 use Rattle.pie_value.specs.declared.verdict.Verdict.{Verdict}
@@ -54,11 +53,12 @@ use Rattle.pie_topdown_build.specs.declared.base.Start.{Start}
 use Rattle.pie_topdown_build.specs.declared.base.Start.TheVariants.{Afresh, From}
 use Rattle.pie_topdown_build.specs.Clean.{CanBegin, HasStoreOf}
 use Rattle.pie_topdown_build.specs.Crashes.{HasEnded, KeepsOthers, StopsWith}
+use Rattle.pie_topdown_build.specs.inner.Anew.{update_alone, IsNoBase}
 use Rattle.pie_topdown_build.specs.inner.Bases.{HasBase, IsReadFrom, StartsAt, StartsOnly}
-use Rattle.pie_topdown_build.specs.inner.Clean.{update_of, IsUpdateBy, MakesFrom, OffersHonest}
-use Rattle.pie_topdown_build.specs.inner.Cleaned.{IsStoreIn}
-use Rattle.pie_topdown_build.specs.inner.Crashes.{Endures, EndsBy, EndsFrom, EndsOffered, EndsReady, EndsRun, IsCleanBy, IsCleanFrom}
-use Rattle.pie_topdown_build.proofs.Cleanly.{can_begin, found, here, nothing_offered, stored as stored_of}
+use Rattle.pie_topdown_build.specs.inner.Clean.{update_of, MakesFrom, OffersHonest}
+use Rattle.pie_topdown_build.specs.inner.Cleaned.{IsStoreIfAny}
+use Rattle.pie_topdown_build.specs.inner.Crashes.{Endures, EndsAnew, EndsBy, EndsFrom, EndsOffered, EndsReady, EndsRun, EndsWhere, IsCleanAnew}
+use Rattle.pie_topdown_build.proofs.Cleanly.{can_begin, found, found_alone, here, here_alone, nothing_offered, stored as stored_of, stored_alone}
 use Rattle.pie_topdown_build.proofs.Running.{Told}
 use Rattle.pie_topdown_build.proofs.Storing.{none_removed, none_written}
 
@@ -199,30 +199,37 @@ afresh_rest d c done q off =
 
 module _ (b : Base) (p : Project) (told : Told) (held : Option Directory) (made : Built) (makes : MakesFrom held p b.image told made) (d c : Directory)
     (holds : held ≡ Some d) where
-  store_in : (o : Option (Vec ℕ Global)) → IsReadFrom d b.image o → IsStoreIn o d
+  store_in : (o : Option (Vec ℕ Global)) → IsReadFrom d b.image o → IsStoreIfAny o d
   store_in None has = absurd has
   store_in (Some text) has = has.stored
+
+  clean_of : made.verdict ≡ Accepted → EndsWhere b.store p.digests.items p.roots.items made.rows.items made.files.items d c → (u : Update)
+      → IsNowHere u (Some d) p.typed p.roots.items → IsFromStore u (digested u.directory p.digests.items b.image).funcs p.digests.items b.image.rows
+      → IsStoreIfAny b.store d → AreHonest u p.digests.items told → IsCleanOf u p.digests.items p.roots.items d (without_file c open_path)
+  clean_of is ends u here stored from honest =
+      let same : u.directory ≡ d = same_directory d u.directory here.holds in
+      let result : IsResultOf u made =
+      makes.each u (record {
+        build = here.build;
+        holds = holds ∙ here.holds;
+        functions = here.functions;
+        roots_are = here.roots_are;
+        separates = here.separates;
+        met = here.met;
+      }) stored honest in
+      record {
+        rows = made.rows.items;
+        rows_are = (result.made is).rows;
+        clean = ends.clean u (record { directory = same; separates = here.separates; met = here.met; made = result.made is }) from;
+      }
 
   by_verdict : (v : Verdict) → made.verdict ≡ v → EndsBy v b.store p.digests.items p.roots.items made d c → EndsRun b p told d c
   by_verdict Accepted is ends = record {
     rest = ends.rest;
-    clean = λ u from honest.
-        (let same : u.directory ≡ d = same_directory d u.directory from.here.holds in
-        let result : IsResultOf u made =
-        makes.each u (record {
-          build = from.here.build;
-          holds = holds ∙ from.here.holds;
-          functions = from.here.functions;
-          roots_are = from.here.roots_are;
-          separates = from.here.separates;
-          met = from.here.met;
-        }) from.stored honest in
-        record {
-          rows = made.rows.items;
-          rows_are = (result.made is).rows;
-          clean = ends.clean u (record { directory = same; separates = from.here.separates; met = from.here.met; made = result.made is })
-              (store_in b.store (subst (λ x. IsReadFrom x b.image b.store) same from.base));
-        });
+    clean = λ u from honest. ⊎_elim
+        (λ by. clean_of is ends u by.here by.stored
+        (store_in b.store (subst (λ x. IsReadFrom x b.image b.store) (same_directory d u.directory by.here.holds) by.base)) honest)
+        (λ anew. clean_of is ends u anew.here anew.stored (subst (λ o. IsStoreIfAny o d) (sym anew.none) (tt {0})) honest) from;
   }
   by_verdict (Refused x) is ends = absurd ends
 
@@ -265,7 +272,7 @@ module _ {S : Type 0} (holds : S → Option Directory) (moment : S → ℕ) (lef
 module _ (b : Base) (p : Project) (told : Told) (d c : Directory) (says : ProjectSays d (Ok (front_of p))) (has : HasDigests d p.digests.items)
     (names : HasNames p.typed p.digests.items) (funcs : AreFuncs p.digests.items) where
   ends_from : EndsReady b p told d c → EndsFrom b told d c
-  ends_from ends = record { rest = ends.rest; clean = λ base e from honest. by e from honest b.store base base }
+  ends_from ends = record { rest = ends.rest; goes_on = λ base e from honest. by e from honest b.store base base; afresh = alone }
     where
       by : (e : Earlier) (from : HasStoreOf e d) → OffersHonest e from.strings d told → (o : Option (Vec ℕ Global)) → IsReadFrom d b.image o → HasBase d b
           → IsCleanBuilt d (without_file c open_path)
@@ -273,11 +280,11 @@ module _ (b : Base) (p : Project) (told : Told) (d c : Directory) (says : Projec
       by e from honest (Some text) readable base =
           let clean =
           ends.clean (is_ready (Some d) (Some d) p says refl) (update_of e from.strings d p.typed p.roots.items)
-          (record {
+          (inl (record {
             here = here e d b.image text.items p from readable says has names funcs (Some d) refl;
             stored = stored_of e d b.image text.items p from readable says has names funcs;
             base = base;
-          })
+          }))
           (honest.each p.digests.items p.roots.items (found e d b.image text.items p from readable says has names funcs)) in
           record {
             funcs = p.digests.items;
@@ -290,11 +297,33 @@ module _ (b : Base) (p : Project) (told : Told) (d c : Directory) (says : Projec
             store = clean.clean.store;
           }
 
+      alone : IsNoBase b → IsCleanAnew told d (without_file c open_path)
+      alone bare apart honest =
+          let clean =
+          ends.clean (is_ready (Some d) (Some d) p says refl) (update_alone apart.strings d p.typed p.roots.items)
+          (inr (record {
+            here = here_alone d p apart says has names funcs (Some d) refl;
+            stored = stored_alone d p apart says has names funcs (digested d p.digests.items b.image).funcs b.image.rows bare.rows;
+            none = bare.store;
+            rows = bare.rows;
+          }))
+          (honest.each p.digests.items p.roots.items (found_alone d p apart says has names funcs)) in
+          record {
+            funcs = p.digests.items;
+            roots = p.roots.items;
+            found = found_alone d p apart says has names funcs;
+            text = clean.clean.text;
+            rows = clean.rows;
+            built = clean.clean.built;
+            records = clean.rows_are;
+            store = clean.clean.store;
+          }
+
 -- one that begins from a store, or afresh
 ended_from : (d c : Directory) (b : Base) → HasBase d b → EndsFrom b (λ x t digest. []) d c → HasEnded d c
 ended_from d c b base ends = record {
   rest = ends.rest;
-  goes_on = λ can e from. ends.clean base e from (nothing_offered e from.strings d);
+  goes_on = λ can e from. ends.goes_on base e from (nothing_offered e from.strings d);
   afresh = λ none. absurd (none (can_begin d b.image b.store base));
 }
 
@@ -311,11 +340,12 @@ module _ {S : Type 0} (holds : S → Option Directory) (moment : S → ℕ) (lef
       (λ d c is ends. ends_from b p told d c (subst (λ o. IfSome o (λ x. ProjectSays x (Ok (front_of p)))) is says)
       (subst (λ o. IfSome o (λ x. HasDigests x p.digests.items)) is has) names funcs ends) h
 
-  -- whatever it begins from
-  pub endures_rest : (b : Base) (told : Told) (settled : Type 0) (old new : S) → Endures holds moment left_since images (EndsFrom b told) settled old new
-      → Endures holds moment left_since images KeepsOthers settled old new
-  endures_rest b told settled old new h =
-      endures_where holds moment left_since images (EndsFrom b told) KeepsOthers settled old new (λ d c is ends. ends.rest) h
+  -- from a base without a store or a record
+  pub bare_endures : (b : Base) (told : Told) (settled : Type 0) (old new : S) → IsNoBase b
+      → Endures holds moment left_since images (EndsFrom b told) settled old new → Endures holds moment left_since images (EndsAnew told) settled old new
+  bare_endures b told settled old new bare h =
+      endures_where holds moment left_since images (EndsFrom b told) (EndsAnew told) settled old new
+      (λ d c is ends. record { rest = ends.rest; clean = ends.afresh bare }) h
 
   module _ (start : Start) (settled : Type 0) (old mid new : S) (same : holds mid ≡ holds old)
       (before : LeavesAsBefore holds moment left_since images old mid) where
@@ -344,10 +374,18 @@ module _ {S : Type 0} (holds : S → Option Directory) (moment : S → ℕ) (lef
         → Endures holds moment left_since images (EndsOffered told) settled old new
     offered_endures told b is starts h =
         endures_then holds moment left_since images (EndsFrom b.value told) (EndsOffered told) settled old mid new same before
-        (λ d c is_told ends. record { rest = ends.rest; clean = λ can. ends.clean (base_at b is starts d is_told) }) h
+        (λ d c is_told ends. let base = base_at b is starts d is_told in record {
+          rest = ends.rest;
+          goes_on = λ can. ends.goes_on base;
+          afresh = λ none. absurd (none (can_begin d b.value.image b.value.store base));
+        }) h
 
     pub anew_endures : (told : Told) (cause : Cause) → start ≡ Afresh cause → IfSome (holds old) (λ d. StartsOnly d start)
-        → Endures holds moment left_since images KeepsOthers settled mid new → Endures holds moment left_since images (EndsOffered told) settled old new
+        → Endures holds moment left_since images (EndsAnew told) settled mid new → Endures holds moment left_since images (EndsOffered told) settled old new
     anew_endures told cause is only h =
-        endures_then holds moment left_since images KeepsOthers (EndsOffered told) settled old mid new same before
-        (λ d c is_told rest. record { rest = rest; clean = λ can. absurd (never_at cause is only d is_told can) }) h
+        endures_then holds moment left_since images (EndsAnew told) (EndsOffered told) settled old mid new same before
+        (λ d c is_told ends. record {
+          rest = ends.rest;
+          goes_on = λ can. absurd (never_at cause is only d is_told can);
+          afresh = λ none. ends.clean;
+        }) h

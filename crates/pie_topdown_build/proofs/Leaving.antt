@@ -1,5 +1,5 @@
 -- What an accepted build without a list leaves is the directory of a clean build.
-use Rattle.std.proofs.Common.{◌≡◌, ℕ, List, [], length, Vec, Global, Option, None, Some, Result, Ok, Err, sym, ap, subst, ◌∙◌, refl}
+use Rattle.std.proofs.Common.{◌≡◌, ◌⊎◌, inl, inr, ℕ, List, [], length, Vec, Global, Option, None, Some, Result, Ok, Err, sym, ap, subst, ◌∙◌, refl}
 use Rattle.std.specs.Prelude.{Box, Contains, IfNone, IfSome, IfOk, OnOk, IsTrue}
 use Rattle.std.specs.List.{filter}
 use Rattle.std.specs.Option.{option_map}
@@ -46,9 +46,10 @@ use Rattle.pie_value.specs.declared.task.Task.{Task}
 use Rattle.pie_value.specs.declared.value.Value.{Value}
 use Rattle.pie_value.specs.declared.verdict.Verdict.{Verdict}
 use Rattle.pie_value.specs.declared.verdict.Verdict.TheVariants.{Accepted}
-use Rattle.pie_topdown_build.specs.inner.Cleaned.{HoldsBy, IsExactBuild, IsKnownOf, IsOwnOf, LeavesBy, LeavesWhere, PutsAnew, PutsWhere, IsStoreIn}
+use Rattle.pie_topdown_build.specs.inner.Anew.{IsKnownBeside}
+use Rattle.pie_topdown_build.specs.inner.Cleaned.{HoldsBy, IsExactBuild, IsKnownOf, IsOwnOf, LeavesBy, LeavesWhere, PutsAnew, PutsWhere, IsStoreIfAny}
 use Rattle.pie_topdown_build.specs.inner.Crashes.{Endures, EndsBy, EndsPut, EndsWhere}
-use Rattle.pie_topdown_build.proofs.Crashing.{done_rest, endures_then, endures_where}
+use Rattle.pie_topdown_build.proofs.Crashing.{endures_then}
 use Rattle.pie_topdown_build.proofs.Placing.{puts}
 
 module _ (own : OwnFiles) (held : List (List ℕ × List ℕ)) (funcs : List (List ℕ × List ℕ)) (roots : List Task) (rows : List TaskRecord)
@@ -104,7 +105,7 @@ module _ (own : OwnFiles) (held : List (List ℕ × List ℕ)) (funcs : List (Li
       wrote_are = tells.wrote ∙ ap files_paths plan.writes
 
   -- what a crash leaves where the plan is done, without the marker
-  changed_of : (d c : Directory) → IsDone p d c → HasChanged p d (Some (without_file c open_path))
+  pub changed_of : (d c : Directory) → IsDone p d c → HasChanged p d (Some (without_file c open_path))
   changed_of d c done = record {
     left = without_file c open_path;
     told = refl;
@@ -114,32 +115,23 @@ module _ (own : OwnFiles) (held : List (List ℕ × List ℕ)) (funcs : List (Li
         (done q (ap (same_text q) (places p plan.places).marker ∙ off)));
   }
 
-  done_clean : (u : Update) (d c : Directory) → IsDone p d c → IsKnownOf own held d → IsExactBuild u rows contents d
-      → IsClean u funcs roots rows d (without_file c open_path)
-  done_clean u d c done known e = record {
+  -- what was placed is that of the clean build
+  pub placed_clean : (u : Update) (d x : Directory) → IsExactBuild u rows contents d
+      → (left : Directory) × (Some x ≡ Some left) × IsPlaced rows (contents_in contents) planned.text.items d left → IsClean u funcs roots rows d x
+  placed_clean u d x e put = record {
     text = planned.text.items;
-    built = subst (λ x. IsBuilt planned.text.items x (without_file c open_path) (live_now u)) e.directory
-        (is_built u rows (contents_in contents) e.separates e.met e.made planned.text.items (without_file c open_path)
-        (subst (λ x. IsPlaced rows (contents_in contents) planned.text.items x (without_file c open_path)) (sym e.directory) placed));
+    built = subst (λ y. IsBuilt planned.text.items y x (live_now u)) e.directory
+        (is_built u rows (contents_in contents) e.separates e.met e.made planned.text.items x
+        (subst (λ y. IsPlaced rows (contents_in contents) planned.text.items y x) (sym e.directory)
+        (subst (λ y. IsPlaced rows (contents_in contents) planned.text.items d y) (sym (one_some x put.0 put.1)) put.2)));
     store = is_store;
   }
-    where
-      put : (left : Directory) × (Some (without_file c open_path) ≡ Some left) × IsPlaced rows (contents_in contents) planned.text.items d left
-      put = puts own held rows contents planned.text p plan d known (files_of u d e) (Some (without_file c open_path)) (λ closed. changed_of d c done)
 
-      placed : IsPlaced rows (contents_in contents) planned.text.items d (without_file c open_path)
-      placed =
-          subst (λ x. IsPlaced rows (contents_in contents) planned.text.items d x) (sym (one_some (without_file c open_path) put.0 put.1)) put.2
-
-  pub put_endures : {S : Type 0} (holds : S → Option Directory) (moment : S → ℕ) (left_since : S → ℕ → Directory → Type 0) (images : S → Directory → Type 0)
-      (settled : Type 0) (old new : S) → Endures holds moment left_since images (IsDone p) settled old new
-      → Endures holds moment left_since images (EndsPut own held funcs roots rows contents) settled old new
-  put_endures holds moment left_since images settled old new h =
-      endures_where holds moment left_since images (IsDone p) (EndsPut own held funcs roots rows contents) settled old new
-      (λ d c told done. record {
-        rest = done_rest p (record { places = plan.places; removals = plan.removals_out; writes = plan.writes_out }) d c done;
-        clean = λ known u e. done_clean u d c done known e;
-      }) h
+  pub done_clean : (u : Update) (d c : Directory) → IsDone p d c → IsKnownOf own held d → IsExactBuild u rows contents d
+      → IsClean u funcs roots rows d (without_file c open_path)
+  done_clean u d c done known e =
+      placed_clean u d (without_file c open_path) e
+      (puts own held rows contents planned.text p plan d known (files_of u d e) (Some (without_file c open_path)) (λ closed. changed_of d c done))
 
   leaves : (d : Directory) (after : Option Directory) → (IsClosed d → HasChanged p d after)
       → PutsWhere own held funcs roots rows contents outputs d r after
@@ -168,9 +160,10 @@ module _ (store : Option (Vec ℕ Global)) (own : OwnFiles) (held : List (List �
     files = holds;
   }
 
-  known_in : (o : Option (Vec ℕ Global)) (d : Directory) → HoldsBy o contents held d → IsOwnOf o d own → IsStoreIn o d → IsKnownOf own held d
-  known_in None d holds is stored = absurd stored
-  known_in (Some text) d holds is stored = known_of text d holds is stored
+  known_in : (o : Option (Vec ℕ Global)) (d : Directory) → HoldsBy o contents held d → IsOwnOf o d own → IfNone o (own.store.items ≡ []) → IsStoreIfAny o d
+      → IsKnownOf own held d ⊎ IsKnownBeside own contents held d
+  known_in None d holds is empty stored = inr (record { store = empty; pending = is.pending; files = holds })
+  known_in (Some text) d holds is empty stored = inl (known_of text d holds is stored)
 
   leaves_where : (o : Option (Vec ℕ Global)) (d : Directory) (r : Report) (after : Option Directory) → HoldsBy o contents held d → IsOwnOf o d own
       → IfNone o (own.store.items ≡ []) → PutsWhere own held funcs roots rows contents outputs d r after
@@ -200,16 +193,16 @@ module _ (store : Option (Vec ℕ Global)) (own : OwnFiles) (held : List (List �
   pub looked_endures : {S : Type 0} (holds : S → Option Directory) (moment : S → ℕ) (left_since : S → ℕ → Directory → Type 0)
       (images : S → Directory → Type 0) (settled : Type 0) (old mid last new : S) → holds mid ≡ holds old → LeavesAsBefore holds moment left_since images old mid
       → holds last ≡ holds mid → LeavesAsBefore holds moment left_since images mid last → IfSome (holds old) (HoldsBy store contents held)
-      → IfSome (holds mid) (λ d. IsOwnOf store d own)
+      → IfSome (holds mid) (λ d. IsOwnOf store d own) → IfNone store (own.store.items ≡ [])
       → Endures holds moment left_since images (EndsPut own held funcs roots rows contents) settled last new
       → Endures holds moment left_since images (EndsWhere store funcs roots rows contents) settled old new
-  looked_endures holds moment left_since images settled old mid last new same before again between known is h =
+  looked_endures holds moment left_since images settled old mid last new same before again between known is empty h =
       endures_then holds moment left_since images (EndsPut own held funcs roots rows contents) (EndsWhere store funcs roots rows contents) settled old mid new
       same before
       (λ d c told put. record {
         rest = put.rest;
         clean = λ u e stored. put.clean (known_in store d (subst (λ o. IfSome o (HoldsBy store contents held)) told known)
-            (subst (λ o. IfSome o (λ x. IsOwnOf store x own)) (same ∙ told) is) stored) u e;
+            (subst (λ o. IfSome o (λ x. IsOwnOf store x own)) (same ∙ told) is) empty stored) u e;
       })
       (endures_then holds moment left_since images (EndsPut own held funcs roots rows contents) (EndsPut own held funcs roots rows contents) settled mid last new
       again between (λ d c told put. put) h)

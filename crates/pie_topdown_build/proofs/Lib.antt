@@ -1,8 +1,10 @@
+pub mod Alike
 pub mod ByBytes
 pub mod Cleanly
 pub mod Complete
 pub mod Contents
 pub mod Evaluated
+pub mod Filing
 pub mod Crashing
 pub mod Finding
 pub mod Handing
@@ -12,11 +14,13 @@ pub mod Making
 pub mod Meaning
 pub mod Offering
 pub mod Placing
+pub mod Putting
 pub mod Ran
 pub mod Reasons
 pub mod Refusing
 pub mod Replacing
 pub mod Running
+pub mod Sorting
 pub mod Starting
 pub mod Storing
 pub mod Telling

@@ -1,5 +1,6 @@
 -- A task whose function has one digest in the store of an earlier build and now means the same, whatever changed since.
-use Rattle.std.proofs.Common.{◌≡◌, ℕ, Bool, true, false, cond, List, [], ◌∷◌, ◌++◌, map, Option, None, Some, Ok, Err, refl, sym, ap, subst, ◌∙◌, codes}
+use Rattle.std.proofs.Common.{◌≡◌, ℕ, Bool, true, false, cond, List, [], ◌∷◌, ◌++◌, length, map, ◌≤◌, Option, None, Some, Ok, Err, refl}
+use Rattle.std.proofs.Common.{sym, ap, subst, ◌∙◌, codes}
 use Rattle.std.specs.Prelude.{IsPermutation}
 use Rattle.std.specs.Option.{option_map}
 use Rattle.std.proofs.lemmas.List.{append-nil}
@@ -21,7 +22,7 @@ use Rattle.pie_parser.specs.FunctionGrammar.{IsPipeline}
 use Rattle.pie_parser.specs.FunctionTrees.{FunctionTree}
 use Rattle.pie_project.specs.Digested.{HasDigests}
 use Rattle.pie_project.specs.Fronts.{Checked, Front, typed_or, TokensSay, tree, expected, too_deep, TextSays, tokens, no_token, BytesSay, pipeline_too_long}
-use Rattle.pie_project.specs.Fronts.{pipeline_no_text, pipeline_text, RootsSay, roots_found, roots_too_long, roots_no_text, bad_root, TypedSays, no_roots}
+use Rattle.pie_project.specs.Fronts.{most, pipeline_no_text, pipeline_text, RootsSay, roots_found, roots_too_long, roots_no_text, bad_root, TypedSays, no_roots}
 use Rattle.pie_project.specs.Fronts.{with_roots, PipelineSays, bad_pipeline, good_pipeline, ProjectSays, no_pipeline, with_pipeline}
 use Rattle.pie_project.specs.Looking.{file_bytes, pipeline_path}
 use Rattle.pie_project.specs.declared.project.Project.{Project}
@@ -32,6 +33,7 @@ use Rattle.pie_store.specs.Texts.{IsFormat, IsStore}
 use Rattle.pie_store.specs.declared.image.StoreImage.{StoreImage}
 use Rattle.pie_types.specs.Faults.{TypingResult}
 use Rattle.pie_types.specs.Whole.{checked}
+use Rattle.pie_types.specs.inner.WholeRules.{IsTyped}
 use Rattle.pie_types.proofs.WholeLaw.{checked_sound, checked_complete}
 use Rattle.pie_value.specs.Canonical.{enc_task, IsCanonicalTask}
 use Rattle.pie_value.specs.declared.task.Task.{Task}
@@ -43,14 +45,14 @@ use Rattle.pie_topdown_build.specs.Clean.{HasStoreOf}
 -- ---- the pipeline of a project
 
 abbrev IsReadAs : List Token → Checked → Type 0
-IsReadAs ts (Ok fs) = IsPipeline ts fs
+IsReadAs ts (Ok fs) = IsPipeline ts fs × IsTyped fs
 IsReadAs ts (Err e) = Unit {0}
 
 read_if_checked : (ts : List Token) (fs : List FunctionTree) (o : TypingResult (List FunctionTree)) → IsPipeline ts fs → checked fs ≡ o
     → IsReadAs ts (typed_or o)
 read_if_checked ts fs (Ok gs) a is =
     let one : ◌≡◌ {A = TypingResult (List FunctionTree)} (Ok fs) (Ok gs) = sym (checked_complete fs (checked_sound fs gs is)) ∙ is in
-    let same : fs ≡ gs = cc in subst (IsPipeline ts) same a
+    let same : fs ≡ gs = cc in subst (λ x. IsPipeline ts x × IsTyped x) same (a, checked_sound fs gs is)
 read_if_checked ts fs (Err e) a is = tt
 
 tokens_read : (ts : List Token) (r : Checked) → TokensSay ts r → IsReadAs ts r
@@ -59,41 +61,51 @@ tokens_read ts r (expected x) = tt
 tokens_read ts r (too_deep x) = tt
 
 abbrev HasTokens : List ℕ → Checked → Type 0
-HasTokens text (Ok fs) = (ts : List Token) × IsPipelineOf text ts fs
+HasTokens text (Ok fs) = (ts : List Token) × IsPipelineOf text ts fs × IsTyped fs
 HasTokens text (Err e) = Unit {0}
 
 with_tokens : (text : List ℕ) (ts : List Token) (r : Checked) → Lexes 0 text (Ok ts) → IsReadAs ts r → HasTokens text r
-with_tokens text ts (Ok fs) lexed is = (ts, record { lexed = lexed; pipeline = is })
+with_tokens text ts (Ok fs) lexed is = (ts, record { lexed = lexed; pipeline = is.0 }, is.1)
 with_tokens text ts (Err e) lexed is = tt
 
 text_read : (text : List ℕ) (r : Checked) → TextSays text r → HasTokens text r
 text_read text r (tokens {ts = ts} x q) = with_tokens text ts r x (tokens_read ts r q)
 text_read text r (no_token x) = tt
 
-bytes_read : (bytes : List ℕ) (r : Checked) → BytesSay bytes r → HasTokens bytes r
+abbrev IsText : List ℕ → Checked → Type 0
+IsText bytes (Ok fs) = (length bytes ≤ most) × HasTokens bytes (Ok fs)
+IsText bytes (Err e) = Unit {0}
+
+with_length : (bytes : List ℕ) (r : Checked) → length bytes ≤ most → HasTokens bytes r → IsText bytes r
+with_length bytes (Ok fs) small has = (small, has)
+with_length bytes (Err e) small has = tt
+
+bytes_read : (bytes : List ℕ) (r : Checked) → BytesSay bytes r → IsText bytes r
 bytes_read bytes r (pipeline_too_long a) = tt
 bytes_read bytes r (pipeline_no_text l u) = tt
-bytes_read bytes r (pipeline_text l u q) = text_read bytes r q
+bytes_read bytes r (pipeline_text l u q) = with_length bytes r l (text_read bytes r q)
 
--- the text of a directory's pipeline, with its tokens, which are these functions
-record HasPipeline (d : Directory) (fs : List FunctionTree) : Type 0 where
-  text : List ℕ
-  there : file_bytes d pipeline_path ≡ Some text
-  ts : List Token
-  is : IsPipelineOf text ts fs
+-- the text of a directory's pipeline, with its tokens, which are these functions, and typed
+pub record HasPipeline (d : Directory) (fs : List FunctionTree) : Type 0 where
+  pub text : List ℕ
+  pub there : file_bytes d pipeline_path ≡ Some text
+  pub small : length text ≤ most
+  pub ts : List Token
+  pub is : IsPipelineOf text ts fs
+  pub typed : IsTyped fs
 
-abbrev HasPipelineIn : Directory → Front → Type 0
+abbrev pub HasPipelineIn : Directory → Front → Type 0
 HasPipelineIn d (Ok p) = HasPipeline d p.0
 HasPipelineIn d (Err e) = Unit {0}
 
 roots_has : (d : Directory) (bytes : List ℕ) (fs : List FunctionTree) (rest : List ℕ) (r : Front) → file_bytes d pipeline_path ≡ Some bytes
-    → HasTokens bytes (Ok fs) → RootsSay fs rest r → HasPipelineIn d r
-roots_has d bytes fs rest r there h (roots_found x) = record { text = bytes; there = there; ts = h.0; is = h.1 }
+    → IsText bytes (Ok fs) → RootsSay fs rest r → HasPipelineIn d r
+roots_has d bytes fs rest r there h (roots_found x) = record { text = bytes; there = there; small = h.0; ts = h.1.0; is = h.1.1; typed = h.1.2 }
 roots_has d bytes fs rest r there h (roots_too_long x) = tt
 roots_has d bytes fs rest r there h (roots_no_text x) = tt
 roots_has d bytes fs rest r there h (bad_root x) = tt
 
-typed_has : (d : Directory) (bytes : List ℕ) (fs : List FunctionTree) (r : Front) → file_bytes d pipeline_path ≡ Some bytes → HasTokens bytes (Ok fs)
+typed_has : (d : Directory) (bytes : List ℕ) (fs : List FunctionTree) (r : Front) → file_bytes d pipeline_path ≡ Some bytes → IsText bytes (Ok fs)
     → TypedSays d fs r → HasPipelineIn d r
 typed_has d bytes fs r there h (no_roots x) = tt
 typed_has d bytes fs r there h (with_roots {bytes = rest} x q) = roots_has d bytes fs rest r there h q
@@ -102,13 +114,13 @@ pipeline_has : (d : Directory) (bytes : List ℕ) (r : Front) → file_bytes d p
 pipeline_has d bytes r there (bad_pipeline b) = tt
 pipeline_has d bytes r there (good_pipeline {fs = fs} b q) = typed_has d bytes fs r there (bytes_read bytes (Ok fs) b) q
 
-project_has : (d : Directory) (r : Front) → ProjectSays d r → HasPipelineIn d r
+pub project_has : (d : Directory) (r : Front) → ProjectSays d r → HasPipelineIn d r
 project_has d r (no_pipeline x) = tt
 project_has d r (with_pipeline {bytes = bytes} x q) = pipeline_has d bytes r x q
 
 -- ---- spellings and hashes
 
-spelled_is : (text : List ℕ) (ts : List Token) → spelled text ts ≡ joined text ts
+pub spelled_is : (text : List ℕ) (ts : List Token) → spelled text ts ≡ joined text ts
 spelled_is text [] = refl
 spelled_is text (t ∷ []) = append-nil (spelling text t)
 spelled_is text (t ∷ u ∷ us) = ap (λ bs. spelling text t ++ 32 ∷ bs) (spelled_is text (u ∷ us))

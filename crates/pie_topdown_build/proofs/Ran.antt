@@ -1,12 +1,14 @@
 -- What is told is of tasks that ran, by the digests of their functions.
 use Rattle.std.proofs.Common.{◌≡◌, ◌∙◌, ℕ, zero, suc, Bool, true, false, cond, List, [], ◌∷◌, map, refl, sym, ap, subst, arith}
 use Rattle.std.specs.Prelude.{◌||◌, Contains, Option, None, Some, bytes_eq}
+use Rattle.std.specs.Cmp.{eq_by_cmp_equiv}
 use Rattle.std.specs.Cmp.Lexicographic.{slice_cmp}
 use Rattle.std.specs.List.{cons_option}
 use Rattle.std.specs.Ordering.{eq_by_cmp, is_eq, nat_cmp}
 use Rattle.std.specs.declared.cmp.Ordering.{Ordering}
 use Rattle.std.specs.declared.cmp.Ordering.TheVariants.{Less, Equal, Greater}
 use Rattle.std.proofs.lemmas.Bool.{false≢true}
+use Rattle.std.proofs.lemmas.Cmp.{nat_list_cmp_total}
 use Rattle.std.proofs.lemmas.Map.Lookups.{exact_bytes}
 use Rattle.std.proofs.lemmas.Slice.Eq.{bytes_eq-Decides}
 use Rattle.pie_files.specs.inner.Held.{is_among}
@@ -32,6 +34,19 @@ among_in bytes (b ∷ all) e = by (λ f. among_in bytes all f) (eq_by_cmp (slice
         → (t || is_among bytes all) ≡ true → Contains (b ∷ all) bytes
     by more true is f = (0, omega arith, sym (exact_bytes bytes b (same_by (slice_cmp nat_cmp bytes b) is)))
     by more false is f = let r = more f in (suc r.0, omega (arith, r.1), r.2)
+
+-- and what stands in it is among it
+pub in_among : (bytes : List ℕ) (all : List (List ℕ)) → Contains all bytes → is_among bytes all ≡ true
+in_among bytes [] i = absurd (omega (arith, i.1))
+in_among bytes (b ∷ all) (zero, lt, is) =
+    ap (λ (t : Bool). t || is_among bytes all)
+    (ap (eq_by_cmp (slice_cmp nat_cmp) bytes) is ∙ (eq_by_cmp_equiv nat_list_cmp_total).refl bytes)
+in_among bytes (b ∷ all) (suc i, lt, is) =
+    by (eq_by_cmp (slice_cmp nat_cmp) bytes b) (in_among bytes all (i, omega (arith, lt), is))
+  where
+    by : (t : Bool) → is_among bytes all ≡ true → (t || is_among bytes all) ≡ true
+    by true e = refl
+    by false e = e
 
 -- ---- the digest of a function
 

@@ -35,7 +35,7 @@ use Rattle.pie_incremental.proofs.OwnPaths.{or_left, or_right, places}
 use Rattle.pie_incremental.proofs.Putting.{all_has, in_files, none_of}
 use Rattle.pie_left_laws.specs.Accepted.{live_now}
 use Rattle.pie_left_laws.specs.Placed.{is_builders, IsPlaced, StaysAs}
-use Rattle.pie_left_laws.specs.Reported.{IsOther, IsStray}
+use Rattle.pie_left_laws.specs.Reported.{IsStray}
 use Rattle.pie_left_laws.proofs.Provides.{no_some, path_provided, provided_path}
 use Rattle.pie_left_laws.proofs.Putting.{is_built}
 use Rattle.pie_model.specs.Built.{provided_at}
@@ -48,6 +48,7 @@ use Rattle.pie_value.specs.declared.task.Task.{Task}
 use Rattle.pie_value.specs.declared.value.Value.{Value}
 use Rattle.pie_topdown_build.specs.inner.Anew.{IsKnownBeside, LeavesAnewOf}
 use Rattle.pie_topdown_build.specs.inner.Cleaned.{IsExactBuild, IsKnownOf, PutsAnew}
+use Rattle.pie_topdown_build.specs.inner.Filed.{ProvidesAll}
 use Rattle.pie_topdown_build.proofs.Leaving.{files_of}
 use Rattle.pie_topdown_build.proofs.Placing.{puts}
 use Rattle.pie_topdown_build.proofs.Storing.{some_text, wanted}
@@ -302,19 +303,21 @@ module _ (own : OwnFiles) (held : List (List ℕ × List ℕ)) (rows : List Task
           let n = same_text q pending_path in
           kept_there q (or_right o s (or_left (o || s) n own_off)) (or_left o s (or_left (o || s) n own_off)) (off_file q out_off)
 
+  pub replaced_by : (after : Option Directory) → HasChanged p d after
+      → (left : Directory) × (after ≡ Some left) × IsPlaced rows (contents_in contents) text.items d left
+  replaced_by after changed =
+      let m = puts own held rows contents text p plan cleared is_known files after (λ closed. changed_so after changed) in (m.0, m.1, placed m.0 m.2)
+
   pub replaced : (after : Option Directory) → HasBrought (wanted_by p) (Some d) after
       → (left : Directory) × (after ≡ Some left) × IsPlaced rows (contents_in contents) text.items d left
-  replaced after brought =
-      let m = puts own held rows contents text p plan cleared is_known files after
-      (λ closed. changed_so after (brought_changed p d after own held rows contents text plan brought)) in
-      (m.0, m.1, placed m.0 m.2)
+  replaced after brought = replaced_by after (brought_changed p d after own held rows contents text plan brought)
 
 -- ---- what a build leaves that had nothing to build from
 
 module _ (own : OwnFiles) (held : List (List ℕ × List ℕ)) (funcs : List (List ℕ × List ℕ)) (roots : List Task) (rows : List TaskRecord)
     (contents : Files) (outputs : List (Task × Value)) (s : StoreImage) (p : Plan) (r : Report) (order : InPathOrder contents)
     (parts : HasParts funcs roots rows s) (planned : IsPlanFor own held s contents p) (tells : TellsPlan p (length rows) outputs r) where
-  plan_is : IsChangesPlan own held rows contents planned.text p
+  pub plan_is : IsChangesPlan own held rows contents planned.text p
   plan_is = subst (λ (rs : List TaskRecord). IsChangesPlan own held rs contents planned.text p) parts.rows_are planned.plan
 
   module _ (u : Update) (after : Option Directory) (e : IsExactBuild u rows contents u.directory) (known : IsKnownBeside own contents held u.directory)
@@ -334,16 +337,6 @@ module _ (own : OwnFiles) (held : List (List ℕ × List ℕ)) (funcs : List (Li
     given path i =
         let m = in_contents own held rows contents planned.text p plan_is u.directory known files (some_text s planned.text.items planned.says) path i in
         some_is (provided_at (live_now u) path) m.0 (e.made.only path m.0 m.1)
-
-    other : (path : List ℕ) → IsOther u path → Contains (files_paths contents) path
-    other path o = by (e.made.each path o.bytes o.provided)
-      where
-        by : Contains (contents_in contents) (path, o.bytes) ⊎ (bytes_at u.directory path ≡ Some o.bytes) → Contains (files_paths contents) path
-        by (inl i) =
-            let m = from_map (λ (f : List ℕ × Vec ℕ Global). (f.0, f.1.items)) contents (path, o.bytes) i in
-            subst (λ x. Contains (files_paths contents) x) (ap (λ (x : List ℕ × List ℕ). x.0) m.2)
-            (into_map (λ (x : List ℕ × Vec ℕ Global). x.0) contents m.0 m.1)
-        by (inr k) = absurd (o.other k)
 
     -- what is removed was there, and isn't provided
     stray : (path : List ℕ) → Contains p.removals.items path → IsStray u path
@@ -374,8 +367,8 @@ module _ (own : OwnFiles) (held : List (List ℕ × List ℕ)) (funcs : List (Li
         by true k =
             absurd (false≢true (sym (none_of path (files_paths contents) (λ i. false≢true (subst (λ o. IsSome o) x.absent (given path i)))) ∙ k))
 
-    leaves_of : LeavesAnewOf u funcs roots rows outputs u.directory r after
-    leaves_of = record {
+    leaves_of : ProvidesAll u contents → LeavesAnewOf u funcs roots rows outputs u.directory r after
+    leaves_of all = record {
       left = put.0;
       told = put.1;
       text = planned.text.items;
@@ -389,8 +382,10 @@ module _ (own : OwnFiles) (held : List (List ℕ × List ℕ)) (funcs : List (Li
         rows = parts.rows_are;
       };
       live = tells.live_is;
-      wrote = λ path i. given path (subst (λ ps. Contains ps path) wrote_are i);
-      others = λ path o. subst (λ ps. Contains ps path) (sym wrote_are) (other path o);
+      wrote = λ path. (
+        λ i. given path (subst (λ ps. Contains ps path) wrote_are i),
+        λ some. subst (λ ps. Contains ps path) (sym wrote_are) (all path some),
+      );
       removed = λ path. (
         λ i. stray path (subst (λ ps. Contains ps path) tells.removed i),
         λ x. subst (λ ps. Contains ps path) (sym tells.removed) (gone path x),
@@ -404,7 +399,7 @@ module _ (own : OwnFiles) (held : List (List ℕ × List ℕ)) (funcs : List (Li
 
   leaves : (d : Directory) (after : Option Directory) → (is_empty p ≡ false → HasBrought (wanted_by p) (Some d) after)
       → PutsAnew own held funcs roots rows contents outputs d r after
-  leaves d after changed known u e =
+  leaves d after changed known u e all =
       let at_u : IsExactBuild u rows contents u.directory = subst (λ x. IsExactBuild u rows contents x) (sym e.directory) e in
       let known_u : IsKnownBeside own contents held u.directory = subst (λ x. IsKnownBeside own contents held x) (sym e.directory) known in
       let some = some_text s planned.text.items planned.says in
@@ -412,7 +407,7 @@ module _ (own : OwnFiles) (held : List (List ℕ × List ℕ)) (funcs : List (Li
       changed (not_empty p planned.text (stores own held rows contents planned.text p plan_is u.directory known_u
       (files_of own held funcs roots rows contents outputs s p r order parts planned tells u u.directory at_u) some)) in
       subst (λ x. LeavesAnewOf u funcs roots rows outputs x r after) e.directory
-      (leaves_of u after at_u known_u (subst (λ x. HasBrought (wanted_by p) (Some x) after) (sym e.directory) brought))
+      (leaves_of u after at_u known_u (subst (λ x. HasBrought (wanted_by p) (Some x) after) (sym e.directory) brought) all)
 
   pub leaves_anew : (before after : Option Directory) (b : Box Report Global) (result : Result (Box Report Global) FilesError) → b.value ≡ r
       → IfOk result (λ x. x ≡ b) → (is_empty p ≡ false → OnOk result (HasBrought (wanted_by p) before after))

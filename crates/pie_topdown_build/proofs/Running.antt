@@ -1,10 +1,11 @@
 -- The evaluation of a build without a list, and its end, as the model of building knows them.
-use Rattle.std.proofs.Common.{◌≡◌, ℕ, true, List, Option, None, Some, Result, Ok, Err, Vec, Global, refl, sym, ap, subst, ◌∙◌}
-use Rattle.std.specs.Prelude.{All, IfOk, IfSome}
+use Rattle.std.proofs.Common.{◌≡◌, ℕ, true, List, [], Option, None, Some, Result, Ok, Err, Vec, Global, refl, sym, ap, subst, ◌∙◌}
+use Rattle.std.specs.Prelude.{All, Contains, IfOk, IfSome}
 use Rattle.std.proofs.lemmas.List.Elements.{All-weaker}
 use Rattle.pie_build.specs.inner.Projects.{IsReady}
 use Rattle.pie_builder_laws.specs.Events.{AreCompiled}
 use Rattle.pie_checks.specs.declared.built.Built.{Built}
+use Rattle.pie_check_laws.proofs.Members.{none_in}
 use Rattle.pie_code.specs.declared.code.Code.{Code}
 use Rattle.pie_core_laws.specs.Update.{Update}
 use Rattle.pie_files.specs.Directory.{Directory}
@@ -36,6 +37,8 @@ use Rattle.pie_topdown_build.specs.inner.Anew.{BuildsAnewOf, LeavesAnewAs}
 use Rattle.pie_topdown_build.specs.inner.Bases.{HasBase, IsReadFrom}
 use Rattle.pie_topdown_build.specs.inner.Clean.{MakesFrom, RunsAsClean, RunsIfTold}
 use Rattle.pie_topdown_build.specs.inner.Cleaned.{IsExactBuild, LeavesBy, LeavesWhere}
+use Rattle.pie_topdown_build.specs.inner.Filed.{FilesFrom, ProvidesAll}
+use Rattle.pie_topdown_build.proofs.Filing.{all_provided}
 
 -- the offers for each task
 abbrev pub Told : Type 0
@@ -75,8 +78,8 @@ evaluates before mid p codes s t told (Err x) same compiled image rows put makes
 
 -- ---- its end
 
-module _ (b : Base) (p : Project) (told : Told) (before mid after : Option Directory) (made : Built) (r : Report) (same : mid ≡ before)
-    (makes : MakesFrom before p b.image told made)
+module _ (b : Base) (p : Project) (told : Told) (before mid after : Option Directory) (first ended reused : List Task) (made : Built) (r : Report)
+    (same : mid ≡ before) (makes : MakesFrom before p b.image told made) (filed : FilesFrom before p b.image told first ended reused made)
     (leaves : IfSome mid (λ d. LeavesBy made.verdict b.store p.digests.items p.roots.items made d r after)) (is : r.verdict ≡ made.verdict) (u : Update)
     (here : IsNowHere u before p.typed p.roots.items)
     (stored : IsFromStore u (digested u.directory p.digests.items b.image).funcs p.digests.items b.image.rows) (honest : AreHonest u p.digests.items told)
@@ -113,9 +116,15 @@ module _ (b : Base) (p : Project) (told : Told) (before mid after : Option Direc
           left = over accepted b.store base (left accepted);
         }
 
+    -- where there were no records, each path that is provided has its file
+    all : b.image.rows ≡ [] → made.verdict ≡ Accepted → ProvidesAll u made.files.items
+    all empty accepted =
+        all_provided u made.rows.items made.files.items (result.made accepted)
+        (λ row i. (filed.each u here stored honest accepted).others row i (λ k. none_in row (subst (λ rs. Contains rs row) empty k)))
+
     -- from none
-    builds_anew : b.store ≡ None → BuildsAnewOf u p.digests.items p.roots.items r after
-    builds_anew none = record { verdict = ap verdict_of is ∙ result.verdict; left = λ accepted. leaves_anew (sym is ∙ accepted) }
+    builds_anew : b.store ≡ None → b.image.rows ≡ [] → BuildsAnewOf u p.digests.items p.roots.items r after
+    builds_anew none empty = record { verdict = ap verdict_of is ∙ result.verdict; left = λ accepted. leaves_anew (sym is ∙ accepted) }
       where
         leaves_anew : made.verdict ≡ Accepted → LeavesAnewAs u p.digests.items p.roots.items r after
         leaves_anew accepted =
@@ -125,16 +134,19 @@ module _ (b : Base) (p : Project) (told : Told) (before mid after : Option Direc
               outputs = made.outputs.items;
               rows_are = (result.made accepted).rows;
               outputs_are = result.outputs accepted;
-              left = l u (exact accepted);
+              left = l u (exact accepted) (all empty accepted);
             }
 
-pub runs_clean : (b : Base) (p : Project) (told : Told) (before mid after : Option Directory) (made : Built) (r : Report) → mid ≡ before
-    → MakesFrom before p b.image told made → IfSome mid (λ d. LeavesBy made.verdict b.store p.digests.items p.roots.items made d r after)
+pub runs_clean : (b : Base) (p : Project) (told : Told) (before mid after : Option Directory) (first ended reused : List Task) (made : Built) (r : Report)
+    → mid ≡ before → MakesFrom before p b.image told made → FilesFrom before p b.image told first ended reused made
+    → IfSome mid (λ d. LeavesBy made.verdict b.store p.digests.items p.roots.items made d r after)
     → r.verdict ≡ made.verdict → r.fresh ≡ None → RunsAsClean b p told before after r
-runs_clean b p told before mid after made r same makes leaves is none = record {
+runs_clean b p told before mid after first ended reused made r same makes filed leaves is none = record {
   none = none;
-  each = λ u from honest. builds_clean b p told before mid after made r same makes leaves is u from.here from.stored honest from.base;
-  anew = λ u from honest. builds_anew b p told before mid after made r same makes leaves is u from.here from.stored honest from.none;
+  each = λ u from honest.
+      builds_clean b p told before mid after first ended reused made r same makes filed leaves is u from.here from.stored honest from.base;
+  anew = λ u from honest.
+      builds_anew b p told before mid after first ended reused made r same makes filed leaves is u from.here from.stored honest from.none from.rows;
 }
 
 -- ---- the build of a project

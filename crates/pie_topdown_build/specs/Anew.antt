@@ -6,7 +6,7 @@ use Rattle.pie_base.specs.Path.{is_out}
 use Rattle.pie_build.specs.Left.{IsProjectOf}
 use Rattle.pie_build.specs.Stored.{IsStoreOf}
 use Rattle.pie_files.specs.Directory.{Directory}
-use Rattle.pie_incremental.specs.Clean.{IsOther, IsStray}
+use Rattle.pie_incremental.specs.Clean.{IsStray}
 use Rattle.pie_incremental.specs.Earlier.{live_of}
 use Rattle.pie_incremental.specs.Own.{bytes_at}
 use Rattle.pie_model.specs.Built.{provided_at, store_rows, IsBuilt}
@@ -45,8 +45,7 @@ pub record IsSeparate (d : Directory) : Type 0 where
 -- ---- what is left
 
 -- the directory after is that of the clean build, with a store of these functions and roots and of the records of its live tasks; the report tells how many
--- these are, the outputs, files that were written, all of which live tasks provide and among which are those where the directory had other bytes or none, and
--- the files that were removed, each once in path order
+-- these are, the outputs, the files that live tasks provide, all of which were written, and the files that were removed, each once in path order
 pub record LeavesAnew (fs : List FunctionTree) (funcs : List (List ℕ × List ℕ)) (roots : List Task) (d : Directory) (r : Report) (after : Option Directory)
     : Type 0 where
   pub left : Directory
@@ -58,8 +57,7 @@ pub record LeavesAnew (fs : List FunctionTree) (funcs : List (List ℕ × List �
   pub store : IsStoreOf funcs roots rows text
   pub live : r.live ≡ length rows
   pub outputs : map output_bytes r.outputs.items ≡ map (with_output fs d) (map enc_task roots)
-  pub wrote : (path : List ℕ) → Contains r.wrote.items path → IsSome (provided_at (live_of fs d roots) path)
-  pub others : (path : List ℕ) → IsOther (live_of fs d roots) d path → Contains r.wrote.items path
+  pub wrote : (path : List ℕ) → Contains r.wrote.items path ↔ IsSome (provided_at (live_of fs d roots) path)
   pub removed : (path : List ℕ) → Contains r.removed.items path ↔ IsStray (live_of fs d roots) d path
   pub ordered : IsStrictlySortedBy path_cmp r.wrote.items × IsStrictlySortedBy path_cmp r.removed.items
 

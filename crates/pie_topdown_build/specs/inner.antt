@@ -3,7 +3,9 @@ pub mod Anew
 pub mod Bases
 pub mod Clean
 pub mod Cleaned
+pub mod Complete
 pub mod Crashes
+pub mod Filed
 pub mod News
 pub mod Offered
 pub mod Ran

@@ -1,5 +1,5 @@
 //! A build that needs no list of changes.
-ghost use Rattle.std.specs.Prelude.{◌≡◌, ◌≤◌, ◌+◌, ◌++◌, [], Some, length, map, All, IfOk, IfSome};
+ghost use Rattle.std.specs.Prelude.{◌≡◌, ◌≤◌, ◌+◌, ◌++◌, List, [], Some, length, map, All, IfOk, IfSome};
 ghost use Rattle.pie_build.specs.Left.{KeepsRest, Leaves};
 ghost use Rattle.pie_build.specs.Crashes.{IsDone, StaysAtRest};
 ghost use Rattle.pie_build.specs.inner.Rebuilt.{IsRefusal, Tells};
@@ -10,17 +10,18 @@ ghost use Rattle.pie_incremental.specs.inner.Refused.{RefusesRight};
 ghost use Rattle.pie_incremental.specs.inner.Joined.{IsImage};
 ghost use Rattle.pie_incremental.specs.inner.Updated.{IsAfreshAfter};
 ghost use Rattle.pie_project.specs.Refusals.{IsVerdict};
+ghost use Rattle.pie_value.specs.declared.task.Task.{Task as TaskValue};
 ghost use Rattle.pie_value.specs.Canonical.{IsEncodableTask};
 ghost use Rattle.pie_topdown_build.specs.inner.News.{as_told, AreNewsOf};
 ghost use Rattle.pie_topdown_build.specs.inner.Offered.{IsNew};
 ghost use Rattle.pie_topdown_build.specs.Clean.{BuildsAsClean};
-ghost use Rattle.pie_topdown_build.specs.Crashes.{HasEnded, KeepsOthers, MayStop, StopsWith};
+ghost use Rattle.pie_topdown_build.specs.Crashes.{HasEnded, MayStop, StopsWith};
 ghost use Rattle.pie_topdown_build.specs.inner.Stored.{IsBegunFrom};
 ghost use Rattle.pie_topdown_build.specs.Ran.{RunsForReasons};
 ghost use Rattle.pie_topdown_build.specs.inner.Anew.{AnewAsClean, IsNoBase};
 ghost use Rattle.pie_topdown_build.specs.inner.Clean.{FromAsClean, OffersClean};
-ghost use Rattle.pie_topdown_build.specs.inner.Crashes.{Endures, EndsFrom, EndsOffered};
-ghost use Rattle.pie_topdown_build.specs.inner.Ran.{FromRuns};
+ghost use Rattle.pie_topdown_build.specs.inner.Crashes.{Endures, EndsAnew, EndsFrom, EndsOffered};
+ghost use Rattle.pie_topdown_build.specs.inner.Ran.{FromRuns, OffersRun, RunsAnew};
 ghost use Rattle.pie_topdown_build.specs.inner.Records.{OffersOf, TellsAnew};
 ghost use Rattle.pie_topdown_build.specs.Refusals.{KeepsRefused};
 
@@ -82,6 +83,7 @@ pub fn build_offered<F: Files, O: Offers>(
     ensures refused { IsRefusal result → F.holds files.new ≡ F.holds files.old }
     ensures kept { IfSome (F.holds files.old) (λ d. IfOk result (λ o. KeepsRefused o.report.value.verdict d (F.holds files.new))) }
     ensures clean { IfSome (F.holds files.old) (λ d. IfOk result (λ o. OffersClean (O.told offers.old) d o.report.value (F.holds files.new))) }
+    ensures runs { IfSome (F.holds files.old) (λ d. IfOk result (λ o. OffersRun (O.told offers.old) d o.report.value o.reused.items)) }
     ensures crash { LeavesFromRest F.holds F.moment F.left_since F.images (StopsWith (EndsOffered (O.told offers.old))) files.old files.new }
     ensures marked { EndsMarked F.holds F.images (EndsOffered (O.told offers.old)) files.old files.new }
     ensures durable { IsVerdict result → StaysAtRest F.holds F.images files.old files.new }
@@ -117,7 +119,7 @@ fn from_store<F: Files>(
     ensures kept { IfSome (F.holds files.old) (λ d. IfOk result (λ r. KeepsRefused r.verdict d (F.holds files.new))) }
     ensures clean { IfOk result (FromAsClean base.value (λ d t digest. []) (F.holds files.old) (F.holds files.new)) }
     ensures crash { Endures F.holds F.moment F.left_since F.images (EndsFrom base.value (λ d t digest. [])) (IsVerdict result) files.old files.new }
-    ensures runs { IfOk result (FromRuns base.value (λ d t digest. []) (F.holds files.old)) }
+    ensures runs { IfOk result (λ r. (reused : List TaskValue) × FromRuns base.value (λ d t digest. []) (F.holds files.old) r reused) }
     ensures ran { IfOk result (λ r. runs.new ≡ runs.old ++ r.ran.items) }
     ensures few { length runs.new ≤ length runs.old + 50000 }
     ensures encodable { IfOk result (λ r. All IsEncodableTask r.ran.items) }
@@ -172,7 +174,8 @@ fn anew<F: Files, O: Offers>(
     ensures refused { IsRefusal result → F.holds files.new ≡ F.holds files.old }
     ensures kept { IfSome (F.holds files.old) (λ d. IfOk result (λ o. KeepsRefused o.report.value.verdict d (F.holds files.new))) }
     ensures clean { IfSome (F.holds files.old) (λ d. IfOk result (λ o. AnewAsClean (O.told offers.old) d o.report.value (F.holds files.new))) }
-    ensures crash { Endures F.holds F.moment F.left_since F.images KeepsOthers (IsVerdict result) files.old files.new }
+    ensures runs { IfSome (F.holds files.old) (λ d. IfOk result (λ o. RunsAnew (O.told offers.old) d o.report.value o.reused.items)) }
+    ensures crash { Endures F.holds F.moment F.left_since F.images (EndsAnew (O.told offers.old)) (IsVerdict result) files.old files.new }
     ensures fresh { IfOk result (λ o. o.report.value.fresh ≡ Some cause) }
     ensures ran { IfOk result (λ o. runs.new ≡ runs.old ++ o.report.value.ran.items) }
     ensures few { length runs.new ≤ length runs.old + 50000 }
@@ -180,7 +183,7 @@ fn anew<F: Files, O: Offers>(
     ensures reused { IfOk result (λ o. All IsEncodableTask o.reused.items) }
     ensures new { IfOk result (λ o. All IsNew o.new.items) }
     ensures news { IfOk result (λ o. AreNewsOf IsClosed (F.holds files.old) (F.holds files.new) o) }
-    ensures honest { IfSome (F.holds files.old) (λ d. IfOk result (λ o. TellsAnew (O.told offers.old) d o.report.value.verdict (map as_told o.new.items))) }
+    ensures honest { IfSome (F.holds files.old) (λ d. IfOk result (λ o. TellsAnew (O.told offers.old) d o.report.value.verdict o.report.value.ran.items (map as_told o.new.items))) }
     ensures says { IfSome (F.holds files.old) (λ d. RefusesRight d result) }
     ensures told { Tells F.faults files.old files.new result }
 {
@@ -205,7 +208,8 @@ fn anew_from<F: Files, O: Offers>(
     ensures refused { IsRefusal result → F.holds files.new ≡ F.holds files.old }
     ensures kept { IfSome (F.holds files.old) (λ d. IfOk result (λ o. KeepsRefused o.report.value.verdict d (F.holds files.new))) }
     ensures clean { IfSome (F.holds files.old) (λ d. IfOk result (λ o. IsNoBase base.value → AnewAsClean (O.told offers.old) d o.report.value (F.holds files.new))) }
-    ensures crash { Endures F.holds F.moment F.left_since F.images KeepsOthers (IsVerdict result) files.old files.new }
+    ensures runs { IfSome (F.holds files.old) (λ d. IfOk result (λ o. IsNoBase base.value → RunsAnew (O.told offers.old) d o.report.value o.reused.items)) }
+    ensures crash { Endures F.holds F.moment F.left_since F.images (EndsFrom base.value (O.told offers.old)) (IsVerdict result) files.old files.new }
     ensures fresh { IfOk result (λ o. o.report.value.fresh ≡ Some cause) }
     ensures ran { IfOk result (λ o. runs.new ≡ runs.old ++ o.report.value.ran.items) }
     ensures few { length runs.new ≤ length runs.old + 50000 }
@@ -213,7 +217,7 @@ fn anew_from<F: Files, O: Offers>(
     ensures reused { IfOk result (λ o. All IsEncodableTask o.reused.items) }
     ensures new { IfOk result (λ o. All IsNew o.new.items) }
     ensures news { IfOk result (λ o. AreNewsOf (IsBegunFrom base.value.store) (F.holds files.old) (F.holds files.new) o) }
-    ensures honest { IfSome (F.holds files.old) (λ d. IfOk result (λ o. IsNoBase base.value → TellsAnew (O.told offers.old) d o.report.value.verdict (map as_told o.new.items))) }
+    ensures honest { IfSome (F.holds files.old) (λ d. IfOk result (λ o. IsNoBase base.value → TellsAnew (O.told offers.old) d o.report.value.verdict o.report.value.ran.items (map as_told o.new.items))) }
     ensures says { IfSome (F.holds files.old) (λ d. RefusesRight d result) }
     ensures told { Tells F.faults files.old files.new result }
 {

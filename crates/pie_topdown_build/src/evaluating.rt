@@ -4,6 +4,7 @@ ghost use Rattle.pie_digest.specs.Digests.{HasNames};
 ghost use Rattle.pie_files.specs.Reading.{ReadsOnly};
 ghost use Rattle.pie_incremental.specs.inner.Joined.{IsImage, IsMade};
 ghost use Rattle.pie_store.specs.Canonical.{AreFuncs};
+ghost use Rattle.pie_topdown.specs.inner.Filed.{MakesFilesOf};
 ghost use Rattle.pie_topdown.specs.inner.Ran.{RunsForReasons};
 ghost use Rattle.pie_topdown.specs.inner.Rooted.{IsProgram};
 ghost use Rattle.pie_topdown.specs.inner.Roots.{Started};
@@ -11,6 +12,7 @@ ghost use Rattle.pie_topdown.specs.inner.Unoffered.{OffersNothing};
 ghost use Rattle.pie_topdown_result_laws.specs.Builds.{MakesClean};
 ghost use Rattle.pie_value.specs.Canonical.{IsEncodableTask};
 ghost use Rattle.pie_topdown_build.specs.inner.Clean.{MakesFrom};
+ghost use Rattle.pie_topdown_build.specs.inner.Filed.{FilesFrom};
 ghost use Rattle.pie_topdown_build.specs.inner.Ran.{RunsFrom};
 
 use pie_base::OutOfMemory;
@@ -50,6 +52,7 @@ pub(crate) fn evaluate<F: Files, O: Offers>(
     ensures made { IfOk result (λ e. IsMade project.now.digests.items project.now.roots.items e.built.value) }
     ensures clean { IfOk result (λ e. MakesFrom (F.holds files.old) project.now image (O.told offers.old) e.built.value) }
     ensures runs { IfOk result (λ e. RunsFrom (F.holds files.old) project.now image (O.told offers.old) runs.old runs.new e.reused.items e.built.value.verdict) }
+    ensures files { IfOk result (λ e. FilesFrom (F.holds files.old) project.now image (O.told offers.old) runs.old runs.new e.reused.items e.built.value) }
     ensures reused { IfOk result (λ e. All IsEncodableTask e.reused.items) }
     ensures started { Started runs.old runs.new }
     ensures few { length runs.new ≤ length runs.old + 50000 }
@@ -82,6 +85,9 @@ fn settled<F: Files, O: Offers>(
     ensures runs { IsProgram project.now.typed code.now image.value.rows
         → IfOk result (λ e. RunsForReasons (F.holds files.old) project.now.typed image.value.funcs project.now.digests.items image.value.rows (O.told offers.old)
         project.now.roots.items runs.old runs.new [] e.reused.items e.built.value.verdict) }
+    ensures files { IsProgram project.now.typed code.now image.value.rows
+        → IfOk result (λ e. MakesFilesOf (F.holds files.old) project.now.typed image.value.funcs project.now.digests.items image.value.rows (O.told offers.old)
+        project.now.roots.items runs.old runs.new [] e.reused.items e.built.value) }
     ensures none { OffersNothing (F.holds files.old) (O.told offers.old) → IfOk result (λ e. e.reused.items ≡ []) }
     ensures reused { IfOk result (λ e. All IsEncodableTask e.reused.items) }
     ensures started { Started runs.old runs.new }

@@ -53,7 +53,7 @@ pub(crate) fn from<F: Files, O: Offers>(
     ensures refused { IsRefusal result → F.holds files.new ≡ F.holds files.old }
     ensures kept { IfSome (F.holds files.old) (λ d. IfOk result (λ o. KeepsRefused o.report.value.verdict d (F.holds files.new))) }
     ensures clean { IfOk result (λ o. FromAsClean base.value (O.told offers.old) (F.holds files.old) (F.holds files.new) o.report.value) }
-    ensures runs { IfOk result (λ o. FromRuns base.value (O.told offers.old) (F.holds files.old) o.report.value) }
+    ensures runs { IfOk result (λ o. FromRuns base.value (O.told offers.old) (F.holds files.old) o.report.value o.reused.items) }
     ensures crash { Endures F.holds F.moment F.left_since F.images (EndsFrom base.value (O.told offers.old)) (IsVerdict result) files.old files.new }
     ensures ran { IfOk result (λ o. runs.new ≡ runs.old ++ o.report.value.ran.items) }
     ensures few { length runs.new ≤ length runs.old + 50000 }
@@ -61,7 +61,7 @@ pub(crate) fn from<F: Files, O: Offers>(
     ensures reused { IfOk result (λ o. All IsEncodableTask o.reused.items) }
     ensures new { IfOk result (λ o. All IsNew o.new.items) }
     ensures news { tells ≡ true → IfOk result (λ o. AreNewsOf (IsBegunFrom base.value.store) (F.holds files.old) (F.holds files.new) o) }
-    ensures honest { tells ≡ true → IfOk result (λ o. TellsFrom base.value (O.told offers.old) (F.holds files.old) o.report.value.verdict (map as_told o.new.items)) }
+    ensures honest { tells ≡ true → IfOk result (λ o. TellsFrom base.value (O.told offers.old) (F.holds files.old) o.report.value.verdict o.report.value.ran.items (map as_told o.new.items)) }
     ensures says { IfSome (F.holds files.old) (λ d. RefusesRight d result) }
     ensures told { Tells F.faults files.old files.new result }
 {
@@ -89,7 +89,7 @@ fn with_project<F: Files, O: Offers>(
     ensures refused { IsRefusal result → F.holds files.new ≡ F.holds files.old }
     ensures kept { IfSome (F.holds files.old) (λ d. IfOk result (λ o. KeepsRefused o.report.value.verdict d (F.holds files.new))) }
     ensures clean { IfOk result (λ o. RunsIfTold base.value project.now (O.told offers.old) (F.holds files.old) (F.holds files.new) o.report.value) }
-    ensures runs { IfOk result (λ o. RunsByIfTold base.value project.now (O.told offers.old) (F.holds files.old) o.report.value) }
+    ensures runs { IfOk result (λ o. RunsByIfTold base.value project.now (O.told offers.old) (F.holds files.old) o.report.value o.reused.items) }
     ensures crash { Endures F.holds F.moment F.left_since F.images (EndsReady base.value project.now (O.told offers.old)) (IsVerdict result) files.old files.new }
     ensures ran { IfOk result (λ o. runs.new ≡ runs.old ++ o.report.value.ran.items) }
     ensures few { length runs.new ≤ length runs.old + 50000 }
@@ -97,7 +97,7 @@ fn with_project<F: Files, O: Offers>(
     ensures reused { IfOk result (λ o. All IsEncodableTask o.reused.items) }
     ensures new { IfOk result (λ o. All IsNew o.new.items) }
     ensures news { tells ≡ true → IfOk result (λ o. TellsNewsOf (IsReadyFrom project.now base.value.store) project.now.digests.items (F.holds files.old) (F.holds files.new) o) }
-    ensures honest { tells ≡ true → IfOk result (λ o. TellsOfIfReady (F.holds files.old) project.now base.value.image (O.told offers.old) o.report.value.verdict (map as_told o.new.items)) }
+    ensures honest { tells ≡ true → IfOk result (λ o. TellsOfIfReady (F.holds files.old) project.now base.value.image (O.told offers.old) o.report.value.verdict o.report.value.ran.items (map as_told o.new.items)) }
     ensures says { IfSome (F.holds files.old) (λ d. RefusesRight d result) }
     ensures told { Tells F.faults files.old files.new result }
 {
@@ -158,7 +158,7 @@ fn run<F: Files, O: Offers>(
     ensures rest { KeepsRest (F.holds files.old) (F.holds files.new) }
     ensures quiet { IfOk result (λ o. Quiet o.report.value.verdict (F.holds files.old) (F.holds files.new)) }
     ensures clean { IfOk result (λ o. RunsAsClean base.value project.now (O.told offers.old) (F.holds files.old) (F.holds files.new) o.report.value) }
-    ensures runs { IfOk result (λ o. RunsBy base.value project.now (O.told offers.old) (F.holds files.old) o.report.value) }
+    ensures runs { IfOk result (λ o. RunsBy base.value project.now (O.told offers.old) (F.holds files.old) o.report.value o.reused.items) }
     ensures crash { Endures F.holds F.moment F.left_since F.images (EndsRun base.value project.now (O.told offers.old)) (IsOk result) files.old files.new }
     ensures ran { IfOk result (λ o. runs.new ≡ runs.old ++ o.report.value.ran.items) }
     ensures few { length runs.new ≤ length runs.old + 50000 }
@@ -166,7 +166,7 @@ fn run<F: Files, O: Offers>(
     ensures reused { IfOk result (λ o. All IsEncodableTask o.reused.items) }
     ensures new { IfOk result (λ o. All IsNew o.new.items) }
     ensures news { tells ≡ true → IfOk result (λ o. TellsNewsOf (IsBegunFrom base.value.store) project.now.digests.items (F.holds files.old) (F.holds files.new) o) }
-    ensures honest { tells ≡ true → IfOk result (λ o. TellsOf (F.holds files.old) project.now base.value.image (O.told offers.old) o.report.value.verdict (map as_told o.new.items)) }
+    ensures honest { tells ≡ true → IfOk result (λ o. TellsOf (F.holds files.old) project.now base.value.image (O.told offers.old) o.report.value.verdict o.report.value.ran.items (map as_told o.new.items)) }
     ensures counted { Counted F.faults FilesError.Failed files.old files.new result }
 {
     let Base { image, store } = Box::into_inner(base);

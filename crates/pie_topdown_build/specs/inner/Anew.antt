@@ -14,7 +14,7 @@ use Rattle.pie_incremental.specs.declared.base.OwnFiles.{OwnFiles}
 use Rattle.pie_incremental.specs.Own.{bytes_at, pending_path}
 use Rattle.pie_incremental.specs.inner.Digested.{digested}
 use Rattle.pie_left_laws.specs.Accepted.{live_now}
-use Rattle.pie_left_laws.specs.Reported.{IsOther, IsStray}
+use Rattle.pie_left_laws.specs.Reported.{IsStray}
 use Rattle.pie_model.specs.Built.{provided_at, store_rows, IsBuilt}
 use Rattle.pie_model.specs.Verdict.{verdict}
 use Rattle.pie_model_pipeline.specs.Clean.{with_output, output_bytes}
@@ -60,17 +60,17 @@ pub record IsNoBase (b : Base) : Type 0 where
   pub store : b.store ≡ None
   pub rows : b.image.rows ≡ []
 
--- an update to this project in what the files hold, from the records of this base, which there is no store of
+-- an update to this project in what the files hold, from this base, which has no store and no record
 pub record IsUpdateAnew (u : Update) (held : Option Directory) (b : Base) (p : Project) : Type 0 where
   pub here : IsNowHere u held p.typed p.roots.items
   pub stored : IsFromStore u (digested u.directory p.digests.items b.image).funcs p.digests.items b.image.rows
   pub none : b.store ≡ None
+  pub rows : b.image.rows ≡ []
 
 -- ---- what an accepted one leaves
 
--- the directory after is that of the clean build, and the store in it has these functions, roots and records; the report tells files that were written, all of
--- which a clean build provides and among which are those where the directory had other bytes or none, which were removed, each once in path order, and the
--- outputs
+-- the directory after is that of the clean build, and the store in it has these functions, roots and records; the report tells the files that a clean build
+-- provides, all of which were written, those that were removed, each once in path order, and the outputs
 pub record LeavesAnewOf (u : Update) (funcs : List (List ℕ × List ℕ)) (roots : List Task) (rows : List TaskRecord) (outputs : List (Task × Value))
     (d : Directory) (r : Report) (after : Option Directory) : Type 0 where
   pub left : Directory
@@ -79,8 +79,7 @@ pub record LeavesAnewOf (u : Update) (funcs : List (List ℕ × List ℕ)) (root
   pub built : IsBuilt text d left (live_now u)
   pub store : IsStoreOf funcs roots rows text
   pub live : r.live ≡ length rows
-  pub wrote : (path : List ℕ) → Contains r.wrote.items path → IsSome (provided_at (live_now u) path)
-  pub others : (path : List ℕ) → IsOther u path → Contains r.wrote.items path
+  pub wrote : (path : List ℕ) → Contains r.wrote.items path ↔ IsSome (provided_at (live_now u) path)
   pub removed : (path : List ℕ) → Contains r.removed.items path ↔ IsStray u path
   pub ordered : IsStrictlySortedBy path_cmp r.wrote.items × IsStrictlySortedBy path_cmp r.removed.items
   pub outputs_are : r.outputs.items ≡ outputs

@@ -20,7 +20,7 @@ use Rattle.pie_topdown_result_laws.specs.Results.{IsResultOf}
 use Rattle.pie_value.specs.Canonical.{enc_task}
 use Rattle.pie_value.specs.declared.task.Task.{Task}
 use Rattle.pie_topdown_build.specs.declared.base.Base.{Base}
-use Rattle.pie_topdown_build.specs.Clean.{HasStoreOf, IsStoreCause}
+use Rattle.pie_topdown_build.specs.Clean.{CanBegin, HasStoreOf, IsStoreCause}
 use Rattle.pie_topdown_build.specs.inner.Anew.{AnewAsClean, BuildsAnewOf, IsNoBase, IsUpdateAnew}
 use Rattle.pie_topdown_build.specs.inner.Bases.{HasBase}
 
@@ -76,8 +76,10 @@ pub record FromAsClean (b : Base) (told : Directory → Task → List ℕ → Li
   pub anew : (d : Directory) → before ≡ Some d → IsNoBase b → AnewAsClean told d r after
 
 -- what a build with offers came to: a report that tells no cause to start afresh is as that of a clean build, where the directory has the store of an earlier
--- one, and honest records are offered; so is one that tells a cause, whatever was there; and the cause holds
+-- one, and honest records are offered; so is one that tells a cause, whatever was there; the cause holds; and one is told only where no store can be read
 pub record OffersClean (told : Directory → Task → List ℕ → List Offered) (d : Directory) (r : Report) (after : Option Directory) : Type 0 where
   pub goes_on : r.fresh ≡ None → (e : Earlier) (from : HasStoreOf e d) → OffersHonest e from.strings d told → IsAsClean d r after
   pub afresh : IsSome r.fresh → AnewAsClean told d r after
   pub cause : (c : Cause) → r.fresh ≡ Some c → IsStoreCause d c
+  pub begins : r.fresh ≡ None → CanBegin d
+  pub only : IsSome r.fresh → CanBegin d → ⊥

@@ -20,6 +20,7 @@ use Rattle.pie_value.specs.declared.value.Value.{Value}
 use Rattle.pie_value.specs.declared.verdict.Verdict.{Verdict}
 use Rattle.pie_value.specs.declared.verdict.Verdict.TheVariants.{Accepted, Refused}
 use Rattle.pie_topdown_build.specs.inner.Anew.{HoldsBeside, IsKnownBeside, LeavesAnewOf}
+use Rattle.pie_topdown_build.specs.inner.Filed.{ProvidesAll}
 
 -- an update of this directory whose hashes separate what it meets, in which a build accepts and makes these records and files
 pub record IsExactBuild (u : Update) (rows : List TaskRecord) (contents : List (List ℕ × Vec ℕ Global)) (d : Directory) : Type 0 where
@@ -28,17 +29,17 @@ pub record IsExactBuild (u : Update) (rows : List TaskRecord) (contents : List (
   pub met : OutIsMet u
   pub made : IsAccepted u rows (contents_in contents)
 
--- there was a store to build from: it is that of the directory, and no marker stands
-abbrev pub IsStoreIn : Option (Vec ℕ Global) → Directory → Type 0
-IsStoreIn None d = ⊥
-IsStoreIn (Some text) d = HasStore d text.items
+-- there was no store to build from, or it is that of the directory, and no marker stands
+abbrev pub IsStoreIfAny : Option (Vec ℕ Global) → Directory → Type 0
+IsStoreIfAny None d = Unit {0}
+IsStoreIfAny (Some text) d = HasStore d text.items
 
--- the directory after is that of the clean build, for each such update: where there was no store to build from, whatever was there, and else where no marker
--- stands and the store is that of the directory
+-- the directory after is that of the clean build, for each such update: where there was no store to build from, whatever was there, if all that is provided has
+-- its files, and else where no marker stands and the store is that of the directory
 abbrev pub LeavesWhere : Option (Vec ℕ Global) → List (List ℕ × List ℕ) → List Task → List TaskRecord → List (List ℕ × Vec ℕ Global) → List (Task × Value)
     → Directory → Report → Option Directory → Type 0
 LeavesWhere None funcs roots rows contents outputs d r after =
-    (u : Update) → IsExactBuild u rows contents d → LeavesAnewOf u funcs roots rows outputs d r after
+    (u : Update) → IsExactBuild u rows contents d → ProvidesAll u contents → LeavesAnewOf u funcs roots rows outputs d r after
 LeavesWhere (Some text) funcs roots rows contents outputs d r after =
     (u : Update) → IsExactBuild u rows contents d → HasStore d text.items → LeavesCleanOf u funcs roots rows outputs d r after
 
@@ -75,4 +76,5 @@ PutsWhere own held funcs roots rows contents outputs d r after =
 abbrev pub PutsAnew : OwnFiles → List (List ℕ × List ℕ) → List (List ℕ × List ℕ) → List Task → List TaskRecord → List (List ℕ × Vec ℕ Global)
     → List (Task × Value) → Directory → Report → Option Directory → Type 0
 PutsAnew own held funcs roots rows contents outputs d r after =
-    IsKnownBeside own contents held d → (u : Update) → IsExactBuild u rows contents d → LeavesAnewOf u funcs roots rows outputs d r after
+    IsKnownBeside own contents held d → (u : Update) → IsExactBuild u rows contents d → ProvidesAll u contents
+    → LeavesAnewOf u funcs roots rows outputs d r after

@@ -1,5 +1,5 @@
 -- What a crash leaves of a build without a list, by its parts.
-use Rattle.std.specs.Prelude.{◌≡◌, ℕ, List, Option, Some}
+use Rattle.std.specs.Prelude.{◌⊎◌, ℕ, List, Option, Some}
 use Rattle.std.specs.declared.alloc.Global.{Global}
 use Rattle.std.proofs.Common.{Vec}
 use Rattle.pie_build.specs.Crashes.{StaysAtRest}
@@ -22,11 +22,13 @@ use Rattle.pie_value.specs.declared.task.Task.{Task}
 use Rattle.pie_value.specs.declared.verdict.Verdict.{Verdict}
 use Rattle.pie_value.specs.declared.verdict.Verdict.TheVariants.{Accepted, Refused}
 use Rattle.pie_topdown_build.specs.declared.base.Base.{Base}
+use Rattle.pie_topdown_build.specs.Anew.{IsSeparate}
 use Rattle.pie_topdown_build.specs.Clean.{CanBegin, HasStoreOf}
 use Rattle.pie_topdown_build.specs.Crashes.{KeepsOthers, StopsWith}
+use Rattle.pie_topdown_build.specs.inner.Anew.{IsKnownBeside, IsNoBase, IsUpdateAnew, OffersHonestAlone}
 use Rattle.pie_topdown_build.specs.inner.Bases.{HasBase}
 use Rattle.pie_topdown_build.specs.inner.Clean.{IsUpdateBy, OffersHonest}
-use Rattle.pie_topdown_build.specs.inner.Cleaned.{IsExactBuild, IsKnownOf, IsStoreIn}
+use Rattle.pie_topdown_build.specs.inner.Cleaned.{IsExactBuild, IsKnownOf, IsStoreIfAny}
 
 -- where nothing was pending: at each moment a crash leaves one of three; at the end the marker stands in every image unless nothing changed, or every image has D;
 -- and once this is settled, nothing is pending
@@ -41,27 +43,31 @@ pub record IsDoneAs (P : Type 0) (d c : Directory) : Type 0 where
   pub rest : KeepsOthers d c
   pub clean : P
 
--- an accepted build is put into place: where what is held is known, the directory is that of the clean build, without the marker
+-- an accepted build is put into place: where what is held is known, or what is known where there was no store, the directory is that of the clean build,
+-- without the marker
 abbrev pub EndsPut : OwnFiles → List (List ℕ × List ℕ) → List (List ℕ × List ℕ) → List Task → List TaskRecord → List (List ℕ × Vec ℕ Global)
     → Directory → Directory → Type 0
 EndsPut own held funcs roots rows contents d c =
-    IsDoneAs (IsKnownOf own held d → (u : Update) → IsExactBuild u rows contents d → IsClean u funcs roots rows d (without_file c open_path)) d c
+    IsDoneAs (IsKnownOf own held d ⊎ IsKnownBeside own contents held d → (u : Update) → IsExactBuild u rows contents d
+    → IsClean u funcs roots rows d (without_file c open_path)) d c
 
--- so it is where there was a store to build from, and it is that of the directory
+-- so it is where there was no store to build from, or it is that of the directory
 abbrev pub EndsWhere : Option (Vec ℕ Global) → List (List ℕ × List ℕ) → List Task → List TaskRecord → List (List ℕ × Vec ℕ Global)
     → Directory → Directory → Type 0
 EndsWhere store funcs roots rows contents d c =
-    IsDoneAs ((u : Update) → IsExactBuild u rows contents d → IsStoreIn store d → IsClean u funcs roots rows d (without_file c open_path)) d c
+    IsDoneAs ((u : Update) → IsExactBuild u rows contents d → IsStoreIfAny store d → IsClean u funcs roots rows d (without_file c open_path)) d c
 
 -- the same of what was made, by its verdict: a refused build is never done
 abbrev pub EndsBy : Verdict → Option (Vec ℕ Global) → List (List ℕ × List ℕ) → List Task → Built → Directory → Directory → Type 0
 EndsBy Accepted store funcs roots b d c = EndsWhere store funcs roots b.rows.items b.files.items d c
 EndsBy (Refused x) store funcs roots b d c = ⊥
 
--- a directory is that of the clean build of each update to this project from the store of this base, where honest records are offered
+-- a directory is that of the clean build of each update to this project from the store of this base, or from its records where there is no store of it, where
+-- honest records are offered
 abbrev pub IsCleanBy : Base → Project → (Directory → Task → List ℕ → List Offered) → Directory → Directory → Type 0
 IsCleanBy b p told d e =
-    (u : Update) → IsUpdateBy u (Some d) b p → AreHonest u p.digests.items told → IsCleanOf u p.digests.items p.roots.items d e
+    (u : Update) → IsUpdateBy u (Some d) b p ⊎ IsUpdateAnew u (Some d) b p → AreHonest u p.digests.items told
+    → IsCleanOf u p.digests.items p.roots.items d e
 
 -- so it is at the end of a build of a project
 abbrev pub EndsRun : Base → Project → (Directory → Task → List ℕ → List Offered) → Directory → Directory → Type 0
@@ -75,10 +81,24 @@ EndsReady b p told d c = IsDoneAs (IsReady p.typed p.roots.items → IsCleanBy b
 abbrev pub IsCleanFrom : (Directory → Task → List ℕ → List Offered) → Directory → Directory → Type 0
 IsCleanFrom told d e = (b : Earlier) (from : HasStoreOf b d) → OffersHonest b from.strings d told → IsCleanBuilt d e
 
--- so it is at the end of a build from this base
-abbrev pub EndsFrom : Base → (Directory → Task → List ℕ → List Offered) → Directory → Directory → Type 0
-EndsFrom b told d c = IsDoneAs (HasBase d b → IsCleanFrom told d (without_file c open_path)) d c
+-- so it is, whatever the other one has, where nothing that its clean build meets has the hash of something else, and honest records are offered
+abbrev pub IsCleanAnew : (Directory → Task → List ℕ → List Offered) → Directory → Directory → Type 0
+IsCleanAnew told d e = (apart : IsSeparate d) → OffersHonestAlone apart.strings d told → IsCleanBuilt d e
 
--- and at the end of one of a directory whose store could be read
+-- a build is done, with or without the marker: no other path changed, and the directory is that of the clean build, where it began from a store, or anew
+pub record EndsAs (begun anew : Type 0) (told : Directory → Task → List ℕ → List Offered) (d c : Directory) : Type 0 where
+  pub rest : KeepsOthers d c
+  pub goes_on : begun → IsCleanFrom told d (without_file c open_path)
+  pub afresh : anew → IsCleanAnew told d (without_file c open_path)
+
+-- so it is at the end of a build from this base, which has the store of the directory, or no store and no record
+abbrev pub EndsFrom : Base → (Directory → Task → List ℕ → List Offered) → Directory → Directory → Type 0
+EndsFrom b told d c = EndsAs (HasBase d b) (IsNoBase b) told d c
+
+-- at the end of one from an empty store
+abbrev pub EndsAnew : (Directory → Task → List ℕ → List Offered) → Directory → Directory → Type 0
+EndsAnew told d c = IsDoneAs (IsCleanAnew told d (without_file c open_path)) d c
+
+-- and at the end of one of a directory whose store could be read, or of one where none could be
 abbrev pub EndsOffered : (Directory → Task → List ℕ → List Offered) → Directory → Directory → Type 0
-EndsOffered told d c = IsDoneAs (CanBegin d → IsCleanFrom told d (without_file c open_path)) d c
+EndsOffered told d c = EndsAs (CanBegin d) (CanBegin d → ⊥) told d c

@@ -30,7 +30,7 @@ returns-clause-crash g c =
     (IsOk c.put_into_place.result) c.args.files.now c.held_now.new.files c.own_files.new.files c.put_into_place.new.files c.in_ok-held.ensures.reads.same
     c.in_ok-held.ensures.reads.crash c.in_ok-own.ensures.reads.same c.in_ok-own.ensures.reads.crash
     (subst (λ (cs : List (List ℕ × Vec ℕ Global)). IfSome (g.F.Files.holds c.args.files.now) (HoldsBy c.args.store cs c.in_ok-held.held))
-    c.as_slice.ensures.value c.in_ok-held.ensures.held) c.in_ok-own.ensures.own c.put_into_place.ensures.crash
+    c.as_slice.ensures.value c.in_ok-held.ensures.held) c.in_ok-own.ensures.own c.in_ok-own.ensures.none c.put_into_place.ensures.crash
 
 pub returns-in_err-own-clause-crash : goal.returns-in_err-own-clause-crash
 returns-in_err-own-clause-crash g c =

@@ -7,7 +7,8 @@ use Rattle.pie_incremental.specs.Own.{IsClosed}
 use Rattle.pie_incremental.specs.inner.Cleaned.{IsPlanFor, TellsPlan}
 use Rattle.pie_incremental.specs.inner.Plans.{HasChanged}
 use Rattle.pie_topdown_build.proofs.Crashing.{endures_none}
-use Rattle.pie_topdown_build.proofs.Leaving.{leaves_by, put_endures}
+use Rattle.pie_topdown_build.proofs.Leaving.{leaves_by}
+use Rattle.pie_topdown_build.proofs.Putting.{put_endures}
 use Rattle.pie_topdown_build.proofs.Replacing.{leaves_anew}
 use Rattle.pie_topdown_build.proofs.Storing.{leaves_rows, rows_planned}
 use Rattle.pie_topdown_build.specs.inner.Crashes.{Endures}

@@ -5,13 +5,14 @@ use Rattle.pie_topdown_build.proofs.Cleanly.{anew_cleans, offered_cleans}
 use Rattle.pie_topdown_build.proofs.Crashing.{anew_endures, endures_still, offered_endures}
 use Rattle.pie_topdown_build.proofs.Handing.{told_afresh, told_from}
 use Rattle.pie_topdown_build.proofs.Offering.{tells_afresh, tells_stored}
+use Rattle.pie_topdown_build.proofs.Reasons.{afresh_offers, store_offers}
 use Rattle.pie_topdown_build.proofs.building.build_offered.Goals as goal
 
 pub returns-in-Ok-Afresh-clause-clean : goal.returns-in-Ok-Afresh-clause-clean
 returns-in-Ok-Afresh-clause-clean g c =
     let e = c.in-Ok-Afresh in
     anew_cleans (g.O.Offers.told c.args.offers.now) e.field-0 e.cause (g.F.Files.holds c.args.files.now) (g.F.Files.holds c.find_base.new.files)
-    (g.F.Files.holds c.anew.new.files) c.anew.result e.field-0-is e.ensures.starts e.ensures.reads.same c.anew.ensures.clean c.anew.ensures.fresh
+    (g.F.Files.holds c.anew.new.files) c.anew.result e.field-0-is e.ensures.starts e.ensures.only e.ensures.reads.same c.anew.ensures.clean c.anew.ensures.fresh
 
 pub returns-in-Ok-From-clause-clean : goal.returns-in-Ok-From-clause-clean
 returns-in-Ok-From-clause-clean g c =
@@ -107,3 +108,15 @@ pub returns-in-Err-OutOfMemory-clause-durable : goal.returns-in-Err-OutOfMemory-
 returns-in-Err-OutOfMemory-clause-durable g c =
     (endures_still g.F.Files.holds g.F.Files.moment g.F.Files.left_since g.F.Files.images (EndsOffered (g.O.Offers.told c.args.offers.now)) ⊥
     c.args.files.now c.find_base.new.files c.in-Err-OutOfMemory.ensures.reads.same c.in-Err-OutOfMemory.ensures.reads.crash).durable
+
+pub returns-in-Ok-Afresh-clause-runs : goal.returns-in-Ok-Afresh-clause-runs
+returns-in-Ok-Afresh-clause-runs g c =
+    let e = c.in-Ok-Afresh in
+    afresh_offers (g.O.Offers.told c.args.offers.now) e.cause (g.F.Files.holds c.args.files.now) (g.F.Files.holds c.find_base.new.files) c.anew.result
+    e.ensures.reads.same c.anew.ensures.runs c.anew.ensures.fresh
+
+pub returns-in-Ok-From-clause-runs : goal.returns-in-Ok-From-clause-runs
+returns-in-Ok-From-clause-runs g c =
+    let e = c.in-Ok-From in
+    store_offers (g.O.Offers.told c.args.offers.now) e.field-0 e.base (g.F.Files.holds c.args.files.now) (g.F.Files.holds c.find_base.new.files)
+    (g.F.Files.holds c.from.new.files) c.from.result e.field-0-is e.ensures.starts e.ensures.reads.same c.from.ensures.clean c.from.ensures.runs

@@ -1,4 +1,4 @@
-use Rattle.std.proofs.Common.{◌≡◌, ◌++◌, ◌∙◌, Vec, Global, ap, true, false, map, rules, subst}
+use Rattle.std.proofs.Common.{◌≡◌, ◌++◌, ◌∙◌, Vec, Global, ap, true, false, map, rules, subst, sym}
 use Rattle.pie_checks.specs.declared.built.Built.{Built}
 use Rattle.pie_results.specs.inner.Files.{contents_in}
 use Rattle.pie_value.specs.declared.task.Task.{Task}
@@ -13,6 +13,7 @@ use Rattle.pie_topdown_build.proofs.Handing.{told_of_made}
 use Rattle.pie_topdown_build.proofs.Offering.{made_tells}
 use Rattle.pie_incremental.proofs.Joining.{told_report}
 use Rattle.pie_topdown_build.specs.inner.Ran.{RunsBy}
+use Rattle.pie_topdown_build.specs.inner.Reused.{InByteOrder}
 use Rattle.pie_topdown_build.proofs.Running.{runs_clean}
 use Rattle.pie_topdown_build.proofs.Reasons.{runs_ran}
 use Rattle.pie_topdown_build.proofs.joining.run.Goals as goal
@@ -26,8 +27,8 @@ returns-in-Ok-clause-clean g c =
     let made = c.in_ok-built in
     let r = c.in-Ok.report.value in
     subst (λ (b : Base). RunsAsClean b p told before after r) c.into_inner-image.ensures
-    (runs_clean c.into_inner-image.result p told before (g.F.Files.holds c.evaluate.new.files) after made.field-0.built.value r made.ensures.reads.same
-    made.ensures.clean c.in-Ok.ensures.left c.in-Ok.ensures.verdict c.in-Ok.ensures.fresh)
+    (runs_clean c.into_inner-image.result p told before (g.F.Files.holds c.evaluate.new.files) after c.args.runs.now c.evaluate.new.runs
+    made.field-0.reused.items made.field-0.built.value r made.ensures.reads.same made.ensures.clean made.ensures.files c.in-Ok.ensures.left c.in-Ok.ensures.verdict c.in-Ok.ensures.fresh)
 
 pub returns-in-Ok-clause-news : goal.returns-in-Ok-clause-news
 returns-in-Ok-clause-news g c = λ on.
@@ -52,15 +53,23 @@ returns-in-Ok-clause-honest g c = λ on.
     let p = c.args.project.now in
     let offers = g.O.Offers.told c.args.offers.now in
     let before = g.F.Files.holds c.args.files.now in
-    let b = c.in_ok-built.field-0.built.value in
+    let e = c.in_ok-built in
+    let b = e.field-0.built.value in
+    let r = c.in-Ok.report.value in
     let told = map as_told c.in_ok-new.new.items in
     let made : c.deref.result.now ≡ b = search rules in
-    let tells : told ≡ news_in p.digests.items b.rows.items (contents_in b.files.items) c.as_slice-2.result.now =
+    let tells : told ≡ news_in p.digests.items b.rows.items (contents_in b.files.items) r.ran.items =
     c.in_ok-new.ensures.news on
-    ∙ ap (λ (x : Built). news_in p.digests.items x.rows.items (contents_in x.files.items) c.as_slice-2.result.now) made in
-    subst (λ (x : Base). TellsOf before p x.image offers c.in-Ok.report.value.verdict told) c.into_inner-image.ensures
-    (made_tells p c.into_inner-image.result.image offers before b c.in-Ok.report.value.verdict c.as_slice-2.result.now told c.in_ok-built.ensures.clean
-    c.in-Ok.ensures.verdict c.in-Ok.ensures.rows tells)
+    ∙ ap (λ (x : Built). news_in p.digests.items x.rows.items (contents_in x.files.items) c.as_slice-2.result.now) made
+    ∙ ap (news_in p.digests.items b.rows.items (contents_in b.files.items))
+    (c.as_slice-2.ensures.value ∙ sym (ap (λ (v : Vec Task Global). v.items) c.in-Ok.ensures.ran)) in
+    let gained : c.evaluate.new.runs ≡ c.args.runs.now ++ r.ran.items =
+    (let started = e.ensures.started in
+    told_report c.count-before.result c.args.runs.now c.evaluate.new.runs c.in_ok-ran.ran r c.count-before.ensures
+    (record { gained = started.gained; is = started.is; encodable = started.encodable }) c.in_ok-ran.ensures c.in-Ok.ensures.ran).0 in
+    subst (λ (x : Base). TellsOf before p x.image offers r.verdict r.ran.items told) c.into_inner-image.ensures
+    (made_tells p c.into_inner-image.result.image offers before c.args.runs.now c.evaluate.new.runs e.field-0.reused.items b r.verdict r.ran.items told
+    e.ensures.clean e.ensures.files e.ensures.made gained c.in-Ok.ensures.verdict c.in-Ok.ensures.rows tells)
 
 pub returns-in-Ok-clause-runs : goal.returns-in-Ok-clause-runs
 returns-in-Ok-clause-runs g c =
@@ -73,8 +82,10 @@ returns-in-Ok-clause-runs g c =
     (let started = made.ensures.started in
     told_report c.count-before.result c.args.runs.now c.evaluate.new.runs c.in_ok-ran.ran r c.count-before.ensures
     (record { gained = started.gained; is = started.is; encodable = started.encodable }) c.in_ok-ran.ensures c.in-Ok.ensures.ran).0 in
-    subst (λ (b : Base). RunsBy b p told before r) c.into_inner-image.ensures
-    (runs_ran c.into_inner-image.result p told before c.args.runs.now c.evaluate.new.runs made.field-0.reused.items made.field-0.built.value r made.ensures.runs
+    let slice : c.as_slice.result.now ≡ made.field-0.reused.items = search rules in
+    subst (λ (b : Base). RunsBy b p told before r c.in_ok-reused.reused.items) c.into_inner-image.ensures
+    (runs_ran c.into_inner-image.result p told before c.args.runs.now c.evaluate.new.runs made.field-0.reused.items c.in_ok-reused.reused.items
+    made.field-0.built.value r (subst (λ ts. InByteOrder ts c.in_ok-reused.reused.items) slice c.in_ok-reused.ensures.order) made.ensures.runs
     c.in-Ok.ensures.verdict gained)
 
 pub returns-in-Ok-clause-encodable : goal.returns-in-Ok-clause-encodable

@@ -56,7 +56,7 @@ pub returns-in-Ok-clause-honest : goal.returns-in-Ok-clause-honest
 returns-in-Ok-clause-honest g c = λ on.
     let o = c.in-Ok.offered in
     tells_if_ready c.args.project.now c.args.base.value.image (g.O.Offers.told c.args.offers.now) (g.F.Files.holds c.args.files.now) o.report.value.verdict
-    (map as_told o.new.items) (c.in-Ok.ensures.honest on)
+    o.report.value.ran.items (map as_told o.new.items) (c.in-Ok.ensures.honest on)
 
 pub returns-then-not-are_small-clause-crash : goal.returns-then-not-are_small-clause-crash
 returns-then-not-are_small-clause-crash g c =
