@@ -1,7 +1,7 @@
 -- What an honest cache offers.
-use Rattle.std.proofs.Common.{◌≡◌, ℕ, suc, ◌<◌, ◌++◌, ◌∷◌, [], Bool, true, false, cond, List, length, Option, None, Some, Result, Ok, refl, sym, ap, subst, ◌∙◌, inl, inr, arith, lt-ltb}
+use Rattle.std.proofs.Common.{◌≡◌, ℕ, suc, ◌<◌, ◌++◌, ◌∷◌, [], Bool, true, false, cond, List, length, Option, None, Some}
+use Rattle.std.proofs.Common.{Result, Ok, refl, sym, ap, subst, ◌∙◌, inl, inr, arith, lt-ltb}
 use Rattle.std.specs.Prelude.{All, Contains, IsSome, is_some, nat_lt}
-use Rattle.std.specs.List.{flat_map}
 use Rattle.std.specs.Str.{bytes_eq}
 use Rattle.std.proofs.lemmas.Bool.{false≢true}
 use Rattle.std.proofs.lemmas.Slice.Eq.{bytes_eq-Decides}
@@ -12,7 +12,7 @@ use Rattle.pie_cache.specs.declared.cache_fault.CacheFault.{CacheFault}
 use Rattle.pie_cache.specs.inner.Clearing.{HasCleared}
 use Rattle.pie_cache.specs.inner.Reading.{cache_says}
 use Rattle.pie_cache.specs.inner.Stored.{entries_of, offers_in, or_none}
-use Rattle.pie_cache.specs.inner.Texts.{enc_body, enc_entry, magic, AreContents, IsCacheText, IsEntry}
+use Rattle.pie_cache.specs.inner.Texts.{AreContents, IsCacheText, IsEntry}
 use Rattle.pie_core_laws.specs.Update.{Update, MetIn}
 use Rattle.pie_earlier_laws.specs.Functions.{digest_under}
 use Rattle.pie_files.specs.Directory.{Directory, file_at}
@@ -20,22 +20,14 @@ use Rattle.pie_incremental.specs.Earlier.{Earlier}
 use Rattle.pie_topdown_build.specs.Anew.{IsMetAlone}
 use Rattle.pie_topdown_build.specs.inner.Anew.{update_alone, OffersHonestAlone}
 use Rattle.pie_topdown_build.specs.inner.Clean.{update_of, OffersHonest}
-use Rattle.pie_topdown_result_laws.specs.Builds.{AreHonest, IsHonest}
+use Rattle.pie_topdown_result_laws.specs.Builds.{AreHonest, IsHonest, IsHonestTo}
 use Rattle.pie_value.specs.declared.task.Task.{Task}
 use Rattle.pie_cached.specs.Cached.{is_cached}
 use Rattle.pie_cached.specs.Kept.{cache_file}
-use Rattle.pie_cached.specs.Clean.{entries_bytes, entry_bytes, AreHonestIn, Entry, HaveHashes, IsFileOf, IsHonestCache, IsHonestEntry}
-use Rattle.pie_cached.specs.Clean.{IsMetBy, IsWholeEntry}
+use Rattle.pie_cached.specs.Honest.{AreHonestIn, Entry, HaveHashes, IsFileOf, IsHonestCache, IsHonestEntry, IsHonestFor, IsMetBy, IsWholeEntry}
+use Rattle.pie_cached.proofs.Texts.{none_read, same_body}
 
 -- ---- the text of a file
-
-same_bytes : (es : List Entry) → flat_map entry_bytes es ≡ flat_map enc_entry es
-unfolding enc_entry
-same_bytes [] = refl
-same_bytes (e ∷ es) = ap (λ (t : List ℕ). entry_bytes e ++ t) (same_bytes es)
-
-pub same_body : (es : List Entry) → entries_bytes es ≡ enc_body es
-same_body es = ap (λ (t : List ℕ). magic ++ (1 ∷ (length es ∷ t))) (same_bytes es)
 
 same_contents : (writes : List (List ℕ × List ℕ)) (contents : List (List ℕ)) → HaveHashes writes contents → AreContents writes contents
 same_contents [] [] h = tt
@@ -82,7 +74,8 @@ too_long n m lt = lt-ltb n m lt
 pub offered : (P Q : Entry → Type 0) (o : Option (List ℕ × ℕ)) → ((e : Entry) → P e → Q e) → AreHonestIn P o → All Q (entries_of o)
 offered P Q None f h = All-nil Q
 offered P Q (Some file) f (inl over) = long Q (nat_lt 16777216 (length file.0)) (or_none (cache_says file.0)) (too_long 16777216 (length file.0) over)
-offered P Q (Some file) f (inr x) =
+offered P Q (Some file) f (inr (inl other)) = none_read Q file.0 other
+offered P Q (Some file) f (inr (inr x)) =
     said Q (nat_lt 16777216 (length file.0)) (cache_says file.0) x.0 (read_again x.0 file.0 (is_text x.0 file.0 x.1)) (All-weaker P Q f x.0 x.2)
 
 honest_of : (u : Update) (entry : Entry) → IsHonestEntry (MetIn u) u.directory u.functions entry → IsHonest u entry
@@ -97,14 +90,14 @@ honest_of u entry h = record {
   wrote = h.wrote;
 }
 
--- so are all that are offered where the files of the cache are honest
+-- so are all that are offered to a task and are of it, where the files of the cache are honest
 all_honest : (u : Update) (funcs : List (List ℕ × List ℕ))
     → ((t : Task) (digest : List ℕ) → Contains funcs (t.func, digest)
-    → AreHonestIn (IsHonestEntry (MetIn u) u.directory u.functions) (file_at u.directory (cache_file t digest)))
+    → AreHonestIn (IsHonestFor (MetIn u) u.directory u.functions t) (file_at u.directory (cache_file t digest)))
     → AreHonest u funcs offers_in
 all_honest u funcs each t digest has =
-    offered (IsHonestEntry (MetIn u) u.directory u.functions) (IsHonest u) (file_at u.directory (cache_file t digest)) (honest_of u)
-    (each t digest (under_contains funcs t.func digest has))
+    offered (IsHonestFor (MetIn u) u.directory u.functions t) (IsHonestTo u t) (file_at u.directory (cache_file t digest))
+    (λ entry honest same. honest_of u entry (honest same)) (each t digest (under_contains funcs t.func digest has))
 
 pub offers_honest : (e : Earlier) (strings : List (List ℕ)) (d : Directory) → IsHonestCache (IsMetBy e strings d) d → OffersHonest e strings d offers_in
 offers_honest e strings d cache = record {

@@ -1,5 +1,6 @@
 -- A build with the record cache keeps entries of evaluations, and is a clean build where it begins honestly.
-use Rattle.std.proofs.Common.{◌≡◌, ◌∙◌, ℕ, zero, suc, ◌≤◌, Bool, true, false, cond, List, [], ◌∷◌, ◌++◌, length, take, Option, None, Some, refl, sym, ap, subst, inl, inr, arith}
+use Rattle.std.proofs.Common.{◌≡◌, ◌∙◌, ℕ, zero, suc, ◌≤◌, Bool, true, false, cond, List, [], ◌∷◌, ◌++◌, length, take, Option, None, Some}
+use Rattle.std.proofs.Common.{refl, sym, ap, subst, inl, inr, arith}
 use Rattle.std.specs.Prelude.{All, is_some, nat_lt}
 use Rattle.std.proofs.lemmas.List.Elements.{All-contains, All-cons, All-nil, All-take, All-weaker}
 use Rattle.sha2.specs.Sha256.{sha256}
@@ -10,11 +11,12 @@ use Rattle.pie_cache.specs.inner.Keeping.{kept, text_in_front}
 use Rattle.pie_cache.specs.inner.Places.{gate}
 use Rattle.pie_cache.specs.inner.Reading.{cache_says}
 use Rattle.pie_cache.specs.inner.Stored.{entries_of, or_none}
-use Rattle.pie_cache.specs.inner.Texts.{AreContents, IsKept}
+use Rattle.pie_cache.specs.inner.Texts.{IsKept}
 use Rattle.pie_check_laws.proofs.Members.{here, there}
 use Rattle.pie_commit.specs.inner.Plans.{Meets, Same, Bytes}
 use Rattle.pie_files.specs.Directory.{Directory, file_at}
 use Rattle.pie_report.specs.declared.report.Report.{Report}
+use Rattle.pie_topdown_build.specs.Anew.{IsMetAlone}
 use Rattle.pie_store.specs.inner.Offers.{Offered}
 use Rattle.pie_topdown_build.specs.inner.News.{Told}
 use Rattle.pie_topdown_build.specs.inner.Records.{AreOfProject, IsToldOf}
@@ -23,14 +25,17 @@ use Rattle.pie_value.specs.declared.task.Task.{Task}
 use Rattle.pie_value.specs.declared.verdict.Verdict.{Verdict}
 use Rattle.pie_value.specs.declared.verdict.Verdict.TheVariants.{Accepted, Refused}
 use Rattle.pie_cached.specs.Cached.{is_cached}
-use Rattle.pie_cached.specs.Clean.{AreHonestIn, BeginsHonestly, CachesClean, Entry, HaveHashes, IsFileOf, IsOpenedAs, IsTrueCache, IsTrueEntry}
-use Rattle.pie_cached.specs.Clean.{IsWholeEntry}
+use Rattle.pie_cached.specs.Clean.{BeginsHonestly, BeginsSeparately, CachesClean, IsOpenedAs}
 use Rattle.pie_cached.specs.Clean.BeginsHonestly.{from_none, from_store}
+use Rattle.pie_cached.specs.Clean.BeginsSeparately.{with_store, without_store}
+use Rattle.pie_cached.specs.Honest.{AreHonestIn, AreOfEntries, Entry, IsFileOf, IsMetBy, IsOfEntries, IsTrueCache, IsTrueEntry, IsWholeEntry}
 use Rattle.pie_cached.specs.Kept.{cache_file, gate_path}
 use Rattle.pie_cached.specs.inner.Clean.{CachesCleanBy, OpenedClean}
 use Rattle.pie_cached.specs.inner.News.{kept_of, last_told, KeepsIn}
-use Rattle.pie_cached.proofs.Entries.{alone_honest, long, offered, offers_honest, opened_as, said, same_body, too_long, is_text}
+use Rattle.pie_cached.proofs.Entries.{alone_honest, long, offered, offers_honest, opened_as, said, too_long, is_text}
+use Rattle.pie_cached.proofs.Separately.{honest_if_true}
 use Rattle.pie_cached.proofs.Staying.{told_at}
+use Rattle.pie_cached.proofs.Texts.{have_hashes, none_read, same_body}
 
 -- ---- the file of a task
 
@@ -39,14 +44,9 @@ whole_entries : (P : Entry → Type 0) (o : Option (List ℕ × ℕ)) → AreHon
 whole_entries P None h = All-nil IsWholeEntry
 whole_entries P (Some f) (inl over) =
     long IsWholeEntry (nat_lt 16777216 (length f.0)) (or_none (cache_says f.0)) (too_long 16777216 (length f.0) over)
-whole_entries P (Some f) (inr x) =
+whole_entries P (Some f) (inr (inl other)) = none_read IsWholeEntry f.0 other
+whole_entries P (Some f) (inr (inr x)) =
     said IsWholeEntry (nat_lt 16777216 (length f.0)) (cache_says f.0) x.0 (read_again x.0 f.0 (is_text x.0 f.0 x.1)) x.1.each
-
-have_hashes : (writes : List (List ℕ × List ℕ)) (contents : List (List ℕ)) → AreContents writes contents → HaveHashes writes contents
-have_hashes [] [] h = tt
-have_hashes [] (c ∷ contents) h = absurd h
-have_hashes (w ∷ writes) [] h = absurd h
-have_hashes (w ∷ writes) (c ∷ contents) h = (h.0, h.1, have_hashes writes contents h.2)
 
 few_taken : (n : ℕ) (es : List Entry) → length (take n es) ≤ n
 few_taken zero es = omega arith
@@ -64,7 +64,7 @@ in_front o file P whole h = record {
 }
 
 -- what becomes of a file by an entry is so again
-kept_so : (P : Entry → Type 0) (o : Entry) (file left : Option (List ℕ × ℕ)) → IsWholeEntry o → P o → AreHonestIn P file
+pub kept_so : (P : Entry → Type 0) (o : Entry) (file left : Option (List ℕ × ℕ)) → IsWholeEntry o → P o → AreHonestIn P file
     → Meets (kept (Some o) file) file left → AreHonestIn P left
 kept_so P o file left whole p h meets = by (nat_lt 16777216 (length (text_in_front o file))) meets
   where
@@ -72,11 +72,24 @@ kept_so P o file left whole p h meets = by (nat_lt 16777216 (length (text_in_fro
     by true m = subst (AreHonestIn P) (sym m) h
     by false m =
         subst (AreHonestIn P) (sym m.1)
-        (inr (
+        (inr (inr (
           o ∷ take 3 (entries_of file),
           in_front o file P whole h,
           All-cons P o (take 3 (entries_of file)) p (All-take P 3 (entries_of file) (offered P P file (λ e x. x) h)),
-        ))
+        )))
+
+-- and so is a file of entries
+whole_in : (o : Option (List ℕ × ℕ)) → IsOfEntries o → AreHonestIn IsWholeEntry o
+whole_in None h = tt
+whole_in (Some f) (inl over) = inl over
+whole_in (Some f) (inr x) = inr (inr (x.0, x.1, x.1.each))
+
+kept_file : (o : Entry) (file left : Option (List ℕ × ℕ)) → IsWholeEntry o → IsOfEntries file → Meets (kept (Some o) file) file left → IsOfEntries left
+kept_file o file left whole h meets = by (nat_lt 16777216 (length (text_in_front o file))) meets
+  where
+    by : (b : Bool) → Meets (cond b Same (Bytes (text_in_front o file))) file left → IsOfEntries left
+    by true m = subst IsOfEntries (sym m) h
+    by false m = subst IsOfEntries (sym m.1) (inr (o ∷ take 3 (entries_of file), in_front o file IsWholeEntry whole (whole_in file h)))
 
 -- ---- the whole cache
 
@@ -84,13 +97,14 @@ one_some : (y z : Directory) → Some y ≡ Some z → y ≡ z
 one_some y z e = cc
 
 -- where each entry that has the one has the other too
-weaker_in : (P Q : Entry → Type 0) (o : Option (List ℕ × ℕ)) → ((e : Entry) → P e → Q e) → AreHonestIn P o → AreHonestIn Q o
+pub weaker_in : (P Q : Entry → Type 0) (o : Option (List ℕ × ℕ)) → ((e : Entry) → P e → Q e) → AreHonestIn P o → AreHonestIn Q o
 weaker_in P Q None f h = tt
 weaker_in P Q (Some file) f (inl over) = inl over
-weaker_in P Q (Some file) f (inr x) = inr (x.0, x.1, All-weaker P Q f x.0 x.2)
+weaker_in P Q (Some file) f (inr (inl other)) = inr (inl other)
+weaker_in P Q (Some file) f (inr (inr x)) = inr (inr (x.0, x.1, All-weaker P Q f x.0 x.2))
 
 -- in one directory more
-one_more : (seen : List Directory) (d : Directory) (path : List ℕ) (entry : Entry) → IsTrueEntry seen path entry → IsTrueEntry (d ∷ seen) path entry
+pub one_more : (seen : List Directory) (d : Directory) (path : List ℕ) (entry : Entry) → IsTrueEntry seen path entry → IsTrueEntry (d ∷ seen) path entry
 one_more seen d path entry e = record {
   built = e.built;
   among = there d e.built seen e.among;
@@ -103,24 +117,32 @@ one_more seen d path entry e = record {
   evaluated = e.evaluated;
 }
 
-module _ (d opened : Directory) (r : Report) (after : Option Directory) (opens : IsOpenedAs d opened) (free : file_at opened gate ≡ None)
-    (b : OpenedClean opened r after) (seen : List Directory) (entries : IsTrueCache seen d) where
+-- the file of a task is one of the cache
+inside : (t : Task) (digest : List ℕ) → is_cached (cache_file t digest) ≡ true
+inside t digest = cache_inside (cache_file t digest) (sha256 (digest ++ enc_task t), length-sha256 (digest ++ enc_task t), refl)
+
+-- opening leaves it, or none
+opened_file : (Q : Option (List ℕ × ℕ) → Type 0) (d opened : Directory) → IsOpenedAs d opened → Q None → (t : Task) (digest : List ℕ)
+    → Q (file_at d (cache_file t digest)) → Q (file_at opened (cache_file t digest))
+opened_file Q d opened opens none t digest was = by (file_at d gate_path) refl
+  where
+    by : (o : Option (List ℕ × ℕ)) → file_at d gate_path ≡ o → Q (file_at opened (cache_file t digest))
+    by None e = subst (λ x. Q (file_at x (cache_file t digest))) (sym (opens.whole e)) was
+    by (Some f) e = subst Q (sym (opens.emptied (ap is_some e) (cache_file t digest) (inside t digest))) none
+
+opened_entries : (d opened : Directory) (seen : List Directory) → IsOpenedAs d opened → IsTrueCache seen d → IsTrueCache seen opened
+opened_entries d opened seen opens entries t digest =
+    opened_file (AreHonestIn (IsTrueEntry seen (cache_file t digest))) d opened opens (tt {0}) t digest (entries t digest)
+
+module _ (opened : Directory) (r : Report) (after : Option Directory) (free : file_at opened gate ≡ None) (b : OpenedClean opened r after)
+    (seen : List Directory) where
   abbrev IsTrue : List ℕ → Entry → Type 0
   IsTrue path = IsTrueEntry (opened ∷ seen) path
 
-  inside : (t : Task) (digest : List ℕ) → is_cached (cache_file t digest) ≡ true
-  inside t digest = cache_inside (cache_file t digest) (sha256 (digest ++ enc_task t), length-sha256 (digest ++ enc_task t), refl)
-
-  opened_true : (t : Task) (digest : List ℕ) → AreHonestIn (IsTrue (cache_file t digest)) (file_at opened (cache_file t digest))
-  opened_true t digest = by (file_at d gate_path) refl
-    where
-      by : (o : Option (List ℕ × ℕ)) → file_at d gate_path ≡ o → AreHonestIn (IsTrue (cache_file t digest)) (file_at opened (cache_file t digest))
-      by None e =
-          subst (λ x. AreHonestIn (IsTrue (cache_file t digest)) (file_at x (cache_file t digest))) (sym (opens.whole e))
-          (weaker_in (IsTrueEntry seen (cache_file t digest)) (IsTrue (cache_file t digest)) (file_at d (cache_file t digest))
-          (one_more seen opened (cache_file t digest)) (entries t digest))
-      by (Some f) e =
-          subst (AreHonestIn (IsTrue (cache_file t digest))) (sym (opens.emptied (ap is_some e) (cache_file t digest) (inside t digest))) (tt {0})
+  opened_true : IsTrueCache seen opened → IsTrueCache (opened ∷ seen) opened
+  opened_true entries t digest =
+      weaker_in (IsTrueEntry seen (cache_file t digest)) (IsTrue (cache_file t digest)) (file_at opened (cache_file t digest))
+      (one_more seen opened (cache_file t digest)) (entries t digest)
 
   -- what is told of a build that began honestly is of its project
   told_of : r.verdict ≡ Accepted → BeginsHonestly opened r → AreOfProject opened b.told
@@ -148,30 +170,43 @@ module _ (d opened : Directory) (r : Report) (after : Option Directory) (opens :
         },
       )
 
-  kept_true : (r.verdict ≡ Accepted → BeginsHonestly opened r) → (x : Directory) → KeepsIn (file_at opened) (kept_of r.verdict b.told) x
+  -- what files of the cache have, and files with such an entry in front, they have afterwards
+  module _ (Q : List ℕ → Option (List ℕ × ℕ) → Type 0)
+      (goes_on : (path : List ℕ) (o : Offered) (file left : Option (List ℕ × ℕ)) → IsWholeEntry o → IsTrue path o → Q path file
+      → Meets (kept (Some o) file) file left → Q path left)
+      (had : (t : Task) (digest : List ℕ) → Q (cache_file t digest) (file_at opened (cache_file t digest)))
+      (begins : r.verdict ≡ Accepted → BeginsHonestly opened r) where
+    kept_in : (x : Directory) → KeepsIn (file_at opened) (kept_of r.verdict b.told) x → (t : Task) (digest : List ℕ)
+        → Q (cache_file t digest) (file_at x (cache_file t digest))
+    kept_in x keeps t digest = by r.verdict refl (keeps path (inside t digest))
+      where
+        path : List ℕ
+        path = cache_file t digest
+
+        new : AreOfProject opened b.told → (o : Option Offered) → last_told b.told path ≡ o
+            → Meets (kept o (file_at opened path)) (file_at opened path) (file_at x path) → Q path (file_at x path)
+        new all None e m = subst (Q path) (sym m) (had t digest)
+        new all (Some o) e m =
+            let p = entry_of path o all e in goes_on path o (file_at opened path) (file_at x path) p.0 p.1 (had t digest) m
+
+        by : (v : Verdict) → r.verdict ≡ v
+            → Meets (kept (last_told (kept_of v b.told) path) (file_at opened path)) (file_at opened path) (file_at x path) → Q path (file_at x path)
+        by Accepted e m = new (told_of e (begins e)) (last_told b.told path) refl m
+        by (Refused z) e m = subst (Q path) (sym m) (had t digest)
+
+    had_still : (x : Directory) → after ≡ Some x → (t : Task) (digest : List ℕ) → Q (cache_file t digest) (file_at x (cache_file t digest))
+    had_still x is t digest =
+        let k = b.kept free in subst (λ (y : Directory). Q (cache_file t digest) (file_at y (cache_file t digest))) (one_some k.0 x (sym k.1 ∙ is))
+        (kept_in k.0 k.2 t digest)
+
+  entries_true : IsTrueCache seen opened → (r.verdict ≡ Accepted → BeginsHonestly opened r) → (x : Directory) → after ≡ Some x
       → IsTrueCache (opened ∷ seen) x
-  kept_true begins x keeps t digest = by r.verdict refl (keeps path (inside t digest))
-    where
-      path : List ℕ
-      path = cache_file t digest
+  entries_true entries begins =
+      had_still (λ path. AreHonestIn (IsTrue path)) (λ path o file left whole is h m. kept_so (IsTrue path) o file left whole is h m) (opened_true entries)
+      begins
 
-      at : AreHonestIn (IsTrue path) (file_at opened path)
-      at = opened_true t digest
-
-      new : AreOfProject opened b.told → (o : Option Offered) → last_told b.told path ≡ o
-          → Meets (kept o (file_at opened path)) (file_at opened path) (file_at x path) → AreHonestIn (IsTrue path) (file_at x path)
-      new all None e m = subst (AreHonestIn (IsTrue path)) (sym m) at
-      new all (Some o) e m = let p = entry_of path o all e in kept_so (IsTrue path) o (file_at opened path) (file_at x path) p.0 p.1 at m
-
-      by : (v : Verdict) → r.verdict ≡ v
-          → Meets (kept (last_told (kept_of v b.told) path) (file_at opened path)) (file_at opened path) (file_at x path)
-          → AreHonestIn (IsTrue path) (file_at x path)
-      by Accepted e m = new (told_of e (begins e)) (last_told b.told path) refl m
-      by (Refused z) e m = subst (AreHonestIn (IsTrue path)) (sym m) at
-
-  entries_true : (r.verdict ≡ Accepted → BeginsHonestly opened r) → (x : Directory) → after ≡ Some x → IsTrueCache (opened ∷ seen) x
-  entries_true begins x is =
-      let k = b.kept free in subst (IsTrueCache (opened ∷ seen)) (one_some k.0 x (sym k.1 ∙ is)) (kept_true begins k.0 k.2)
+  files_still : AreOfEntries opened → (r.verdict ≡ Accepted → BeginsHonestly opened r) → (x : Directory) → after ≡ Some x → AreOfEntries x
+  files_still files begins = had_still (λ path. IsOfEntries) (λ path o file left whole is h m. kept_file o file left whole h m) files begins
 
 -- once it was opened no gate stands
 gate_free : (d opened : Directory) → IsOpenedAs d opened → file_at opened gate ≡ None
@@ -183,6 +218,11 @@ gate_free d opened opens = by (file_at d gate_path) refl
 
 -- ---- the whole build
 
+begins_so : (seen : List Directory) (d : Directory) (r : Report) → IsTrueCache seen d → BeginsSeparately seen d r → BeginsHonestly d r
+begins_so seen d r entries (with_store none e from apart) = from_store none e from (honest_if_true (IsMetBy e from.strings d) seen d apart entries)
+begins_so seen d r entries (without_store some apart separate) =
+    from_none some apart (honest_if_true (IsMetAlone apart.strings d) seen d separate entries)
+
 pub clean_of : (d : Directory) (r : Report) (after : Option Directory) → CachesCleanBy d r after → CachesClean d r after
 clean_of d r after by =
     let opens = opened_as d by.opened (file_at d gate) by.opens in
@@ -192,8 +232,22 @@ clean_of d r after by =
       opens = as_is;
       left = by.builds.left;
       goes_on = λ none e from honest. by.builds.clean.goes_on none e from (offers_honest e from.strings by.opened honest);
+      goes_on_true = λ none e from seen entries separate.
+          by.builds.clean.goes_on none e from (offers_honest e from.strings by.opened
+          (honest_if_true (IsMetBy e from.strings by.opened) seen by.opened separate (opened_entries d by.opened seen as_is entries)));
       afresh = λ some apart honest. by.builds.clean.afresh some apart (alone_honest apart.strings by.opened honest);
+      afresh_true = λ some apart seen entries separate.
+          by.builds.clean.afresh some apart (alone_honest apart.strings by.opened
+          (honest_if_true (IsMetAlone apart.strings by.opened) seen by.opened separate (opened_entries d by.opened seen as_is entries)));
       cause = by.builds.clean.cause;
       keeps = by.builds.keeps;
-      entries = λ seen entries. entries_true d by.opened r after as_is (gate_free d by.opened as_is) by.builds seen entries;
+      entries = λ seen entries.
+          entries_true by.opened r after (gate_free d by.opened as_is) by.builds seen (opened_entries d by.opened seen as_is entries);
+      files = λ files.
+          files_still by.opened r after (gate_free d by.opened as_is) by.builds []
+          (λ t digest. opened_file IsOfEntries d by.opened as_is (tt {0}) t digest (files t digest));
+      stays_true = λ seen entries begins.
+          let true_still = opened_entries d by.opened seen as_is entries in
+          entries_true by.opened r after (gate_free d by.opened as_is) by.builds seen true_still
+          (λ accepted. begins_so seen by.opened r true_still (begins accepted));
     }

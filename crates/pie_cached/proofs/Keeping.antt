@@ -46,7 +46,7 @@ none_last (f ∷ fresh) all =
 -- ---- keeping
 
 module _ (news : List NewOffer) (fresh : List (List ℕ × Offer)) (are : fresh ≡ map placed news) (all : All IsNews fresh) where
-  last_is : (q : List ℕ) → last_for fresh q ≡ last_told (map as_told news) q
+  pub last_is : (q : List ℕ) → last_for fresh q ≡ last_told (map as_told news) q
   last_is q = ap (λ (fs : List (List ℕ × Offer)). last_for fs q) are ∙ last_same news q
 
   -- nothing is told, and nothing changes

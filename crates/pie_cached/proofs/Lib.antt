@@ -1,7 +1,14 @@
 pub mod Cleanly
+pub mod Crashing
 pub mod Entries
+pub mod Fronting
+pub mod Hashing
 pub mod Honestly
 pub mod Keeping
 pub mod Others
+pub mod Ran
 pub mod Refusing
+pub mod Separately
 pub mod Staying
+pub mod Stopping
+pub mod Texts

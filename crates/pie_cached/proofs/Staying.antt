@@ -1,5 +1,5 @@
 -- Files of the cache that a build with the record cache leaves as they were.
-use Rattle.std.proofs.Common.{◌≡◌, ◌∙◌, ℕ, suc, Bool, true, false, cond, List, [], ◌∷◌, ◌++◌, map, refl, ap, subst, arith, inl, inr}
+use Rattle.std.proofs.Common.{◌≡◌, ◌∙◌, ℕ, suc, Bool, true, false, cond, List, [], ◌∷◌, map, refl, subst, arith, inl, inr}
 use Rattle.std.specs.Prelude.{◌⊎◌, Contains, Option, None, Some, Result, Ok, Err, IfOk, IfSome}
 use Rattle.pie_base.specs.Path.{same_text}
 use Rattle.pie_cache.specs.inner.Keeping.{kept, or_else}

@@ -1,5 +1,9 @@
 pub mod Cached
 pub mod Kept
+pub mod Honest
 pub mod Clean
+pub mod Ran
+pub mod Crashes
 pub mod Lines
+pub mod News
 pub mod inner

@@ -1,20 +1,29 @@
 //! A build with the record cache.
 ghost use Rattle.std.specs.Prelude.{◌≡◌, ◌≤◌, ◌+◌, ◌++◌, ◌∷◌, [], None, length, map, All, IfOk, IfSome, OnOk};
+ghost use Rattle.pie_build.specs.Crashes.{StaysAtRest};
 ghost use Rattle.pie_build.specs.inner.Rebuilt.{IsRefusal, Tells};
+ghost use Rattle.pie_cache.specs.inner.Changes.{LeavesAlike};
 ghost use Rattle.pie_cache.specs.inner.Contents.{IsNews};
 ghost use Rattle.pie_cache.specs.inner.Places.{cache_path as specs_cache_path, gate};
+ghost use Rattle.pie_cache.specs.inner.Stored.{offers_in};
 ghost use Rattle.pie_cache.specs.inner.Texts.{IsKept};
+ghost use Rattle.pie_commit.specs.Outcomes.{LeavesFromRest};
 ghost use Rattle.pie_files.specs.Directory.{file_at};
 ghost use Rattle.pie_files.specs.Streams.{Counted};
 ghost use Rattle.pie_incremental.specs.inner.Refused.{RefusesRight};
+ghost use Rattle.pie_project.specs.Refusals.{IsVerdict};
 ghost use Rattle.pie_store.specs.inner.Offers.{offered as offer_of};
 ghost use Rattle.pie_value.specs.Canonical.{IsEncodableTask};
 ghost use Rattle.pie_cached.specs.Cached.{KeepsAllButCache, KeepsOthers, StaysIfRefused};
+ghost use Rattle.pie_cached.specs.Crashes.{EndsMarkedCached, StopsCached};
 ghost use Rattle.pie_cached.specs.Kept.{KeepsCached};
+ghost use Rattle.pie_cached.specs.Ran.{CachesRun};
 ghost use Rattle.pie_cached.specs.inner.News.{kept_of, placed, KeepsTold, LeavesCache, LeavesNews};
 ghost use Rattle.pie_topdown_build.specs.inner.News.{as_told};
 ghost use Rattle.pie_cached.specs.inner.Clean.{CachesCleanBy, OpenedClean};
+ghost use Rattle.pie_cached.specs.inner.Crashes.{EndsMarkedOpened, StopsKeeping, StopsOpened};
 ghost use Rattle.pie_topdown_build.specs.inner.Offered.{IsNew};
+ghost use Rattle.pie_topdown_build.specs.inner.Ran.{OffersRun};
 
 use pie_base::{OutOfMemory, Path};
 use pie_cache::{Cache, cache_path};
@@ -43,6 +52,10 @@ pub fn build_cached<F: Files>(
     ensures cache { IfSome (F.holds files.old) (λ d. IfOk result (λ r. LeavesCache d r.0 (F.holds files.new))) }
     ensures others { IfOk result (λ r. KeepsCached r.0.verdict r.0.ran.items (F.holds files.old) (F.holds files.new)) }
     ensures clean { IfSome (F.holds files.old) (λ d. IfOk result (λ r. CachesCleanBy d r.0 (F.holds files.new))) }
+    ensures runs { IfSome (F.holds files.old) (λ d. IfOk result (λ r. CachesRun d r.0 r.1.items)) }
+    ensures crash { LeavesFromRest F.holds F.moment F.left_since F.images StopsCached files.old files.new }
+    ensures marked { EndsMarkedCached F.holds F.images files.old files.new }
+    ensures durable { IsVerdict result → StaysAtRest F.holds F.images files.old files.new }
     ensures ran { IfOk result (λ r. runs.new ≡ runs.old ++ r.0.ran.items) }
     ensures few { length runs.new ≤ length runs.old + 50000 }
     ensures encodable { IfOk result (λ r. All IsEncodableTask r.0.ran.items) }
@@ -70,6 +83,10 @@ fn with_cache<F: Files>(
     ensures kept { IfOk result (λ r. StaysIfRefused r.0.verdict (F.holds files.old) (F.holds files.new)) }
     ensures cache { IfSome (F.holds files.old) (λ d. file_at d gate ≡ None → IfOk result (λ r. LeavesNews d (file_at d) r.0 (F.holds files.new))) }
     ensures clean { IfSome (F.holds files.old) (λ d. IfOk result (λ r. OpenedClean d r.0 (F.holds files.new))) }
+    ensures runs { IfSome (F.holds files.old) (λ d. IfOk result (λ r. OffersRun offers_in d r.0 r.1.items)) }
+    ensures crash { LeavesFromRest F.holds F.moment F.left_since F.images StopsOpened files.old files.new }
+    ensures marked { EndsMarkedOpened F.holds F.images files.old files.new }
+    ensures durable { IsVerdict result → StaysAtRest F.holds F.images files.old files.new }
     ensures ran { IfOk result (λ r. runs.new ≡ runs.old ++ r.0.ran.items) }
     ensures few { length runs.new ≤ length runs.old + 50000 }
     ensures encodable { IfOk result (λ r. All IsEncodableTask r.0.ran.items) }
@@ -97,6 +114,9 @@ fn finish<F: Files>(
     ensures reused { IfOk result (λ r. r.1 ≡ offered.reused) }
     ensures rest { KeepsAllButCache (F.holds files.old) (F.holds files.new) }
     ensures cache { OnOk result (KeepsTold (kept_of offered.report.value.verdict (map as_told offered.new.items)) (F.holds files.old) (F.holds files.new)) }
+    ensures whole { LeavesFromRest F.holds F.moment F.left_since F.images (StopsKeeping (kept_of offered.report.value.verdict (map as_told offered.new.items))) files.old files.new }
+    ensures alike { LeavesAlike F.holds F.moment F.left_since F.images files.old files.new }
+    ensures durable { IsVerdict result → StaysAtRest F.holds F.images files.old files.new }
     ensures accepted { IsRefusal result → ⊥ }
     ensures told { Tells F.faults files.old files.new result }
 {
@@ -123,6 +143,9 @@ fn keep_if_accepted<F: Files>(
     requires { All IsNew new.items }
     ensures rest { KeepsAllButCache (F.holds files.old) (F.holds files.new) }
     ensures cache { OnOk result (KeepsTold (kept_of verdict.now (map as_told new.items)) (F.holds files.old) (F.holds files.new)) }
+    ensures whole { LeavesFromRest F.holds F.moment F.left_since F.images (StopsKeeping (kept_of verdict.now (map as_told new.items))) files.old files.new }
+    ensures alike { LeavesAlike F.holds F.moment F.left_since F.images files.old files.new }
+    ensures durable { OnOk result (StaysAtRest F.holds F.images files.old files.new) }
     ensures counted { Counted F.faults FilesError.Failed files.old files.new result }
 {
     match verdict {
@@ -141,6 +164,9 @@ fn keep<F: Files>(
     requires { All IsNew new.items }
     ensures rest { KeepsAllButCache (F.holds files.old) (F.holds files.new) }
     ensures cache { OnOk result (KeepsTold (map as_told new.items) (F.holds files.old) (F.holds files.new)) }
+    ensures whole { LeavesFromRest F.holds F.moment F.left_since F.images (StopsKeeping (map as_told new.items)) files.old files.new }
+    ensures alike { LeavesAlike F.holds F.moment F.left_since F.images files.old files.new }
+    ensures durable { OnOk result (StaysAtRest F.holds F.images files.old files.new) }
     ensures counted { Counted F.faults FilesError.Failed files.old files.new result }
 {
     let mut cache = cache;

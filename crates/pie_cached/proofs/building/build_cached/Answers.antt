@@ -6,8 +6,10 @@ use Rattle.pie_value.specs.declared.task.Task.{Task}
 use Rattle.pie_cached.proofs.Keeping.{after_open}
 use Rattle.pie_cached.proofs.Staying.{keeps_cached}
 use Rattle.pie_cached.proofs.Cleanly.{opened_clean}
+use Rattle.pie_cached.proofs.Ran.{opened_runs}
 use Rattle.pie_cached.proofs.Others.{both, cache_both, of_cache, refused_then}
 use Rattle.pie_cached.proofs.Refusing.{opened, without}
+use Rattle.pie_cached.proofs.Stopping.{opened_marked, opened_stops, opening_marked, opening_stops, rests_both}
 use Rattle.pie_cached.proofs.building.build_cached.Goals as goal
 
 pub returns-in-Ok-clause-rest : goal.returns-in-Ok-clause-rest
@@ -51,3 +53,50 @@ returns-in-Err-Failed-clause-says g c = without (g.F.Files.holds c.args.files.no
 
 pub returns-in-Err-OutOfMemory-clause-says : goal.returns-in-Err-OutOfMemory-clause-says
 returns-in-Err-OutOfMemory-clause-says g c = without (g.F.Files.holds c.args.files.now)
+
+pub returns-in-Ok-clause-runs : goal.returns-in-Ok-clause-runs
+returns-in-Ok-clause-runs g c =
+    opened_runs c.with_cache.result (g.F.Files.holds c.args.files.now) (g.F.Files.holds c.open.new.files) c.in-Ok.ensures.cleared c.in-Ok.ensures.kept
+    c.with_cache.ensures.runs
+
+pub returns-in-Ok-clause-crash : goal.returns-in-Ok-clause-crash
+returns-in-Ok-clause-crash g c =
+    opened_stops g.F.Files.holds g.F.Files.moment g.F.Files.left_since g.F.Files.images c.args.files.now c.open.new.files c.with_cache.new.files
+    c.in-Ok.ensures.kept c.in-Ok.ensures.cleared c.in-Ok.ensures.durable
+    (opening_stops g.F.Files.holds g.F.Files.moment g.F.Files.left_since g.F.Files.images c.args.files.now c.open.new.files c.in-Ok.ensures.whole
+    c.in-Ok.ensures.crash) c.with_cache.ensures.crash
+
+pub returns-in-Ok-clause-marked : goal.returns-in-Ok-clause-marked
+returns-in-Ok-clause-marked g c =
+    opened_marked g.F.Files.holds g.F.Files.moment g.F.Files.left_since g.F.Files.images c.args.files.now c.open.new.files c.with_cache.new.files
+    c.in-Ok.ensures.kept c.in-Ok.ensures.cleared c.in-Ok.ensures.durable c.with_cache.ensures.marked
+
+pub returns-in-Ok-clause-durable : goal.returns-in-Ok-clause-durable
+returns-in-Ok-clause-durable g c =
+    λ says. rests_both g.F.Files.holds g.F.Files.moment g.F.Files.left_since g.F.Files.images c.args.files.now c.open.new.files c.with_cache.new.files
+    c.in-Ok.ensures.durable (c.with_cache.ensures.durable says)
+
+pub returns-in-Err-Failed-clause-crash : goal.returns-in-Err-Failed-clause-crash
+returns-in-Err-Failed-clause-crash g c =
+    opening_stops g.F.Files.holds g.F.Files.moment g.F.Files.left_since g.F.Files.images c.args.files.now c.open.new.files c.in-Err-Failed.ensures.whole
+    c.in-Err-Failed.ensures.crash
+
+pub returns-in-Err-Failed-clause-marked : goal.returns-in-Err-Failed-clause-marked
+returns-in-Err-Failed-clause-marked g c =
+    opening_marked g.F.Files.holds g.F.Files.moment g.F.Files.left_since g.F.Files.images c.args.files.now c.open.new.files c.in-Err-Failed.ensures.crash
+
+pub returns-in-Err-Failed-clause-durable : goal.returns-in-Err-Failed-clause-durable
+returns-in-Err-Failed-clause-durable g c = λ says. absurd says
+
+pub returns-in-Err-OutOfMemory-clause-crash : goal.returns-in-Err-OutOfMemory-clause-crash
+returns-in-Err-OutOfMemory-clause-crash g c =
+    opening_stops g.F.Files.holds g.F.Files.moment g.F.Files.left_since g.F.Files.images c.args.files.now c.open.new.files c.in-Err-OutOfMemory.ensures.whole
+    c.in-Err-OutOfMemory.ensures.crash
+
+pub returns-in-Err-OutOfMemory-clause-marked : goal.returns-in-Err-OutOfMemory-clause-marked
+returns-in-Err-OutOfMemory-clause-marked g c =
+    opening_marked g.F.Files.holds g.F.Files.moment g.F.Files.left_since g.F.Files.images c.args.files.now c.open.new.files
+    c.in-Err-OutOfMemory.ensures.crash
+
+pub returns-in-Err-OutOfMemory-clause-durable : goal.returns-in-Err-OutOfMemory-clause-durable
+returns-in-Err-OutOfMemory-clause-durable g c = λ says. absurd says

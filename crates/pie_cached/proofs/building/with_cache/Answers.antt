@@ -4,6 +4,7 @@ use Rattle.std.proofs.lemmas.Result.{IfOk-weaker}
 use Rattle.std.specs.declared.alloc.Global.{Global}
 use Rattle.pie_project.specs.declared.fault.BuildError.{BuildError}
 use Rattle.pie_report.specs.declared.report.Report.{Report}
+use Rattle.pie_topdown_build.proofs.Crashing.{error_verdict}
 use Rattle.pie_topdown_build.specs.declared.offered.Offered.{Offered}
 use Rattle.pie_topdown_build.specs.inner.News.{as_told}
 use Rattle.pie_value.specs.declared.task.Task.{Task}
@@ -11,8 +12,10 @@ use Rattle.pie_value.specs.Canonical.{IsEncodableTask}
 use Rattle.pie_cached.specs.Cached.{StaysIfRefused}
 use Rattle.pie_cached.proofs.Keeping.{after_build}
 use Rattle.pie_cached.proofs.Cleanly.{all_kept, finished_clean}
+use Rattle.pie_cached.proofs.Ran.{finished_runs}
 use Rattle.pie_cached.proofs.Others.{both, if_refused, of_build, of_cache}
 use Rattle.pie_cached.proofs.Refusing.{handed_on, never}
+use Rattle.pie_cached.proofs.Stopping.{built_marked, built_only, kept_marked, kept_then, rests_both}
 use Rattle.pie_cached.proofs.building.with_cache.Goals as goal
 
 pub returns-in-Ok-clause-rest : goal.returns-in-Ok-clause-rest
@@ -60,3 +63,36 @@ returns-in-Ok-clause-says g c = never _ (g.F.Files.holds c.args.files.now) c.fin
 
 pub returns-in-Err-clause-says : goal.returns-in-Err-clause-says
 returns-in-Err-clause-says g c = handed_on Offered (Report × Vec Task Global) (g.F.Files.holds c.args.files.now) c.in-Err.error c.in-Err.ensures.says
+
+pub returns-in-Ok-clause-runs : goal.returns-in-Ok-clause-runs
+returns-in-Ok-clause-runs g c =
+    finished_runs c.in-Ok.offered.report.value c.in-Ok.offered.reused c.finish.result (g.F.Files.holds c.args.files.now) c.in-Ok.ensures.runs
+    c.finish.ensures.report c.finish.ensures.reused
+
+pub returns-in-Ok-clause-crash : goal.returns-in-Ok-clause-crash
+returns-in-Ok-clause-crash g c =
+    let news = c.in-Ok.offered.new.items in
+    kept_then g.F.Files.holds g.F.Files.moment g.F.Files.left_since g.F.Files.images c.args.files.now c.build_offered.new.files c.finish.new.files
+    c.in-Ok.offered.report.value (map as_told news) (all_kept news c.in-Ok.ensures.new) c.in-Ok.ensures.clean c.in-Ok.ensures.honest
+    c.build_offered.ensures.crash (c.in-Ok.ensures.durable tt) c.finish.ensures.whole c.finish.ensures.alike
+
+pub returns-in-Ok-clause-marked : goal.returns-in-Ok-clause-marked
+returns-in-Ok-clause-marked g c =
+    kept_marked g.F.Files.holds g.F.Files.moment g.F.Files.left_since g.F.Files.images c.args.files.now c.build_offered.new.files c.finish.new.files
+    c.build_offered.ensures.marked (c.in-Ok.ensures.durable tt) c.finish.ensures.alike
+
+pub returns-in-Ok-clause-durable : goal.returns-in-Ok-clause-durable
+returns-in-Ok-clause-durable g c =
+    λ says. rests_both g.F.Files.holds g.F.Files.moment g.F.Files.left_since g.F.Files.images c.args.files.now c.build_offered.new.files c.finish.new.files
+    (c.in-Ok.ensures.durable tt) (c.finish.ensures.durable says)
+
+pub returns-in-Err-clause-crash : goal.returns-in-Err-clause-crash
+returns-in-Err-clause-crash g c =
+    built_only g.F.Files.holds g.F.Files.moment g.F.Files.left_since g.F.Files.images c.args.files.now c.build_offered.new.files c.build_offered.ensures.crash
+
+pub returns-in-Err-clause-marked : goal.returns-in-Err-clause-marked
+returns-in-Err-clause-marked g c =
+    built_marked g.F.Files.holds g.F.Files.moment g.F.Files.left_since g.F.Files.images c.args.files.now c.build_offered.new.files c.build_offered.ensures.marked
+
+pub returns-in-Err-clause-durable : goal.returns-in-Err-clause-durable
+returns-in-Err-clause-durable g c = λ says. c.in-Err.ensures.durable (error_verdict (Report × Vec Task Global) Offered c.in-Err.error says)
