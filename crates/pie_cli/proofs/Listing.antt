@@ -1,5 +1,5 @@
 -- What a command says that reads a list of paths, by its input.
-use Rattle.std.proofs.Common.{◌≡◌, ◌⊎◌, ℕ, Bool, true, List, [], Option, None, Some, inl, inr, refl, sym, ◌∙◌, subst, arith, rules}
+use Rattle.std.proofs.Common.{◌≡◌, ◌⊎◌, ℕ, Bool, true, List, Option, None, Some, inl, inr, refl, sym, ◌∙◌, subst, arith, rules}
 use Rattle.std.specs.Prelude.{IfSome, Vec, Err}
 use Rattle.std.proofs.lemmas.Bool.{false≢true}
 use Rattle.std.specs.declared.alloc.Global.{Global}

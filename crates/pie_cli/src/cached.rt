@@ -1,7 +1,10 @@
 //! A build with the record cache, and what is told of it.
-ghost use Rattle.std.specs.Prelude.{◌≡◌, true, All, IfOk, string_bytes};
+ghost use Rattle.std.specs.Prelude.{◌≡◌, true, All, IfOk, OnOk, string_bytes};
+ghost use Rattle.pie_build.specs.Crashes.{StaysAtRest};
 ghost use Rattle.pie_cached.specs.Cached.{KeepsOthers};
+ghost use Rattle.pie_cached.specs.Crashes.{EndsMarkedCached, StopsCached};
 ghost use Rattle.pie_cached.specs.Lines.{IsCachedText};
+ghost use Rattle.pie_commit.specs.Outcomes.{LeavesFromRest};
 ghost use Rattle.pie_files.specs.Streams.{Counted};
 ghost use Rattle.pie_value.specs.Canonical.{IsEncodableTask};
 ghost use Rattle.pie_cli.specs.Cached.{CachedSays};
@@ -25,6 +28,9 @@ pub(crate) fn cached<F: Files>(alloc: Global, files: &mut F) -> Result<CommandRe
     ensures says { IfOk result (λ told. CachedSays (F.holds files.old) (F.holds files.new) (string_bytes told.text) told.status) }
     ensures answer { IfOk result (λ told. is_answer told.status ≡ true) }
     ensures rest { KeepsOthers (F.holds files.old) (F.holds files.new) }
+    ensures crash { LeavesFromRest F.holds F.moment F.left_since F.images StopsCached files.old files.new }
+    ensures marked { EndsMarkedCached F.holds F.images files.old files.new }
+    ensures durable { OnOk result (StaysAtRest F.holds F.images files.old files.new) }
     ensures counted { Counted F.faults FilesError.Failed files.old files.new result }
 {
     let mut runs = Runs::new(alloc);

@@ -66,7 +66,7 @@ pub fn run<F: Files, I: Source, K: Sink>(
     ensures topdown { (json : Bool) → texts_of words.now ≡ words_of (commands.Topdown json)
         → RunsTopdown F.holds F.moment F.left_since F.images F.faults json files.old files.new (K.held out.old) (K.held out.new) result }
     ensures cached { texts_of words.now ≡ words_of commands.Cached
-        → RunsCached F.holds F.faults files.old files.new (K.held out.old) (K.held out.new) result }
+        → RunsCached F.holds F.moment F.left_since F.images F.faults files.old files.new (K.held out.old) (K.held out.new) result }
     ensures demo { (seed size : ℕ) → is_allowed (commands.Demo seed size) ≡ true → texts_of words.now ≡ words_of (commands.Demo seed size)
         → RunsDemo seed size files.old files.new (K.held out.old) (K.held out.new) result }
     ensures usage { IsUsage (texts_of words.now) → PrintsUsage files.old files.new (K.held out.old) (K.held out.new) result }
@@ -108,7 +108,7 @@ fn run_command<F: Files, I: Source, K: Sink>(
     ensures topdown { (json : Bool) → command ≡ commands.Topdown json
         → RunsTopdown F.holds F.moment F.left_since F.images F.faults json files.old files.new (K.held out.old) (K.held out.new) result }
     ensures cached { command ≡ commands.Cached
-        → RunsCached F.holds F.faults files.old files.new (K.held out.old) (K.held out.new) result }
+        → RunsCached F.holds F.moment F.left_since F.images F.faults files.old files.new (K.held out.old) (K.held out.new) result }
     ensures demo { (seed size : ℕ) → command ≡ commands.Demo seed size → RunsDemo seed size files.old files.new (K.held out.old) (K.held out.new) result }
     ensures rest { ChangesWithin command → KeepsRest (F.holds files.old) (F.holds files.new) }
     ensures ends { Ends (HasNoScript command) (F.faults files.old) (F.faults files.new) (I.faults input.old) (I.faults input.new) (K.faults out.old) (K.faults out.new) (K.held out.old) (K.held out.new) result }
@@ -225,7 +225,7 @@ fn run_topdown<F: Files, K: Sink>(alloc: Global, files: &mut F, out: &mut K, jso
 
 // A build with the record cache, with its report.
 fn run_cached<F: Files, K: Sink>(alloc: Global, files: &mut F, out: &mut K) -> Status
-    ensures cached { RunsCached F.holds F.faults files.old files.new (K.held out.old) (K.held out.new) result }
+    ensures cached { RunsCached F.holds F.moment F.left_since F.images F.faults files.old files.new (K.held out.old) (K.held out.new) result }
     ensures ends { EndsUnread (F.faults files.old) (F.faults files.new) (K.faults out.old) (K.faults out.new) (K.held out.old) (K.held out.new) result }
     ensures infallible { StaysInfallible K.infallible K.faults out.old out.new }
 {

@@ -1,8 +1,11 @@
-use Rattle.std.proofs.Common.{inl, inr}
-use Rattle.std.specs.Prelude.{Vec}
+use Rattle.std.proofs.Common.{◌≡◌, inl, inr, rules, subst, sym}
+use Rattle.std.specs.Prelude.{IfSome, Vec}
 use Rattle.std.specs.declared.alloc.Global.{Global}
+use Rattle.pie_cached.proofs.Fronting.{news_of}
 use Rattle.pie_cached.proofs.Honestly.{clean_of}
 use Rattle.pie_cached.specs.Clean.{CachesClean}
+use Rattle.pie_cached.specs.News.{KeepsNews}
+use Rattle.pie_cached.specs.Ran.{CachesRun}
 use Rattle.pie_cached.specs.inner.Clean.{CachesCleanBy}
 use Rattle.pie_files.proofs.Reading.{if_each}
 use Rattle.pie_project.specs.Refusals.{OfPipeline, OfRoots, plain}
@@ -41,13 +44,16 @@ returns-in-Ok-clause-says g c =
     let report = c.in-Ok.report in
     let before = g.F.Files.holds c.args.files.now in
     let after = g.F.Files.holds c.build_cached.new.files in
+    let slice : c.as_slice.result.now ≡ c.in-Ok.reused.items = search rules in
     inr (record {
       report = report;
       reused = c.as_slice.result.now;
       few = few_of 50000 c.new-runs.result c.build_cached.new.runs report.ran.items c.in-Ok.ensures.ran c.in-Ok.ensures.few;
       kept = c.in-Ok.ensures.kept;
       cache = c.in-Ok.ensures.others;
+      news = if_each (λ d. CachesCleanBy d report after) (λ d. KeepsNews d report after) before (λ d by. news_of d report after by) c.in-Ok.ensures.clean;
       clean = if_each (λ d. CachesCleanBy d report after) (λ d. CachesClean d report after) before (λ d by. clean_of d report after by) c.in-Ok.ensures.clean;
+      runs = subst (λ ts. IfSome before (λ d. CachesRun d report ts)) (sym slice) c.in-Ok.ensures.runs;
       is = told.ensures.text;
       status = told.ensures.status;
     })

@@ -14,6 +14,7 @@ use Rattle.pie_cli.specs.Fresh.{IsFreshText}
 use Rattle.pie_cli.specs.Build.{MakeSays}
 use Rattle.pie_auto.proofs.Finding.{outside_same}
 use Rattle.pie_cached.proofs.Others.{others_same}
+use Rattle.pie_cached.proofs.Stopping.{none_marked, none_stops}
 use Rattle.pie_cli.specs.Auto.{AutoSays}
 use Rattle.pie_cli.specs.Cached.{CachedSays}
 use Rattle.pie_cli.specs.Scan.{ScanSays}
@@ -212,4 +213,7 @@ pub returns-in-Err-OutOfMemory-clause-cached : goal.returns-in-Err-OutOfMemory-c
 returns-in-Err-OutOfMemory-clause-cached g c = λ is. record {
   said = made_none CachedSays g.F.Files.holds g.F.Files.faults c.args.files.now c.args.files.now (g.K.Sink.held c.args.out.now);
   rest = others_same (g.F.Files.holds c.args.files.now) (g.F.Files.holds c.args.files.now) refl;
+  crash = none_stops g.F.Files.holds g.F.Files.moment g.F.Files.left_since g.F.Files.images c.args.files.now;
+  marked = none_marked g.F.Files.holds g.F.Files.moment g.F.Files.left_since g.F.Files.images c.args.files.now;
+  durable = λ answer. absurd (memory_is_no_answer answer);
 }
