@@ -1,18 +1,18 @@
 //! The record of each task.
-ghost use Rattle.std.specs.Prelude.{◌≡◌, ℕ, None, OnOk, OnErr};
+ghost use Rattle.std.specs.Prelude.{◌≡◌, ◌<◌, ℕ, length, None, OnOk, OnErr};
 ghost use Rattle.std.specs.Option.{option_copied};
-ghost use Rattle.pie_record.specs.inner.Records.{record_of, Puts};
+ghost use Rattle.pie_record.specs.inner.Records.{record_of, Puts, Takes};
 
 use crate::TaskRecord;
 use pie_base::OutOfMemory;
 use pie_graph::TaskNo;
 use std::alloc::Global;
-use std::collections::BTreeMap;
 
-/// Records by the numbers of their tasks. Contracts see them by `record_of`.
+/// Records by the numbers of their tasks, with a slot for each number up to the greatest that got one: numbers of tasks are
+/// dense. Contracts see them by `record_of`.
 #[derive(Drop)]
 pub struct Records {
-    records: BTreeMap<u32, TaskRecord>,
+    slots: Vec<Option<TaskRecord>>,
 }
 
 impl Records {
@@ -21,7 +21,7 @@ impl Records {
         ensures { (n : ℕ) → record_of result n ≡ None }
     {
         Records {
-            records: BTreeMap::new(alloc),
+            slots: Vec::new(alloc),
         }
     }
 
@@ -29,7 +29,10 @@ impl Records {
     pub fn get(&self, no: TaskNo) -> Option<&TaskRecord>
         ensures { option_copied result ≡ record_of self.now no.0 }
     {
-        self.records.get(&no.0)
+        match self.slots.get(no.0 as usize) {
+            Some(slot) => slot.as_ref(),
+            None => None,
+        }
     }
 
     /// Keeps the record of a task, in the place of an earlier one.
@@ -37,7 +40,30 @@ impl Records {
         ensures puts { OnOk result (Puts self.old self.new no.0 rec) }
         ensures unchanged { OnErr result ((n : ℕ) → record_of self.new n ≡ record_of self.old n) }
     {
-        self.records.insert(no.0, rec)?;
+        self.make_slot(no)?;
+        self.slots[no.0 as usize] = Some(rec);
+        Ok(())
+    }
+
+    /// Gives the record of a task away, if it has one.
+    pub fn take(&mut self, no: TaskNo) -> Option<TaskRecord>
+        ensures taken { result ≡ record_of self.old no.0 }
+        ensures takes { Takes self.old self.new no.0 }
+    {
+        match self.slots.get_mut(no.0 as usize) {
+            Some(slot) => slot.take(),
+            None => None,
+        }
+    }
+
+    // Makes slots up to that of a task, where they aren't there yet.
+    fn make_slot(&mut self, no: TaskNo) -> Result<(), OutOfMemory>
+        ensures there { OnOk result (no.0 < length self.new.slots.items) }
+        ensures same { (n : ℕ) → record_of self.new n ≡ record_of self.old n }
+    {
+        while self.slots.len() <= no.0 as usize {
+            self.slots.push(None)?;
+        }
         Ok(())
     }
 }

@@ -121,3 +121,19 @@ fn a_second_record_takes_the_place_of_the_first(rt: HostRuntime) -> Result<(), F
     assert!(rt; two);
     Ok(())
 }
+
+#[test]
+fn a_record_is_given_away_once(rt: HostRuntime) -> Result<(), Fail> {
+    let alloc = rt.alloc();
+    let mut records = Records::new(alloc);
+    for no in 1..3 {
+        let bytes = hex::decode(alloc, RECORD)?;
+        let (rec, _) = decode_record(alloc, bytes.as_slice())?;
+        records.put(TaskNo(no), rec)?;
+    }
+    assert!(rt; records.take(TaskNo(1)).is_some());
+    assert!(rt; records.take(TaskNo(1)).is_none());
+    assert!(rt; records.take(TaskNo(3)).is_none());
+    assert!(rt; records.get(TaskNo(2)).is_some());
+    Ok(())
+}
