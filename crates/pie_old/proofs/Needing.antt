@@ -6,7 +6,7 @@ use Rattle.std.proofs.lemmas.List.Elements.{All-nil, All-cons, All-head, All-tai
 use Rattle.pie_value.specs.declared.task.Task.{Task}
 use Rattle.pie_record.specs.declared.dep.Dep.{Dep}
 use Rattle.pie_store.specs.Canonical.{required_on}
-use Rattle.pie_old.specs.inner.Rows.{needs_in}
+use Rattle.pie_store.specs.inner.Ties.{needs_in}
 
 pub all_front : {X : Type 0} (P : X → Type 0) (xs ys : List X) → All P (xs ++ ys) → All P xs
 all_front P [] ys h = All-nil P

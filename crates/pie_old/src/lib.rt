@@ -9,6 +9,7 @@ mod looking;
 mod numbering;
 mod old;
 mod row;
+mod tying;
 
 pub use code::same_code;
 pub use digests::digests_of;

@@ -20,5 +20,6 @@ pub mod StoreParts
 pub mod StoreTexts
 pub mod TailFaults
 pub mod Turns
+pub mod Tying
 pub mod Unchanged
 pub mod WholeAgain

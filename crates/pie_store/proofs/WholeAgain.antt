@@ -15,7 +15,7 @@ use Rattle.pie_record.proofs.Codecs.{bytes_codec}
 use Rattle.pie_store.specs.declared.image.StoreImage.{StoreImage}
 use Rattle.pie_store.specs.declared.store_fault.StoreFault.{StoreFault}
 use Rattle.pie_store.specs.declared.store_fault.StoreFault.TheVariants.{Short, Magic, Version, Digest, Row, Order, Rest, OutOfMemory}
-use Rattle.pie_store.specs.Frame.{magic, sealed, versioned, framed}
+use Rattle.pie_store.specs.Frame.{magic, sealed, versioned, framed, IsSealed}
 use Rattle.pie_store.specs.Canonical.{enc_func, enc_head, enc_body, names_of, IsStorableStore}
 use Rattle.pie_store.specs.Ranks.{knows, IsStored}
 use Rattle.pie_store.specs.Texts.{IsFunc, IsFormat, AreKnown, IsStore, IsStoreText}
@@ -121,6 +121,14 @@ sealed_again body =
     let same : bytes_eq (sha256 (take (length bs - 32) bs)) (drop (length bs - 32) bs) ≡ true =
     (bytes_eq-Decides (sha256 (take (length bs - 32) bs)) (drop (length bs - 32) bs)).1 (ap sha256 front ∙ sym back) in
     ap (λ (b : Bool). cond b (Ok (take (length bs - 32) bs)) (Err Digest)) same ∙ ap (λ (t : List ℕ). Ok t) front
+
+-- the text of a store ends in the digest of its body
+pub text_sealed : (s : StoreImage) (bs : List ℕ) → IsStoreText s bs → IsSealed bs
+text_sealed s bs t le =
+    let body = enc_body s in
+    let n : length body ≡ length bs - 32 = omega (arith, ap length t.bytes, length-append body (sha256 body), length-sha256 body) in
+    ap (λ (xs : List ℕ). sha256 (take (length bs - 32) xs)) t.bytes ∙ ap sha256 (take_at body (sha256 body) (length bs - 32) n)
+    ∙ sym (drop_at body (sha256 body) (length bs - 32) n) ∙ ap (λ (xs : List ℕ). drop (length bs - 32) xs) (sym t.bytes)
 
 -- a version and the bytes after it, in a frame
 pub frame_again : (v : ℕ) (inside : List ℕ) → ((v ≡ 1) × (40 ≤ length inside)) ⊎ ((v ≡ 2) × (12 ≤ length inside))

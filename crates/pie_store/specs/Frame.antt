@@ -1,5 +1,5 @@
 -- What stands around the contents of a store.
-use Rattle.std.specs.Prelude.{◌≡◌, ℕ, ◌-◌, ◌==◌, List, [], ◌∷◌, length, take, drop, cond, nat_lt, Result, Ok, Err, slice_index}
+use Rattle.std.specs.Prelude.{◌≡◌, ℕ, ◌-◌, ◌≤◌, ◌==◌, List, [], ◌∷◌, length, take, drop, cond, nat_lt, Result, Ok, Err, slice_index}
 use Rattle.std.proofs.Common.{Bor}
 use Rattle.std.specs.Str.{bytes_eq}
 use Rattle.sha2.specs.Sha256.{sha256}
@@ -13,6 +13,10 @@ magic = 80 ∷ 73 ∷ 69 ∷ 83 ∷ []
 -- the bytes before the last 32, where these are their SHA-256
 abbrev pub sealed : List ℕ → Result (List ℕ) StoreFault
 sealed bs = cond (bytes_eq (sha256 (take (length bs - 32) bs)) (drop (length bs - 32) bs)) (Ok (take (length bs - 32) bs)) (Err Digest)
+
+-- the last 32 bytes, where there are so many, are the SHA-256 of those before them
+abbrev pub IsSealed : List ℕ → Type 0
+IsSealed bs = 32 ≤ length bs → sha256 (take (length bs - 32) bs) ≡ drop (length bs - 32) bs
 
 -- what the fifth byte, the version, asks for
 abbrev pub versioned : ℕ → List ℕ → Result (List ℕ) StoreFault

@@ -3,4 +3,5 @@ pub mod Reading
 pub mod Agreement
 pub mod RankCodes
 pub mod Known
+pub mod Ties
 pub mod Offers

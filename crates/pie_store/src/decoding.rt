@@ -15,7 +15,7 @@ use crate::frame::body_of;
 use crate::known::Known;
 use crate::ranked::RankedRows;
 use crate::reading::{funcs, missing, place, roots, rows, tasks_of, unread};
-use crate::{Funcs, Rows, StoreFault, StoreImage};
+use crate::{Funcs, StoreFault, StoreImage};
 use pie_base::Text;
 use pie_record::Reader;
 use pie_value::{Task, Tasks};
@@ -112,7 +112,7 @@ fn tail(
         pipeline: head.pipeline,
         funcs: Funcs::new(head.funcs),
         roots: Tasks::new(tasks),
-        rows: Rows::new(rows.into_rows()),
+        rows: rows.into_rows(),
     })
 }
 

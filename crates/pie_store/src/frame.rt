@@ -1,7 +1,7 @@
 //! What stands around the contents of a store: four fixed bytes, the version, and the SHA-256 of all before it.
 ghost use Rattle.std.specs.Prelude.{◌≡◌, ◌+◌, ◌≤◌, length, IfOk};
 ghost use Rattle.sha2.specs.Sha256.{sha256};
-ghost use Rattle.pie_store.specs.Frame.{FrameAgrees, framed, sealed};
+ghost use Rattle.pie_store.specs.Frame.{FrameAgrees, IsSealed, framed, sealed};
 
 use crate::StoreFault;
 use sha2::{Digest, Sha256};
@@ -46,7 +46,18 @@ fn sealed_body(bytes: &[u8]) -> Result<&[u8], StoreFault>
     Ok(body)
 }
 
-pub(crate) fn hash_of(bytes: &[u8]) -> [u8; 32]
+// The SHA-256 of a body, taken over from the text before where it is the body of that.
+pub(crate) fn digest_of(body: &[u8], before: &[u8]) -> [u8; 32]
+    requires { IsSealed before.now }
+    ensures { result ≡ sha256 body.now }
+{
+    match before.split_last_chunk::<DIGEST>() {
+        Some((same, digest)) if same == body => *digest,
+        _ => hash_of(body),
+    }
+}
+
+fn hash_of(bytes: &[u8]) -> [u8; 32]
     ensures { result ≡ sha256 bytes.now }
 {
     let mut hasher = Sha256::new();

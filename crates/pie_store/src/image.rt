@@ -1,6 +1,8 @@
 //! What a store says.
-ghost use Rattle.std.specs.Prelude.{◌≡◌};
+ghost use Rattle.std.specs.Prelude.{◌≡◌, IfSome};
+ghost use Rattle.pie_store.specs.inner.Ties.{AreTies};
 
+use crate::Ties;
 use pie_base::Text;
 use pie_record::TaskRecord;
 use pie_value::Tasks;
@@ -55,14 +57,15 @@ impl Funcs {
     }
 }
 
-/// Records in order. Contracts see the list of them.
+/// Records in order, with their ties where these are known. Contracts see the list of the records.
 #[derive(Drop)]
 pub struct Rows {
     rows: Vec<TaskRecord>,
+    ties: Option<Ties>,
 }
 
 impl Model for Rows {
-    ghost use Rattle.std.specs.Prelude.{List};
+    ghost use Rattle.std.specs.Prelude.{List, IfSome};
     ghost use Rattle.pie_record.specs.declared.task_record.TaskRecord.{TaskRecord};
     ghost use Rattle.pie_record.specs.inner.RecordCodes.{coded_records};
 
@@ -70,14 +73,28 @@ impl Model for Rows {
 
     ghost coded = { coded_records };
 
+    ghost use Rattle.pie_store.specs.inner.Ties.{AreTies};
+
     ghost view = { λ r. r.rows.items };
+
+    ghost invariant = { λ r. IfSome r.ties (AreTies r.rows.items) };
 }
 
 impl Rows {
     pub fn new(rows: Vec<TaskRecord>) -> Rows
         ensures { result ≡ rows.items }
     {
-        Rows { rows }
+        Rows { rows, ties: None }
+    }
+
+    pub(crate) fn tied(rows: Vec<TaskRecord>, ties: Ties) -> Rows
+        requires { AreTies rows.items ties }
+        ensures { result ≡ rows.items }
+    {
+        Rows {
+            rows,
+            ties: Some(ties),
+        }
     }
 
     pub fn as_slice(&self) -> &[TaskRecord]
@@ -89,7 +106,16 @@ impl Rows {
     pub fn into_vec(self) -> Vec<TaskRecord>
         ensures { result.items ≡ self }
     {
-        let Rows { rows } = self;
+        let Rows { rows, ties: _ } = self;
         rows
+    }
+
+    /// The records, and their ties where these are known.
+    pub fn into_parts(self) -> (Vec<TaskRecord>, Option<Ties>)
+        ensures rows { result.0.items ≡ self }
+        ensures ties { IfSome result.1 (AreTies self) }
+    {
+        let Rows { rows, ties } = self;
+        (rows, ties)
     }
 }

@@ -10,7 +10,9 @@ mod offers;
 mod pending;
 mod ranked;
 mod reading;
+mod sharing;
 mod store_fault;
+mod ties;
 mod writer;
 
 pub use cause::Cause;
@@ -19,4 +21,5 @@ pub use image::{Funcs, Rows, StoreImage};
 pub use offers::{NoOffers, Offer, Offers};
 pub use pending::{pending_text, read_pending};
 pub use store_fault::StoreFault;
-pub use writer::encode_store;
+pub use ties::Ties;
+pub use writer::{encode_store, encode_store_after};

@@ -1,24 +1,33 @@
 //! The records of a store that were read so far, with their heights.
-ghost use Rattle.std.specs.Prelude.{◌≡◌, ◌≤◌, ◌<◌, ◌^◌, ◌∷◌, [], ◌++◌, ◌+◌, length, map, max, All, Contains, None, IfOk, OnOk, IfSome, slice_index_or};
+ghost use Rattle.std.specs.Prelude.{◌≡◌, ◌≤◌, ◌<◌, ◌^◌, ◌∷◌, [], ◌++◌, ◌+◌, length, map, max, None, Some, IfSome};
+ghost use Rattle.std.specs.Prelude.{All, Contains, IfOk, OnOk, slice_get, slice_index_or};
+ghost use Rattle.std.specs.Option.{option_map};
 ghost use Rattle.pie_value.specs.Canonical.{IsEncodableTask};
 ghost use Rattle.pie_store.specs.Ranks.{rank_in, above_one, above as specs_above, comes_last, is_before as specs_is_before, height_after, IsStored, IsStoredOn};
+ghost use Rattle.pie_store.specs.Canonical.{required_on, needs as specs_needs};
 ghost use Rattle.pie_store.specs.inner.Reading.{rows_of};
+ghost use Rattle.pie_store.specs.inner.Ties.{named_by, tasks_among, needs_in, Gains};
 ghost use Rattle.pie_store.specs.inner.Known.{known_in};
 ghost use Rattle.pie_record.specs.declared.dep.Dep.{Dep};
 
 use crate::known::Known;
-use pie_base::OutOfMemory;
-use pie_record::{Dep, DepOn, TaskNames, TaskRecord};
+use crate::sharing::{share_name, share_stamp, share_task};
+use crate::{Rows, Ties};
+use pie_base::{OutOfMemory, Text};
+use pie_graph::TaskNo;
+use pie_record::{Dep, DepOn, Deps, TaskNames, TaskRecord};
 use pie_value::Task;
 use std::alloc::Global;
 use std::cmp::Ordering;
 use std::marker::Model;
+use std::mem;
 
-// Records with their heights. Contracts see the list of the pairs.
+// Records with their heights, and the numbers of the tasks that each requires. Contracts see the list of the pairs of record and height.
 #[derive(Drop)]
 pub(crate) struct RankedRows {
     names: TaskNames,
     heights: Vec<u64>,
+    needs: Vec<Vec<TaskNo>>,
     rows: Vec<TaskRecord>,
 }
 
@@ -27,7 +36,7 @@ impl Model for RankedRows {
     ghost use Rattle.std.specs.List.{zip};
     ghost use Rattle.pie_record.specs.declared.task_record.TaskRecord.{TaskRecord};
     ghost use Rattle.pie_store.specs.inner.RankCodes.{coded_ranked};
-    ghost use Rattle.pie_store.specs.Ranks.{AreRanked};
+    ghost use Rattle.pie_store.specs.inner.Ties.{AreTied};
 
     ghost Value = { List (TaskRecord × ℕ) };
 
@@ -35,7 +44,7 @@ impl Model for RankedRows {
 
     ghost view = { λ r. zip r.rows.items r.heights.items };
 
-    ghost invariant = { λ r. AreRanked r.names r.heights.items r.rows.items };
+    ghost invariant = { λ r. AreTied r.names r.heights.items r.needs.items r.rows.items };
 }
 
 impl RankedRows {
@@ -45,54 +54,119 @@ impl RankedRows {
         RankedRows {
             names: TaskNames::new(alloc),
             heights: Vec::new(alloc),
+            needs: Vec::new(alloc),
             rows: Vec::new(alloc),
+        }
+    }
+
+    // The number of a task and its height, if it has a record.
+    fn place(&self, task: &Task) -> Result<Option<(TaskNo, u64)>, OutOfMemory>
+        requires { IsStored task.now }
+        ensures rank { IfOk result (λ p. option_map (λ q. q.1) p ≡ rank_in self.now task.now) }
+        ensures number { IfOk result (λ p. IfSome p (λ q. slice_get (tasks_among self.now) q.0.0 ≡ Some task.now)) }
+        ensures within { IfOk result (λ p. IfSome p (λ q. q.0.0 < length self.now)) }
+        ensures low { IfOk result (λ p. IfSome p (λ q. q.1 < length self.now)) }
+        ensures small { IfOk result (λ p. IfSome p (λ q. q.1 < 2 ^ 32)) }
+    {
+        let number = self.names.number(task)?;
+        match number {
+            Some(no) => {
+                let height = height_at(self.heights.as_slice(), no.0 as usize);
+                Ok(Some((no, height)))
+            }
+            None => Ok(None),
         }
     }
 
     // The height of a task, if it has a record.
     pub(crate) fn rank(&self, task: &Task) -> Result<Option<u64>, OutOfMemory>
         requires { IsStored task.now }
-        ensures rank { IfOk result (λ h. h ≡ rank_in self.now task.now) }
-        ensures low { IfOk result (λ h. IfSome h (λ n. n < length self.now)) }
-        ensures small { IfOk result (λ h. IfSome h (λ n. n < 2 ^ 32)) }
+        ensures { IfOk result (λ h. h ≡ rank_in self.now task.now) }
     {
-        let number = self.names.number(task)?;
-        match number {
-            Some(no) => Ok(Some(height_at(self.heights.as_slice(), no.0 as usize))),
+        match self.place(task)? {
+            Some((_, height)) => Ok(Some(height)),
             None => Ok(None),
         }
     }
 
-    // A height that is at least so much, and above what was observed, if that is a task.
-    fn above_one(&self, what: &DepOn, height: u64) -> Result<Option<u64>, OutOfMemory>
-        requires stored { IsStoredOn what.now }
-        requires low { height ≤ length self.now }
-        ensures height { IfOk result (λ h. h ≡ above_one self.now what.now height) }
-        ensures low { IfOk result (λ h. IfSome h (λ n. n ≤ length self.now)) }
+    // The record of the task with this number.
+    fn record(&self, no: TaskNo) -> &TaskRecord
+        requires { no.0 < length self.now }
+        ensures { slice_get (tasks_among self.now) no.0 ≡ Some result.now.task }
     {
-        match what {
+        record_at(self.rows.as_slice(), no.0 as usize)
+    }
+
+    // A height that is at least so much, and above what was observed, if that is a task, whose number is put behind others.
+    // The observation shares the contents of that task's record.
+    fn above_one(
+        &self,
+        dep: &mut Dep,
+        height: u64,
+        needs: &mut Vec<TaskNo>,
+    ) -> Result<Option<u64>, OutOfMemory>
+        requires stored { IsStoredOn dep.old.what }
+        requires low { height ≤ length self.now }
+        ensures height { IfOk result (λ h. h ≡ above_one self.now dep.old.what height) }
+        ensures low { IfOk result (λ h. IfSome h (λ n. n ≤ length self.now)) }
+        ensures needs { IfOk result (λ h. IfSome h (λ n. Gains (tasks_among self.now) needs.old.items needs.new.items (required_on dep.old.what))) }
+        ensures same { IfOk result (λ h. IfSome h (λ n. dep.new ≡ dep.old)) }
+    {
+        match &mut dep.what {
             DepOn::File(_) => Ok(Some(height)),
-            DepOn::Called(task) => match self.rank(task)? {
-                Some(below) => Ok(Some(taller(height, below))),
+            DepOn::Called(task) => match self.place(task)? {
+                Some((no, below)) => {
+                    let known = self.record(no);
+                    share_task(known, task)?;
+                    share_stamp(known, &mut dep.stamp)?;
+                    needs.push(no)?;
+                    Ok(Some(taller(height, below)))
+                }
                 None => Ok(None),
             },
         }
     }
 
-    // The height above all that was observed.
-    fn above(&self, deps: &[Dep]) -> Result<Option<u64>, OutOfMemory>
-        requires { All (λ (d : Dep). IsStoredOn d.what) deps.now }
-        ensures height { IfOk result (λ h. h ≡ specs_above self.now deps.now 0) }
+    // The height above all that was observed. The numbers of the tasks among it are put behind others.
+    fn above(
+        &self,
+        deps: &mut Vec<Dep>,
+        needs: &mut Vec<TaskNo>,
+    ) -> Result<Option<u64>, OutOfMemory>
+        requires { All (λ (d : Dep). IsStoredOn d.what) deps.old.items }
+        ensures height { IfOk result (λ h. h ≡ specs_above self.now deps.old.items 0) }
         ensures low { IfOk result (λ h. IfSome h (λ n. n ≤ length self.now)) }
+        ensures needs { IfOk result (λ h. IfSome h (λ n. Gains (tasks_among self.now) needs.old.items needs.new.items (needs_in deps.old.items))) }
+        ensures same { IfOk result (λ h. IfSome h (λ n. deps.new.items ≡ deps.old.items)) }
     {
         let mut height = 0;
-        for dep in deps {
-            match self.above_one(&dep.what, height)? {
+        for i in 0..deps.len() {
+            match self.above_one(&mut deps[i], height, needs)? {
                 Some(taller) => height = taller,
                 None => return Ok(None),
             }
         }
         Ok(Some(height))
+    }
+
+    // The same of the observations of a record.
+    fn above_all(
+        &self,
+        alloc: Global,
+        deps: &mut Deps,
+        needs: &mut Vec<TaskNo>,
+    ) -> Result<Option<u64>, OutOfMemory>
+        requires { All (λ (d : Dep). IsStoredOn d.what) deps.old }
+        ensures height { IfOk result (λ h. h ≡ specs_above self.now deps.old 0) }
+        ensures low { IfOk result (λ h. IfSome h (λ n. n ≤ length self.now)) }
+        ensures needs { IfOk result (λ h. IfSome h (λ n. Gains (tasks_among self.now) needs.old.items needs.new.items (needs_in deps.old))) }
+        ensures same { IfOk result (λ h. IfSome h (λ n. deps.new ≡ deps.old)) }
+    {
+        let none = Deps::new(Vec::new(alloc));
+        let mut taken = mem::replace(deps, none).into_vec();
+        let height = self.above(&mut taken, needs)?;
+        *deps = Deps::new(taken);
+        Ok(height)
     }
 
     // Whether a task of this height comes after all of these.
@@ -109,23 +183,39 @@ impl RankedRows {
         }
     }
 
-    // The height of a record that may stand after these.
+    // A function's name shares the contents of the last record's, where they are equal.
+    fn share_func(&self, name: &mut Text) -> Result<(), OutOfMemory>
+        ensures { OnOk result (name.new ≡ name.old) }
+    {
+        match self.rows.last() {
+            Some(last) => share_name(&last.task.func, name),
+            None => Ok(()),
+        }
+    }
+
+    // The height of a record that may stand after these. The numbers of the tasks that it requires are put behind others.
+    // Its observations and its function's name share the contents of these records.
     pub(crate) fn height_after(
         &self,
+        alloc: Global,
         known: &Known,
-        rec: &TaskRecord,
+        rec: &mut TaskRecord,
+        needs: &mut Vec<TaskNo>,
     ) -> Result<Option<u64>, OutOfMemory>
-        requires task { IsStored rec.now.task }
-        requires deps { All (λ (d : Dep). IsStoredOn d.what) rec.now.deps }
-        ensures height { IfOk result (λ h. h ≡ height_after (known_in known.now) self.now rec.now) }
-        ensures absent { IfOk result (λ h. IfSome h (λ n. rank_in self.now rec.now.task ≡ None)) }
+        requires task { IsStored rec.old.task }
+        requires deps { All (λ (d : Dep). IsStoredOn d.what) rec.old.deps }
+        ensures height { IfOk result (λ h. h ≡ height_after (known_in known.now) self.now rec.old) }
+        ensures absent { IfOk result (λ h. IfSome h (λ n. rank_in self.now rec.old.task ≡ None)) }
         ensures low { IfOk result (λ h. IfSome h (λ n. n ≤ length self.now)) }
+        ensures needs { IfOk result (λ h. IfSome h (λ n. Gains (tasks_among self.now) needs.old.items needs.new.items (specs_needs rec.old))) }
+        ensures same { IfOk result (λ h. IfSome h (λ n. rec.new ≡ rec.old)) }
     {
         if self.rank(&rec.task)?.is_some() {
             return Ok(None);
         }
-        match self.above(rec.deps.as_slice())? {
+        match self.above_all(alloc, &mut rec.deps, needs)? {
             Some(height) if self.comes_last(&rec.task, height) && known.has(&rec.task.func) => {
+                self.share_func(&mut rec.task.func)?;
                 Ok(Some(height))
             }
             _ => Ok(None),
@@ -133,57 +223,84 @@ impl RankedRows {
     }
 
     // One record more.
-    pub(crate) fn push(self, rec: Box<TaskRecord>, height: u64) -> Result<RankedRows, OutOfMemory>
-        requires stored { IsStored rec.value.task }
-        requires absent { rank_in self rec.value.task ≡ None }
-        requires low { height ≤ length self }
+    pub(crate) fn push(self, next: NextRow) -> Result<RankedRows, OutOfMemory>
+        requires stored { IsStored next.rec.value.task }
+        requires absent { rank_in self next.rec.value.task ≡ None }
+        requires low { next.height ≤ length self }
+        requires needs { named_by (tasks_among self) next.needs.items ≡ map Some (specs_needs next.rec.value) }
         requires few { length self < 2 ^ 32 }
-        ensures { IfOk result (λ r. r ≡ self ++ (rec.value, height) ∷ []) }
+        ensures { IfOk result (λ r. r ≡ self ++ (next.rec.value, next.height) ∷ []) }
     {
         let RankedRows {
             mut names,
             mut heights,
+            mut needs,
             mut rows,
         } = self;
-        push_all(&mut names, &mut heights, &mut rows, rec, height)?;
+        push_all(&mut names, &mut heights, &mut needs, &mut rows, next)?;
         Ok(RankedRows {
             names,
             heights,
+            needs,
             rows,
         })
     }
 
-    pub(crate) fn into_rows(self) -> Vec<TaskRecord>
-        ensures { result.items ≡ rows_of self }
+    // The records with their ties.
+    pub(crate) fn into_rows(self) -> Rows
+        ensures { result ≡ rows_of self }
     {
         let RankedRows {
-            names: _,
+            names,
             heights: _,
+            needs,
             rows,
         } = self;
-        rows
+        Rows::tied(rows, Ties { names, needs })
     }
 }
 
-// A task, its height and its record, each behind those before it.
+// A record that may stand after others, its height, and the numbers of the tasks that it requires.
+#[derive(Drop)]
+pub(crate) struct NextRow {
+    pub(crate) rec: Box<TaskRecord>,
+    pub(crate) height: u64,
+    pub(crate) needs: Vec<TaskNo>,
+}
+
+// A task, its height, what it requires and its record, each behind those before it.
 fn push_all(
     names: &mut TaskNames,
     heights: &mut Vec<u64>,
+    needs: &mut Vec<Vec<TaskNo>>,
     rows: &mut Vec<TaskRecord>,
-    rec: Box<TaskRecord>,
-    height: u64,
+    next: NextRow,
 ) -> Result<(), OutOfMemory>
-    requires encodable { IsEncodableTask rec.value.task }
-    requires absent { ¬ (Contains names.old rec.value.task) }
+    requires encodable { IsEncodableTask next.rec.value.task }
+    requires absent { ¬ (Contains names.old next.rec.value.task) }
     requires few { length names.old < 2 ^ 32 }
-    ensures names { OnOk result (names.new ≡ names.old ++ rec.value.task ∷ []) }
-    ensures heights { OnOk result (heights.new.items ≡ heights.old.items ++ height ∷ []) }
-    ensures rows { OnOk result (rows.new.items ≡ rows.old.items ++ rec.value ∷ []) }
+    ensures names { OnOk result (names.new ≡ names.old ++ next.rec.value.task ∷ []) }
+    ensures heights { OnOk result (heights.new.items ≡ heights.old.items ++ next.height ∷ []) }
+    ensures needs { OnOk result (needs.new.items ≡ needs.old.items ++ next.needs ∷ []) }
+    ensures rows { OnOk result (rows.new.items ≡ rows.old.items ++ next.rec.value ∷ []) }
 {
+    let NextRow {
+        rec,
+        height,
+        needs: required,
+    } = next;
     heights.push(height)?;
+    needs.push(required)?;
     names.add(rec.task.copy()?)?;
     rows.push(Box::into_inner(rec))?;
     Ok(())
+}
+
+fn record_at(rows: &[TaskRecord], at: usize) -> &TaskRecord
+    requires { at < length rows.now }
+    ensures { slice_get rows.now at ≡ Some result.now }
+{
+    &rows[at]
 }
 
 fn height_at(heights: &[u64], at: usize) -> u64

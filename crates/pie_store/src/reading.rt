@@ -1,6 +1,6 @@
 //! Reading what a store says, once from the left. `end` is the length of the body, so that what is left tells
 //! the offset.
-ghost use Rattle.std.specs.Prelude.{◌≡◌, ◌-◌, ◌≤◌, ◌<◌, ◌^◌, length, List, ℕ, All, IfOk, None};
+ghost use Rattle.std.specs.Prelude.{◌≡◌, ◌-◌, ◌≤◌, ◌<◌, ◌^◌, length, List, ℕ, All, IfOk, None, Some, map};
 ghost use Rattle.pie_record.specs.inner.Agreement.{RowAgrees as PartAgrees};
 ghost use Rattle.pie_record.specs.Reading.{number_at};
 ghost use Rattle.pie_store.specs.inner.Agreement.{StoreAgrees};
@@ -8,13 +8,14 @@ ghost use Rattle.pie_store.specs.Ranks.{rank_in, IsStored};
 ghost use Rattle.pie_store.specs.inner.Known.{known_in};
 ghost use Rattle.pie_store.specs.inner.Reading.{row_fault, part_at, grown, list_at, func_at, name_follows, name_last, next_func, next_root, next_row, first_missing};
 ghost use Rattle.pie_store.specs.inner.Reading.{tasks_of as specs_tasks_of};
-ghost use Rattle.pie_store.specs.Canonical.{name_before as specs_name_before};
+ghost use Rattle.pie_store.specs.Canonical.{name_before as specs_name_before, needs};
+ghost use Rattle.pie_store.specs.inner.Ties.{named_by, tasks_among};
 
 use crate::StoreFault;
 use crate::known::Known;
-use crate::ranked::RankedRows;
+use crate::ranked::{NextRow, RankedRows};
 use pie_base::{OutOfMemory, Text};
-use pie_record::{Reader, RecordFault, TaskRecord};
+use pie_record::{Reader, RecordFault};
 use pie_value::Task;
 use std::alloc::Global;
 use std::cmp::Ordering;
@@ -167,7 +168,7 @@ pub(crate) fn tasks_of(alloc: Global, roots: &[(Task, usize)]) -> Result<Vec<Tas
     Ok(tasks)
 }
 
-// A record that may stand after those before it, with its height.
+// A record that may stand after those before it.
 #[tactic(auto, unfolding(crate::specs::inner::Reading::next_row))]
 fn one_row(
     end: usize,
@@ -175,18 +176,20 @@ fn one_row(
     alloc: Global,
     known: &Known,
     rows: &RankedRows,
-) -> Result<(Box<TaskRecord>, u64), StoreFault>
-    ensures row { StoreAgrees (λ r. (r.0.value, r.1)) result reader.new (next_row (known_in known.now) end rows.now reader.old) }
-    ensures stored { IfOk result (λ r. IsStored r.0.value.task) }
-    ensures absent { IfOk result (λ r. rank_in rows.now r.0.value.task ≡ None) }
-    ensures low { IfOk result (λ r. r.1 ≤ length rows.now) }
+) -> Result<NextRow, StoreFault>
+    ensures row { StoreAgrees (λ n. (n.rec.value, n.height)) result reader.new (next_row (known_in known.now) end rows.now reader.old) }
+    ensures stored { IfOk result (λ n. IsStored n.rec.value.task) }
+    ensures absent { IfOk result (λ n. rank_in rows.now n.rec.value.task ≡ None) }
+    ensures low { IfOk result (λ n. n.height ≤ length rows.now) }
+    ensures needs { IfOk result (λ n. named_by (tasks_among rows.now) n.needs.items ≡ map Some (needs n.rec.value)) }
 {
     let at = place(end, reader);
     match reader.record(alloc) {
         Ok(rec) => {
-            let rec = Box::new(alloc, rec)?;
-            match rows.height_after(known, &rec)? {
-                Some(height) => Ok((rec, height)),
+            let mut rec = Box::new(alloc, rec)?;
+            let mut needs = Vec::new(alloc);
+            match rows.height_after(alloc, known, &mut rec, &mut needs)? {
+                Some(height) => Ok(NextRow { rec, height, needs }),
                 None => Err(StoreFault::Order(at)),
             }
         }
@@ -206,8 +209,8 @@ fn more_rows(
     ensures { StoreAgrees (λ rs. rs) result reader.new (grown (next_row (known_in known.now) end) rows reader.old) }
 {
     match one_row(end, reader, alloc, known, &rows) {
-        Ok((rec, height)) => {
-            let more = rows.push(rec, height)?;
+        Ok(next) => {
+            let more = rows.push(next)?;
             Ok(more)
         }
         Err(fault) => Err(fault),

@@ -4,12 +4,13 @@ ghost use Rattle.std.specs.List.{flat_map};
 ghost use Rattle.pie_value.specs.Canonical.{be32, counted, enc_task, IsEncodableTask};
 ghost use Rattle.pie_record.specs.Canonical.{listed, enc_record, IsStorable, IsTrueRecord};
 ghost use Rattle.pie_store.specs.Canonical.{enc_func, enc_body, IsStorableStore};
+ghost use Rattle.pie_store.specs.Frame.{IsSealed};
 ghost use Rattle.pie_store.specs.Ranks.{IsStored};
 ghost use Rattle.pie_store.specs.Texts.{IsFunc, IsStore, IsStoreText};
 ghost use Rattle.pie_store.specs.inner.Reading.{store_says};
 
 use crate::StoreImage;
-use crate::frame::{MAGIC, hash_of};
+use crate::frame::{MAGIC, digest_of};
 use pie_base::{OutOfMemory, Text};
 use pie_record::{TaskRecord, put_record};
 use pie_value::{Task, encode_task};
@@ -21,9 +22,23 @@ pub fn encode_store(alloc: Global, image: &StoreImage) -> Result<Vec<u8>, OutOfM
     ensures text { IfOk result (λ bytes. IsStoreText image.now bytes.items) }
     ensures read_back { IfOk result (λ bytes. store_says bytes.items ≡ Ok image.now) }
 {
+    encode_store_after(alloc, image, &[])
+}
+
+/// The same where this is the text of the store before: if the body is that of the text before, its digest is taken over from there.
+pub fn encode_store_after(
+    alloc: Global,
+    image: &StoreImage,
+    before: &[u8],
+) -> Result<Vec<u8>, OutOfMemory>
+    requires storable { IsStorableStore image.now }
+    requires before { IsSealed before.now }
+    ensures text { IfOk result (λ bytes. IsStoreText image.now bytes.items) }
+    ensures read_back { IfOk result (λ bytes. store_says bytes.items ≡ Ok image.now) }
+{
     let mut out = Vec::new(alloc);
     put_body(&mut out, alloc, image)?;
-    let digest = hash_of(out.as_slice());
+    let digest = digest_of(out.as_slice(), before);
     put_bytes(&mut out, digest.as_slice())?;
     Ok(out)
 }

@@ -1,8 +1,9 @@
 ghost use Rattle.std.specs.Prelude.{◌≡◌, None, []};
+ghost use Rattle.pie_store.specs.Canonical.{IsStorableStore};
 
 use pie_base::OutOfMemory;
 use pie_stamp::hash_of;
-use pie_store::{Funcs, Rows, StoreImage, decode_store, encode_store};
+use pie_store::{Funcs, Rows, StoreImage, decode_store, encode_store, encode_store_after};
 use pie_value::Tasks;
 use std::alloc::Global;
 use std::test::Fail;
@@ -169,6 +170,29 @@ fn a_store_that_was_read_is_written_again(rt: HostRuntime) -> Result<(), Fail> {
     assert!(rt; image.version == 2);
     let again = encode_store(alloc, &image)?;
     assert!(rt; again.as_slice() == bytes.as_slice());
+    Ok(())
+}
+
+// What is written after this text of a store.
+fn written_after(alloc: Global, image: &StoreImage, before: &[u8]) -> Result<Vec<u8>, Fail>
+    requires { IsStorableStore image.now }
+{
+    let _said = decode_store(alloc, before)?;
+    let bytes = encode_store_after(alloc, image, before)?;
+    Ok(bytes)
+}
+
+#[test]
+fn a_store_is_written_alike_after_its_own_text_and_another(rt: HostRuntime) -> Result<(), Fail> {
+    let alloc = rt.alloc();
+    let bytes = sealed(alloc, STORE)?;
+    let other = sealed(alloc, "5049455302000000000000000000000000")?;
+    let image = decode_store(alloc, bytes.as_slice())?;
+    assert!(rt; image.version == 2);
+    let again = written_after(alloc, &image, bytes.as_slice())?;
+    assert!(rt; again.as_slice() == bytes.as_slice());
+    let after = written_after(alloc, &image, other.as_slice())?;
+    assert!(rt; after.as_slice() == bytes.as_slice());
     Ok(())
 }
 

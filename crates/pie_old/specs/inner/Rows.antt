@@ -1,33 +1,25 @@
 -- The rows of records.
-use Rattle.std.specs.Prelude.{◌≡◌, ℕ, List, [], length, map, Option, Some, slice_get}
-use Rattle.std.specs.List.{All, Contains, flat_map}
+use Rattle.std.specs.Prelude.{◌≡◌, ℕ, List, [], length, map, Some, slice_get}
+use Rattle.std.specs.List.{All, Contains}
 use Rattle.pie_value.specs.declared.task.Task.{Task}
 use Rattle.pie_graph.specs.declared.edges.TaskNo.{TaskNo}
 use Rattle.pie_graph.specs.Numbers.{numbers}
 use Rattle.pie_graph.specs.Rows.{Row, row_at}
-use Rattle.pie_record.specs.declared.dep.Dep.{Dep}
 use Rattle.pie_record.specs.declared.task_record.TaskRecord.{TaskRecord}
-use Rattle.pie_store.specs.Canonical.{needs, required_on}
-
--- the tasks that observations require, in order
-abbrev pub needs_in : List Dep → List Task
-needs_in deps = flat_map (λ (d : Dep). required_on d.what) deps
+use Rattle.pie_store.specs.Canonical.{needs}
+pub use Rattle.pie_store.specs.inner.Ties.{needs_in, tasks_at, named_by}
 
 -- the paths of writes, in order
 abbrev pub paths_in : List (List ℕ × List ℕ) → List (List ℕ)
 paths_in writes = map (λ (w : List ℕ × List ℕ). w.0) writes
 
--- the tasks that have these numbers
-abbrev pub tasks_at : List Task → List ℕ → List (Option Task)
-tasks_at tasks ns = map (slice_get tasks) ns
-
--- the same of numbers as the code has them
-abbrev pub named_by : List Task → List TaskNo → List (Option Task)
-named_by tasks nos = tasks_at tasks (numbers nos)
-
 -- each task that a record requires is among these
 abbrev pub AreNamed : List Task → TaskRecord → Type 0
 AreNamed tasks r = All (Contains tasks) (needs r)
+
+-- the row of these numbers and of the paths that a record wrote
+abbrev pub row_with : List TaskNo → TaskRecord → Row
+row_with nos r = record { needs = numbers nos; reads = []; lists = []; writes = paths_in r.writes }
 
 -- the row of a record: the numbers of the tasks that it requires, in order and with repeats, and the paths that it wrote, in order
 pub record IsRowOf (tasks : List Task) (r : TaskRecord) (row : Row) : Type 0 where

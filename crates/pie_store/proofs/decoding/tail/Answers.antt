@@ -23,6 +23,6 @@ returns c =
     let same : c.args.head ≡ head = search rules in
     ap (λ (h : Head). tail_of c.args.end (known_in c.args.known) h.version h.pipeline h.funcs.items c.args.reader.now) same
     ∙ tail_made c.args.end (known_in c.args.known) head c.args.reader.now c.in_ok-roots.roots.items
-    c.as_slice.result.now c.roots.new.reader c.in_ok-rows.rows c.rows.new.reader c.new-3.result c.new-4.result c.new-2.result
+    c.as_slice.result.now c.roots.new.reader c.in_ok-rows.rows c.rows.new.reader c.new-3.result c.into_rows.result c.new-2.result
     c.in_ok-roots.ensures.roots c.in_ok-rows.ensures c.as_slice.ensures.value c.in_ok-tasks.ensures.whole
-    (c.new-3.ensures ∙ c.in_ok-tasks.ensures.tasks) (c.new-4.ensures ∙ c.into_rows.ensures) c.new-2.ensures
+    (c.new-3.ensures ∙ c.in_ok-tasks.ensures.tasks) c.into_rows.ensures c.new-2.ensures

@@ -1,5 +1,5 @@
 use Rattle.pie_old.proofs.Placing.{few_names, is_absent}
-use Rattle.pie_old.proofs.numbering.names_of.Goals as goal
+use Rattle.pie_old.proofs.tying.names_of.Goals as goal
 
 pub add-requires-clause-absent : goal.add-requires-clause-absent
 add-requires-clause-absent c =

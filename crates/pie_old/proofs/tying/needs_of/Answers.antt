@@ -1,6 +1,6 @@
 use Rattle.pie_old.proofs.Needing.{named_here, named_on, needs_more}
-use Rattle.pie_old.specs.inner.Rows.{named_by}
-use Rattle.pie_old.proofs.row.needs_of.Goals as goal
+use Rattle.pie_store.specs.inner.Ties.{named_by}
+use Rattle.pie_old.proofs.tying.needs_of.Goals as goal
 
 pub put_need-requires-clause-named : goal.put_need-requires-clause-named
 put_need-requires-clause-named c =

@@ -1,7 +1,7 @@
 use Rattle.std.proofs.Common.{◌≡◌, ◌++◌, drop, map, Some}
 use Rattle.std.specs.Prelude.{All, Contains}
-use Rattle.pie_old.specs.inner.Rows.{named_by, needs_in}
-use Rattle.pie_old.proofs.row.needs_of.Given as goal
+use Rattle.pie_store.specs.inner.Ties.{named_by, needs_in}
+use Rattle.pie_old.proofs.tying.needs_of.Given as goal
 
 abbrev pub invariant-loop-dep : goal.invariant-loop-dep
 invariant-loop-dep l =
