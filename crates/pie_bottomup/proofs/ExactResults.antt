@@ -11,6 +11,7 @@ use Rattle.pie_graph.specs.Rows.{Row}
 use Rattle.pie_record.specs.declared.records.Records.{Records}
 use Rattle.pie_record.specs.declared.task_record.Outcome.{Outcome}
 use Rattle.pie_record.specs.declared.task_record.Outcome.TheVariants as ends
+use Rattle.pie_record.specs.inner.Names.{AreDistinct}
 use Rattle.pie_record.specs.inner.Records.{record_of as kept_of}
 use Rattle.pie_checks.specs.declared.built.Built.{Built}
 use Rattle.pie_results.specs.inner.Failures.{refusal_in, refusal_by}
@@ -31,10 +32,12 @@ use Rattle.pie_result_laws.proofs.Failing.{made_verdict}
 use Rattle.pie_result_laws.proofs.Storing.{accepted_clean}
 use Rattle.pie_result_laws.proofs.Filing.{files_provided}
 use Rattle.pie_bottomup.specs.declared.state.Core.{Core}
+use Rattle.pie_bottomup.specs.inner.Ended.{StoredIf}
 use Rattle.pie_bottomup.specs.inner.Recorded.{IsMet}
 use Rattle.pie_bottomup.specs.inner.States.{HasSettled, RootFailed}
 use Rattle.pie_bottomup.specs.inner.Exact.{IsExactCore}
 use Rattle.pie_bottomup.specs.inner.Made.{MadeExact}
+use Rattle.pie_bottomup.proofs.Finishing.{made_stored}
 use Rattle.pie_bottomup.proofs.Exactly.{settled_or_not, marked_apart}
 use Rattle.pie_bottomup.proofs.Settling.{one_number}
 
@@ -160,6 +163,17 @@ pub made_of : (c : Core) (b : Built) (rows : List Row) (roots : List Task) → r
     → (HaveEnded c.tables.names c.tables.records rows roots → StoredWhere b.verdict c.tables.names roots b) → MadeExact c b
 made_of c b rows roots same asked over makes stored =
     made_exact c b over
+    (subst (λ (rs : List Row). Makes c.tables rs c.stage c.plan.roots.items b) same
+    (subst (λ (ts : List Task). Makes c.tables rows c.stage ts b) asked makes))
+    (subst (λ (rs : List Row). HaveEnded c.tables.names c.tables.records rs c.plan.roots.items
+    → StoredWhere b.verdict c.tables.names c.plan.roots.items b) same
+    (subst (λ (ts : List Task). HaveEnded c.tables.names c.tables.records rows ts → StoredWhere b.verdict c.tables.names ts b) asked stored))
+
+pub stored_of : (c : Core) (b : Built) (rows : List Row) (roots : List Task) → rows ≡ c.frames.walk.rows → roots ≡ c.plan.roots.items → HasSettled c
+    → AreDistinct c.tables.names → Makes c.tables rows c.stage roots b
+    → (HaveEnded c.tables.names c.tables.records rows roots → StoredWhere b.verdict c.tables.names roots b) → StoredIf b.verdict c.plan b
+stored_of c b rows roots same asked over distinct makes stored =
+    made_stored c b c.stage over distinct
     (subst (λ (rs : List Row). Makes c.tables rs c.stage c.plan.roots.items b) same
     (subst (λ (ts : List Task). Makes c.tables rows c.stage ts b) asked makes))
     (subst (λ (rs : List Row). HaveEnded c.tables.names c.tables.records rs c.plan.roots.items

@@ -112,21 +112,22 @@ impl<'a> Core<'a> {
         ensures stored { IfOk result (λ b. StoredIf b.verdict self.entry.plan b) }
         ensures exact { IfOk result (MadeExact self.entry) }
     {
-        self.built()
+        let mut core = self;
+        core.built()
     }
 
-    #[tactic(auto, using(crate::proofs::Parts::rests_acyclic, crate::proofs::Finishing::made_stored))]
-    fn built(&self) -> Result<Built, OutOfMemory>
-        requires { HasSettled self.now }
+    #[tactic(auto, using(crate::proofs::Parts::rests_acyclic))]
+    fn built(&mut self) -> Result<Built, OutOfMemory>
+        requires { HasSettled self.old }
         ensures refused_empty { IfOk result IsEmptyWhereRefused }
         ensures kept { IfOk result IsKept }
-        ensures stored { IfOk result (λ b. StoredIf b.verdict self.now.plan b) }
-        ensures exact { IfOk result (MadeExact self.now) }
+        ensures stored { IfOk result (λ b. StoredIf b.verdict self.old.plan b) }
+        ensures exact { IfOk result (MadeExact self.old) }
     {
         let _names = self.tables.names.as_slice();
         let built = results(
             self.alloc,
-            &self.tables,
+            &mut self.tables,
             self.frames.walk().rows(),
             &self.stage,
             self.plan.roots.as_slice(),

@@ -10,6 +10,7 @@ pub mod Finishing
 pub mod Heights
 pub mod Placing
 pub mod Ordering
+pub mod Taking
 pub mod Roots
 pub mod RowLemmas
 pub mod FileLemmas

@@ -26,10 +26,10 @@ use std::alloc::Global;
 /// It changes no file. `Failed` comes only where the count of faults rose.
 /// Rule: docs/BUILDING.md, "A clean build".
 #[tactic(auto, using(crate::proofs::Growing::gains, pie_files::proofs::Reading::reads))]
-pub fn fresh<F: Files>(
+pub fn fresh<'a, F: Files>(
     alloc: Global,
-    typed: &Typed,
-    code: &[Checked],
+    typed: &'a Typed,
+    code: &'a [Checked],
     roots: &[Task],
     files: &mut F,
     runs: &mut Runs,
@@ -49,7 +49,7 @@ pub fn fresh<F: Files>(
     let _names = builder.ledger.names.as_slice();
     match refusal {
         Some(refusal) => Ok(refused(alloc, refusal)),
-        None => Ok(checked(alloc, &builder.ledger, roots)?),
+        None => Ok(checked(alloc, &mut builder.ledger, roots)?),
     }
 }
 
@@ -81,14 +81,14 @@ fn evaluate_all<'a, F: Files>(
 }
 
 // What a build makes where all roots are done.
-fn checked(alloc: Global, ledger: &Ledger, roots: &[Task]) -> Result<Built, OutOfMemory>
-    requires ledger { IsLedger ledger.now }
-    requires finished { AreOpen ledger.now [] }
-    requires entered { AreEntered ledger.now.names roots.now }
+fn checked(alloc: Global, ledger: &mut Ledger, roots: &[Task]) -> Result<Built, OutOfMemory>
+    requires ledger { IsLedger ledger.old }
+    requires finished { AreOpen ledger.old [] }
+    requires entered { AreEntered ledger.old.names roots.now }
     ensures refused_empty { IfOk result IsEmptyWhereRefused }
     ensures kept { IfOk result IsKept }
-    ensures stored { IfOk result (IsStoredOf ledger.now.names roots.now) }
-    ensures clean { IfOk result (CleansDone roots.now ledger.now) }
+    ensures stored { IfOk result (IsStoredOf ledger.old.names roots.now) }
+    ensures clean { IfOk result (CleansDone roots.now ledger.old) }
 {
     let live = ledger.all_numbers()?;
     match final_checks(alloc, &ledger.names, &ledger.records, live.as_slice())? {
@@ -97,18 +97,19 @@ fn checked(alloc: Global, ledger: &Ledger, roots: &[Task]) -> Result<Built, OutO
     }
 }
 
-fn accepted(ledger: &Ledger, roots: &[Task]) -> Result<Built, OutOfMemory>
-    requires ledger { IsLedger ledger.now }
-    requires finished { AreOpen ledger.now [] }
-    requires entered { AreEntered ledger.now.names roots.now }
+// The files and the outputs come first: then the records are moved out of the ledger.
+fn accepted(ledger: &mut Ledger, roots: &[Task]) -> Result<Built, OutOfMemory>
+    requires ledger { IsLedger ledger.old }
+    requires finished { AreOpen ledger.old [] }
+    requires entered { AreEntered ledger.old.names roots.now }
     ensures refused_empty { IfOk result IsEmptyWhereRefused }
     ensures kept { IfOk result IsKept }
-    ensures stored { IfOk result (IsStoredOf ledger.now.names roots.now) }
-    ensures clean { IfOk result (λ b. PassesChecks ledger.now → CleansDone roots.now ledger.now b) }
+    ensures stored { IfOk result (IsStoredOf ledger.old.names roots.now) }
+    ensures clean { IfOk result (λ b. PassesChecks ledger.old → CleansDone roots.now ledger.old b) }
 {
-    let rows = ledger.ordered()?;
     let files = ledger.files()?;
     let outputs = ledger.outputs_of(roots)?;
+    let rows = ledger.ordered()?;
     Ok(Built {
         verdict: Verdict::Accepted,
         rows,

@@ -8,18 +8,18 @@ ghost use Rattle.pie_base.specs.Path.{is_out};
 ghost use Rattle.pie_builder_laws.specs.Builds.{AreLive, AreOutputs, AreRows, WroteAt};
 ghost use Rattle.pie_graph.specs.Numbers.{AllBelow, numbers};
 ghost use Rattle.pie_record.specs.Canonical.{IsStorable, IsStorableWrite};
-ghost use Rattle.pie_record.specs.inner.Records.{record_of};
+ghost use Rattle.pie_record.specs.inner.Records.{record_of, Takes};
 ghost use Rattle.pie_value.specs.Canonical.{IsEncodableTask};
 ghost use Rattle.pie_fresh.specs.inner.Builds.{InPathOrder, OnlyOut};
 ghost use Rattle.pie_fresh.specs.inner.Collected.{AreFilesOf, AreOfTasks, Gives, GainsOutput, HasStaged, HasWritten, KeepsPaths, WritesAreStaged, output_at};
 ghost use Rattle.pie_fresh.specs.inner.Frames.{AreEntered};
 ghost use Rattle.pie_fresh.specs.inner.Ledgers.{AreOpen, IsLedger};
-ghost use Rattle.pie_fresh.specs.inner.Ordered.{ArePlaces, AreOrdered, recorded};
+ghost use Rattle.pie_fresh.specs.inner.Ordered.{AreApart, ArePlaces, AreOrdered, recorded};
 
 use crate::ledger::Ledger;
 use pie_base::{OutOfMemory, Path};
 use pie_graph::TaskNo;
-use pie_record::TaskRecord;
+use pie_record::{Records, TaskRecord};
 use pie_running::Done;
 use pie_value::{Task, Value, encode_task};
 use std::alloc::Global;
@@ -40,51 +40,17 @@ impl Ledger {
         Ok(nos)
     }
 
-    /// The records by height and task.
-    pub(crate) fn ordered(&self) -> Result<Vec<TaskRecord>, OutOfMemory>
-        requires { IsLedger self.now }
+    /// The records by height and task. They are moved out of the ledger.
+    pub(crate) fn ordered(&mut self) -> Result<Vec<TaskRecord>, OutOfMemory>
+        requires { IsLedger self.old }
         ensures storable { IfOk result (λ rows. All IsStorable rows.items) }
-        ensures ordered { IfOk result (λ rows. AreOrdered self.now rows.items) }
-        ensures rows { IfOk result (λ rows. AreRows self.now.names self.now.records rows.items) }
+        ensures ordered { IfOk result (λ rows. AreOrdered self.old rows.items) }
+        ensures rows { IfOk result (λ rows. AreRows self.old.names self.old.records rows.items) }
     {
         let _names = self.names.as_slice();
         let places = self.places()?;
-        let rows = self.rows_at(&places)?;
+        let rows = taken(self.alloc, &mut self.records, &places)?;
         Ok(rows)
-    }
-
-    // The records at places.
-    fn rows_at(
-        &self,
-        places: &BTreeMap<(u32, Vec<u8>), u32>,
-    ) -> Result<Vec<TaskRecord>, OutOfMemory>
-        requires { IsLedger self.now }
-        ensures storable { IfOk result (λ rows. All IsStorable rows.items) }
-        ensures rows { IfOk result (λ rows. rows.items ≡ recorded self.now.records places.now.entries) }
-    {
-        let mut rows = Vec::new(self.alloc);
-        for (_, no) in places {
-            self.put_record(TaskNo(*no), &mut rows)?;
-        }
-        Ok(rows)
-    }
-
-    // Adds the record of a task.
-    #[tactic(auto, using(crate::proofs::BuiltLemmas::storable_more))]
-    fn put_record(&self, no: TaskNo, rows: &mut Vec<TaskRecord>) -> Result<(), OutOfMemory>
-        requires ledger { IsLedger self.now }
-        requires storable { All IsStorable rows.old.items }
-        ensures storable { OnOk result (All IsStorable rows.new.items) }
-        ensures rows { OnOk result (rows.new.items ≡ rows.old.items ++ option_to_list (record_of self.now.records no.0)) }
-    {
-        match self.records.get(no) {
-            Some(rec) => {
-                let copy = rec.copy(self.alloc)?;
-                rows.push(copy)?;
-                Ok(())
-            }
-            None => Ok(()),
-        }
     }
 
     // The numbers by height and task.
@@ -264,6 +230,40 @@ impl Ledger {
             }
             None => Ok(()),
         }
+    }
+}
+
+// The records at places, which have none afterwards.
+fn taken(
+    alloc: Global,
+    records: &mut Records,
+    places: &BTreeMap<(u32, Vec<u8>), u32>,
+) -> Result<Vec<TaskRecord>, OutOfMemory>
+    requires { AreApart places.now.entries }
+    ensures { IfOk result (λ rows. rows.items ≡ recorded records.old places.now.entries) }
+{
+    let mut rows = Vec::with_capacity(alloc, places.len())?;
+    for (_, no) in places {
+        take_record(records, TaskNo(*no), &mut rows)?;
+    }
+    Ok(rows)
+}
+
+// Moves the record of a task to others, if it has one.
+fn take_record(
+    records: &mut Records,
+    no: TaskNo,
+    rows: &mut Vec<TaskRecord>,
+) -> Result<(), OutOfMemory>
+    ensures rows { OnOk result (rows.new.items ≡ rows.old.items ++ option_to_list (record_of records.old no.0)) }
+    ensures takes { Takes records.old records.new no.0 }
+{
+    match records.take(no) {
+        Some(rec) => {
+            rows.push(rec)?;
+            Ok(())
+        }
+        None => Ok(()),
     }
 }
 

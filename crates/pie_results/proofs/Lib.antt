@@ -9,3 +9,4 @@ pub mod Placing
 pub mod Standing
 pub mod Starting
 pub mod Storing
+pub mod Taking

@@ -25,23 +25,24 @@ use std::alloc::Global;
 
 /// What a build makes of its tables. It is refused where a root failed, as the first of these says, or where the last
 /// checks of its live tasks refuse it. Else the records of the live tasks come in store order, and the files that those of
-/// them wrote which ran in this build. Rule: docs/BUILDING.md, "Verdict".
+/// them wrote which ran in this build. The records of live tasks are moved out, so the tables are of no use afterwards.
+/// Rule: docs/BUILDING.md, "Verdict".
 pub fn results<R: TaskRows>(
     alloc: Global,
-    tables: &Tables,
+    tables: &mut Tables,
     rows: &R,
     stage: &Stage,
     roots: &[Task],
 ) -> Result<Built, OutOfMemory>
-    requires tables { IsTables tables.now }
-    requires rows { length tables.now.names ≡ length (R.rows rows.now) }
+    requires tables { IsTables tables.old }
+    requires rows { length tables.old.names ≡ length (R.rows rows.now) }
     requires acyclic { IsAcyclic (R.rows rows.now) }
     requires roots { All IsEncodableTask roots.now }
     ensures refused_empty { IfOk result IsEmptyWhereRefused }
     ensures kept { IfOk result IsKept }
-    ensures makes { IfOk result (Makes tables.now (R.rows rows.now) stage.now roots.now) }
-    ensures stored { IfOk result (λ b. HaveEnded tables.now.names tables.now.records (R.rows rows.now) roots.now
-        → StoredWhere b.verdict tables.now.names roots.now b) }
+    ensures makes { IfOk result (Makes tables.old (R.rows rows.now) stage.now roots.now) }
+    ensures stored { IfOk result (λ b. HaveEnded tables.old.names tables.old.records (R.rows rows.now) roots.now
+        → StoredWhere b.verdict tables.old.names roots.now b) }
 {
     match first_failure(tables, roots)? {
         Some(refusal) => Ok(refused(alloc, refusal)),
@@ -55,20 +56,20 @@ pub fn results<R: TaskRows>(
 // The same where no root failed.
 fn checked<R: TaskRows>(
     alloc: Global,
-    tables: &Tables,
+    tables: &mut Tables,
     rows: &R,
     stage: &Stage,
     roots: &[Task],
 ) -> Result<Built, OutOfMemory>
-    requires tables { IsTables tables.now }
-    requires rows { length tables.now.names ≡ length (R.rows rows.now) }
+    requires tables { IsTables tables.old }
+    requires rows { length tables.old.names ≡ length (R.rows rows.now) }
     requires acyclic { IsAcyclic (R.rows rows.now) }
     requires roots { All IsEncodableTask roots.now }
     ensures refused_empty { IfOk result IsEmptyWhereRefused }
     ensures kept { IfOk result IsKept }
-    ensures checks { IfOk result (Checks tables.now (R.rows rows.now) stage.now roots.now) }
-    ensures stored { IfOk result (λ b. HaveEnded tables.now.names tables.now.records (R.rows rows.now) roots.now
-        → StoredWhere b.verdict tables.now.names roots.now b) }
+    ensures checks { IfOk result (Checks tables.old (R.rows rows.now) stage.now roots.now) }
+    ensures stored { IfOk result (λ b. HaveEnded tables.old.names tables.old.records (R.rows rows.now) roots.now
+        → StoredWhere b.verdict tables.old.names roots.now b) }
 {
     let _names = tables.names.as_slice();
     let live = live_of(alloc, tables, rows, roots)?;
@@ -101,25 +102,25 @@ fn live_of<R: TaskRows>(
 
 // What a build makes that is accepted.
 fn accepted<R: TaskRows>(
-    tables: &Tables,
+    tables: &mut Tables,
     rows: &R,
     stage: &Stage,
     live: &[TaskNo],
     roots: &[Task],
 ) -> Result<Built, OutOfMemory>
-    requires tables { IsTables tables.now }
-    requires rows { length tables.now.names ≡ length (R.rows rows.now) }
+    requires tables { IsTables tables.old }
+    requires rows { length tables.old.names ≡ length (R.rows rows.now) }
     requires acyclic { IsAcyclic (R.rows rows.now) }
-    requires live { AllBelow (length tables.now.names) (numbers live.now) }
+    requires live { AllBelow (length tables.old.names) (numbers live.now) }
     requires roots { All IsEncodableTask roots.now }
     ensures refused_empty { IfOk result IsEmptyWhereRefused }
     ensures kept { IfOk result IsKept }
-    ensures collects { IfOk result (Collects tables.now (R.rows rows.now) stage.now roots.now (numbers live.now)) }
+    ensures collects { IfOk result (Collects tables.old (R.rows rows.now) stage.now roots.now (numbers live.now)) }
 {
     let heights = heights(tables.alloc, rows)?;
-    let rows = ordered(tables, heights.as_slice(), live)?;
     let files = files_of(tables, stage, live)?;
     let outputs = outputs_of(tables, roots)?;
+    let rows = ordered(tables, heights.as_slice(), live)?;
     Ok(Built {
         verdict: Verdict::Accepted,
         rows,

@@ -3,30 +3,31 @@ ghost use Rattle.std.specs.Prelude.{◌≡◌, ◌++◌, All, length, IfOk, OnOk
 ghost use Rattle.std.specs.Option.{option_to_list};
 ghost use Rattle.pie_graph.specs.Numbers.{numbers, AllBelow};
 ghost use Rattle.pie_record.specs.Canonical.{IsStorable};
-ghost use Rattle.pie_record.specs.inner.Records.{record_of};
+ghost use Rattle.pie_record.specs.inner.Records.{record_of, Takes};
 ghost use Rattle.pie_tables.specs.Tabled.{IsTables};
-ghost use Rattle.pie_results.specs.inner.Ordered.{AreOrdered, AreRecords, recorded};
+ghost use Rattle.pie_results.specs.inner.Ordered.{AreOrdered, AreRecords, AreApart, recorded};
 
 use crate::ascending::as_they_stand;
 use crate::places::sorted;
 use pie_base::OutOfMemory;
 use pie_graph::TaskNo;
-use pie_record::TaskRecord;
+use pie_record::{Records, TaskRecord};
 use pie_tables::Tables;
+use std::alloc::Global;
 
-/// The records of live tasks that are done, by height and task.
+/// The records of live tasks that are done, by height and task. They are moved out of the tables.
 pub(crate) fn ordered(
-    tables: &Tables,
+    tables: &mut Tables,
     heights: &[u32],
     live: &[TaskNo],
 ) -> Result<Vec<TaskRecord>, OutOfMemory>
-    requires tables { IsTables tables.now }
+    requires tables { IsTables tables.old }
     requires live { AllBelow (length heights.now) (numbers live.now) }
     ensures storable { IfOk result (λ rows. All IsStorable rows.items) }
-    ensures records { IfOk result (λ rows. AreRecords tables.now.names tables.now.records heights.now (numbers live.now) rows.items) }
+    ensures records { IfOk result (λ rows. AreRecords tables.old.names tables.old.records heights.now (numbers live.now) rows.items) }
 {
     let nos = in_order(tables, heights, live)?;
-    let rows = rows_at(tables, nos.as_slice())?;
+    let rows = taken(tables.alloc, &mut tables.records, nos.as_slice())?;
     Ok(rows)
 }
 
@@ -42,25 +43,30 @@ fn in_order(tables: &Tables, heights: &[u32], live: &[TaskNo]) -> Result<Vec<u32
     }
 }
 
-// The records of numbered tasks.
-fn rows_at(tables: &Tables, nos: &[u32]) -> Result<Vec<TaskRecord>, OutOfMemory>
-    ensures { IfOk result (λ rows. rows.items ≡ recorded tables.now.records nos.now) }
+// Moves the records of numbered tasks out, in the order of this list.
+fn taken(alloc: Global, records: &mut Records, nos: &[u32]) -> Result<Vec<TaskRecord>, OutOfMemory>
+    requires { AreApart nos.now }
+    ensures { IfOk result (λ rows. rows.items ≡ recorded records.old nos.now) }
 {
-    let mut rows = Vec::new(tables.alloc);
+    let mut rows = Vec::with_capacity(alloc, nos.len())?;
     for no in nos {
-        put_record(tables, TaskNo(*no), &mut rows)?;
+        take_record(records, TaskNo(*no), &mut rows)?;
     }
     Ok(rows)
 }
 
-// Adds the record of a task, if it has one.
-fn put_record(tables: &Tables, no: TaskNo, rows: &mut Vec<TaskRecord>) -> Result<(), OutOfMemory>
-    ensures { OnOk result (rows.new.items ≡ rows.old.items ++ option_to_list (record_of tables.now.records no.0)) }
+// Moves the record of a task to the end of others, if it has one.
+fn take_record(
+    records: &mut Records,
+    no: TaskNo,
+    rows: &mut Vec<TaskRecord>,
+) -> Result<(), OutOfMemory>
+    ensures rows { OnOk result (rows.new.items ≡ rows.old.items ++ option_to_list (record_of records.old no.0)) }
+    ensures takes { Takes records.old records.new no.0 }
 {
-    match tables.records.get(no) {
+    match records.take(no) {
         Some(rec) => {
-            let copy = rec.copy(tables.alloc)?;
-            rows.push(copy)?;
+            rows.push(rec)?;
             Ok(())
         }
         None => Ok(()),

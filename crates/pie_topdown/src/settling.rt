@@ -195,21 +195,21 @@ impl<'a> Builder<'a> {
     }
 
     // What is made where all roots have outputs.
-    #[tactic(auto, using(crate::proofs::Making::ledger_acyclic, crate::proofs::Making::made_stored))]
-    fn built(&self, roots: &[Task]) -> Result<Built, OutOfMemory>
-        requires site { IsSite self.now }
+    #[tactic(auto, using(crate::proofs::Making::ledger_acyclic))]
+    fn built(&mut self, roots: &[Task]) -> Result<Built, OutOfMemory>
+        requires site { IsSite self.old }
         requires roots { All IsEncodableTask roots.now }
-        requires settled { AreSettled self.now.ledger roots.now }
+        requires settled { AreSettled self.old.ledger roots.now }
         ensures refused_empty { IfOk result IsEmptyWhereRefused }
         ensures kept { IfOk result IsKept }
-        ensures stored { IfOk result (λ b. StoredIf b.verdict self.now.plan.typed.now roots.now b) }
-        ensures clean { IfOk result (MakesSettled self.now roots.now) }
-        ensures files { IfOk result (MakesFiles self.now) }
+        ensures stored { IfOk result (λ b. StoredIf b.verdict self.old.plan.typed.now roots.now b) }
+        ensures clean { IfOk result (MakesSettled self.old roots.now) }
+        ensures files { IfOk result (MakesFiles self.old) }
     {
         let _names = self.ledger.tables.names.as_slice();
         let built = results(
             self.alloc,
-            &self.ledger.tables,
+            &mut self.ledger.tables,
             &self.ledger.rows,
             &self.stage,
             roots,

@@ -1,5 +1,5 @@
 -- The records of tasks that have ended, by height and task.
-use Rattle.std.specs.Prelude.{◌≡◌, ◌⊎◌, ℕ, ◌<◌, ◌≤◌, List, [], ◌∷◌, ◌++◌, length, map, Some, Vec, slice_index_or, IfSome, All, Contains}
+use Rattle.std.specs.Prelude.{◌≡◌, ◌≢◌, ◌⊎◌, ℕ, ◌<◌, ◌≤◌, List, [], ◌∷◌, ◌++◌, length, map, Some, Vec, slice_index_or, IfSome, All, Contains}
 use Rattle.std.specs.List.{AllByRecursion}
 use Rattle.std.specs.List.Sorted.{IsStrictlySortedBy}
 use Rattle.std.specs.Option.{option_to_list}
@@ -42,6 +42,11 @@ pub record ArePlaces {Z : Type 0} (l : Ledger) (below : ℕ) (places : List (Pla
   pub only : AllByRecursion (λ (p : Place Z). (r : TaskRecord) × IsPlace l p r) places
   pub each : (n : ℕ) → n < below → IfSome (record_of l.records n) (λ r. HasPlace (slice_index_or l.heights.items n 0) (enc_task r.task) places)
   pub few : length places ≤ below
+
+-- no number comes twice among places
+abbrev pub AreApart : {Z : Type 0} → List (Place Z) → Type 0
+AreApart [] = Unit {0}
+AreApart {Z} (p ∷ places) = AllByRecursion (λ (q : Place Z). p.1 ≢ q.1) places × AreApart places
 
 -- the records at places
 abbrev pub recorded : {Z : Type 0} → Records → List (Place Z) → List TaskRecord

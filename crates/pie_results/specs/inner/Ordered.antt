@@ -1,5 +1,5 @@
 -- The records of live tasks, by height and task.
-use Rattle.std.specs.Prelude.{◌≡◌, ◌⊎◌, ℕ, ◌≤◌, List, [], ◌∷◌, ◌++◌, length, map, Bool, cond, Option, None, Some, Vec, slice_get, slice_index_or, IfSome, true}
+use Rattle.std.specs.Prelude.{◌≡◌, ◌≢◌, ◌⊎◌, ℕ, ◌≤◌, List, [], ◌∷◌, ◌++◌, length, map, Bool, cond, Option, None, Some, Vec, slice_get, slice_index_or, IfSome, true}
 use Rattle.std.specs.List.{All, AllByRecursion, AllPairs, Contains}
 use Rattle.std.specs.List.Sorted.{IsStrictlySortedBy}
 use Rattle.std.specs.Option.{option_to_list}
@@ -97,6 +97,11 @@ pub record AreOrdered (records : Records) (heights live seen nos : List ℕ) : T
   pub ascending : IsStrictlySortedBy (number_cmp records heights) nos
   pub only : AllByRecursion (λ (n : ℕ). (r : TaskRecord) × IsDoneAt records live n r) nos
   pub each : (n : ℕ) → Contains seen n → IfSome (record_of records n) (IsAmong nos n)
+
+-- no number comes twice
+abbrev pub AreApart : List ℕ → Type 0
+AreApart [] = Unit {0}
+AreApart (n ∷ nos) = AllByRecursion (λ (m : ℕ). n ≢ m) nos × AreApart nos
 
 -- the records of numbered tasks
 abbrev pub recorded : Records → List ℕ → List TaskRecord

@@ -1,8 +1,14 @@
-use Rattle.std.proofs.Common.{ap, ◌∙◌}
+use Rattle.std.proofs.Common.{sym, ap, subst, ◌∙◌}
 use Rattle.pie_graph.specs.Numbers.{numbers}
-use Rattle.pie_results.specs.inner.Ordered.{recorded}
+use Rattle.pie_results.specs.inner.Ordered.{AreApart, recorded}
 use Rattle.pie_results.proofs.Ordering.{rows_are, rows_storable}
+use Rattle.pie_results.proofs.Taking.{ascending_apart}
 use Rattle.pie_results.proofs.records.ordered.Goals as goal
+
+pub taken-requires : goal.taken-requires
+taken-requires c =
+    subst AreApart (sym c.as_slice.ensures.value)
+    (ascending_apart c.args.tables.now.records c.args.heights.now c.in_ok-nos.nos.items c.in_ok-nos.ensures.ascending)
 
 pub returns-clause-storable : goal.returns-clause-storable
 returns-clause-storable c =

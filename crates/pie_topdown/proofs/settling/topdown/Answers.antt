@@ -94,7 +94,7 @@ returns-clause-files g c = λ program.
     let there : c.deref.result.now ≡ c.settle_all.new.self = search rules in
     let adds : AddsNamed c.settle_all.new.self (numbers c.settle_all.new.self.reused.items) c.args.reused.now.items c.tell_reused.new.reused.items =
     subst (λ (b : Builder). AddsNamed b (numbers b.reused.items) c.args.reused.now.items c.tell_reused.new.reused.items) there c.in_ok-tell_reused.ensures.named in
-    let own : c.deref-in-None.result.now ≡ c.settle_all.new.self = search rules in
+    let own : c.deref_mut-in-None.result.now ≡ c.settle_all.new.self = search rules in
     let makes : MakesFiles c.settle_all.new.self c.in_ok-built-in-None.built =
     subst (λ (b : Builder). MakesFiles b c.in_ok-built-in-None.built) own c.in_ok-built-in-None.ensures.files in
     build_filed (g.F.Files.holds c.args.files.now) c.args.typed.now c.args.code.now c.args.image.funcs c.args.digests.now c.args.image.rows

@@ -1,6 +1,7 @@
-use Rattle.std.proofs.Common.{Ok}
+use Rattle.std.proofs.Common.{Ok, refl}
 use Rattle.pie_bottomup.proofs.GoingEvents.{asks_goes, hand_done, hand_fails}
 use Rattle.pie_bottomup.proofs.Asking.{hand_asks}
+use Rattle.pie_named.proofs.Calls.{no_calls}
 use Rattle.pie_bottomup.proofs.state.Core.event.Goals as goal
 
 pub returns-in-Asks-clause-whole : goal.returns-in-Asks-clause-whole
@@ -25,3 +26,9 @@ returns-in-Asks-clause-asks g c =
     hand_asks c.args.self.now c.args.hand c.in_ok-waiting.field-0 c.in-Asks.waiting c.in-Asks.event (g.F.Files.asked c.args.files.now)
     (g.F.Files.asked c.treat.new.files) c.in-Asks.is (record { comes = c.in_ok-waiting.ensures.comes; means = c.in_ok-waiting.ensures.means })
     c.treat.ensures.asks
+
+pub returns-in_err-done-in-Ends-clause-asks : goal.returns-in_err-done-in-Ends-clause-asks
+returns-in_err-done-in-Ends-clause-asks g c = λ u now exact working. no_calls _ (g.F.Files.asked c.args.files.now) (g.F.Files.asked c.args.files.now) refl
+
+pub returns-in_err-fail-in-Fails-clause-asks : goal.returns-in_err-fail-in-Fails-clause-asks
+returns-in_err-fail-in-Fails-clause-asks g c = λ u now exact working. no_calls _ (g.F.Files.asked c.args.files.now) (g.F.Files.asked c.args.files.now) refl
