@@ -17,11 +17,13 @@ use Rattle.pie_results.specs.inner.Made.{IsKept}
 use Rattle.pie_store.specs.Canonical.{names_of, tasks_in, AreFuncs, IsStorableStore}
 use Rattle.pie_store.specs.Texts.{IsRow, IsStoreText}
 use Rattle.pie_store.specs.declared.image.StoreImage.{StoreImage}
+use Rattle.pie_store.proofs.WholeAgain.{text_sealed}
 use Rattle.pie_value.specs.Canonical.{IsEncodableTask}
 use Rattle.pie_value.specs.declared.task.Task.{Task}
 use Rattle.pie_value.specs.declared.verdict.Verdict.{Verdict}
 use Rattle.pie_value.specs.declared.verdict.Verdict.TheVariants.{Accepted, Refused}
-use Rattle.pie_incremental.specs.inner.Joined.{IsDrafted, IsImage, IsMade, StandsIf}
+use Rattle.pie_incremental.specs.declared.base.Base.{Base}
+use Rattle.pie_incremental.specs.inner.Joined.{IsBase, IsDrafted, IsImage, IsMade, StandsIf}
 
 -- a store of which there is a text can be begun from
 pub image_of_text : (s : StoreImage) (bytes : List ℕ) → IsStoreText s bytes → IsImage s
@@ -30,6 +32,10 @@ image_of_text s bytes is = record {
   parts = All-weaker IsRow IsTrueRecord (λ r row. row.parts) s.rows is.store.rows;
   order = is.store.order;
 }
+
+-- what the build before left can be begun from, where its store has this text
+pub base_of_text : (b : Base) → IsStoreText b.image b.own.store.items → IsBase b
+base_of_text b is = record { image = image_of_text b.image b.own.store.items is; text = text_sealed b.image b.own.store.items is }
 
 module _ (fs : List FunctionTree) (funcs : List (List ℕ × List ℕ)) (roots : List Task) (p : Plan) (names : HasNames fs funcs) (plan : IsPlanOf fs funcs roots p) where
   -- a function of the plan has a digest

@@ -8,6 +8,7 @@ ghost use Rattle.pie_build.specs.Crashes.{StaysAtRest};
 ghost use Rattle.pie_build.specs.Left.{KeepsRest};
 ghost use Rattle.pie_build.specs.Stored.{MayStand};
 ghost use Rattle.pie_results.specs.inner.Files.{InPathOrder};
+ghost use Rattle.pie_store.specs.Frame.{IsSealed};
 ghost use Rattle.pie_store.specs.Texts.{IsStoreText};
 ghost use Rattle.pie_value.specs.declared.verdict.Verdict.TheVariants as verdicts;
 ghost use Rattle.pie_named.specs.Asking.{MakesOnly};
@@ -28,7 +29,7 @@ use pie_files::{Files, FilesError};
 use pie_project::Project;
 use pie_record::TaskRecord;
 use pie_report::Report;
-use pie_store::{Funcs, Rows, StoreImage, encode_store};
+use pie_store::{Funcs, Rows, StoreImage, encode_store_after};
 use pie_value::{Task, Tasks, Value};
 use std::alloc::Global;
 
@@ -55,6 +56,7 @@ pub(crate) fn accept<F: Files>(
 ) -> Result<Box<Report>, FilesError>
     requires rows { MayStand project.now.digests.items project.now.roots.items made.rows.items }
     requires contents { InPathOrder made.contents.items }
+    requires sealed { IsSealed ending.now.own.store.items }
     ensures rest { KeepsRest (F.holds files.old) (F.holds files.new) }
     ensures left { IfSome (F.holds files.old) (λ d. IfOk result (λ r. LeavesWhere ending.now.own ending.now.held project.now.digests.items project.now.roots.items made.rows.items made.contents.items made.outputs.items d r.value (F.holds files.new))) }
     ensures crash { LeavesFromRest F.holds F.moment F.left_since F.images (MayLeave ending.now.own ending.now.held project.now.digests.items project.now.roots.items made.rows.items made.contents.items) files.old files.new }
@@ -136,12 +138,13 @@ fn plan_of(
 ) -> Result<Box<Plan>, OutOfMemory>
     requires image { IsDrafted image.now }
     requires contents { InPathOrder contents.items }
+    requires sealed { IsSealed ending.now.own.store.items }
     ensures sound { IfOk result (λ p. is_sound p.value ≡ true) }
     ensures changes { IfOk result (λ p. ChangesOut p.value) }
     ensures clears { IfOk result (λ p. Clears ending.now.own p.value) }
     ensures plan { IfOk result (λ p. IsPlanFor ending.now.own ending.now.held image.now contents.items p.value) }
 {
-    let text = text_of(alloc, image)?;
+    let text = text_of(alloc, image, ending.own.store.as_slice())?;
     let plan = changes_plan(
         alloc,
         &ending.own,
@@ -154,16 +157,17 @@ fn plan_of(
     Ok(plan)
 }
 
-// The text of the store. Where the number of roots has more than 32 bits, it is out of memory.
-fn text_of(alloc: Global, image: &StoreImage) -> Result<Vec<u8>, OutOfMemory>
-    requires { IsDrafted image.now }
+// The text of the store, after this one. Where the number of roots has more than 32 bits, it is out of memory.
+fn text_of(alloc: Global, image: &StoreImage, before: &[u8]) -> Result<Vec<u8>, OutOfMemory>
+    requires image { IsDrafted image.now }
+    requires before { IsSealed before.now }
     ensures { IfOk result (λ text. IsStoreText image.now text.items) }
 {
     let roots = image.roots.as_slice();
     if roots.len() > u32::MAX as usize {
         return Err(OutOfMemory);
     }
-    encode_store(alloc, image)
+    encode_store_after(alloc, image, before)
 }
 
 // What is reported of an accepted build.

@@ -2,6 +2,7 @@
 ghost use Rattle.std.specs.Prelude.{◌≡◌, IfOk, IfSome};
 ghost use Rattle.pie_files.specs.Reading.{ReadsOnly};
 ghost use Rattle.pie_named.specs.Asking.{AsksFor};
+ghost use Rattle.pie_store.specs.Frame.{IsSealed};
 ghost use Rattle.pie_incremental.specs.inner.Asked.{IsAtFirst};
 ghost use Rattle.pie_incremental.specs.inner.Cleaned.{KnowsWhere};
 ghost use Rattle.pie_incremental.specs.inner.Digested.{digested};
@@ -36,6 +37,7 @@ pub(crate) fn begin<F: Files>(
     requires { IsBase base.value }
     ensures image { IfOk result (λ b. IsImage b.image.value) }
     ensures ending { IfOk result (λ b. IsEndingOf base.value changes.now b.ending.value) }
+    ensures sealed { IfOk result (λ b. IsSealed b.ending.value.own.store.items) }
     ensures digested { IfSome (F.holds files.old) (λ d. IfOk result (λ b. b.image.value ≡ digested d project.now.digests.items base.value.image)) }
     ensures known { IfSome (F.holds files.old) (λ d. IfOk result (λ b. KnowsWhere base.value d b.ending.value)) }
     ensures asks { AsksFor (IsAtFirst changes.now base.value.names.items) (F.asked files.old) (F.asked files.new) }

@@ -5,6 +5,7 @@ ghost use Rattle.pie_files.specs.Streams.{Counted};
 ghost use Rattle.pie_build.specs.Crashes.{StaysAtRest};
 ghost use Rattle.pie_build.specs.Left.{KeepsRest};
 ghost use Rattle.pie_commit.specs.Outcomes.{LeavesFromRest};
+ghost use Rattle.pie_store.specs.Frame.{IsSealed};
 ghost use Rattle.pie_value.specs.declared.verdict.Verdict.TheVariants as verdicts;
 ghost use Rattle.pie_named.specs.Asking.{MakesOnly};
 ghost use Rattle.pie_incremental.specs.inner.Asked.{IsChange};
@@ -71,7 +72,8 @@ pub(crate) fn finish<F: Files>(
     built: Box<Built>,
     ran: Vec<Task>,
 ) -> Result<Box<Report>, FilesError>
-    requires { IsMade project.now.digests.items project.now.roots.items built.value }
+    requires made { IsMade project.now.digests.items project.now.roots.items built.value }
+    requires sealed { IsSealed ending.now.own.store.items }
     ensures left { IfSome (F.holds files.old) (λ d. IfOk result (λ r. LeavesBy built.value.verdict ending.now.own ending.now.held project.now.digests.items project.now.roots.items built.value d r.value (F.holds files.new))) }
     ensures crash { LeavesFromRest F.holds F.moment F.left_since F.images (MayLeaveBy built.value.verdict ending.now.own ending.now.held project.now.digests.items project.now.roots.items built.value ending.now.names.items) files.old files.new }
     ensures marked { EndsMarked F.holds F.images (EndsBy built.value.verdict ending.now.own ending.now.held project.now.digests.items project.now.roots.items built.value ending.now.names.items) files.old files.new }

@@ -5,6 +5,7 @@ ghost use Rattle.pie_files.specs.Streams.{Counted};
 ghost use Rattle.pie_build.specs.Crashes.{StaysAtRest};
 ghost use Rattle.pie_build.specs.Left.{KeepsRest};
 ghost use Rattle.pie_store.specs.Canonical.{AreFuncs};
+ghost use Rattle.pie_store.specs.Frame.{IsSealed};
 ghost use Rattle.pie_value.specs.Canonical.{IsEncodableTask};
 ghost use Rattle.pie_store.specs.Pending.{in_order};
 ghost use Rattle.pie_commit.specs.Outcomes.{LeavesFromRest};
@@ -86,6 +87,7 @@ fn go_on<F: Files>(
     runs: &mut Runs,
 ) -> Result<Done, FilesError>
     requires image { IsImage begun.image.value }
+    requires sealed { IsSealed begun.ending.value.own.store.items }
     requires names { HasNames project.now.typed project.now.digests.items }
     requires funcs { AreFuncs project.now.digests.items }
     requires roots { All IsEncodableTask project.now.roots.items }

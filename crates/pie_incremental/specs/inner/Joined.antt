@@ -16,6 +16,7 @@ use Rattle.pie_report.specs.declared.report.Report.{Report}
 use Rattle.pie_store.specs.Canonical.{AreInOrder}
 use Rattle.pie_store.specs.declared.cause.Cause.{Cause}
 use Rattle.pie_store.specs.declared.image.StoreImage.{StoreImage}
+use Rattle.pie_store.specs.Frame.{IsSealed}
 use Rattle.pie_store.specs.Pending.{in_order}
 use Rattle.pie_value.specs.Canonical.{IsEncodableTask}
 use Rattle.pie_value.specs.declared.task.Task.{Task}
@@ -40,8 +41,10 @@ pub record IsImage (s : StoreImage) : Type 0 where
   pub parts : All IsTrueRecord s.rows
   pub order : AreInOrder s.rows
 
-abbrev pub IsBase : Base → Type 0
-IsBase b = IsImage b.image
+-- what the build before left: such a store, and its text, which ends in the digest of the rest
+pub record IsBase (b : Base) : Type 0 where
+  pub image : IsImage b.image
+  pub text : IsSealed b.own.store.items
 
 -- tasks were started that have canonical bytes
 pub record Started (old new : List Task) : Type 0 where

@@ -10,7 +10,7 @@ pub returns-clause-clears : goal.returns-clause-clears
 returns-clause-clears c =
     let own = c.args.ending.now.own in
     subst (Clears own) (sym c.in_ok-plan-2.ensures.ok)
-    (clears own c.args.ending.now.held c.as_slice.result.now c.args.contents.items c.in_ok-text.text c.in_ok-plan.plan c.in_ok-plan.ensures.plan)
+    (clears own c.args.ending.now.held c.as_slice-2.result.now c.args.contents.items c.in_ok-text.text c.in_ok-plan.plan c.in_ok-plan.ensures.plan)
 
 pub returns-clause-plan : goal.returns-clause-plan
 returns-clause-plan c =
@@ -21,6 +21,6 @@ returns-clause-plan c =
     let plan : IsPlanFor own held c.args.image.now contents c.in_ok-plan.plan = record {
       text = text;
       says = c.in_ok-text.ensures;
-      plan = subst (λ (rows : List TaskRecord). IsChangesPlan own held rows contents text c.in_ok-plan.plan) c.as_slice.ensures c.in_ok-plan.ensures.plan;
+      plan = subst (λ (rows : List TaskRecord). IsChangesPlan own held rows contents text c.in_ok-plan.plan) c.as_slice-2.ensures c.in_ok-plan.ensures.plan;
     } in
     subst (IsPlanFor own held c.args.image.now contents) (sym c.in_ok-plan-2.ensures.ok) plan

@@ -7,7 +7,7 @@ use Rattle.pie_incremental.specs.Crashes.{MayStop}
 use Rattle.pie_incremental.proofs.Crashing.{crash_afresh, crash_based, stop_first}
 use Rattle.std.proofs.Common.{subst}
 use Rattle.pie_incremental.specs.Starts.{IsWhole}
-use Rattle.pie_incremental.proofs.Storing.{image_of_text}
+use Rattle.pie_incremental.proofs.Storing.{base_of_text}
 use Rattle.pie_incremental.proofs.Asked.{asks_afresh, asks_from}
 use Rattle.pie_build.proofs.Crashing.{rests_then}
 use Rattle.pie_incremental.specs.Crashes.{MayEnd}
@@ -75,7 +75,7 @@ pub from-requires : goal.from-requires
 from-requires g c =
     let e = c.in-Ok-From in
     let b = e.base.value in
-    image_of_text b.image b.own.store.items (subst IsWhole e.field-0-is e.ensures.whole).text
+    base_of_text b (subst IsWhole e.field-0-is e.ensures.whole).text
 
 pub returns-in-Ok-Afresh-clause-asks : goal.returns-in-Ok-Afresh-clause-asks
 returns-in-Ok-Afresh-clause-asks g c =

@@ -16,6 +16,7 @@ use Rattle.pie_build.proofs.Crashing.{rests_still, rests_then}
 use Rattle.pie_incremental.specs.Crashes.{EndsMarked}
 use Rattle.pie_incremental.specs.inner.Marked.{EndsBy, EndsGo}
 use Rattle.pie_incremental.proofs.Marking.{marked_end, marked_still}
+use Rattle.pie_incremental.proofs.Joining.{told_report}
 use Rattle.pie_incremental.proofs.run.go_on.Goals as goal
 
 pub returns-in_ok-report-in-Built-clause-clean : goal.returns-in_ok-report-in-Built-clause-clean
@@ -220,3 +221,9 @@ returns-in_ok-report-in-Built-clause-asks g c =
     c.in_ok-built.ensures.asks in
     goes_asking s e p before c.as_slice.result.now c.count-before.result c.args.runs.now c.evaluate.new.runs c.in_ok-ran-in-Built.ran report.report asked mid
     (g.F.Files.asked c.finish.new.files) names c.count-before.ensures c.in_ok-ran-in-Built.ensures report.ensures.ran asks c.finish.ensures.asks
+
+pub returns-in_ok-report-in-Built-clause-ran : goal.returns-in_ok-report-in-Built-clause-ran
+returns-in_ok-report-in-Built-clause-ran g c =
+    let report = c.in_ok-report-in-Built in
+    told_report c.count-before.result c.args.runs.now c.evaluate.new.runs c.in_ok-ran-in-Built.ran report.report.value c.count-before.ensures
+    c.in_ok-built.ensures.started c.in_ok-ran-in-Built.ensures report.ensures.ran
