@@ -4,6 +4,7 @@ ghost use Rattle.pie_files.specs.Faults.{Rose};
 ghost use Rattle.pie_disk.specs.Locks.{MayCall};
 
 use crate::disk::Disk;
+use crate::listings::{Listings, copies};
 use crate::lock::Lock;
 use pie_base::{OutOfMemory, Path};
 use pie_files::{Files, FilesError, Found, Within};
@@ -18,6 +19,7 @@ pub struct DirFiles {
     lock: Lock,
     // The names of files and directories that the next sync is to make last.
     unsynced: BTreeSet<String>,
+    listed: Listings,
     faults: u64,
 }
 
@@ -48,6 +50,7 @@ impl DirFiles {
             disk,
             lock,
             unsynced: BTreeSet::new(rt.alloc()),
+            listed: Listings::new(rt.alloc()),
             faults: 0,
         }
     }
@@ -148,8 +151,14 @@ impl Files for DirFiles {
 
     fn names(&mut self, dir: &Path) -> Result<Vec<Path>, FilesError> {
         self.enter()?;
-        let answer = self.disk.names(dir);
-        self.counted(answer)
+        let alloc = self.disk.alloc();
+        if let Some(names) = self.listed.get(dir) {
+            return Ok(copies(alloc, names)?);
+        }
+        let answer = self.disk.names(&self.listed, dir);
+        let names = self.counted(answer)?;
+        self.listed.keep(alloc, dir, names.as_slice())?;
+        Ok(names)
     }
 
     fn all_under(&mut self, dir: &Path) -> Result<Vec<Path>, FilesError> {
@@ -160,6 +169,7 @@ impl Files for DirFiles {
 
     fn write(&mut self, path: &Path, bytes: &[u8]) -> Result<(), FilesError> {
         self.enter()?;
+        self.listed.clear();
         self.disk.note_unsynced(&mut self.unsynced, path)?;
         let answer = self.disk.write(&self.lock, path, bytes);
         self.counted(answer)
@@ -167,6 +177,7 @@ impl Files for DirFiles {
 
     fn remove(&mut self, path: &Path) -> Result<(), FilesError> {
         self.enter()?;
+        self.listed.clear();
         self.disk.note_unsynced(&mut self.unsynced, path)?;
         let answer = self.disk.remove(&self.lock, path);
         self.counted(answer)

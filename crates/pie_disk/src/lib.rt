@@ -5,6 +5,7 @@ mod contents;
 mod dir_files;
 mod disk;
 mod listing;
+mod listings;
 mod lock;
 mod making;
 mod removing;

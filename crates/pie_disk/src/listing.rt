@@ -1,6 +1,7 @@
 //! Listings: the entries of a directory, and the files below it.
 
 use crate::disk::{Disk, MOST, dir_at, is_absent, is_own};
+use crate::listings::Listings;
 use crate::seen::{Kind, Seen};
 use pie_base::{OutOfMemory, Path, PathError};
 use pie_files::FilesError;
@@ -17,14 +18,14 @@ enum Entry {
 }
 
 impl Disk {
-    /// The entries of a directory at which or below which a file is.
-    pub(crate) fn names(&self, dir: &Path) -> Result<Vec<Path>, FilesError> {
+    /// The entries of a directory at which or below which a file is. Into directories that were listed it looks no more.
+    pub(crate) fn names(&self, listed: &Listings, dir: &Path) -> Result<Vec<Path>, FilesError> {
         let mut names = Vec::new(self.alloc());
         for entry in self.entries(dir)? {
             match entry {
                 Entry::File(path) => names.push(path)?,
                 Entry::Dir(path) => {
-                    if self.holds_file(&path)? {
+                    if self.counts(listed, &path)? {
                         names.push(path)?;
                     }
                 }
@@ -32,6 +33,14 @@ impl Disk {
         }
         names.sort()?;
         Ok(names)
+    }
+
+    // Whether a directory that stands there counts: a file is below it.
+    fn counts(&self, listed: &Listings, dir: &Path) -> Result<bool, FilesError> {
+        match listed.get(dir) {
+            Some(names) => Ok(!names.is_empty()),
+            None => self.holds_file(dir),
+        }
     }
 
     /// The files below a directory. Below `out` and `.pie` each entry that is no directory counts.

@@ -236,6 +236,32 @@ fn add_oddities(rt: HostRuntime, root: &str) -> Result<(), Fail> {
     Ok(())
 }
 
+fn list_once(rt: HostRuntime, root: &str, files: &mut DirFiles) -> Result<String, Fail> {
+    make(rt, root, &["a/b", "d/e"])?;
+    let first = wrong(rt, root, files, &[(Call::Names, "a", "a/b ")])?;
+    make(rt, root, &["a/c"])?;
+    let again = [
+        (Call::Names, "a", "a/b "),
+        (Call::Names, "d", "d/e "),
+        (Call::Write("x"), "out/f", "done"),
+        (Call::Names, "a", "a/b a/c "),
+        (Call::Remove, "a/b", "done"),
+        (Call::Names, "a", "a/c "),
+    ];
+    let second = wrong(rt, root, files, again.as_slice())?;
+    Ok(format!(in rt.alloc(); "{first}{second}")?)
+}
+
+#[test]
+fn a_directory_is_listed_once_until_something_is_written(rt: HostRuntime) -> Result<(), Fail> {
+    let root = scratch(rt, "once")?;
+    let mut files = DirFiles::under(rt, root.as_str())?;
+    let wrong = list_once(rt, root.as_str(), &mut files)?;
+    fs::remove_dir_all(&rt, root.as_str())?;
+    assert!(rt; wrong.as_str() == "");
+    Ok(())
+}
+
 fn read_as_paths(rt: HostRuntime, root: &str, files: &mut DirFiles) -> Result<String, Fail> {
     let before = [
         (Call::Write("x"), "a/b/c", "done"),
