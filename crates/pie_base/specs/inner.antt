@@ -1,2 +1,3 @@
 -- Definitions that no clause of `pie_cli::run` rests on: invariants, and what crates say to each other.
 pub mod Status
+pub mod Kept

@@ -12,11 +12,10 @@ ghost use Rattle.pie_base.specs.Path.{is_slash, is_control, segments, is_segment
 ghost use Rattle.pie_base.specs.Path.{is_project_file as specs_is_project_file, is_source, is_below, parent_of, rest_below as specs_rest_below, entry_on_way};
 ghost use Rattle.pie_base.specs.Path.{EndsParent, EndsEntry, Reads};
 
-use crate::{MAX_PATH_BYTES, OutOfMemory};
-use std::alloc::{AllocError, AllocFailed, Global};
+use crate::{MAX_PATH_BYTES, OutOfMemory, Text};
+use std::alloc::Global;
 use std::cmp::Ordering;
 use std::marker::Model;
-use std::rc::Rc;
 
 /// Why a text is no path, in the order in which it is tested.
 #[derive(Clone, Copy, Debug, PartialEq, Eq)]
@@ -30,22 +29,12 @@ pub enum PathError {
     OutOfMemory,
 }
 
-impl From<AllocError> for PathError {
-    ghost use Rattle.pie_base.specs.declared.path.PathError.TheVariants.{OutOfMemory};
+impl From<OutOfMemory> for PathError {
+    ghost use Rattle.pie_base.specs.declared.path.PathError.TheVariants.{OutOfMemory as NoMemory};
 
-    ghost from_gives = { λ _ e. e ≡ OutOfMemory };
+    ghost from_gives = { λ _ e. e ≡ NoMemory };
 
-    fn from(_: AllocError) -> Self {
-        PathError::OutOfMemory
-    }
-}
-
-impl<T: Drop> From<AllocFailed<T>> for PathError {
-    ghost use Rattle.pie_base.specs.declared.path.PathError.TheVariants.{OutOfMemory};
-
-    ghost from_gives = { λ _ e. e ≡ OutOfMemory };
-
-    fn from(_: AllocFailed<T>) -> Self {
+    fn from(_: OutOfMemory) -> Self {
         PathError::OutOfMemory
     }
 }
@@ -54,18 +43,18 @@ impl<T: Drop> From<AllocFailed<T>> for PathError {
 /// Rule: docs/BUILDING.md, "Paths".
 #[derive(Drop)]
 pub struct Path {
-    text: Rc<String>,
+    text: Text,
 }
 
 impl Model for Path {
-    ghost use Rattle.std.specs.Prelude.{List, ℕ, IsTrue, string_bytes};
+    ghost use Rattle.std.specs.Prelude.{List, ℕ, IsTrue};
     ghost use Rattle.pie_base.specs.Path.{is_path};
 
     ghost Value = { List ℕ };
 
-    ghost view = { λ p. string_bytes p.text.value };
+    ghost view = { λ p. p.text };
 
-    ghost invariant = { λ p. IsTrue (is_path (string_bytes p.text.value)) };
+    ghost invariant = { λ p. IsTrue (is_path p.text) };
 }
 
 impl Path {
@@ -82,8 +71,7 @@ impl Path {
         if !all_segments(text.as_bytes()) {
             return Err(PathError::BadSegment);
         }
-        let text = String::from_str(alloc, text)?;
-        let text = Rc::new(alloc, text)?;
+        let text = Text::new(alloc, text)?;
         Ok(Path { text })
     }
 
@@ -92,8 +80,7 @@ impl Path {
         requires { IsTrue (is_path text.now) }
         ensures { IfOk result (λ path. path ≡ text.now) }
     {
-        let text = String::from_str(alloc, text)?;
-        let text = Rc::new(alloc, text)?;
+        let text = Text::new(alloc, text)?;
         Ok(Path { text })
     }
 
@@ -101,7 +88,7 @@ impl Path {
     pub fn copy(&self) -> Result<Path, OutOfMemory>
         ensures { IfOk result (λ copy. copy ≡ self.now) }
     {
-        let text = self.text.clone()?;
+        let text = self.text.copy()?;
         Ok(Path { text })
     }
 
@@ -112,18 +99,24 @@ impl Path {
         self.text.as_str()
     }
 
+    fn bytes(&self) -> &[u8]
+        ensures { result.now ≡ self.now }
+    {
+        self.as_str().as_bytes()
+    }
+
     /// Whether the first segment is `out` and there are at least two.
     pub fn under_out(&self) -> bool
         ensures { result ≡ is_out self.now }
     {
-        rest_below(b"out", self.text.as_bytes()).is_some()
+        rest_below(b"out", self.bytes()).is_some()
     }
 
     /// Whether the first segment is `.pie`.
     pub fn under_store(&self) -> bool
         ensures { result ≡ is_under_store self.now }
     {
-        first_of(self.text.as_bytes()) == b".pie".as_slice()
+        first_of(self.bytes()) == b".pie".as_slice()
     }
 
     /// Whether the path is neither out nor kept: the file of a source.
@@ -137,7 +130,7 @@ impl Path {
     fn is_kept(&self) -> bool
         ensures { result ≡ is_kept self.now }
     {
-        let text = self.text.as_bytes();
+        let text = self.bytes();
         text == b"out".as_slice() || self.under_store() || is_project_file(text)
     }
 
@@ -145,14 +138,14 @@ impl Path {
     pub fn is_below(&self, dir: &Path) -> bool
         ensures { result ≡ is_below dir.now self.now }
     {
-        rest_below(dir.text.as_bytes(), self.text.as_bytes()).is_some()
+        rest_below(dir.bytes(), self.bytes()).is_some()
     }
 
     /// The path without its last segment, or `None` where it has one segment.
     pub fn parent(&self, alloc: Global) -> Result<Option<Path>, OutOfMemory>
         ensures { IfOk result (λ parent. parent ≡ parent_of self.now) }
     {
-        match last_slash(self.text.as_bytes()) {
+        match last_slash(self.bytes()) {
             Some(end) => Ok(Some(self.front(alloc, end)?)),
             None => Ok(None),
         }
@@ -163,7 +156,7 @@ impl Path {
     pub fn entry_of(&self, alloc: Global, dir: &Path) -> Result<Option<Path>, OutOfMemory>
         ensures { IfOk result (λ entry. entry ≡ entry_on_way dir.now self.now) }
     {
-        match entry_end(dir.text.as_bytes(), self.text.as_bytes()) {
+        match entry_end(dir.bytes(), self.bytes()) {
             Some(end) => Ok(Some(self.up_to(alloc, end)?)),
             None => Ok(None),
         }
@@ -175,7 +168,7 @@ impl Path {
         requires slash { end < length self.now → slice_index self.now end ≡ 47 }
         ensures { IfOk result (λ front. front ≡ take end self.now) }
     {
-        if end < self.text.len() {
+        if end < self.bytes().len() {
             self.front(alloc, end)
         } else {
             self.copy()
@@ -189,8 +182,7 @@ impl Path {
         ensures { IfOk result (λ front. front ≡ take end self.now) }
     {
         let text = self.text.as_str();
-        let text = String::from_str(alloc, &text[..end])?;
-        let text = Rc::new(alloc, text)?;
+        let text = Text::new(alloc, &text[..end])?;
         Ok(Path { text })
     }
 }
@@ -201,7 +193,7 @@ impl PartialEq for Path {
     ghost laws = { Prim.search (comparing, rules) };
 
     fn eq(&self, other: &Path) -> bool {
-        self.text.as_bytes() == other.text.as_bytes()
+        self.bytes() == other.bytes()
     }
 }
 
@@ -230,7 +222,7 @@ impl Ord for Path {
     ghost matches_eq = { Prim.search (comparing, rules) };
 
     fn cmp(&self, other: &Path) -> Ordering {
-        self.text.as_bytes().cmp(other.text.as_bytes())
+        self.bytes().cmp(other.bytes())
     }
 }
 

@@ -23,14 +23,14 @@ pub fn encode_entries(alloc: Global, entries: &[Offer]) -> Result<Vec<u8>, OutOf
     ensures read_back { IfOk result (λ bytes. cache_says bytes.items ≡ Ok (map offered entries.now)) }
 {
     let mut out = Vec::new(alloc);
-    put_body(&mut out, alloc, entries)?;
+    put_body(&mut out, entries)?;
     let digest = hash_of(out.as_slice());
     put_bytes(&mut out, digest.as_slice())?;
     Ok(out)
 }
 
 // Each of these appends to what is there.
-fn put_body(out: &mut Vec<u8>, alloc: Global, entries: &[Offer]) -> Result<(), OutOfMemory>
+fn put_body(out: &mut Vec<u8>, entries: &[Offer]) -> Result<(), OutOfMemory>
     requires count { IsCount (length entries.now) }
     requires kept { All IsKeptOffer entries.now }
     ensures written { OnOk result (out.new.items ≡ out.old.items ++ enc_body (map offered entries.now)) }
@@ -38,27 +38,27 @@ fn put_body(out: &mut Vec<u8>, alloc: Global, entries: &[Offer]) -> Result<(), O
 {
     put_bytes(out, MAGIC.as_slice())?;
     put_bytes(out, &[1, entries.len() as u8])?;
-    put_all(out, alloc, entries)?;
+    put_all(out, entries)?;
     Ok(())
 }
 
-fn put_all(out: &mut Vec<u8>, alloc: Global, entries: &[Offer]) -> Result<(), OutOfMemory>
+fn put_all(out: &mut Vec<u8>, entries: &[Offer]) -> Result<(), OutOfMemory>
     requires { All IsKeptOffer entries.now }
     ensures written { OnOk result (out.new.items ≡ out.old.items ++ flat_map enc_offer entries.now) }
     ensures parts { OnOk result (All IsTrueOffer entries.now) }
 {
     for entry in entries {
-        put_entry(out, alloc, entry)?;
+        put_entry(out, entry)?;
     }
     Ok(())
 }
 
-fn put_entry(out: &mut Vec<u8>, alloc: Global, entry: &Offer) -> Result<(), OutOfMemory>
+fn put_entry(out: &mut Vec<u8>, entry: &Offer) -> Result<(), OutOfMemory>
     requires { IsKeptOffer entry.now }
     ensures written { OnOk result (out.new.items ≡ out.old.items ++ enc_offer entry.now) }
     ensures parts { OnOk result (IsTrueOffer entry.now) }
 {
-    put_record(out, alloc, &entry.row)?;
+    put_record(out, &entry.row)?;
     put_contents(out, entry.contents.as_slice())?;
     Ok(())
 }

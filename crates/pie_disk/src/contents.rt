@@ -51,7 +51,7 @@ impl Disk {
         let Some(mut file) = self.open(place.as_str())? else {
             return Ok(None);
         };
-        match hashed(&mut file, piece.as_mut_slice()) {
+        match hashed(&mut file, piece.as_mut_slice(), seen.len) {
             Ok(digest) => Ok(Some(digest)),
             Err(e) => Err(self.fault("read", place.as_str(), &e)),
         }
@@ -92,7 +92,7 @@ impl Disk {
         let Some(mut file) = self.open(place.as_str())? else {
             return Ok(Within::Absent);
         };
-        match take_all(&mut file, &mut bytes, most) {
+        match take_all(&mut file, &mut bytes, seen.len, most) {
             Ok(true) => Ok(Within::Whole(Found {
                 bytes,
                 mark: seen.mark,
@@ -111,14 +111,15 @@ fn room_for(len: u64) -> usize {
         .saturating_add(1)
 }
 
-// Takes a file to its end into a vector that has room, or answers that it has more than so many bytes.
-// Where it has grown, the room grows.
-fn take_all(file: &mut File, bytes: &mut Vec<u8>, most: usize) -> io::Result<bool> {
+// Takes a file that was seen with this length to its end into a vector that has room, or answers that it has more than so many
+// bytes. Where it has grown, the room grows.
+fn take_all(file: &mut File, bytes: &mut Vec<u8>, len: u64, most: usize) -> io::Result<bool> {
     let mut taken = 0;
     for _ in 0..u64::MAX {
+        let room = bytes.len().saturating_sub(taken);
         let n = take_some(file, &mut bytes[taken..])?;
         taken = taken.saturating_add(n);
-        if n == 0 {
+        if is_end(n, room, taken as u64, len) {
             bytes.truncate(taken);
             return Ok(bytes.len() <= most);
         }
@@ -133,17 +134,25 @@ fn take_all(file: &mut File, bytes: &mut Vec<u8>, most: usize) -> io::Result<boo
     Ok(false)
 }
 
-// The SHA-256 of the rest of a file.
-fn hashed(file: &mut File, piece: &mut [u8]) -> io::Result<[u8; 32]> {
+// The SHA-256 of the rest of a file that was seen with this length.
+fn hashed(file: &mut File, piece: &mut [u8], len: u64) -> io::Result<[u8; 32]> {
     let mut hasher = Sha256::new();
+    let mut taken: u64 = 0;
     for _ in 0..u64::MAX {
         let n = take_some(file, piece)?;
-        if n == 0 {
+        hasher.update(&piece[..n]);
+        taken = taken.saturating_add(n as u64);
+        if is_end(n, piece.len(), taken, len) {
             break;
         }
-        hasher.update(&piece[..n]);
     }
     Ok(hasher.finalize())
+}
+
+// Whether a read met the end of a file: it gave nothing, or less than it had room for where as much was taken by then as the file
+// was seen to have. So a file that stays as it was seen takes one read.
+fn is_end(n: usize, room: usize, taken: u64, len: u64) -> bool {
+    n == 0 || (n < room && taken == len)
 }
 
 // Reads once; again where a signal came between.

@@ -1,6 +1,6 @@
 -- One place more, in order.
 use Rattle.std.proofs.Common.{◌≡◌, ℕ, ◌+◌, ◌<◌, ◌≤◌, List, [], ◌∷◌, length, get_or, Some, None, sym, ap, subst, refl, ◌∙◌, arith, inl, inr}
-use Rattle.std.specs.Prelude.{Option, Vec, IfSome}
+use Rattle.std.specs.Prelude.{Option, Vec, IfSome, slice_get}
 use Rattle.std.specs.List.{AllByRecursion}
 use Rattle.std.specs.List.Sorted.{IsStrictlySortedBy}
 use Rattle.std.specs.BTreeMap.{insert_entry}
@@ -10,11 +10,20 @@ use Rattle.std.specs.Ordering.{nat_cmp, ordering_then, match_ordering}
 use Rattle.std.specs.Cmp.Lexicographic.{slice_cmp}
 use Rattle.std.proofs.lemmas.Bool.{cases_lt}
 use Rattle.std.proofs.lemmas.Map.Lookups.{exact_unsigned, exact_bytes}
-use Rattle.pie_value.specs.Canonical.{enc_task}
+use Rattle.pie_value.specs.Canonical.{enc_task, IsCanonicalTask}
+use Rattle.pie_value.specs.declared.task.Task.{Task}
 use Rattle.pie_record.specs.declared.task_record.TaskRecord.{TaskRecord}
 use Rattle.pie_record.specs.inner.Records.{record_of}
 use Rattle.pie_fresh.specs.declared.ledger.Ledger.{Ledger}
+use Rattle.pie_fresh.specs.inner.Ledgers.{IsLedger, IsRecorded}
 use Rattle.pie_fresh.specs.inner.Ordered.{Place, place_cmp, keys_in, IsPlace, HasPlace, ArePlaces}
+
+-- the canonical bytes of a numbered task are those of the task of its record
+pub bytes_of_record : (l : Ledger) (n : ℕ) (r : TaskRecord) (bytes : List ℕ) → IsLedger l → record_of l.records n ≡ Some r
+    → IfSome (slice_get l.names n) (λ t. IsCanonicalTask t bytes) → bytes ≡ enc_task r.task
+bytes_of_record l n r bytes ledger found told =
+    let named : slice_get l.names n ≡ Some r.task = (subst (λ (o : Option TaskRecord). IfSome o (IsRecorded l n)) found (ledger.recorded n)).named in
+    (subst (λ (o : Option Task). IfSome o (λ t. IsCanonicalTask t bytes)) named told).bytes
 
 -- equal keys have one height and the same bytes
 pub key_exact : {Z : Type 0} (x y : ℕ × Vec ℕ Z) → place_cmp x y ≡ Equal → (x.0 ≡ y.0) × (x.1.items ≡ y.1.items)

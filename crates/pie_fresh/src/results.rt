@@ -1,14 +1,12 @@
 //! What a build leaves where all its roots are done.
-ghost use Rattle.std.specs.Prelude.{◌≡◌, ◌+◌, ◌<◌, ◌++◌, [], All, Contains, IsTrue, length, IfOk, OnOk};
+ghost use Rattle.std.specs.Prelude.{◌≡◌, ◌+◌, ◌<◌, [], All, Contains, IsTrue, length, IfOk, OnOk};
 ghost use Rattle.std.specs.BTreeMap.{IsOrdered};
 ghost use Rattle.std.specs.Cmp.Lexicographic.{slice_cmp};
-ghost use Rattle.std.specs.Option.{option_to_list};
 ghost use Rattle.std.specs.Ordering.{nat_cmp};
 ghost use Rattle.pie_base.specs.Path.{is_out};
 ghost use Rattle.pie_builder_laws.specs.Builds.{AreLive, AreOutputs, AreRows, WroteAt};
 ghost use Rattle.pie_graph.specs.Numbers.{AllBelow, numbers};
 ghost use Rattle.pie_record.specs.Canonical.{IsStorable, IsStorableWrite};
-ghost use Rattle.pie_record.specs.inner.Records.{record_of, Takes};
 ghost use Rattle.pie_value.specs.Canonical.{IsEncodableTask};
 ghost use Rattle.pie_fresh.specs.inner.Builds.{InPathOrder, OnlyOut};
 ghost use Rattle.pie_fresh.specs.inner.Collected.{AreFilesOf, AreOfTasks, Gives, GainsOutput, HasStaged, HasWritten, KeepsPaths, WritesAreStaged, output_at};
@@ -21,7 +19,7 @@ use pie_base::{OutOfMemory, Path};
 use pie_graph::TaskNo;
 use pie_record::{Records, TaskRecord};
 use pie_running::Done;
-use pie_value::{Task, Value, encode_task};
+use pie_value::{Task, Value};
 use std::alloc::Global;
 use std::collections::BTreeMap;
 
@@ -76,10 +74,11 @@ impl Ledger {
         requires places { ArePlaces self.now n places.old.entries }
         ensures { OnOk result (ArePlaces self.now (n + 1) places.new.entries) }
     {
-        match self.records.get(TaskNo(n as u32)) {
-            Some(rec) => {
-                let bytes = encode_task(self.alloc, &rec.task)?;
-                places.insert((self.heights[n], bytes), n as u32)?;
+        let no = TaskNo(n as u32);
+        match self.records.get(no) {
+            Some(_rec) => {
+                let bytes = Vec::from_slice(self.alloc, self.names.bytes(no))?;
+                places.insert((self.heights[n], bytes), no.0)?;
                 Ok(())
             }
             None => Ok(()),
@@ -244,27 +243,9 @@ fn taken(
 {
     let mut rows = Vec::with_capacity(alloc, places.len())?;
     for (_, no) in places {
-        take_record(records, TaskNo(*no), &mut rows)?;
+        records.move_to(TaskNo(*no), &mut rows)?;
     }
     Ok(rows)
-}
-
-// Moves the record of a task to others, if it has one.
-fn take_record(
-    records: &mut Records,
-    no: TaskNo,
-    rows: &mut Vec<TaskRecord>,
-) -> Result<(), OutOfMemory>
-    ensures rows { OnOk result (rows.new.items ≡ rows.old.items ++ option_to_list (record_of records.old no.0)) }
-    ensures takes { Takes records.old records.new no.0 }
-{
-    match records.take(no) {
-        Some(rec) => {
-            rows.push(rec)?;
-            Ok(())
-        }
-        None => Ok(()),
-    }
 }
 
 // The files of a map in order.

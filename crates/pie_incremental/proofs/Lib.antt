@@ -21,3 +21,4 @@ pub mod Marking
 pub mod Refusing
 pub mod Asking
 pub mod Asked
+mod Beginning

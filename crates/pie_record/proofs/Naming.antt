@@ -1,7 +1,7 @@
 -- Tasks by their canonical bytes.
 use Rattle.std.proofs.Common.{◌≡◌, ◌≢◌, ℕ, suc, ◌<◌, ◌^◌, Bool, true, false, cond, List, [], ◌∷◌, ◌++◌, length, get_or, map}
 use Rattle.std.proofs.Common.{refl, sym, ap, subst, ◌∙◌, arith}
-use Rattle.std.specs.Prelude.{Contains, Option, Some, None, Vec, slice_get, position}
+use Rattle.std.specs.Prelude.{Contains, Option, Some, None, IfSome, Vec, slice_get, position}
 use Rattle.std.specs.List.{list_any, position_or_len}
 use Rattle.std.specs.Str.{bytes_eq}
 use Rattle.std.proofs.lemmas.Slice.Eq.{bytes_eq-Decides}
@@ -16,7 +16,7 @@ use Rattle.pie_value.specs.Canonical.{enc_task, IsCanonicalTask}
 use Rattle.pie_value.specs.Reading.{task_prefix}
 use Rattle.pie_value.proofs.Taking.{same_value}
 use Rattle.pie_value.proofs.Decoded.{task_again}
-use Rattle.pie_record.specs.inner.Names.{AreNamed, IsFree, IsPlace}
+use Rattle.pie_record.specs.inner.Names.{AreNamed, IsFree, IsPlace, IsKeyAt}
 
 -- ---- where bytes stand
 
@@ -64,6 +64,16 @@ key_at {Z} keys tasks n i d t lt =
     let long = many keys tasks n in
     sym (get_or-map (λ (k : Vec ℕ Z). k.items) keys i d [] lt) ∙ ap (λ (l : List (List ℕ)). get_or l i []) n.same
     ∙ get_or-map enc_task tasks i t [] (omega arith)
+
+pub key_bytes : {Z : Type 0} (keys : List (Vec ℕ Z)) (tasks : List Task) (i : ℕ) (bytes : List ℕ) → AreNamed keys tasks → i < length tasks
+    → IsKeyAt keys i bytes → IfSome (slice_get tasks i) (λ t. IsCanonicalTask t bytes)
+key_bytes {Z} keys [] i bytes n lt at = absurd (omega (arith, lt))
+key_bytes {Z} [] (t ∷ ts) i bytes n lt at = let long = many {Z = Z} [] (t ∷ ts) n in absurd (omega (arith, long))
+key_bytes {Z} (k ∷ ks) (t ∷ ts) i bytes n lt at =
+    let long = many (k ∷ ks) (t ∷ ts) n in
+    let u = get_or (t ∷ ts) i t in
+    let same : enc_task u ≡ bytes = sym (key_at (k ∷ ks) (t ∷ ts) n i k t (omega arith)) ∙ at k in
+    rw (slice_get-get_or (t ∷ ts) i t lt) (subst (IsCanonicalTask u) same (n.canonical i t lt))
 
 pub number_some : {Z : Type 0} (keys : List (Vec ℕ Z)) (tasks : List Task) (t : Task) (bytes : List ℕ) (i : ℕ) → AreNamed keys tasks
     → IsCanonicalTask t bytes → IsPlace keys bytes (Some i) → slice_get tasks i ≡ Some t

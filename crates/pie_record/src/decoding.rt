@@ -11,7 +11,7 @@ use crate::{RecordFault, TaskRecord};
 use std::alloc::Global;
 
 /// The record whose canonical bytes stand in front, and how many these are. Bytes after them are no fault.
-/// A number of observations or writes takes no memory of its own, so a forged one can't ask for much.
+/// A number of observations or writes takes memory for 16 of them at most before they are read, so a forged one can't ask for much.
 pub fn decode_record(alloc: Global, bytes: &[u8]) -> Result<(TaskRecord, usize), RecordFault>
     ensures answer { RowAgreesOnPrefix (λ r. r) result bytes.now (record_at bytes.now) }
     ensures canonical { IfOk result (λ found. IsCanonicalRecord found.0 (take found.1 bytes.now)) }

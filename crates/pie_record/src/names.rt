@@ -1,12 +1,13 @@
 //! Numbers for tasks.
-ghost use Rattle.std.specs.Prelude.{◌≡◌, ◌+◌, ◌<◌, ◌^◌, length, List, [], ◌∷◌, ◌++◌, All, Contains, Some, slice_get, IfOk, OnOk, OnErr};
+ghost use Rattle.std.specs.Prelude.{◌≡◌, ◌+◌, ◌<◌, ◌^◌, length, List, [], ◌∷◌, ◌++◌, All, Contains, Some, slice_get, IfSome, IfOk, OnOk, OnErr};
+ghost use Rattle.pie_value.specs.declared.task.Task.{Task};
 ghost use Rattle.pie_value.specs.Canonical.{enc_task, IsCanonicalTask, IsEncodableTask};
-ghost use Rattle.pie_record.specs.inner.Names.{Numbers, AreDistinct, IsPlace, IsFree};
+ghost use Rattle.pie_record.specs.inner.Names.{Numbers, AreDistinct, IsPlace, IsFree, IsKeyAt};
 
 use indexmap::IndexSet;
 use pie_base::OutOfMemory;
 use pie_graph::TaskNo;
-use pie_value::{Task, encode_task};
+use pie_value::{Task, encode_task, put_task};
 use std::alloc::Global;
 use std::marker::Model;
 
@@ -51,10 +52,28 @@ impl TaskNames {
         requires { IsEncodableTask task.now }
         ensures { IfOk result (λ no. Numbers self.now task.now no) }
     {
-        let bytes = encode_task(self.alloc, task)?;
-        match place(&self.bytes, bytes.as_slice()) {
-            Some(at) => Ok(Some(TaskNo(at as u32))),
-            None => Ok(None),
+        let mut bytes = Vec::with_capacity(self.alloc, task.size() as usize)?;
+        self.number_in(&mut bytes, task)
+    }
+
+    /// The number of a task, or `None` where it is absent. The task's canonical bytes take the place of what was in `bytes`, so
+    /// that many tasks can be looked up in the same memory. After an error it isn't said what is there.
+    pub fn number_in(&self, bytes: &mut Vec<u8>, task: &Task) -> Result<Option<TaskNo>, OutOfMemory>
+        requires { IsEncodableTask task.now }
+        ensures number { IfOk result (λ no. Numbers self.now task.now no) }
+        ensures bytes { OnOk result (IsCanonicalTask task.now bytes.new.items) }
+    {
+        write_task(bytes, task)?;
+        Ok(self.number_of(bytes.as_slice()))
+    }
+
+    /// The number of the task with these canonical bytes, or `None` where it is absent.
+    pub fn number_of(&self, bytes: &[u8]) -> Option<TaskNo>
+        ensures { (task : Task) → IsCanonicalTask task bytes.now → Numbers self.now task result }
+    {
+        match place(&self.bytes, bytes) {
+            Some(at) => Some(TaskNo(at as u32)),
+            None => None,
         }
     }
 
@@ -68,6 +87,18 @@ impl TaskNames {
         ensures unchanged { OnErr result (self.new ≡ self.old) }
     {
         let bytes = encode_task(self.alloc, &task)?;
+        self.add_written(task, bytes)
+    }
+
+    /// Adds a task that has these canonical bytes, with the next number.
+    pub fn add_written(&mut self, task: Task, bytes: Vec<u8>) -> Result<TaskNo, OutOfMemory>
+        requires canonical { IsCanonicalTask task bytes.items }
+        requires absent { ¬ (Contains self.old task) }
+        requires few { length self.old < 2 ^ 32 }
+        ensures added { OnOk result (self.new ≡ self.old ++ task ∷ []) }
+        ensures number { IfOk result (λ no. no.0 ≡ length self.old) }
+        ensures unchanged { OnErr result (self.new ≡ self.old) }
+    {
         let no = TaskNo(self.tasks.len() as u32);
         self.tasks.push(task)?;
         match add_bytes(&mut self.bytes, bytes) {
@@ -77,6 +108,14 @@ impl TaskNames {
                 Err(fault)
             }
         }
+    }
+
+    /// The canonical bytes of the task with this number.
+    pub fn bytes(&self, no: TaskNo) -> &[u8]
+        requires { no.0 < length self.now }
+        ensures { IfSome (slice_get self.now no.0) (λ task. IsCanonicalTask task result.now) }
+    {
+        key_at(&self.bytes, no.0 as usize)
     }
 
     /// The task with this number.
@@ -94,6 +133,26 @@ impl TaskNames {
         ensures canonical { All (λ t. IsCanonicalTask t (enc_task t)) self.now }
     {
         self.tasks.as_slice()
+    }
+}
+
+// The canonical bytes of a task, in place of what is there.
+fn write_task(out: &mut Vec<u8>, task: &Task) -> Result<(), OutOfMemory>
+    requires { IsEncodableTask task.now }
+    ensures { OnOk result (IsCanonicalTask task.now out.new.items) }
+{
+    out.clear();
+    put_task(out, task)
+}
+
+// The key that stands there.
+fn key_at(keys: &IndexSet<Vec<u8>>, at: usize) -> &[u8]
+    requires { at < length keys.now.keys }
+    ensures { IsKeyAt keys.now.keys at result.now }
+{
+    match keys.get_index(at) {
+        Some(key) => key.as_slice(),
+        None => unreachable!(),
     }
 }
 

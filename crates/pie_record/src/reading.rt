@@ -11,6 +11,9 @@ use pie_base::Path;
 use pie_value::Stamp;
 use std::alloc::Global;
 
+// For so many observations or writes there is room from the first one on, and for no more: a forged number can't ask for much.
+const AT_ONCE: usize = 16;
+
 impl<'a> Reader<'a> {
     fn kind(&mut self) -> Result<DepKind, RecordFault>
         ensures { RowAgrees (λ k. k) result self.new (kind_at self.old) }
@@ -88,7 +91,7 @@ impl<'a> Reader<'a> {
         ensures { RowAgrees (λ ds. ds) result self.new (list_at dep_at self.old) }
     {
         let count = self.number()?;
-        let mut deps = Vec::new(alloc);
+        let mut deps = Vec::with_capacity(alloc, count.min(AT_ONCE))?;
         for _ in 0..count {
             match self.dep(alloc) {
                 Ok(dep) => deps.push(dep)?,
@@ -122,7 +125,7 @@ impl<'a> Reader<'a> {
         ensures { RowAgrees (λ ws. ws) result self.new (list_at write_at self.old) }
     {
         let count = self.number()?;
-        let mut writes = Vec::new(alloc);
+        let mut writes = Vec::with_capacity(alloc, count.min(AT_ONCE))?;
         for _ in 0..count {
             match self.write(alloc) {
                 Ok(write) => writes.push(write)?,

@@ -1,6 +1,6 @@
 //! The record of each task.
-ghost use Rattle.std.specs.Prelude.{◌≡◌, ◌<◌, ℕ, length, None, OnOk, OnErr};
-ghost use Rattle.std.specs.Option.{option_copied};
+ghost use Rattle.std.specs.Prelude.{◌≡◌, ◌<◌, ◌++◌, ℕ, length, None, OnOk, OnErr};
+ghost use Rattle.std.specs.Option.{option_copied, option_to_list};
 ghost use Rattle.pie_record.specs.inner.Records.{record_of, Puts, Takes};
 
 use crate::TaskRecord;
@@ -53,6 +53,20 @@ impl Records {
         match self.slots.get_mut(no.0 as usize) {
             Some(slot) => slot.take(),
             None => None,
+        }
+    }
+
+    /// Moves the record of a task to the end of others, if it has one.
+    pub fn move_to(&mut self, no: TaskNo, others: &mut Vec<TaskRecord>) -> Result<(), OutOfMemory>
+        ensures moved { OnOk result (others.new.items ≡ others.old.items ++ option_to_list (record_of self.old no.0)) }
+        ensures takes { Takes self.old self.new no.0 }
+    {
+        match self.take(no) {
+            Some(rec) => {
+                others.push(rec)?;
+                Ok(())
+            }
+            None => Ok(()),
         }
     }
 

@@ -12,7 +12,7 @@ ghost use Rattle.std.specs.List.{flat_map};
 use crate::tag::{byte_of_kind, byte_of_stamp};
 use crate::{Dep, DepOn, Outcome, TaskRecord};
 use pie_base::{OutOfMemory, Path};
-use pie_value::{Stamp, Task, Value, encode, encode_task};
+use pie_value::{Stamp, put_task, put_value};
 use std::alloc::Global;
 
 /// The canonical bytes of a record.
@@ -24,54 +24,36 @@ pub fn encode_record(alloc: Global, rec: &TaskRecord) -> Result<Vec<u8>, OutOfMe
     ensures read_back { IfOk result (λ bytes. (rest : List ℕ) → record_at (bytes.items ++ rest) ≡ Ok (rec.now, rest)) }
 {
     let mut out = Vec::new(alloc);
-    put_record(&mut out, alloc, rec)?;
+    put_record(&mut out, rec)?;
     Ok(out)
 }
 
 /// Appends the canonical bytes of a record. After an error it isn't said what was appended.
-pub fn put_record(out: &mut Vec<u8>, alloc: Global, rec: &TaskRecord) -> Result<(), OutOfMemory>
+pub fn put_record(out: &mut Vec<u8>, rec: &TaskRecord) -> Result<(), OutOfMemory>
     requires { IsStorable rec.now }
     ensures written { OnOk result (out.new.items ≡ out.old.items ++ enc_record rec.now) }
     ensures parts { OnOk result (IsTrueRecord rec.now) }
 {
-    put_task(out, alloc, &rec.task)?;
-    put_deps(out, alloc, rec.deps.as_slice())?;
+    put_task(out, &rec.task)?;
+    put_deps(out, rec.deps.as_slice())?;
     put_writes(out, rec.writes.as_slice())?;
-    put_outcome(out, alloc, &rec.outcome)?;
+    put_outcome(out, &rec.outcome)?;
     Ok(())
 }
 
 // Each of these appends to what is there.
-fn put_task(out: &mut Vec<u8>, alloc: Global, task: &Task) -> Result<(), OutOfMemory>
-    requires { IsEncodableTask task.now }
-    ensures written { OnOk result (out.new.items ≡ out.old.items ++ enc_task task.now) }
-    ensures parts { OnOk result (IsTrueTask task.now) }
-{
-    let bytes = encode_task(alloc, task)?;
-    put_bytes(out, bytes.as_slice())
-}
-
-fn put_value(out: &mut Vec<u8>, alloc: Global, value: &Value) -> Result<(), OutOfMemory>
-    requires { IsEncodable (tree_of value.now) }
-    ensures written { OnOk result (out.new.items ≡ out.old.items ++ enc (tree_of value.now)) }
-    ensures parts { OnOk result (HasTrueLeaves (tree_of value.now)) }
-{
-    let bytes = encode(alloc, value)?;
-    put_bytes(out, bytes.as_slice())
-}
-
-fn put_on(out: &mut Vec<u8>, alloc: Global, what: &DepOn) -> Result<(), OutOfMemory>
+fn put_on(out: &mut Vec<u8>, what: &DepOn) -> Result<(), OutOfMemory>
     requires { IsStorableOn what.now }
     ensures written { OnOk result (out.new.items ≡ out.old.items ++ enc_on what.now) }
     ensures parts { OnOk result (IsTrueOn what.now) }
 {
     match what {
         DepOn::File(path) => put_counted(out, path.as_str().as_bytes()),
-        DepOn::Called(task) => put_task(out, alloc, task),
+        DepOn::Called(task) => put_task(out, task),
     }
 }
 
-fn put_contents(out: &mut Vec<u8>, alloc: Global, stamp: &Stamp) -> Result<(), OutOfMemory>
+fn put_contents(out: &mut Vec<u8>, stamp: &Stamp) -> Result<(), OutOfMemory>
     requires { IsStorableStamp stamp.now }
     ensures written { OnOk result (out.new.items ≡ out.old.items ++ contents stamp.now) }
     ensures parts { OnOk result (IsTrueStamp stamp.now) }
@@ -80,48 +62,48 @@ fn put_contents(out: &mut Vec<u8>, alloc: Global, stamp: &Stamp) -> Result<(), O
         Stamp::Absent | Stamp::Present | Stamp::Done => Ok(()),
         Stamp::Hash(hash) => put_hash(out, hash),
         Stamp::Mark(mark) => put_mark(out, *mark),
-        Stamp::Whole(value) => put_value(out, alloc, value),
+        Stamp::Whole(value) => put_value(out, value),
     }
 }
 
-fn put_stamp(out: &mut Vec<u8>, alloc: Global, stamp: &Stamp) -> Result<(), OutOfMemory>
+fn put_stamp(out: &mut Vec<u8>, stamp: &Stamp) -> Result<(), OutOfMemory>
     requires { IsStorableStamp stamp.now }
     ensures written { OnOk result (out.new.items ≡ out.old.items ++ enc_stamp stamp.now) }
     ensures parts { OnOk result (IsTrueStamp stamp.now) }
 {
     put_bytes(out, &[byte_of_stamp(stamp)])?;
-    put_contents(out, alloc, stamp)
+    put_contents(out, stamp)
 }
 
 #[tactic(auto, unfolding(crate::specs::Canonical::enc_dep))]
-fn put_dep(out: &mut Vec<u8>, alloc: Global, dep: &Dep) -> Result<(), OutOfMemory>
+fn put_dep(out: &mut Vec<u8>, dep: &Dep) -> Result<(), OutOfMemory>
     requires { IsStorableDep dep.now }
     ensures written { OnOk result (out.new.items ≡ out.old.items ++ enc_dep dep.now) }
     ensures parts { OnOk result (IsTrueDep dep.now) }
 {
     put_bytes(out, &[byte_of_kind(dep.kind)])?;
-    put_on(out, alloc, &dep.what)?;
-    put_stamp(out, alloc, &dep.stamp)
+    put_on(out, &dep.what)?;
+    put_stamp(out, &dep.stamp)
 }
 
-fn put_deps(out: &mut Vec<u8>, alloc: Global, deps: &[Dep]) -> Result<(), OutOfMemory>
+fn put_deps(out: &mut Vec<u8>, deps: &[Dep]) -> Result<(), OutOfMemory>
     requires few { length deps.now < 2 ^ 32 }
     requires storable { All IsStorableDep deps.now }
     ensures written { OnOk result (out.new.items ≡ out.old.items ++ listed enc_dep deps.now) }
     ensures parts { OnOk result (All IsTrueDep deps.now) }
 {
     put_len(out, deps.len())?;
-    put_all_deps(out, alloc, deps)
+    put_all_deps(out, deps)
 }
 
 #[tactic(auto, using(crate::proofs::Writing::left_more, crate::proofs::Writing::all_more, crate::proofs::Writing::all_done))]
-fn put_all_deps(out: &mut Vec<u8>, alloc: Global, deps: &[Dep]) -> Result<(), OutOfMemory>
+fn put_all_deps(out: &mut Vec<u8>, deps: &[Dep]) -> Result<(), OutOfMemory>
     requires { All IsStorableDep deps.now }
     ensures written { OnOk result (out.new.items ≡ out.old.items ++ flat_map enc_dep deps.now) }
     ensures parts { OnOk result (All IsTrueDep deps.now) }
 {
     for dep in deps {
-        put_dep(out, alloc, dep)?;
+        put_dep(out, dep)?;
     }
     Ok(())
 }
@@ -156,13 +138,13 @@ fn put_all_writes(out: &mut Vec<u8>, writes: &[(Path, [u8; 32])]) -> Result<(), 
 }
 
 // An outcome that has an output.
-fn put_outcome(out: &mut Vec<u8>, alloc: Global, outcome: &Outcome) -> Result<(), OutOfMemory>
+fn put_outcome(out: &mut Vec<u8>, outcome: &Outcome) -> Result<(), OutOfMemory>
     requires { IsStorableOutcome outcome.now }
     ensures written { OnOk result (out.new.items ≡ out.old.items ++ enc_outcome outcome.now) }
     ensures parts { OnOk result (IsTrueOutcome outcome.now) }
 {
     match outcome {
-        Outcome::Done(value) => put_value(out, alloc, value),
+        Outcome::Done(value) => put_value(out, value),
         _ => Ok(()),
     }
 }

@@ -1,9 +1,7 @@
 //! The records of live tasks in the order of a store.
-ghost use Rattle.std.specs.Prelude.{◌≡◌, ◌++◌, All, length, IfOk, OnOk};
-ghost use Rattle.std.specs.Option.{option_to_list};
+ghost use Rattle.std.specs.Prelude.{◌≡◌, All, length, IfOk};
 ghost use Rattle.pie_graph.specs.Numbers.{numbers, AllBelow};
 ghost use Rattle.pie_record.specs.Canonical.{IsStorable};
-ghost use Rattle.pie_record.specs.inner.Records.{record_of, Takes};
 ghost use Rattle.pie_tables.specs.Tabled.{IsTables};
 ghost use Rattle.pie_results.specs.inner.Ordered.{AreOrdered, AreRecords, AreApart, recorded};
 
@@ -50,25 +48,7 @@ fn taken(alloc: Global, records: &mut Records, nos: &[u32]) -> Result<Vec<TaskRe
 {
     let mut rows = Vec::with_capacity(alloc, nos.len())?;
     for no in nos {
-        take_record(records, TaskNo(*no), &mut rows)?;
+        records.move_to(TaskNo(*no), &mut rows)?;
     }
     Ok(rows)
-}
-
-// Moves the record of a task to the end of others, if it has one.
-fn take_record(
-    records: &mut Records,
-    no: TaskNo,
-    rows: &mut Vec<TaskRecord>,
-) -> Result<(), OutOfMemory>
-    ensures rows { OnOk result (rows.new.items ≡ rows.old.items ++ option_to_list (record_of records.old no.0)) }
-    ensures takes { Takes records.old records.new no.0 }
-{
-    match records.take(no) {
-        Some(rec) => {
-            rows.push(rec)?;
-            Ok(())
-        }
-        None => Ok(()),
-    }
 }

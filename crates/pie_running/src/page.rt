@@ -1,5 +1,5 @@
 //! What a task has done so far, as it is kept.
-ghost use Rattle.std.specs.Prelude.{◌≡◌, ◌<◌, ◌^◌, ◌-◌, OnOk};
+ghost use Rattle.std.specs.Prelude.{◌≡◌, ◌<◌, ◌^◌, ◌-◌, ◌++◌, ◌∷◌, [], OnOk};
 ghost use Rattle.pie_running.specs.inner.Noted.{begun, file_dep, noted_in, observed, required as specs_required, wrote as specs_wrote};
 
 use pie_base::{MAX_TICKS, OutOfMemory, Path};
@@ -79,12 +79,12 @@ impl Page {
         ensures { OnOk result (self.new ≡ observed (file_dep kind path stamp) self.old) }
     {
         self.left -= 1;
-        self.deps.push(Dep {
+        let dep = Dep {
             kind,
             what: DepOn::File(path),
             stamp,
-        })?;
-        Ok(())
+        };
+        push_dep(&mut self.deps, dep)
     }
 
     /// A task with this number and height was required.
@@ -95,7 +95,7 @@ impl Page {
     {
         self.left -= 1;
         self.needs.push(no)?;
-        self.deps.push(dep)?;
+        push_dep(&mut self.deps, dep)?;
         self.height = self.height.max(height + 1);
         Ok(())
     }
@@ -110,19 +110,21 @@ impl Page {
         Ok(())
     }
 
-    /// All but the answers that are left.
+    /// All but the answers that are left, in no more memory than it needs: most of it is kept to the end of a build.
     pub(crate) fn into_parts(self) -> NoteParts
         ensures { self ≡ noted_in result self.left }
     {
         let Page {
             task,
             no,
-            deps,
-            writes,
+            mut deps,
+            mut writes,
             needs,
             height,
             left: _,
         } = self;
+        deps.shrink_to_fit();
+        writes.shrink_to_fit();
         NoteParts {
             task,
             no,
@@ -132,4 +134,15 @@ impl Page {
             height,
         }
     }
+}
+
+// An observation behind others. Many tasks make one alone, so the first one takes room for itself only.
+fn push_dep(deps: &mut Vec<Dep>, dep: Dep) -> Result<(), OutOfMemory>
+    ensures { OnOk result (deps.new.items ≡ deps.old.items ++ dep ∷ []) }
+{
+    if deps.is_empty() {
+        deps.reserve_exact(1)?;
+    }
+    deps.push(dep)?;
+    Ok(())
 }

@@ -128,7 +128,7 @@ fn tasks_at_end(
     ensures whole { IfOk result (λ _. (image : StoreImage) → closed (first_missing rows.now roots.now) reader.now image ≡ Ok image) }
     ensures fault { IfErr result (λ e. (image : StoreImage) → AgreesWhole (Err e) (closed (first_missing rows.now roots.now) reader.now image)) }
 {
-    if let Some(at) = missing(rows, roots)? {
+    if let Some(at) = missing(alloc, rows, roots)? {
         return Err(StoreFault::Order(at));
     }
     if reader.left() > 0 {

@@ -2,7 +2,7 @@
 ghost use Rattle.std.specs.Prelude.{◌≡◌, ◌≤◌, ◌<◌, ◌^◌, ◌∷◌, [], ◌++◌, ◌+◌, length, map, max, None, Some, IfSome};
 ghost use Rattle.std.specs.Prelude.{All, Contains, IfOk, OnOk, slice_get, slice_index_or};
 ghost use Rattle.std.specs.Option.{option_map};
-ghost use Rattle.pie_value.specs.Canonical.{IsEncodableTask};
+ghost use Rattle.pie_value.specs.Canonical.{IsEncodableTask, IsCanonicalTask};
 ghost use Rattle.pie_store.specs.Ranks.{rank_in, above_one, above as specs_above, comes_last, is_before as specs_is_before, height_after, IsStored, IsStoredOn};
 ghost use Rattle.pie_store.specs.Canonical.{required_on, needs as specs_needs};
 ghost use Rattle.pie_store.specs.inner.Reading.{rows_of};
@@ -59,16 +59,17 @@ impl RankedRows {
         }
     }
 
-    // The number of a task and its height, if it has a record.
-    fn place(&self, task: &Task) -> Result<Option<(TaskNo, u64)>, OutOfMemory>
+    // The number of a task and its height, if it has a record. The task's canonical bytes take the place of what was in `bytes`.
+    fn place(&self, bytes: &mut Vec<u8>, task: &Task) -> Result<Option<(TaskNo, u64)>, OutOfMemory>
         requires { IsStored task.now }
+        ensures bytes { OnOk result (IsCanonicalTask task.now bytes.new.items) }
         ensures rank { IfOk result (λ p. option_map (λ q. q.1) p ≡ rank_in self.now task.now) }
         ensures number { IfOk result (λ p. IfSome p (λ q. slice_get (tasks_among self.now) q.0.0 ≡ Some task.now)) }
         ensures within { IfOk result (λ p. IfSome p (λ q. q.0.0 < length self.now)) }
         ensures low { IfOk result (λ p. IfSome p (λ q. q.1 < length self.now)) }
         ensures small { IfOk result (λ p. IfSome p (λ q. q.1 < 2 ^ 32)) }
     {
-        let number = self.names.number(task)?;
+        let number = self.names.number_in(bytes, task)?;
         match number {
             Some(no) => {
                 let height = height_at(self.heights.as_slice(), no.0 as usize);
@@ -79,11 +80,12 @@ impl RankedRows {
     }
 
     // The height of a task, if it has a record.
-    pub(crate) fn rank(&self, task: &Task) -> Result<Option<u64>, OutOfMemory>
+    pub(crate) fn rank(&self, bytes: &mut Vec<u8>, task: &Task) -> Result<Option<u64>, OutOfMemory>
         requires { IsStored task.now }
-        ensures { IfOk result (λ h. h ≡ rank_in self.now task.now) }
+        ensures rank { IfOk result (λ h. h ≡ rank_in self.now task.now) }
+        ensures bytes { OnOk result (IsCanonicalTask task.now bytes.new.items) }
     {
-        match self.place(task)? {
+        match self.place(bytes, task)? {
             Some((_, height)) => Ok(Some(height)),
             None => Ok(None),
         }
@@ -101,6 +103,7 @@ impl RankedRows {
     // The observation shares the contents of that task's record.
     fn above_one(
         &self,
+        bytes: &mut Vec<u8>,
         dep: &mut Dep,
         height: u64,
         needs: &mut Vec<TaskNo>,
@@ -114,7 +117,7 @@ impl RankedRows {
     {
         match &mut dep.what {
             DepOn::File(_) => Ok(Some(height)),
-            DepOn::Called(task) => match self.place(task)? {
+            DepOn::Called(task) => match self.place(bytes, task)? {
                 Some((no, below)) => {
                     let known = self.record(no);
                     share_task(known, task)?;
@@ -130,6 +133,7 @@ impl RankedRows {
     // The height above all that was observed. The numbers of the tasks among it are put behind others.
     fn above(
         &self,
+        bytes: &mut Vec<u8>,
         deps: &mut Vec<Dep>,
         needs: &mut Vec<TaskNo>,
     ) -> Result<Option<u64>, OutOfMemory>
@@ -141,7 +145,7 @@ impl RankedRows {
     {
         let mut height = 0;
         for i in 0..deps.len() {
-            match self.above_one(&mut deps[i], height, needs)? {
+            match self.above_one(bytes, &mut deps[i], height, needs)? {
                 Some(taller) => height = taller,
                 None => return Ok(None),
             }
@@ -153,6 +157,7 @@ impl RankedRows {
     fn above_all(
         &self,
         alloc: Global,
+        bytes: &mut Vec<u8>,
         deps: &mut Deps,
         needs: &mut Vec<TaskNo>,
     ) -> Result<Option<u64>, OutOfMemory>
@@ -164,7 +169,7 @@ impl RankedRows {
     {
         let none = Deps::new(Vec::new(alloc));
         let mut taken = mem::replace(deps, none).into_vec();
-        let height = self.above(&mut taken, needs)?;
+        let height = self.above(bytes, &mut taken, needs)?;
         *deps = Deps::new(taken);
         Ok(height)
     }
@@ -194,11 +199,12 @@ impl RankedRows {
     }
 
     // The height of a record that may stand after these. The numbers of the tasks that it requires are put behind others.
-    // Its observations and its function's name share the contents of these records.
+    // Its observations and its function's name share the contents of these records. Its task's canonical bytes are left in `bytes`.
     pub(crate) fn height_after(
         &self,
         alloc: Global,
         known: &Known,
+        bytes: &mut Vec<u8>,
         rec: &mut TaskRecord,
         needs: &mut Vec<TaskNo>,
     ) -> Result<Option<u64>, OutOfMemory>
@@ -208,15 +214,16 @@ impl RankedRows {
         ensures absent { IfOk result (λ h. IfSome h (λ n. rank_in self.now rec.old.task ≡ None)) }
         ensures low { IfOk result (λ h. IfSome h (λ n. n ≤ length self.now)) }
         ensures needs { IfOk result (λ h. IfSome h (λ n. Gains (tasks_among self.now) needs.old.items needs.new.items (specs_needs rec.old))) }
+        ensures bytes { IfOk result (λ h. IfSome h (λ n. IsCanonicalTask rec.old.task bytes.new.items)) }
         ensures same { IfOk result (λ h. IfSome h (λ n. rec.new ≡ rec.old)) }
     {
-        if self.rank(&rec.task)?.is_some() {
-            return Ok(None);
-        }
-        match self.above_all(alloc, &mut rec.deps, needs)? {
+        match self.above_all(alloc, bytes, &mut rec.deps, needs)? {
             Some(height) if self.comes_last(&rec.task, height) && known.has(&rec.task.func) => {
                 self.share_func(&mut rec.task.func)?;
-                Ok(Some(height))
+                match self.rank(bytes, &rec.task)? {
+                    Some(_) => Ok(None),
+                    None => Ok(Some(height)),
+                }
             }
             _ => Ok(None),
         }
@@ -225,6 +232,7 @@ impl RankedRows {
     // One record more.
     pub(crate) fn push(self, next: NextRow) -> Result<RankedRows, OutOfMemory>
         requires stored { IsStored next.rec.value.task }
+        requires bytes { IsCanonicalTask next.rec.value.task next.bytes.items }
         requires absent { rank_in self next.rec.value.task ≡ None }
         requires low { next.height ≤ length self }
         requires needs { named_by (tasks_among self) next.needs.items ≡ map Some (specs_needs next.rec.value) }
@@ -260,10 +268,11 @@ impl RankedRows {
     }
 }
 
-// A record that may stand after others, its height, and the numbers of the tasks that it requires.
+// A record that may stand after others, the canonical bytes of its task, its height, and the numbers of the tasks that it requires.
 #[derive(Drop)]
 pub(crate) struct NextRow {
     pub(crate) rec: Box<TaskRecord>,
+    pub(crate) bytes: Vec<u8>,
     pub(crate) height: u64,
     pub(crate) needs: Vec<TaskNo>,
 }
@@ -276,7 +285,7 @@ fn push_all(
     rows: &mut Vec<TaskRecord>,
     next: NextRow,
 ) -> Result<(), OutOfMemory>
-    requires encodable { IsEncodableTask next.rec.value.task }
+    requires canonical { IsCanonicalTask next.rec.value.task next.bytes.items }
     requires absent { ¬ (Contains names.old next.rec.value.task) }
     requires few { length names.old < 2 ^ 32 }
     ensures names { OnOk result (names.new ≡ names.old ++ next.rec.value.task ∷ []) }
@@ -286,12 +295,13 @@ fn push_all(
 {
     let NextRow {
         rec,
+        bytes,
         height,
         needs: required,
     } = next;
     heights.push(height)?;
     needs.push(required)?;
-    names.add(rec.task.copy()?)?;
+    names.add_written(rec.task.copy()?, bytes)?;
     rows.push(Box::into_inner(rec))?;
     Ok(())
 }

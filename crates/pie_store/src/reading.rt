@@ -3,6 +3,7 @@
 ghost use Rattle.std.specs.Prelude.{◌≡◌, ◌-◌, ◌≤◌, ◌<◌, ◌^◌, length, List, ℕ, All, IfOk, None, Some, map};
 ghost use Rattle.pie_record.specs.inner.Agreement.{RowAgrees as PartAgrees};
 ghost use Rattle.pie_record.specs.Reading.{number_at};
+ghost use Rattle.pie_value.specs.Canonical.{IsCanonicalTask};
 ghost use Rattle.pie_store.specs.inner.Agreement.{StoreAgrees};
 ghost use Rattle.pie_store.specs.Ranks.{rank_in, IsStored};
 ghost use Rattle.pie_store.specs.inner.Known.{known_in};
@@ -168,17 +169,19 @@ pub(crate) fn tasks_of(alloc: Global, roots: &[(Task, usize)]) -> Result<Vec<Tas
     Ok(tasks)
 }
 
-// A record that may stand after those before it.
+// A record that may stand after those before it. What is in `bytes` is of no account: memory for canonical bytes.
 #[tactic(auto, unfolding(crate::specs::inner::Reading::next_row))]
 fn one_row(
     end: usize,
     reader: &mut Reader<'_>,
     alloc: Global,
     known: &Known,
+    bytes: &mut Vec<u8>,
     rows: &RankedRows,
 ) -> Result<NextRow, StoreFault>
     ensures row { StoreAgrees (λ n. (n.rec.value, n.height)) result reader.new (next_row (known_in known.now) end rows.now reader.old) }
     ensures stored { IfOk result (λ n. IsStored n.rec.value.task) }
+    ensures bytes { IfOk result (λ n. IsCanonicalTask n.rec.value.task n.bytes.items) }
     ensures absent { IfOk result (λ n. rank_in rows.now n.rec.value.task ≡ None) }
     ensures low { IfOk result (λ n. n.height ≤ length rows.now) }
     ensures needs { IfOk result (λ n. named_by (tasks_among rows.now) n.needs.items ≡ map Some (needs n.rec.value)) }
@@ -188,8 +191,16 @@ fn one_row(
         Ok(rec) => {
             let mut rec = Box::new(alloc, rec)?;
             let mut needs = Vec::new(alloc);
-            match rows.height_after(alloc, known, &mut rec, &mut needs)? {
-                Some(height) => Ok(NextRow { rec, height, needs }),
+            match rows.height_after(alloc, known, bytes, &mut rec, &mut needs)? {
+                Some(height) => {
+                    let bytes = Vec::from_slice(alloc, bytes.as_slice())?;
+                    Ok(NextRow {
+                        rec,
+                        bytes,
+                        height,
+                        needs,
+                    })
+                }
                 None => Err(StoreFault::Order(at)),
             }
         }
@@ -203,12 +214,13 @@ fn more_rows(
     reader: &mut Reader<'_>,
     alloc: Global,
     known: &Known,
+    bytes: &mut Vec<u8>,
     rows: RankedRows,
 ) -> Result<RankedRows, StoreFault>
     requires { length rows < 2 ^ 32 }
     ensures { StoreAgrees (λ rs. rs) result reader.new (grown (next_row (known_in known.now) end) rows reader.old) }
 {
-    match one_row(end, reader, alloc, known, &rows) {
+    match one_row(end, reader, alloc, known, bytes, &rows) {
         Ok(next) => {
             let more = rows.push(next)?;
             Ok(more)
@@ -228,8 +240,9 @@ pub(crate) fn rows(
 {
     let count = number(end, reader)?;
     let mut rows = RankedRows::new(alloc);
+    let mut bytes = Vec::new(alloc);
     for _ in 0..count {
-        match more_rows(end, reader, alloc, known, rows) {
+        match more_rows(end, reader, alloc, known, &mut bytes, rows) {
             Ok(more) => rows = more,
             Err(fault) => return Err(fault),
         }
@@ -239,14 +252,16 @@ pub(crate) fn rows(
 
 // The offset of the first root without a record.
 pub(crate) fn missing(
+    alloc: Global,
     rows: &RankedRows,
     roots: &[(Task, usize)],
 ) -> Result<Option<usize>, OutOfMemory>
     requires { All (λ (r : Task × ℕ). IsStored r.0) roots.now }
     ensures { IfOk result (λ at. at ≡ first_missing rows.now roots.now) }
 {
+    let mut bytes = Vec::new(alloc);
     for (task, at) in roots {
-        if rows.rank(task)?.is_none() {
+        if rows.rank(&mut bytes, task)?.is_none() {
             return Ok(Some(*at));
         }
     }

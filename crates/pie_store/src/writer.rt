@@ -13,7 +13,7 @@ use crate::StoreImage;
 use crate::frame::{MAGIC, digest_of};
 use pie_base::{OutOfMemory, Text};
 use pie_record::{TaskRecord, put_record};
-use pie_value::{Task, encode_task};
+use pie_value::{Task, put_task};
 use std::alloc::Global;
 
 /// The text of a store in version 2.
@@ -36,15 +36,15 @@ pub fn encode_store_after(
     ensures text { IfOk result (λ bytes. IsStoreText image.now bytes.items) }
     ensures read_back { IfOk result (λ bytes. store_says bytes.items ≡ Ok image.now) }
 {
-    let mut out = Vec::new(alloc);
-    put_body(&mut out, alloc, image)?;
+    let mut out = Vec::with_capacity(alloc, before.len())?;
+    put_body(&mut out, image)?;
     let digest = digest_of(out.as_slice(), before);
     put_bytes(&mut out, digest.as_slice())?;
     Ok(out)
 }
 
 // Each of these appends to what is there.
-fn put_body(out: &mut Vec<u8>, alloc: Global, image: &StoreImage) -> Result<(), OutOfMemory>
+fn put_body(out: &mut Vec<u8>, image: &StoreImage) -> Result<(), OutOfMemory>
     requires { IsStorableStore image.now }
     ensures written { OnOk result (out.new.items ≡ out.old.items ++ enc_body image.now) }
     ensures parts { OnOk result (IsStore image.now) }
@@ -52,8 +52,8 @@ fn put_body(out: &mut Vec<u8>, alloc: Global, image: &StoreImage) -> Result<(), 
     put_bytes(out, MAGIC.as_slice())?;
     put_bytes(out, &[image.version])?;
     put_funcs(out, image.funcs.as_slice())?;
-    put_tasks(out, alloc, image.roots.as_slice())?;
-    put_rows(out, alloc, image.rows.as_slice())?;
+    put_tasks(out, image.roots.as_slice())?;
+    put_rows(out, image.rows.as_slice())?;
     Ok(())
 }
 
@@ -90,53 +90,52 @@ fn put_func(out: &mut Vec<u8>, name: &Text, digest: &[u8; 32]) -> Result<(), Out
     put_bytes(out, digest.as_slice())
 }
 
-fn put_tasks(out: &mut Vec<u8>, alloc: Global, tasks: &[Task]) -> Result<(), OutOfMemory>
+fn put_tasks(out: &mut Vec<u8>, tasks: &[Task]) -> Result<(), OutOfMemory>
     requires few { length tasks.now < 2 ^ 32 }
     requires encodable { All IsEncodableTask tasks.now }
     ensures written { OnOk result (out.new.items ≡ out.old.items ++ listed enc_task tasks.now) }
     ensures parts { OnOk result (All IsStored tasks.now) }
 {
     put_len(out, tasks.len())?;
-    put_all_tasks(out, alloc, tasks)
+    put_all_tasks(out, tasks)
 }
 
-fn put_all_tasks(out: &mut Vec<u8>, alloc: Global, tasks: &[Task]) -> Result<(), OutOfMemory>
+fn put_all_tasks(out: &mut Vec<u8>, tasks: &[Task]) -> Result<(), OutOfMemory>
     requires { All IsEncodableTask tasks.now }
     ensures written { OnOk result (out.new.items ≡ out.old.items ++ flat_map enc_task tasks.now) }
     ensures parts { OnOk result (All IsStored tasks.now) }
 {
     for task in tasks {
-        put_task(out, alloc, task)?;
+        put_stored(out, task)?;
     }
     Ok(())
 }
 
-fn put_task(out: &mut Vec<u8>, alloc: Global, task: &Task) -> Result<(), OutOfMemory>
+fn put_stored(out: &mut Vec<u8>, task: &Task) -> Result<(), OutOfMemory>
     requires { IsEncodableTask task.now }
     ensures written { OnOk result (out.new.items ≡ out.old.items ++ enc_task task.now) }
     ensures parts { OnOk result (IsStored task.now) }
 {
-    let bytes = encode_task(alloc, task)?;
-    put_bytes(out, bytes.as_slice())
+    put_task(out, task)
 }
 
-fn put_rows(out: &mut Vec<u8>, alloc: Global, rows: &[TaskRecord]) -> Result<(), OutOfMemory>
+fn put_rows(out: &mut Vec<u8>, rows: &[TaskRecord]) -> Result<(), OutOfMemory>
     requires few { length rows.now < 2 ^ 32 }
     requires storable { All IsStorable rows.now }
     ensures written { OnOk result (out.new.items ≡ out.old.items ++ listed enc_record rows.now) }
     ensures parts { OnOk result (All IsTrueRecord rows.now) }
 {
     put_len(out, rows.len())?;
-    put_all_rows(out, alloc, rows)
+    put_all_rows(out, rows)
 }
 
-fn put_all_rows(out: &mut Vec<u8>, alloc: Global, rows: &[TaskRecord]) -> Result<(), OutOfMemory>
+fn put_all_rows(out: &mut Vec<u8>, rows: &[TaskRecord]) -> Result<(), OutOfMemory>
     requires { All IsStorable rows.now }
     ensures written { OnOk result (out.new.items ≡ out.old.items ++ flat_map enc_record rows.now) }
     ensures parts { OnOk result (All IsTrueRecord rows.now) }
 {
     for rec in rows {
-        put_record(out, alloc, rec)?;
+        put_record(out, rec)?;
     }
     Ok(())
 }

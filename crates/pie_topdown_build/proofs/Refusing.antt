@@ -1,6 +1,6 @@
 -- A project that is refused is the one that was read.
 use Rattle.std.proofs.Common.{◌≡◌, Option, None, Some, Result, Ok, Err, subst}
-use Rattle.std.specs.Prelude.{IfSome}
+use Rattle.std.specs.Prelude.{IfOk, IfSome}
 use Rattle.pie_build.specs.inner.Rebuilt.{IsRefusal, RebuildSays}
 use Rattle.pie_files.specs.Directory.{Directory}
 use Rattle.pie_incremental.specs.inner.Refused.{RefusesRight}
@@ -20,6 +20,11 @@ reported (Some d) r = tt
 pub offered : (o : Option Directory) (r : Offered) → IfSome o (λ d. RefusesRight {A = Offered} d (Ok r))
 offered None r = tt
 offered (Some d) r = tt
+
+-- of an error nothing is said that holds of what was offered
+pub not_offered : (o : Option Directory) (P : Directory → Offered → Type 0) (e : BuildError) → IfSome o (λ d. IfOk {E = BuildError} (Err e) (P d))
+not_offered None P e = tt
+not_offered (Some d) P e = tt
 
 -- an error that is none of the project
 pub faulty : (o : Option Directory) (e : BuildError) → (IsRefusal {A = Report} (Err e) → ⊥) → IfSome o (λ d. RefusesRight {A = Report} d (Err e))

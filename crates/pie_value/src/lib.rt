@@ -30,4 +30,4 @@ pub use ty::{Part, Parts, Ty};
 pub use value::{Items, Value, depth, size};
 pub use value_fault::ValueFault;
 pub use verdict::{Fault, Refusal, Tasks, Verdict};
-pub use writer::{encode, encode_task};
+pub use writer::{encode, encode_task, put_task, put_value};

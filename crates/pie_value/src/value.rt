@@ -212,11 +212,11 @@ fn append(
     Ok(())
 }
 
-// Copies of some values, in a list of their own.
+// Copies of some values, in a list of their own that has room for one more: most tasks have one argument.
 fn copies(alloc: Global, values: &[Value]) -> Result<Vec<Value>, OutOfMemory>
     ensures { IfOk result (λ copied. trees_of copied.items ≡ trees_of values.now) }
 {
-    let mut copied = Vec::new(alloc);
+    let mut copied = Vec::with_capacity(alloc, values.len().saturating_add(1))?;
     for value in values {
         copied.push(value.copy()?)?;
     }

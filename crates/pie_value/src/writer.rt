@@ -2,6 +2,7 @@
 //! A value is a tag and what it holds: an integer in eight bytes, a text, path or blob behind its length, and
 //! items behind their number. Numbers are big endian, lengths have four bytes.
 ghost use Rattle.std.specs.Prelude.{◌≡◌, ℕ, ◌+◌, ◌<◌, ◌^◌, List, [], ◌∷◌, ◌++◌, length, IfOk, OnOk};
+ghost use Rattle.std.specs.Str.{IsUtf8};
 ghost use Rattle.pie_value.specs.Tree.{items_of};
 ghost use Rattle.pie_value.specs.Values.{tree_of, trees_of};
 ghost use Rattle.pie_value.specs.Canonical.{be32, counted, enc, encs, enc_items, enc_task, HasShortParts, HaveShortParts, HasTrueLeaves};
@@ -34,9 +35,28 @@ pub fn encode_task(alloc: Global, task: &Task) -> Result<Vec<u8>, OutOfMemory>
     ensures read_back { IfOk result (λ bytes. task_prefix bytes.items ≡ Ok (task.now, [])) }
 {
     let mut out = Vec::with_capacity(alloc, task.size() as usize)?;
-    put_counted(&mut out, task.func.as_str().as_bytes())?;
-    put_items(&mut out, &task.args)?;
+    put_task(&mut out, task)?;
     Ok(out)
+}
+
+/// Appends the canonical bytes of a value. After an error it isn't said what was appended.
+pub fn put_value(out: &mut Vec<u8>, value: &Value) -> Result<(), OutOfMemory>
+    requires { IsEncodable (tree_of value.now) }
+    ensures written { OnOk result (out.new.items ≡ out.old.items ++ enc (tree_of value.now)) }
+    ensures leaves { OnOk result (HasTrueLeaves (tree_of value.now)) }
+{
+    put(out, value)
+}
+
+/// Appends the canonical bytes of a task. After an error it isn't said what was appended.
+pub fn put_task(out: &mut Vec<u8>, task: &Task) -> Result<(), OutOfMemory>
+    requires { IsEncodableTask task.now }
+    ensures written { OnOk result (out.new.items ≡ out.old.items ++ enc_task task.now) }
+    ensures name { OnOk result (IsUtf8 task.now.func) }
+    ensures leaves { OnOk result (HaveTrueLeaves (items_of task.now.args)) }
+{
+    put_counted(out, task.func.as_str().as_bytes())?;
+    put_items(out, &task.args)
 }
 
 // Each of these appends to what is there.

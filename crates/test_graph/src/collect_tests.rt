@@ -1,14 +1,14 @@
 //! Live tasks and removals.
 
 use crate::rows::grow;
-use pie_base::{Path, PathError};
+use pie_base::Path;
 use pie_graph::{Edges, PlainRows, TaskNo, TaskRows};
 use pie_reach::{live, plan_removals};
 use std::alloc::Global;
 use std::process::Abort;
 use std::test::Fail;
 
-fn paths(alloc: Global, texts: &[&str]) -> Result<Vec<Path>, PathError> {
+fn paths(alloc: Global, texts: &[&str]) -> Result<Vec<Path>, Fail> {
     let mut paths = Vec::new(alloc);
     for text in texts {
         paths.push(Path::read(alloc, *text)?)?;

@@ -1,13 +1,13 @@
 //! Staged contents.
 
-use pie_base::{Path, PathError};
+use pie_base::Path;
 use pie_graph::TaskNo;
 use pie_view::Stage;
 use std::alloc::Global;
 use std::process::Abort;
 use std::test::Fail;
 
-fn content(alloc: Global, bytes: &[u8]) -> Result<Vec<u8>, PathError> {
+fn content(alloc: Global, bytes: &[u8]) -> Result<Vec<u8>, Fail> {
     let mut content = Vec::new(alloc);
     for byte in bytes {
         content.push(*byte)?;

@@ -23,6 +23,10 @@ abbrev pub IsPlace : {Z : Type 0} → List (Vec ℕ Z) → List ℕ → Option �
 IsPlace keys bytes None = IsFree keys bytes
 IsPlace {Z} keys bytes (Some i) = (i < length keys) × ((d : Vec ℕ Z) → (slice_index_or keys i d).items ≡ bytes)
 
+-- the key that stands there has these bytes
+abbrev pub IsKeyAt : {Z : Type 0} → List (Vec ℕ Z) → ℕ → List ℕ → Type 0
+IsKeyAt {Z} keys i bytes = (d : Vec ℕ Z) → (slice_index_or keys i d).items ≡ bytes
+
 -- the keys are the canonical bytes of the tasks, in the same order, and no task comes twice
 pub record AreNamed {Z : Type 0} (keys : List (Vec ℕ Z)) (tasks : List Task) : Type 0 where
   pub same : map (λ (k : Vec ℕ Z). k.items) keys ≡ map enc_task tasks

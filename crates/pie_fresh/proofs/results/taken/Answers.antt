@@ -13,7 +13,7 @@ loop-no-preserved c =
     let apart : AreApart (place ∷ left) = subst (λ es. AreApart es) (sym steps) c.loop-no.invariant.1 in
     let is : before ++ recorded c.loop-no.records (place ∷ left) ≡ all
     = subst (λ es. before ++ recorded c.loop-no.records es ≡ all) (sym steps) c.loop-no.invariant.0 in (
-      one_taken c.loop-no.records c.take_record.new.records place left before c.take_record.new.rows.items all apart c.in_ok-take_record.ensures.takes
-          c.in_ok-take_record.ensures.rows is,
+      one_taken c.loop-no.records c.move_to.new.self place left before c.move_to.new.others.items all apart c.in_ok-move_to.ensures.takes
+          c.in_ok-move_to.ensures.moved is,
       apart.1,
     )

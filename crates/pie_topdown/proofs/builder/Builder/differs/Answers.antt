@@ -2,6 +2,7 @@ use Rattle.std.proofs.Common.{Ok, sym, ap, subst, ◌∙◌}
 use Rattle.std.specs.Prelude.{IfOk}
 use Rattle.pie_files.specs.declared.files.FilesError.{FilesError}
 use Rattle.pie_topdown.specs.declared.hand.Check.{Check}
+use Rattle.pie_topdown.specs.inner.Marks.{Marks}
 use Rattle.pie_topdown.specs.inner.Offering.{OffersOrRuns, TriesSo}
 use Rattle.pie_topdown.proofs.Differing.{unasked_differs, asked_differs}
 use Rattle.pie_topdown.specs.inner.Trying.{TriesFrom, TriesOffers}
@@ -49,3 +50,8 @@ returns-in_ok-try_next-in-Asked-clause-tried g c =
     (ap (λ (x : Check). x.rest) (sym c.into_inner-rest.ensures) ∙ c.in-Asked.is) c.requires.check.named
     (subst (λ (x : Check). TriesOffers c.args.self.now x.no.0 c.in-Asked.rest.items c.try_next.new.self c.args.runs.now c.try_next.new.runs
     c.in_ok-try_next-in-Asked.field-0) c.into_inner-rest.ensures c.in_ok-try_next-in-Asked.ensures.tried)
+
+pub returns-in_ok-try_next-in-Asked-clause-marks : goal.returns-in_ok-try_next-in-Asked-clause-marks
+returns-in_ok-try_next-in-Asked-clause-marks g c =
+    subst (λ (x : Check). Marks c.args.self.now x.no.0 c.try_next.new.self c.args.runs.now c.try_next.new.runs)
+    c.into_inner-rest.ensures c.in_ok-try_next-in-Asked.ensures.marks
