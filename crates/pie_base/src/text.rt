@@ -15,10 +15,19 @@ pub struct Text {
 }
 
 // Most names, paths and small values have at most 16 bytes. These stand in the text itself, and take no memory of their own.
-#[derive(Drop)]
 enum Kept {
     Short(ArrayString<16>),
     Long(Rc<String>),
+}
+
+// A derived drop has its cases wherever a text is let go, and proofs go through them; this one is called.
+impl Drop for Kept {
+    fn drop(self) {
+        match self {
+            Kept::Short(_) => {}
+            Kept::Long(text) => drop(text),
+        }
+    }
 }
 
 impl Model for Text {
