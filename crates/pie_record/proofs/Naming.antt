@@ -1,21 +1,27 @@
 -- Tasks by their canonical bytes.
-use Rattle.std.proofs.Common.{◌≡◌, ◌≢◌, ℕ, suc, ◌<◌, ◌^◌, Bool, true, false, cond, List, [], ◌∷◌, ◌++◌, length, get_or, map}
+use Rattle.std.proofs.Common.{◌≡◌, ◌≢◌, ℕ, suc, ◌<◌, ◌^◌, Bool, true, false, cond, List, [], ◌∷◌, ◌++◌, length, get_or, map, take, drop, All, Ok, Result, take-append-drop}
 use Rattle.std.proofs.Common.{refl, sym, ap, subst, ◌∙◌, arith}
 use Rattle.std.specs.Prelude.{Contains, Option, Some, None, IfSome, Vec, slice_get, position}
 use Rattle.std.specs.List.{list_any, position_or_len}
 use Rattle.std.specs.Str.{bytes_eq}
+use Rattle.std.specs.declared.cmp.Ordering.{Ordering}
+use Rattle.std.specs.declared.cmp.Ordering.TheVariants.{Equal}
 use Rattle.std.proofs.lemmas.Slice.Eq.{bytes_eq-Decides}
 use Rattle.std.proofs.lemmas.Bool.{ltb-false}
 use Rattle.std.proofs.lemmas.List.{get_or-map, get_or_default, length-map, map-append, length_push}
 use Rattle.std.proofs.lemmas.List.Sums.{fails_before_first}
 use Rattle.std.proofs.lemmas.List.Quantifiers.{position-Some, all_pairs_push}
 use Rattle.std.proofs.lemmas.List.Elements.{All-push}
-use Rattle.std.proofs.lemmas.Option.{slice_get-get_or}
+use Rattle.std.proofs.lemmas.Map.Lookups.{exact_bytes}
+use Rattle.std.proofs.lemmas.Option.{slice_get-get_or, slice_get_within, get_or_from_slice_get}
 use Rattle.pie_value.specs.declared.task.Task.{Task}
-use Rattle.pie_value.specs.Canonical.{enc_task, IsCanonicalTask}
+use Rattle.pie_value.specs.Canonical.{enc_task, IsCanonicalTask, IsEncodableTask}
+use Rattle.pie_value.specs.Order.{byte_order}
 use Rattle.pie_value.specs.Reading.{task_prefix}
+use Rattle.pie_value.specs.declared.value_fault.ValueFault.{ValueFault}
 use Rattle.pie_value.proofs.Taking.{same_value}
 use Rattle.pie_value.proofs.Decoded.{task_again}
+use Rattle.pie_record.specs.Reading.{Parsed, told, task_at}
 use Rattle.pie_record.specs.inner.Names.{AreNamed, IsFree, IsPlace, IsKeyAt}
 
 -- ---- where bytes stand
@@ -129,3 +135,26 @@ added {Z} (k ∷ keys) bytes f =
     unequal : (b : Bool) → (b ≡ true → ⊥) → b ≡ false
     unequal true h = absurd (h refl)
     unequal false h = refl
+
+-- ---- a task at a number
+
+pub same_as : (tasks : List Task) (i : ℕ) (other t : Task) → All (λ u. IsCanonicalTask u (enc_task u)) tasks → slice_get tasks i ≡ Some other
+    → IsCanonicalTask t (enc_task t) → (o : Ordering)
+    → (IsEncodableTask other → IsEncodableTask t → o ≡ byte_order (enc_task other) (enc_task t)) → o ≡ Equal → slice_get tasks i ≡ Some t
+same_as tasks i other t all at c o told_order equal =
+    let told : IsCanonicalTask other (enc_task other) =
+    subst (λ u. IsCanonicalTask u (enc_task u)) (get_or_from_slice_get tasks i other other at) (all i other (slice_get_within tasks i other at)) in
+    at ∙ ap Some (bytes_tell other t told c (exact_bytes (enc_task other) (enc_task t) (sym (told_order told.encodable c.encodable) ∙ equal)))
+
+-- a task whose canonical bytes come is what is read
+pub met_task : (o : Option Task) (t copy : Task) (front bs rest : List ℕ) → IfSome o (λ u. IsCanonicalTask u front) → o ≡ Some t → copy ≡ t
+    → bytes_eq (take (length front) bs) front ≡ true → rest ≡ drop (length front) bs → task_at bs ≡ Ok (copy, rest)
+met_task o t copy front bs rest canonical named copied comes left =
+    let c : IsCanonicalTask t front = subst (λ (p : Option Task). IfSome p (λ u. IsCanonicalTask u front)) named canonical in
+    let parts : front ++ rest ≡ bs =
+    ap (λ (x : List ℕ). x ++ rest) (sym ((bytes_eq-Decides (take (length front) bs) front).0 comes))
+    ∙ ap (λ (x : List ℕ). take (length front) bs ++ x) left ∙ take-append-drop (length front) bs in
+    ap (λ (x : List ℕ). task_at x) (sym parts) ∙ ap at_front (task_again t front rest c) ∙ ap (λ (u : Task). Ok (u, rest)) (sym copied)
+  where
+    at_front : Result (Task × List ℕ) ValueFault → Parsed Task
+    at_front = told

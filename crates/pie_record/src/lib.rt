@@ -3,6 +3,7 @@
 
 mod decoding;
 mod dep;
+mod expected;
 mod lists;
 mod names;
 mod reader;
@@ -15,6 +16,7 @@ mod writer;
 
 pub use decoding::decode_record;
 pub use dep::{Dep, DepKind, DepOn};
+pub use expected::Expected;
 pub use lists::{Deps, Writes};
 pub use names::TaskNames;
 pub use reader::Reader;

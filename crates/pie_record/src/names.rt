@@ -1,5 +1,5 @@
 //! Numbers for tasks.
-ghost use Rattle.std.specs.Prelude.{◌≡◌, ◌+◌, ◌<◌, ◌^◌, length, List, [], ◌∷◌, ◌++◌, All, Contains, Some, slice_get, IfSome, IfOk, OnOk, OnErr};
+ghost use Rattle.std.specs.Prelude.{◌≡◌, ◌+◌, ◌<◌, ◌^◌, length, List, [], ◌∷◌, ◌++◌, All, Contains, Some, slice_get, IfSome, IfOk, IsTrue, OnOk, OnErr};
 ghost use Rattle.pie_value.specs.declared.task.Task.{Task};
 ghost use Rattle.pie_value.specs.Canonical.{enc_task, IsCanonicalTask, IsEncodableTask};
 ghost use Rattle.pie_record.specs.inner.Names.{Numbers, AreDistinct, IsPlace, IsFree, IsKeyAt};
@@ -9,6 +9,7 @@ use pie_base::OutOfMemory;
 use pie_graph::TaskNo;
 use pie_value::{Task, encode_task, put_task};
 use std::alloc::Global;
+use std::cmp::Ordering;
 use std::marker::Model;
 
 /// Distinct tasks in the order in which they were added, numbered from 0. Contracts see the list of them.
@@ -74,6 +75,43 @@ impl TaskNames {
         match place(&self.bytes, bytes) {
             Some(at) => Some(TaskNo(at as u32)),
             None => None,
+        }
+    }
+
+    /// The number of a task, or `None` where it is absent. It is looked for behind this number and at it first, since tasks
+    /// that are looked up one after another often stand so, and then by its canonical bytes. What is in `bytes` is of no
+    /// account: memory for these.
+    pub fn number_near(
+        &self,
+        near: TaskNo,
+        bytes: &mut Vec<u8>,
+        task: &Task,
+    ) -> Result<Option<TaskNo>, OutOfMemory>
+        requires { IsCanonicalTask task.now (enc_task task.now) }
+        ensures { IfOk result (λ no. Numbers self.now task.now no) }
+    {
+        if let Some(next) = near.0.checked_add(1) {
+            if self.is_at(TaskNo(next), task) {
+                return Ok(Some(TaskNo(next)));
+            }
+        }
+        if self.is_at(near, task) {
+            return Ok(Some(near));
+        }
+        self.number_in(bytes, task)
+    }
+
+    // Whether the task has this number.
+    fn is_at(&self, no: TaskNo, task: &Task) -> bool
+        requires { IsCanonicalTask task.now (enc_task task.now) }
+        ensures { IsTrue result → slice_get self.now no.0 ≡ Some task.now }
+    {
+        if no.0 as usize >= self.tasks.len() {
+            return false;
+        }
+        match self.task(no).cmp(task) {
+            Ordering::Equal => true,
+            _ => false,
         }
     }
 

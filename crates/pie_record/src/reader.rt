@@ -4,11 +4,13 @@ ghost use Rattle.std.specs.Str.{is_utf8};
 ghost use Rattle.pie_value.specs.Reading.{is_path_text};
 ghost use Rattle.pie_value.specs.Canonical.{enc_task, IsCanonicalTask};
 ghost use Rattle.pie_record.specs.Canonical.{enc_record, IsCanonicalRecord};
-ghost use Rattle.pie_record.specs.inner.Agreement.{RowAgrees};
+ghost use Rattle.pie_record.specs.inner.Agreement.{RowAgrees, Meets};
 ghost use Rattle.pie_record.specs.Reading.{told_fault, byte_at, bytes_at, number_at, mark_at, counted_at, path_at, text_at, task_at, value_at, record_at};
 
-use crate::{RecordFault, TaskRecord, decode_record};
-use pie_base::{Path, PathError, Text};
+use crate::decoding::decode_among;
+use crate::{Expected, RecordFault, TaskNames, TaskRecord};
+use pie_base::{OutOfMemory, Path, PathError, Text};
+use pie_graph::TaskNo;
 use pie_value::{Task, Value, ValueFault, decode_front, decode_task_front};
 use std::alloc::Global;
 use std::marker::Model;
@@ -150,12 +152,73 @@ impl<'a> Reader<'a> {
         }
     }
 
+    /// A task, which is shared where it is expected.
+    pub(crate) fn expected_task(
+        &mut self,
+        alloc: Global,
+        known: &mut Expected<'_>,
+    ) -> Result<Task, RecordFault>
+        ensures { RowAgrees (λ t. t) result self.new (task_at self.old) }
+    {
+        let last = known.last;
+        if let Some(next) = last.0.checked_add(1) {
+            if let Some(task) = self.met(known.names, TaskNo(next))? {
+                known.last = TaskNo(next);
+                return Ok(task);
+            }
+        }
+        if let Some(task) = self.met(known.names, last)? {
+            return Ok(task);
+        }
+        self.other_task(alloc, known)
+    }
+
+    // A task that isn't expected.
+    fn other_task(&mut self, alloc: Global, known: &mut Expected<'_>) -> Result<Task, RecordFault>
+        ensures { RowAgrees (λ t. t) result self.new (task_at self.old) }
+    {
+        let before = self.rest;
+        let task = self.task(alloc)?;
+        let len = before.len().saturating_sub(self.rest.len());
+        known.note(&before[..len]);
+        Ok(task)
+    }
+
+    // The task with this number, if its canonical bytes come.
+    fn met(&mut self, names: &TaskNames, no: TaskNo) -> Result<Option<Task>, OutOfMemory>
+        ensures { IfOk result (λ met. Meets met self.old self.new) }
+    {
+        if no.0 as usize >= names.as_slice().len() {
+            return Ok(None);
+        }
+        match self.rest.strip_prefix(names.bytes(no)) {
+            Some(rest) => {
+                self.rest = rest;
+                Ok(Some(names.task(no).copy()?))
+            }
+            None => Ok(None),
+        }
+    }
+
     /// A record.
     pub fn record(&mut self, alloc: Global) -> Result<TaskRecord, RecordFault>
         ensures read { RowAgrees (λ r. r) result self.new (record_at self.old) }
         ensures canonical { IfOk result (λ r. IsCanonicalRecord r (enc_record r)) }
     {
-        match decode_record(alloc, self.rest) {
+        let none = TaskNames::new(alloc);
+        self.record_among(alloc, &mut Expected::new(&none, TaskNo(0)))
+    }
+
+    /// A record, whose required tasks are shared where they are expected.
+    pub fn record_among(
+        &mut self,
+        alloc: Global,
+        known: &mut Expected<'_>,
+    ) -> Result<TaskRecord, RecordFault>
+        ensures read { RowAgrees (λ r. r) result self.new (record_at self.old) }
+        ensures canonical { IfOk result (λ r. IsCanonicalRecord r (enc_record r)) }
+    {
+        match decode_among(alloc, self.rest, known) {
             Ok((rec, len)) => {
                 self.rest = &self.rest[len..];
                 Ok(rec)

@@ -6,7 +6,7 @@ ghost use Rattle.pie_record.specs.Reading.{kind_at, on_at, any_tag_at, tag_at, s
 
 use crate::reader::Reader;
 use crate::tag::{Tag, allows, calls, known_kind, known_tag};
-use crate::{Dep, DepKind, DepOn, Deps, Outcome, RecordFault, TaskRecord, Writes};
+use crate::{Dep, DepKind, DepOn, Deps, Expected, Outcome, RecordFault, TaskRecord, Writes};
 use pie_base::Path;
 use pie_value::Stamp;
 use std::alloc::Global;
@@ -23,11 +23,16 @@ impl<'a> Reader<'a> {
     }
 
     // What was observed: a task, or a path.
-    fn what(&mut self, alloc: Global, call: bool) -> Result<DepOn, RecordFault>
+    fn what(
+        &mut self,
+        alloc: Global,
+        known: &mut Expected<'_>,
+        call: bool,
+    ) -> Result<DepOn, RecordFault>
         ensures { RowAgrees (λ w. w) result self.new (on_at call self.old) }
     {
         if call {
-            let task = self.task(alloc)?;
+            let task = self.expected_task(alloc, known)?;
             return Ok(DepOn::Called(task));
         }
         let path = self.path(alloc)?;
@@ -76,24 +81,24 @@ impl<'a> Reader<'a> {
     }
 
     #[tactic(auto, unfolding(crate::specs::Reading::dep_at))]
-    fn dep(&mut self, alloc: Global) -> Result<Dep, RecordFault>
+    fn dep(&mut self, alloc: Global, known: &mut Expected<'_>) -> Result<Dep, RecordFault>
         ensures { RowAgrees (λ d. d) result self.new (dep_at self.old) }
     {
         let kind = self.kind()?;
-        let what = self.what(alloc, calls(kind))?;
+        let what = self.what(alloc, known, calls(kind))?;
         let tag = self.tag(kind, &what)?;
         let stamp = self.stamp(alloc, tag)?;
         Ok(Dep { kind, what, stamp })
     }
 
     #[tactic(auto, using(crate::proofs::Turns::one_more, crate::proofs::Turns::one_fails))]
-    fn deps(&mut self, alloc: Global) -> Result<Deps, RecordFault>
+    fn deps(&mut self, alloc: Global, known: &mut Expected<'_>) -> Result<Deps, RecordFault>
         ensures { RowAgrees (λ ds. ds) result self.new (list_at dep_at self.old) }
     {
         let count = self.number()?;
         let mut deps = Vec::with_capacity(alloc, count.min(AT_ONCE))?;
         for _ in 0..count {
-            match self.dep(alloc) {
+            match self.dep(alloc, known) {
                 Ok(dep) => deps.push(dep)?,
                 Err(fault) => return Err(fault),
             }
@@ -136,11 +141,15 @@ impl<'a> Reader<'a> {
     }
 
     // A record, part by part.
-    pub(crate) fn parts(&mut self, alloc: Global) -> Result<TaskRecord, RecordFault>
+    pub(crate) fn parts(
+        &mut self,
+        alloc: Global,
+        known: &mut Expected<'_>,
+    ) -> Result<TaskRecord, RecordFault>
         ensures { RowAgrees (λ r. r) result self.new (record_at self.old) }
     {
         let task = self.task(alloc)?;
-        let deps = self.deps(alloc)?;
+        let deps = self.deps(alloc, known)?;
         let writes = self.writes(alloc)?;
         let output = self.value(alloc)?;
         Ok(TaskRecord {

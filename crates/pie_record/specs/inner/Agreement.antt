@@ -1,8 +1,9 @@
 -- When an answer of the program is what is read.
-use Rattle.std.specs.Prelude.{◌≡◌, ℕ, ◌≤◌, List, length, drop, Result, Ok, Err}
+use Rattle.std.specs.Prelude.{◌≡◌, ℕ, ◌≤◌, List, length, drop, Result, Ok, Err, Option, Some, None}
+use Rattle.pie_value.specs.declared.task.Task.{Task}
 use Rattle.pie_record.specs.declared.record_fault.RecordFault.{RecordFault}
 use Rattle.pie_record.specs.declared.record_fault.RecordFault.TheVariants.{OutOfMemory}
-use Rattle.pie_record.specs.Reading.{Parsed}
+use Rattle.pie_record.specs.Reading.{Parsed, task_at}
 
 -- an answer is what is read, being out of memory left free
 abbrev pub RowAgrees : {A B : Type 0} → (A → B) → Result A RecordFault → List ℕ → Parsed B → Type 0
@@ -21,3 +22,8 @@ abbrev pub Refuses : {A : Type 0} → Result A RecordFault → Type 0
 Refuses (Ok a) = ⊥
 Refuses (Err OutOfMemory) = ⊥
 Refuses (Err e) = Unit {0}
+
+-- a task that was met, and what is left behind it; where none was, nothing is taken
+abbrev pub Meets : Option Task → List ℕ → List ℕ → Type 0
+Meets None bs rest = rest ≡ bs
+Meets (Some t) bs rest = task_at bs ≡ Ok (t, rest)
