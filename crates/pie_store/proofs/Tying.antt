@@ -1,5 +1,5 @@
 -- The numbers of the tasks that records require: what is kept of them by one record more.
-use Rattle.std.proofs.Common.{◌≡◌, ℕ, List, [], ◌∷◌, ◌++◌, length, map, refl, sym, ap, ◌∙◌, arith}
+use Rattle.std.proofs.Common.{◌≡◌, ℕ, List, [], ◌∷◌, ◌++◌, length, map, refl, sym, ap, subst, ◌∙◌, arith}
 use Rattle.std.specs.Prelude.{Option, Some, Vec, slice_get}
 use Rattle.std.specs.List.{zip}
 use Rattle.std.specs.Option.{option_map}
@@ -9,7 +9,8 @@ use Rattle.pie_value.specs.declared.task.Task.{Task}
 use Rattle.pie_graph.specs.declared.edges.TaskNo.{TaskNo}
 use Rattle.pie_record.specs.declared.task_record.TaskRecord.{TaskRecord}
 use Rattle.pie_store.specs.Canonical.{needs}
-use Rattle.pie_store.specs.Ranks.{AreRanked}
+use Rattle.pie_record.specs.inner.Names.{Numbers}
+use Rattle.pie_store.specs.Ranks.{Ranked, AreRanked}
 use Rattle.pie_store.specs.inner.Ties.{tasks_at, named_by, AreNeeds, tasks_among}
 use Rattle.pie_store.proofs.Ranking.{task_of}
 
@@ -22,6 +23,15 @@ zip_tasks (r ∷ rows) (h ∷ heights) e = ap (λ (l : List Task). r.task ∷ l)
 
 pub tasks_are : (tasks : List Task) (heights : List ℕ) (rows : List TaskRecord) → AreRanked tasks heights rows → tasks ≡ tasks_among (zip rows heights)
 tasks_are tasks heights rows a = a.names ∙ sym (zip_tasks rows heights a.same)
+
+-- a number of a task among records is its number among the names, and the other way
+pub number_inside : (tasks : List Task) (heights : List ℕ) (rows : List TaskRecord) (s : Ranked) (t : Task) (o : Option TaskNo) → AreRanked tasks heights rows
+    → zip rows heights ≡ s → Numbers (tasks_among s) t o → Numbers tasks t o
+number_inside tasks heights rows s t o a is = subst (λ (ts : List Task). Numbers ts t o) (sym (tasks_are tasks heights rows a ∙ ap tasks_among is))
+
+pub number_outside : (tasks : List Task) (heights : List ℕ) (rows : List TaskRecord) (s : Ranked) (t : Task) (o : Option TaskNo) → AreRanked tasks heights rows
+    → zip rows heights ≡ s → Numbers tasks t o → Numbers (tasks_among s) t o
+number_outside tasks heights rows s t o a is = subst (λ (ts : List Task). Numbers ts t o) (tasks_are tasks heights rows a ∙ ap tasks_among is)
 
 -- the task of the record at a place
 pub task_there : (rows : List TaskRecord) (heights : List ℕ) (i : ℕ) (r : TaskRecord) → length heights ≡ length rows → slice_get rows i ≡ Some r

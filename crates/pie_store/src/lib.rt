@@ -6,6 +6,7 @@ mod decoding;
 mod frame;
 mod image;
 mod known;
+mod lookups;
 mod offers;
 mod pending;
 mod ranked;

@@ -9,8 +9,10 @@ ghost use Rattle.pie_store.specs.inner.Reading.{rows_of};
 ghost use Rattle.pie_store.specs.inner.Ties.{named_by, tasks_among, needs_in, Gains};
 ghost use Rattle.pie_store.specs.inner.Known.{known_in};
 ghost use Rattle.pie_record.specs.declared.dep.Dep.{Dep};
+ghost use Rattle.pie_record.specs.inner.Names.{Numbers};
 
 use crate::known::Known;
+use crate::lookups::{Lookup, height_at};
 use crate::sharing::{share_name, share_stamp, share_task};
 use crate::{Rows, Ties};
 use pie_base::{OutOfMemory, Text};
@@ -25,10 +27,10 @@ use std::mem;
 // Records with their heights, and the numbers of the tasks that each requires. Contracts see the list of the pairs of record and height.
 #[derive(Drop)]
 pub(crate) struct RankedRows {
-    names: TaskNames,
-    heights: Vec<u64>,
+    pub(crate) names: TaskNames,
+    pub(crate) heights: Vec<u64>,
     needs: Vec<Vec<TaskNo>>,
-    rows: Vec<TaskRecord>,
+    pub(crate) rows: Vec<TaskRecord>,
 }
 
 impl Model for RankedRows {
@@ -59,51 +61,11 @@ impl RankedRows {
         }
     }
 
-    // The number of a task and its height, if it has a record. The task's canonical bytes take the place of what was in `bytes`.
-    fn place(&self, bytes: &mut Vec<u8>, task: &Task) -> Result<Option<(TaskNo, u64)>, OutOfMemory>
-        requires { IsStored task.now }
-        ensures bytes { OnOk result (IsCanonicalTask task.now bytes.new.items) }
-        ensures rank { IfOk result (λ p. option_map (λ q. q.1) p ≡ rank_in self.now task.now) }
-        ensures number { IfOk result (λ p. IfSome p (λ q. slice_get (tasks_among self.now) q.0.0 ≡ Some task.now)) }
-        ensures within { IfOk result (λ p. IfSome p (λ q. q.0.0 < length self.now)) }
-        ensures low { IfOk result (λ p. IfSome p (λ q. q.1 < length self.now)) }
-        ensures small { IfOk result (λ p. IfSome p (λ q. q.1 < 2 ^ 32)) }
-    {
-        let number = self.names.number_in(bytes, task)?;
-        match number {
-            Some(no) => {
-                let height = height_at(self.heights.as_slice(), no.0 as usize);
-                Ok(Some((no, height)))
-            }
-            None => Ok(None),
-        }
-    }
-
-    // The height of a task, if it has a record.
-    pub(crate) fn rank(&self, bytes: &mut Vec<u8>, task: &Task) -> Result<Option<u64>, OutOfMemory>
-        requires { IsStored task.now }
-        ensures rank { IfOk result (λ h. h ≡ rank_in self.now task.now) }
-        ensures bytes { OnOk result (IsCanonicalTask task.now bytes.new.items) }
-    {
-        match self.place(bytes, task)? {
-            Some((_, height)) => Ok(Some(height)),
-            None => Ok(None),
-        }
-    }
-
-    // The record of the task with this number.
-    fn record(&self, no: TaskNo) -> &TaskRecord
-        requires { no.0 < length self.now }
-        ensures { slice_get (tasks_among self.now) no.0 ≡ Some result.now.task }
-    {
-        record_at(self.rows.as_slice(), no.0 as usize)
-    }
-
     // A height that is at least so much, and above what was observed, if that is a task, whose number is put behind others.
     // The observation shares the contents of that task's record.
     fn above_one(
         &self,
-        bytes: &mut Vec<u8>,
+        lookup: &mut Lookup,
         dep: &mut Dep,
         height: u64,
         needs: &mut Vec<TaskNo>,
@@ -117,7 +79,7 @@ impl RankedRows {
     {
         match &mut dep.what {
             DepOn::File(_) => Ok(Some(height)),
-            DepOn::Called(task) => match self.place(bytes, task)? {
+            DepOn::Called(task) => match self.place(lookup, task)? {
                 Some((no, below)) => {
                     let known = self.record(no);
                     share_task(known, task)?;
@@ -133,7 +95,7 @@ impl RankedRows {
     // The height above all that was observed. The numbers of the tasks among it are put behind others.
     fn above(
         &self,
-        bytes: &mut Vec<u8>,
+        lookup: &mut Lookup,
         deps: &mut Vec<Dep>,
         needs: &mut Vec<TaskNo>,
     ) -> Result<Option<u64>, OutOfMemory>
@@ -145,7 +107,7 @@ impl RankedRows {
     {
         let mut height = 0;
         for i in 0..deps.len() {
-            match self.above_one(bytes, &mut deps[i], height, needs)? {
+            match self.above_one(lookup, &mut deps[i], height, needs)? {
                 Some(taller) => height = taller,
                 None => return Ok(None),
             }
@@ -157,7 +119,7 @@ impl RankedRows {
     fn above_all(
         &self,
         alloc: Global,
-        bytes: &mut Vec<u8>,
+        lookup: &mut Lookup,
         deps: &mut Deps,
         needs: &mut Vec<TaskNo>,
     ) -> Result<Option<u64>, OutOfMemory>
@@ -169,7 +131,7 @@ impl RankedRows {
     {
         let none = Deps::new(Vec::new(alloc));
         let mut taken = mem::replace(deps, none).into_vec();
-        let height = self.above(bytes, &mut taken, needs)?;
+        let height = self.above(lookup, &mut taken, needs)?;
         *deps = Deps::new(taken);
         Ok(height)
     }
@@ -199,12 +161,12 @@ impl RankedRows {
     }
 
     // The height of a record that may stand after these. The numbers of the tasks that it requires are put behind others.
-    // Its observations and its function's name share the contents of these records. Its task's canonical bytes are left in `bytes`.
+    // Its observations and its function's name share the contents of these records. Its task's canonical bytes are left in the look-up's.
     pub(crate) fn height_after(
         &self,
         alloc: Global,
         known: &Known,
-        bytes: &mut Vec<u8>,
+        lookup: &mut Lookup,
         rec: &mut TaskRecord,
         needs: &mut Vec<TaskNo>,
     ) -> Result<Option<u64>, OutOfMemory>
@@ -214,13 +176,13 @@ impl RankedRows {
         ensures absent { IfOk result (λ h. IfSome h (λ n. rank_in self.now rec.old.task ≡ None)) }
         ensures low { IfOk result (λ h. IfSome h (λ n. n ≤ length self.now)) }
         ensures needs { IfOk result (λ h. IfSome h (λ n. Gains (tasks_among self.now) needs.old.items needs.new.items (specs_needs rec.old))) }
-        ensures bytes { IfOk result (λ h. IfSome h (λ n. IsCanonicalTask rec.old.task bytes.new.items)) }
+        ensures bytes { IfOk result (λ h. IfSome h (λ n. IsCanonicalTask rec.old.task lookup.new.bytes.items)) }
         ensures same { IfOk result (λ h. IfSome h (λ n. rec.new ≡ rec.old)) }
     {
-        match self.above_all(alloc, bytes, &mut rec.deps, needs)? {
+        match self.above_all(alloc, lookup, &mut rec.deps, needs)? {
             Some(height) if self.comes_last(&rec.task, height) && known.has(&rec.task.func) => {
                 self.share_func(&mut rec.task.func)?;
-                match self.rank(bytes, &rec.task)? {
+                match self.rank(&mut lookup.bytes, &rec.task)? {
                     Some(_) => Ok(None),
                     None => Ok(Some(height)),
                 }
@@ -304,20 +266,6 @@ fn push_all(
     names.add_written(rec.task.copy()?, bytes)?;
     rows.push(Box::into_inner(rec))?;
     Ok(())
-}
-
-fn record_at(rows: &[TaskRecord], at: usize) -> &TaskRecord
-    requires { at < length rows.now }
-    ensures { slice_get rows.now at ≡ Some result.now }
-{
-    &rows[at]
-}
-
-fn height_at(heights: &[u64], at: usize) -> u64
-    requires { at < length heights.now }
-    ensures { result ≡ slice_index_or heights.now at 0 }
-{
-    heights[at]
 }
 
 // Whether one task and height comes before another.

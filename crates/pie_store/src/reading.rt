@@ -14,9 +14,11 @@ ghost use Rattle.pie_store.specs.inner.Ties.{named_by, tasks_among};
 
 use crate::StoreFault;
 use crate::known::Known;
+use crate::lookups::Lookup;
 use crate::ranked::{NextRow, RankedRows};
 use pie_base::{OutOfMemory, Text};
-use pie_record::{Reader, RecordFault};
+use pie_graph::TaskNo;
+use pie_record::{Expected, Reader, RecordFault};
 use pie_value::Task;
 use std::alloc::Global;
 use std::cmp::Ordering;
@@ -169,17 +171,17 @@ pub(crate) fn tasks_of(alloc: Global, roots: &[(Task, usize)]) -> Result<Vec<Tas
     Ok(tasks)
 }
 
-// A record that may stand after those before it. What is in `bytes` is of no account: memory for canonical bytes.
+// A record that may stand after those before it. The task that was looked up last, and the one behind it, are expected.
 #[tactic(auto, unfolding(crate::specs::inner::Reading::next_row))]
 fn one_row(
     end: usize,
     reader: &mut Reader<'_>,
     alloc: Global,
-    known: &Known,
-    bytes: &mut Vec<u8>,
+    funcs: &Known,
+    lookup: &mut Lookup,
     rows: &RankedRows,
 ) -> Result<NextRow, StoreFault>
-    ensures row { StoreAgrees (λ n. (n.rec.value, n.height)) result reader.new (next_row (known_in known.now) end rows.now reader.old) }
+    ensures row { StoreAgrees (λ n. (n.rec.value, n.height)) result reader.new (next_row (known_in funcs.now) end rows.now reader.old) }
     ensures stored { IfOk result (λ n. IsStored n.rec.value.task) }
     ensures bytes { IfOk result (λ n. IsCanonicalTask n.rec.value.task n.bytes.items) }
     ensures absent { IfOk result (λ n. rank_in rows.now n.rec.value.task ≡ None) }
@@ -187,13 +189,14 @@ fn one_row(
     ensures needs { IfOk result (λ n. named_by (tasks_among rows.now) n.needs.items ≡ map Some (needs n.rec.value)) }
 {
     let at = place(end, reader);
-    match reader.record(alloc) {
+    let mut known = Expected::new(rows.names(), lookup.last);
+    match reader.record_among(alloc, &mut known) {
         Ok(rec) => {
             let mut rec = Box::new(alloc, rec)?;
             let mut needs = Vec::new(alloc);
-            match rows.height_after(alloc, known, bytes, &mut rec, &mut needs)? {
+            match rows.height_after(alloc, funcs, lookup, &mut rec, &mut needs)? {
                 Some(height) => {
-                    let bytes = Vec::from_slice(alloc, bytes.as_slice())?;
+                    let bytes = Vec::from_slice(alloc, lookup.bytes.as_slice())?;
                     Ok(NextRow {
                         rec,
                         bytes,
@@ -213,14 +216,14 @@ fn more_rows(
     end: usize,
     reader: &mut Reader<'_>,
     alloc: Global,
-    known: &Known,
-    bytes: &mut Vec<u8>,
+    funcs: &Known,
+    lookup: &mut Lookup,
     rows: RankedRows,
 ) -> Result<RankedRows, StoreFault>
     requires { length rows < 2 ^ 32 }
-    ensures { StoreAgrees (λ rs. rs) result reader.new (grown (next_row (known_in known.now) end) rows reader.old) }
+    ensures { StoreAgrees (λ rs. rs) result reader.new (grown (next_row (known_in funcs.now) end) rows reader.old) }
 {
-    match one_row(end, reader, alloc, known, bytes, &rows) {
+    match one_row(end, reader, alloc, funcs, lookup, &rows) {
         Ok(next) => {
             let more = rows.push(next)?;
             Ok(more)
@@ -234,15 +237,18 @@ pub(crate) fn rows(
     end: usize,
     reader: &mut Reader<'_>,
     alloc: Global,
-    known: &Known,
+    funcs: &Known,
 ) -> Result<RankedRows, StoreFault>
-    ensures { StoreAgrees (λ rs. rs) result reader.new (list_at end (next_row (known_in known.now) end) reader.old) }
+    ensures { StoreAgrees (λ rs. rs) result reader.new (list_at end (next_row (known_in funcs.now) end) reader.old) }
 {
     let count = number(end, reader)?;
     let mut rows = RankedRows::new(alloc);
-    let mut bytes = Vec::new(alloc);
+    let mut lookup = Lookup {
+        bytes: Vec::new(alloc),
+        last: TaskNo(0),
+    };
     for _ in 0..count {
-        match more_rows(end, reader, alloc, known, &mut bytes, rows) {
+        match more_rows(end, reader, alloc, funcs, &mut lookup, rows) {
             Ok(more) => rows = more,
             Err(fault) => return Err(fault),
         }
