@@ -8,6 +8,7 @@ pub mod Stepping
 pub mod Entering
 pub mod Finishing
 pub mod Heights
+pub mod Sorting
 pub mod Placing
 pub mod Ordering
 pub mod Taking

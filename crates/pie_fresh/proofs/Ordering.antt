@@ -25,7 +25,7 @@ use Rattle.pie_fresh.specs.inner.Ledgers.{HasHeight, Rises, IsRecorded, IsLedger
 use Rattle.pie_fresh.specs.inner.Ordered.{Place, place_cmp, keys_in, IsPlace, HasPlace, ArePlaces, recorded, AreOrdered}
 use Rattle.pie_fresh.proofs.Heights.{in_order, height_in, height_at}
 
-abbrev IsTold : Task → Type 0
+abbrev pub IsTold : Task → Type 0
 IsTold t = IsCanonicalTask t (enc_task t)
 
 -- ---- places and their records
@@ -58,7 +58,7 @@ named_contains names n t e = (n, slice_get_within names n t e, get_or_from_slice
 some_same : (t u : Task) → Some t ≡ Some u → t ≡ u
 some_same t u e = cc
 
-told_at : (names : List Task) (n : ℕ) (t : Task) → All IsTold names → slice_get names n ≡ Some t → IsTold t
+pub told_at : (names : List Task) (n : ℕ) (t : Task) → All IsTold names → slice_get names n ≡ Some t → IsTold t
 told_at names n t all e = subst IsTold (get_or_from_slice_get names n t t e) (all n t (slice_get_within names n t e))
 
 -- ---- the order

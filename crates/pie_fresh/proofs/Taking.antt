@@ -1,5 +1,5 @@
 -- Records that are taken by places in order are those that stood there before.
-use Rattle.std.proofs.Common.{◌≡◌, ◌≢◌, ℕ, ◌<◌, List, [], ◌∷◌, ◌++◌, append_assoc, cond, get_or, Some, None, sym, ap, subst, refl, ◌∙◌}
+use Rattle.std.proofs.Common.{◌≡◌, ◌≢◌, ℕ, ◌+◌, ◌<◌, List, [], ◌∷◌, ◌++◌, length, drop, append_assoc, cond, get_or, Some, None, sym, ap, subst, refl, ◌∙◌}
 use Rattle.std.specs.Prelude.{All, IfSome, Vec}
 use Rattle.std.specs.List.{AllByRecursion}
 use Rattle.std.specs.List.Sorted.{IsStrictlySortedBy}
@@ -10,6 +10,7 @@ use Rattle.std.specs.Ordering.{nat_cmp, is_eq, ordering_then, ordering_reverse, 
 use Rattle.std.specs.Cmp.{IsTotalOrder, ranks}
 use Rattle.std.specs.Cmp.Lexicographic.{slice_cmp}
 use Rattle.std.proofs.lemmas.Cmp.{nat_cmp_total, nat_list_cmp_total}
+use Rattle.std.proofs.lemmas.List.{drop_more}
 use Rattle.pie_value.specs.Canonical.{enc_task}
 use Rattle.pie_record.specs.Canonical.{IsStorable}
 use Rattle.pie_record.specs.declared.records.Records.{Records}
@@ -77,13 +78,20 @@ others_stay old new n takes (q ∷ es) apart =
     ∙ ap (λ (rs : List TaskRecord). option_to_list (record_of old q.1) ++ rs) (others_stay old new n takes es apart.1)
 
 -- the records so far and those at the places that are left, after one more is taken
-pub one_taken : {Z : Type 0} (old new : Records) (p : Place Z) (es : List (Place Z)) (before after all : List TaskRecord) → AreApart (p ∷ es)
-    → Takes old new p.1 → after ≡ before ++ option_to_list (record_of old p.1) → before ++ recorded old (p ∷ es) ≡ all → after ++ recorded new es ≡ all
-one_taken old new p es before after all apart takes moved is =
-    ap (λ (rs : List TaskRecord). after ++ rs) (others_stay old new p.1 takes es apart.0)
-    ∙ ap (λ (rs : List TaskRecord). rs ++ recorded old es) moved
-    ∙ append_assoc before (option_to_list (record_of old p.1)) (recorded old es)
-    ∙ is
+pub one_taken : {Z : Type 0} (old new : Records) (places : List (Place Z)) (i : ℕ) (p : Place Z) (before after all : List TaskRecord) → i < length places
+    → p ≡ get_or places i p → AreApart (drop i places) → Takes old new p.1 → after ≡ before ++ option_to_list (record_of old p.1)
+    → before ++ recorded old (drop i places) ≡ all → (after ++ recorded new (drop (i + 1) places) ≡ all) × AreApart (drop (i + 1) places)
+one_taken {Z} old new places i p before after all lt at apart takes moved is =
+    let rest = drop (i + 1) places in
+    let left : drop i places ≡ p ∷ rest = drop_more places i p lt ∙ ap (λ (q : Place Z). q ∷ rest) (sym at) in
+    let these : AreApart (p ∷ rest) = subst AreApart left apart in (
+      ap (λ (rs : List TaskRecord). after ++ rs) (others_stay old new p.1 takes rest these.0)
+          ∙ ap (λ (rs : List TaskRecord). rs ++ recorded old rest) moved
+          ∙ append_assoc before (option_to_list (record_of old p.1)) (recorded old rest)
+          ∙ ap (λ (es : List (Place Z)). before ++ recorded old es) (sym left)
+          ∙ is,
+      these.1,
+    )
 
 -- ---- the records at places can be stored
 

@@ -12,7 +12,7 @@ ghost use Rattle.pie_fresh.specs.inner.Builds.{InPathOrder, OnlyOut};
 ghost use Rattle.pie_fresh.specs.inner.Collected.{AreFilesOf, AreOfTasks, Gives, GainsOutput, HasStaged, HasWritten, KeepsPaths, WritesAreStaged, output_at};
 ghost use Rattle.pie_fresh.specs.inner.Frames.{AreEntered};
 ghost use Rattle.pie_fresh.specs.inner.Ledgers.{AreOpen, IsLedger};
-ghost use Rattle.pie_fresh.specs.inner.Ordered.{AreApart, ArePlaces, AreOrdered, recorded};
+ghost use Rattle.pie_fresh.specs.inner.Ordered.{AreApart, AreGathered, ArePlaces, AreOrdered, recorded};
 
 use crate::ledger::Ledger;
 use pie_base::{OutOfMemory, Path};
@@ -47,38 +47,49 @@ impl Ledger {
     {
         let _names = self.names.as_slice();
         let places = self.places()?;
-        let rows = taken(self.alloc, &mut self.records, &places)?;
+        let rows = taken(self.alloc, &mut self.records, places.as_slice())?;
         Ok(rows)
     }
 
     // The numbers by height and task.
-    fn places(&self) -> Result<BTreeMap<(u32, Vec<u8>), u32>, OutOfMemory>
+    fn places(&self) -> Result<Vec<((u32, Vec<u8>), u32)>, OutOfMemory>
         requires { IsLedger self.now }
-        ensures { IfOk result (λ places. ArePlaces self.now (length self.now.heights.items) places.entries) }
+        ensures { IfOk result (λ places. ArePlaces self.now (length self.now.heights.items) places.items) }
     {
-        let mut places = BTreeMap::new(self.alloc);
+        let _names = self.names.as_slice();
+        let mut places = self.gathered()?;
+        places.sort()?;
+        Ok(places)
+    }
+
+    // The numbers in their own order, each with its height and its canonical bytes.
+    fn gathered(&self) -> Result<Vec<((u32, Vec<u8>), u32)>, OutOfMemory>
+        requires { IsLedger self.now }
+        ensures { IfOk result (λ places. AreGathered self.now (length self.now.heights.items) places.items) }
+    {
+        let mut places = Vec::with_capacity(self.alloc, self.heights.len())?;
         for n in 0..self.heights.len() {
             self.put_place(n, &mut places)?;
         }
         Ok(places)
     }
 
-    // Adds a task under its height and its canonical bytes.
+    // Adds the number of a task with its height and its canonical bytes.
     fn put_place(
         &self,
         n: usize,
-        places: &mut BTreeMap<(u32, Vec<u8>), u32>,
+        places: &mut Vec<((u32, Vec<u8>), u32)>,
     ) -> Result<(), OutOfMemory>
         requires ledger { IsLedger self.now }
         requires number { n < length self.now.heights.items }
-        requires places { ArePlaces self.now n places.old.entries }
-        ensures { OnOk result (ArePlaces self.now (n + 1) places.new.entries) }
+        requires places { AreGathered self.now n places.old.items }
+        ensures { OnOk result (AreGathered self.now (n + 1) places.new.items) }
     {
         let no = TaskNo(n as u32);
         match self.records.get(no) {
             Some(_rec) => {
                 let bytes = Vec::from_slice(self.alloc, self.names.bytes(no))?;
-                places.insert((self.heights[n], bytes), no.0)?;
+                places.push(((self.heights[n], bytes), no.0))?;
                 Ok(())
             }
             None => Ok(()),
@@ -236,10 +247,10 @@ impl Ledger {
 fn taken(
     alloc: Global,
     records: &mut Records,
-    places: &BTreeMap<(u32, Vec<u8>), u32>,
+    places: &[((u32, Vec<u8>), u32)],
 ) -> Result<Vec<TaskRecord>, OutOfMemory>
-    requires { AreApart places.now.entries }
-    ensures { IfOk result (λ rows. rows.items ≡ recorded records.old places.now.entries) }
+    requires { AreApart places.now }
+    ensures { IfOk result (λ rows. rows.items ≡ recorded records.old places.now) }
 {
     let mut rows = Vec::with_capacity(alloc, places.len())?;
     for (_, no) in places {

@@ -1,6 +1,6 @@
 -- The records of tasks that have ended, by height and task.
-use Rattle.std.specs.Prelude.{◌≡◌, ◌≢◌, ◌⊎◌, ℕ, ◌<◌, ◌≤◌, List, [], ◌∷◌, ◌++◌, length, map, Some, Vec, slice_index_or, IfSome, All, Contains}
-use Rattle.std.specs.List.{AllByRecursion}
+use Rattle.std.specs.Prelude.{◌≡◌, ◌≢◌, ◌⊎◌, ℕ, ◌<◌, ◌≤◌, Bool, eqb, List, [], ◌∷◌, ◌++◌, length, map, Some, Vec, slice_index_or, IfSome, All, Contains}
+use Rattle.std.specs.List.{AllByRecursion, IsDistinct}
 use Rattle.std.specs.List.Sorted.{IsStrictlySortedBy}
 use Rattle.std.specs.Option.{option_to_list}
 use Rattle.std.specs.declared.cmp.Ordering.{Ordering}
@@ -35,6 +35,18 @@ pub record IsPlace {Z : Type 0} (l : Ledger) (p : Place Z) (r : TaskRecord) : Ty
 abbrev pub HasPlace : {Z : Type 0} → ℕ → List ℕ → List (Place Z) → Type 0
 HasPlace height bytes [] = ⊥
 HasPlace height bytes (p ∷ places) = ((p.0.0 ≡ height) × (p.0.1.items ≡ bytes)) ⊎ HasPlace height bytes places
+
+-- two places have one number
+abbrev pub same_number : {Z : Type 0} → Place Z → Place Z → Bool
+same_number p q = eqb p.1 q.1
+
+-- the places of the tasks that have ended, of those with numbers below this one, in any order and each once
+pub record AreGathered {Z : Type 0} (l : Ledger) (below : ℕ) (places : List (Place Z)) : Type 0 where
+  pub distinct : IsDistinct same_number places
+  pub low : AllByRecursion (λ (p : Place Z). p.1 < below) places
+  pub only : AllByRecursion (λ (p : Place Z). (r : TaskRecord) × IsPlace l p r) places
+  pub each : (n : ℕ) → n < below → IfSome (record_of l.records n) (λ r. HasPlace (slice_index_or l.heights.items n 0) (enc_task r.task) places)
+  pub few : length places ≤ below
 
 -- the places in order of the tasks that have ended, of those with numbers below this one
 pub record ArePlaces {Z : Type 0} (l : Ledger) (below : ℕ) (places : List (Place Z)) : Type 0 where

@@ -1,19 +1,9 @@
-use Rattle.std.proofs.Common.{◌≡◌, ◌++◌, ◌∷◌, Global, sym, subst, rules}
-use Rattle.pie_fresh.specs.inner.Ordered.{AreApart, Place, recorded}
+-- proofs/results/taken/Answers.antt
 use Rattle.pie_fresh.proofs.Taking.{one_taken}
 use Rattle.pie_fresh.proofs.results.taken.Goals as goal
 
 pub loop-no-preserved : goal.loop-no-preserved
 loop-no-preserved c =
-    let place : Place Global = (c.in-Some.field-0-0.now, c.in-Some.no.now) in
-    let left = c.next.new.self in
-    let all = recorded c.args.records.now c.args.places.now.entries in
-    let before = c.loop-no.rows.items in
-    let steps : place ∷ left ≡ c.loop-no.no-iterator = search rules in
-    let apart : AreApart (place ∷ left) = subst (λ es. AreApart es) (sym steps) c.loop-no.invariant.1 in
-    let is : before ++ recorded c.loop-no.records (place ∷ left) ≡ all
-    = subst (λ es. before ++ recorded c.loop-no.records es ≡ all) (sym steps) c.loop-no.invariant.0 in (
-      one_taken c.loop-no.records c.move_to.new.self place left before c.move_to.new.others.items all apart c.in_ok-move_to.ensures.takes
-          c.in_ok-move_to.ensures.moved is,
-      apart.1,
-    )
+    one_taken c.loop-no.records c.move_to.new.self c.args.places.now c.loop-no.no-index c.loop-no-item.result c.loop-no.rows.items
+    c.move_to.new.others.items _ c.loop-no-test.true c.loop-no-item.is c.loop-no.invariant.1 c.in_ok-move_to.ensures.takes
+    c.in_ok-move_to.ensures.moved c.loop-no.invariant.0
