@@ -23,7 +23,7 @@ fn with_keys(alloc: Global, tasks: &[Task]) -> Result<Vec<(Vec<u8>, Task)>, OutO
     requires { All IsEncodableTask tasks.now }
     ensures { IfOk result (λ keyed. map plain_key keyed.items ≡ map key_of tasks.now) }
 {
-    let mut keyed = Vec::new(alloc);
+    let mut keyed = Vec::with_capacity(alloc, tasks.len())?;
     for task in tasks {
         let bytes = encode_task(alloc, task)?;
         keyed.push((bytes, task.copy()?))?;
@@ -41,7 +41,7 @@ fn sort_by_key(keyed: &mut Vec<(Vec<u8>, Task)>) -> Result<(), OutOfMemory>
 fn without_keys(alloc: Global, keyed: &[(Vec<u8>, Task)]) -> Result<Vec<Task>, OutOfMemory>
     ensures { IfOk result (λ tasks. tasks.items ≡ map (λ k. k.1) keyed.now) }
 {
-    let mut tasks = Vec::new(alloc);
+    let mut tasks = Vec::with_capacity(alloc, keyed.len())?;
     for (_, task) in keyed {
         tasks.push(task.copy()?)?;
     }
