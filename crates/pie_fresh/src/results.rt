@@ -51,13 +51,15 @@ impl Ledger {
         Ok(rows)
     }
 
-    // The numbers by height and task.
+    // The numbers by height and task. At one height most tasks come in the order of their bytes already, so after a sort by heights
+    // alone few bytes are compared.
     fn places(&self) -> Result<Vec<((u32, Vec<u8>), u32)>, OutOfMemory>
         requires { IsLedger self.now }
         ensures { IfOk result (λ places. ArePlaces self.now (length self.now.heights.items) places.items) }
     {
         let _names = self.names.as_slice();
         let mut places = self.gathered()?;
+        places.sort_by_key(|place| place.0.0)?;
         places.sort()?;
         Ok(places)
     }
