@@ -11,8 +11,10 @@ ghost use Rattle.pie_incremental.specs.inner.Cleaned.{HasParts, IsPlanFor, Tells
 ghost use Rattle.pie_incremental.specs.inner.Joined.{ChangesOut, IsDrafted};
 ghost use Rattle.pie_incremental.specs.inner.Plans.{HasChanged};
 ghost use Rattle.pie_results.specs.inner.Files.{InPathOrder};
+ghost use Rattle.pie_store.specs.Frame.{IsSealed};
 ghost use Rattle.pie_store.specs.Texts.{IsRow, IsStoreText};
 ghost use Rattle.pie_value.specs.declared.verdict.Verdict.TheVariants as verdicts;
+ghost use Rattle.pie_topdown_build.specs.inner.Bases.{IsSealedIf};
 ghost use Rattle.pie_topdown_build.specs.inner.Cleaned.{HoldsBy, IsOwnOf, LeavesWhere, PutsAnew, PutsWhere};
 ghost use Rattle.pie_topdown_build.specs.inner.Crashes.{Endures, EndsPut, EndsWhere};
 ghost use Rattle.pie_topdown_build.specs.inner.Stored.{IsBegunFrom, IsStoreOrNone, LeavesRows};
@@ -27,7 +29,7 @@ use pie_incremental::{OwnFiles, changes_plan};
 use pie_project::Project;
 use pie_record::TaskRecord;
 use pie_report::Report;
-use pie_store::{Funcs, Rows, StoreImage, encode_store};
+use pie_store::{Funcs, Rows, StoreImage, encode_store_after};
 use pie_value::{Task, Tasks, Value};
 use std::alloc::Global;
 
@@ -55,6 +57,7 @@ pub(crate) fn accept<F: Files>(
 ) -> Result<Box<Report>, FilesError>
     requires rows { MayStand project.now.digests.items project.now.roots.items made.rows.items }
     requires contents { InPathOrder made.contents.items }
+    requires sealed { IsSealedIf store }
     ensures rest { KeepsRest (F.holds files.old) (F.holds files.new) }
     ensures left { IfSome (F.holds files.old) (λ d. IfOk result (λ r. LeavesWhere store project.now.digests.items project.now.roots.items made.rows.items made.contents.items made.outputs.items d r.value (F.holds files.new))) }
     ensures stored { IfSome (F.holds files.old) (λ d. IsBegunFrom store d → OnOk result (LeavesRows project.now.digests.items made.rows.items (F.holds files.new))) }
@@ -130,6 +133,7 @@ fn put_into_place<F: Files>(
 ) -> Result<Box<Report>, FilesError>
     requires rows { MayStand project.now.digests.items project.now.roots.items made.rows.items }
     requires contents { InPathOrder made.contents.items }
+    requires sealed { IsSealed own.now.store.items }
     ensures rest { KeepsRest (F.holds files.old) (F.holds files.new) }
     ensures anew { IfSome (F.holds files.old) (λ d. IfOk result (λ r. PutsAnew own.now held.now project.now.digests.items project.now.roots.items made.rows.items made.contents.items made.outputs.items d r.value (F.holds files.new))) }
     ensures left { IfSome (F.holds files.old) (λ d. IfOk result (λ r. PutsWhere own.now held.now project.now.digests.items project.now.roots.items made.rows.items made.contents.items made.outputs.items d r.value (F.holds files.new))) }
@@ -223,27 +227,29 @@ fn plan_of(
 ) -> Result<Box<Plan>, OutOfMemory>
     requires image { IsDrafted image.now }
     requires contents { InPathOrder contents.items }
+    requires sealed { IsSealed own.now.store.items }
     ensures sound { IfOk result (λ p. is_sound p.value ≡ true) }
     ensures changes { IfOk result (λ p. ChangesOut p.value) }
     ensures plan { IfOk result (λ p. IsPlanFor own.now held.now image.now contents.items p.value) }
 {
-    let text = text_of(alloc, image)?;
+    let text = text_of(alloc, image, own.store.as_slice())?;
     let plan = changes_plan(alloc, own, held, image.rows.as_slice(), contents, text)?;
     let plan = Box::new(alloc, plan)?;
     Ok(plan)
 }
 
-// The text of the store. Where the number of roots has more than 32 bits, it is out of memory.
+// The text of the store, after this one. Where the number of roots has more than 32 bits, it is out of memory.
 #[tactic(auto, using(pie_incremental::proofs::Storing::drafted_storable))]
-fn text_of(alloc: Global, image: &StoreImage) -> Result<Vec<u8>, OutOfMemory>
-    requires { IsDrafted image.now }
+fn text_of(alloc: Global, image: &StoreImage, before: &[u8]) -> Result<Vec<u8>, OutOfMemory>
+    requires image { IsDrafted image.now }
+    requires before { IsSealed before.now }
     ensures { IfOk result (λ text. IsStoreText image.now text.items) }
 {
     let roots = image.roots.as_slice();
     if roots.len() > u32::MAX as usize {
         return Err(OutOfMemory);
     }
-    encode_store(alloc, image)
+    encode_store_after(alloc, image, before)
 }
 
 // What is reported of an accepted build.

@@ -1,9 +1,8 @@
 //! What a build without a list begins from.
 ghost use Rattle.std.specs.Prelude.{IfOk, IfSome};
 ghost use Rattle.pie_files.specs.Reading.{ReadsOnly};
-ghost use Rattle.pie_incremental.specs.inner.Joined.{IsImage};
 ghost use Rattle.pie_topdown_build.specs.inner.Anew.{IsNoBase};
-ghost use Rattle.pie_topdown_build.specs.inner.Bases.{IsWhole, StartsAt, StartsBy, FailsOnly, StartsOnly};
+ghost use Rattle.pie_topdown_build.specs.inner.Bases.{IsBase, IsWhole, StartsAt, StartsBy, FailsOnly, StartsOnly};
 
 use pie_base::{OutOfMemory, Path};
 use pie_files::{Files, FilesError};
@@ -49,9 +48,9 @@ pub(crate) fn find_base<F: Files>(alloc: Global, files: &mut F) -> Result<Start,
 }
 
 /// The store of nothing, for a build that has nothing to build from.
-#[tactic(auto, using(crate::proofs::Making::empty_image, crate::proofs::Making::no_base_is))]
+#[tactic(auto, using(crate::proofs::Making::empty_base, crate::proofs::Making::no_base_is))]
 pub(crate) fn no_base(alloc: Global) -> Result<Box<Base>, OutOfMemory>
-    ensures image { IfOk result (λ b. IsImage b.value.image) }
+    ensures base { IfOk result (λ b. IsBase b.value) }
     ensures none { IfOk result (λ b. IsNoBase b.value) }
 {
     let image = StoreImage {
@@ -66,6 +65,7 @@ pub(crate) fn no_base(alloc: Global) -> Result<Box<Base>, OutOfMemory>
 }
 
 // What a build begins from where these are the bytes of the store.
+#[tactic(auto, using(crate::proofs::Making::base_of_text))]
 fn with_store(alloc: Global, store: Vec<u8>) -> Result<Start, OutOfMemory>
     ensures starts { IfOk result (StartsBy store) }
     ensures only { IfOk result (FailsOnly store) }

@@ -7,7 +7,6 @@ ghost use Rattle.pie_commit.specs.Outcomes.{LeavesFromRest};
 ghost use Rattle.pie_incremental.specs.Crashes.{EndsMarked};
 ghost use Rattle.pie_incremental.specs.Own.{IsClosed};
 ghost use Rattle.pie_incremental.specs.inner.Refused.{RefusesRight};
-ghost use Rattle.pie_incremental.specs.inner.Joined.{IsImage};
 ghost use Rattle.pie_incremental.specs.inner.Updated.{IsAfreshAfter};
 ghost use Rattle.pie_project.specs.Refusals.{IsVerdict};
 ghost use Rattle.pie_value.specs.declared.task.Task.{Task as TaskValue};
@@ -16,6 +15,7 @@ ghost use Rattle.pie_topdown_build.specs.inner.News.{as_told, AreNewsOf};
 ghost use Rattle.pie_topdown_build.specs.inner.Offered.{IsNew};
 ghost use Rattle.pie_topdown_build.specs.Clean.{BuildsAsClean};
 ghost use Rattle.pie_topdown_build.specs.Crashes.{HasEnded, MayStop, StopsWith};
+ghost use Rattle.pie_topdown_build.specs.inner.Bases.{IsBase};
 ghost use Rattle.pie_topdown_build.specs.inner.Stored.{IsBegunFrom};
 ghost use Rattle.pie_topdown_build.specs.Ran.{RunsForReasons};
 ghost use Rattle.pie_topdown_build.specs.inner.Anew.{AnewAsClean, IsNoBase};
@@ -113,7 +113,7 @@ fn from_store<F: Files>(
     base: Box<Base>,
     runs: &mut Runs,
 ) -> Result<Report, BuildError>
-    requires { IsImage base.value.image }
+    requires { IsBase base.value }
     ensures rest { KeepsRest (F.holds files.old) (F.holds files.new) }
     ensures refused { IsRefusal result → F.holds files.new ≡ F.holds files.old }
     ensures kept { IfSome (F.holds files.old) (λ d. IfOk result (λ r. KeepsRefused r.verdict d (F.holds files.new))) }
@@ -203,7 +203,7 @@ fn anew_from<F: Files, O: Offers>(
     cause: Cause,
     runs: &mut Runs,
 ) -> Result<Offered, BuildError>
-    requires { IsImage base.value.image }
+    requires { IsBase base.value }
     ensures rest { KeepsRest (F.holds files.old) (F.holds files.new) }
     ensures refused { IsRefusal result → F.holds files.new ≡ F.holds files.old }
     ensures kept { IfSome (F.holds files.old) (λ d. IfOk result (λ o. KeepsRefused o.report.value.verdict d (F.holds files.new))) }

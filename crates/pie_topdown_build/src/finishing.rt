@@ -6,7 +6,7 @@ ghost use Rattle.pie_incremental.specs.inner.Joined.{IsMade};
 ghost use Rattle.pie_value.specs.Canonical.{IsEncodableTask};
 ghost use Rattle.pie_value.specs.Limits.{is_small_task};
 ghost use Rattle.pie_value.specs.declared.verdict.Verdict.TheVariants as verdicts;
-ghost use Rattle.pie_topdown_build.specs.inner.Bases.{Quiet};
+ghost use Rattle.pie_topdown_build.specs.inner.Bases.{IsSealedIf, Quiet};
 ghost use Rattle.pie_topdown_build.specs.inner.Cleaned.{LeavesBy};
 ghost use Rattle.pie_topdown_build.specs.inner.Stored.{AreRowsIf, IsBegunFrom, LeavesRowsIf};
 ghost use Rattle.pie_topdown_build.specs.inner.Crashes.{Endures, EndsBy};
@@ -32,7 +32,8 @@ pub(crate) fn finish<F: Files>(
     built: Box<Built>,
     ran: Vec<Task>,
 ) -> Result<Box<Report>, FilesError>
-    requires { IsMade project.now.digests.items project.now.roots.items built.value }
+    requires made { IsMade project.now.digests.items project.now.roots.items built.value }
+    requires sealed { IsSealedIf store }
     ensures rest { KeepsRest (F.holds files.old) (F.holds files.new) }
     ensures quiet { IfOk result (λ r. Quiet r.value.verdict (F.holds files.old) (F.holds files.new)) }
     ensures left { IfSome (F.holds files.old) (λ d. IfOk result (λ r. LeavesBy built.value.verdict store project.now.digests.items project.now.roots.items built.value d r.value (F.holds files.new))) }

@@ -6,7 +6,6 @@ ghost use Rattle.pie_build.specs.inner.Rebuilt.{IsRefusal, Tells};
 ghost use Rattle.pie_digest.specs.Digests.{HasNames};
 ghost use Rattle.pie_files.specs.Streams.{Counted};
 ghost use Rattle.pie_incremental.specs.inner.Refused.{RefusesRight};
-ghost use Rattle.pie_incremental.specs.inner.Joined.{IsImage};
 ghost use Rattle.pie_project.specs.Refusals.{IsVerdict};
 ghost use Rattle.pie_record.specs.Canonical.{IsStorable};
 ghost use Rattle.pie_results.specs.inner.Files.{contents_in};
@@ -15,7 +14,7 @@ ghost use Rattle.pie_value.specs.Canonical.{IsEncodableTask};
 ghost use Rattle.pie_topdown_build.specs.inner.News.{as_told, news_in, AreNewsOf, IsReadyFrom, TellsNewsOf};
 ghost use Rattle.pie_topdown_build.specs.inner.Offered.{IsNew};
 ghost use Rattle.pie_topdown_build.specs.Refusals.{KeepsRefused};
-ghost use Rattle.pie_topdown_build.specs.inner.Bases.{Quiet};
+ghost use Rattle.pie_topdown_build.specs.inner.Bases.{IsBase, Quiet};
 ghost use Rattle.pie_topdown_build.specs.inner.Stored.{IsBegunFrom};
 ghost use Rattle.pie_topdown_build.specs.inner.Clean.{FromAsClean, RunsAsClean, RunsIfTold};
 ghost use Rattle.pie_topdown_build.specs.inner.Crashes.{Endures, EndsFrom, EndsReady, EndsRun};
@@ -48,7 +47,7 @@ pub(crate) fn from<F: Files, O: Offers>(
     tells: bool,
     runs: &mut Runs,
 ) -> Result<Offered, BuildError>
-    requires { IsImage base.value.image }
+    requires { IsBase base.value }
     ensures rest { KeepsRest (F.holds files.old) (F.holds files.new) }
     ensures refused { IsRefusal result → F.holds files.new ≡ F.holds files.old }
     ensures kept { IfSome (F.holds files.old) (λ d. IfOk result (λ o. KeepsRefused o.report.value.verdict d (F.holds files.new))) }
@@ -82,7 +81,7 @@ fn with_project<F: Files, O: Offers>(
     tells: bool,
     runs: &mut Runs,
 ) -> Result<Offered, BuildError>
-    requires base { IsImage base.value.image }
+    requires base { IsBase base.value }
     requires names { HasNames project.now.typed project.now.digests.items }
     requires funcs { AreFuncs project.now.digests.items }
     ensures rest { KeepsRest (F.holds files.old) (F.holds files.new) }
@@ -151,7 +150,7 @@ fn run<F: Files, O: Offers>(
     tells: bool,
     runs: &mut Runs,
 ) -> Result<Offered, FilesError>
-    requires base { IsImage base.value.image }
+    requires base { IsBase base.value }
     requires names { HasNames project.now.typed project.now.digests.items }
     requires funcs { AreFuncs project.now.digests.items }
     requires roots { All IsEncodableTask project.now.roots.items }

@@ -5,6 +5,7 @@ use Rattle.std.proofs.Common.{Vec}
 use Rattle.pie_files.specs.Directory.{Directory}
 use Rattle.pie_store.specs.Canonical.{IsStorableStore}
 use Rattle.pie_store.specs.Faults.{HasFault}
+use Rattle.pie_store.specs.Frame.{IsSealed}
 use Rattle.pie_store.specs.Texts.{IsStoreText}
 use Rattle.pie_store.specs.declared.cause.Cause.{Cause}
 use Rattle.pie_store.specs.declared.cause.Cause.TheVariants as causes
@@ -18,10 +19,20 @@ use Rattle.pie_topdown_build.specs.declared.base.Start.{Start}
 use Rattle.pie_topdown_build.specs.declared.base.Start.TheVariants.{Afresh, From}
 use Rattle.pie_topdown_build.specs.Clean.{CanBegin, IsStoreCause}
 
--- a store that was read has records that can be stored and stand in order
+-- a text, if there is one, ends in the digest of the rest
+abbrev pub IsSealedIf : Option (Vec ℕ Global) → Type 0
+IsSealedIf None = Unit {0}
+IsSealedIf (Some text) = IsSealed text.items
+
+-- what can be begun from: a store whose records can be stored, are of the program and stand in order, and its text, unless there is none
+pub record IsBase (b : Base) : Type 0 where
+  pub image : IsImage b.image
+  pub text : IsSealedIf b.store
+
+-- a store that was read can be begun from
 abbrev pub IsWhole : Start → Type 0
 IsWhole (Afresh cause) = Unit {0}
-IsWhole (From b) = IsImage b.value.image
+IsWhole (From b) = IsBase b.value
 
 -- a refused build changes no file
 abbrev pub Quiet : Verdict → Option Directory → Option Directory → Type 0

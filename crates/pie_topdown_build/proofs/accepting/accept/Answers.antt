@@ -3,8 +3,13 @@ use Rattle.std.specs.Prelude.{IfSome, IsOk}
 use Rattle.pie_topdown_build.specs.inner.Cleaned.{HoldsBy}
 use Rattle.pie_topdown_build.proofs.Leaving.{looked_leaves, looked_endures}
 use Rattle.pie_topdown_build.proofs.Crashing.{endures_both, endures_still}
+use Rattle.pie_topdown_build.proofs.Making.{own_sealed}
 use Rattle.pie_topdown_build.proofs.Storing.{rows_from}
 use Rattle.pie_topdown_build.proofs.accepting.accept.Goals as goal
+
+pub put_into_place-requires-clause-sealed : goal.put_into_place-requires-clause-sealed
+put_into_place-requires-clause-sealed g c =
+    own_sealed c.args.store c.in_ok-own.own c.requires.sealed c.in_ok-own.ensures.some c.in_ok-own.ensures.none
 
 pub returns-clause-left : goal.returns-clause-left
 returns-clause-left g c =

@@ -13,6 +13,6 @@ returns-clause-plan c =
     let plan : IsPlanFor own held c.args.image.now contents c.in_ok-plan.plan = record {
       text = text;
       says = c.in_ok-text.ensures;
-      plan = subst (λ (rows : List TaskRecord). IsChangesPlan own held rows contents text c.in_ok-plan.plan) c.as_slice.ensures c.in_ok-plan.ensures.plan;
+      plan = subst (λ (rows : List TaskRecord). IsChangesPlan own held rows contents text c.in_ok-plan.plan) c.as_slice-2.ensures c.in_ok-plan.ensures.plan;
     } in
     subst (IsPlanFor own held c.args.image.now contents) (sym c.in_ok-plan-2.ensures.ok) plan

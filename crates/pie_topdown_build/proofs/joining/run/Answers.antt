@@ -3,6 +3,7 @@ use Rattle.pie_checks.specs.declared.built.Built.{Built}
 use Rattle.pie_results.specs.inner.Files.{contents_in}
 use Rattle.pie_value.specs.declared.task.Task.{Task}
 use Rattle.pie_topdown_build.specs.declared.base.Base.{Base}
+use Rattle.pie_topdown_build.specs.inner.Bases.{IsSealedIf}
 use Rattle.pie_topdown_build.specs.inner.Clean.{RunsAsClean}
 use Rattle.pie_topdown_build.specs.inner.Crashes.{Endures, EndsRun}
 use Rattle.pie_topdown_build.proofs.Crashing.{endures_still, evaluated_endures}
@@ -17,6 +18,9 @@ use Rattle.pie_topdown_build.specs.inner.Reused.{InByteOrder}
 use Rattle.pie_topdown_build.proofs.Running.{runs_clean}
 use Rattle.pie_topdown_build.proofs.Reasons.{runs_ran}
 use Rattle.pie_topdown_build.proofs.joining.run.Goals as goal
+
+pub finish-requires-clause-sealed : goal.finish-requires-clause-sealed
+finish-requires-clause-sealed g c = subst (λ (b : Base). IsSealedIf b.store) (sym c.into_inner-image.ensures) c.requires.base.text
 
 pub returns-in-Ok-clause-clean : goal.returns-in-Ok-clause-clean
 returns-in-Ok-clause-clean g c =
