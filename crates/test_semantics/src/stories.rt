@@ -13,7 +13,7 @@ use pie_lexer::lex;
 use pie_parser::{Function, parse};
 use pie_semantics_program::{Evaluated, EvaluatorOutcome, next_of};
 use pie_types::{Typed, check};
-use pie_value::{Answer, Task};
+use pie_value::{Answer, Event, Task};
 use pie_vm::{Machine, MachineState, Runs};
 use std::alloc::Global;
 use std::process::Abort;
@@ -46,8 +46,13 @@ fn next_told(
     ensures { IfOk result (λ _. machine.new.phase ≡ states.Waiting → Belongs code.now machine.new) }
 {
     let event = machine.next(code)?;
+    event_told(alloc, event, machine.ticks(), all)
+}
+
+// Tells an event that came after so many ticks.
+fn event_told(alloc: Global, event: Event, ticks: u32, all: &mut String) -> Result<(), Fail> {
     let event = told(alloc, &event)?;
-    tell(alloc, event.as_str(), machine.ticks(), all)
+    tell(alloc, event.as_str(), ticks, all)
 }
 
 // Tells the next event, and answers it where it asks.
