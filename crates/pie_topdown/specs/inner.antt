@@ -20,3 +20,5 @@ pub mod Trying
 pub mod Ran
 pub mod Unoffered
 pub mod Filed
+pub mod Handed
+pub mod Steps

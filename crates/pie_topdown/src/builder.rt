@@ -4,7 +4,8 @@ ghost use Rattle.pie_files.specs.Reading.{ReadsOnly};
 ghost use Rattle.pie_topdown.specs.inner.Calling.{ResumesSo};
 ghost use Rattle.pie_topdown.specs.inner.Frames.{IsSite};
 ghost use Rattle.pie_topdown.specs.inner.Right.{StepsRight};
-ghost use Rattle.pie_topdown.specs.inner.Marks.{StaysMarked, MarksBy};
+ghost use Rattle.pie_topdown.specs.inner.Marks.{MarksBy};
+ghost use Rattle.pie_topdown.specs.inner.Steps.{KeepsMarked};
 ghost use Rattle.pie_topdown.specs.inner.Trying.{HoldsTried, StepsTried};
 ghost use Rattle.pie_topdown.specs.inner.Turns.{Stands, TurnsTo, hand_mass, below, Nearer, hand_room, room, Fits, Spends, StartsOne, Keeps};
 ghost use Rattle.pie_topdown.specs.inner.Unoffered.{HoldsOwn, StepsOwn};
@@ -77,8 +78,7 @@ impl<'a> Builder<'a> {
         ensures turns { IfOk result (TurnsTo self.new) }
         ensures nearer { IfOk result (Nearer (below self.old) self.new) }
         ensures fits { IfOk result (Fits (room self.old) self.new) }
-        ensures kept { OnOk result (Keeps self.old self.new) }
-        ensures marks { OnOk result (StaysMarked self.old self.new) }
+        ensures kept { OnOk result (KeepsMarked self.old self.new) }
         ensures own { IfOk result (HoldsOwn self.old self.new) }
         ensures tried { IfOk result (HoldsTried self.old self.new) }
         ensures right { IfOk result (ResumesSo self.old self.new) }

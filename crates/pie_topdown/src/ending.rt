@@ -1,11 +1,8 @@
 //! Tasks that end.
-ghost use Rattle.std.specs.Prelude.{◌≡◌, ◌<◌, ◌≤◌, ◌+◌, [], length, true, IfOk, OnOk};
-ghost use Rattle.pie_running.specs.inner.Noted.{IsSound};
-ghost use Rattle.pie_value.specs.Canonical.{IsEncodable, HasTrueLeaves};
-ghost use Rattle.pie_value.specs.Limits.{is_small};
-ghost use Rattle.pie_value.specs.Values.{tree_of};
+ghost use Rattle.std.specs.Prelude.{◌≡◌, ◌<◌, ◌≤◌, ◌+◌, [], length, IfOk, OnOk};
 ghost use Rattle.pie_topdown.specs.inner.Asking.{EndsSo};
-ghost use Rattle.pie_topdown.specs.inner.Frames.{IsNoted, IsSite};
+ghost use Rattle.pie_topdown.specs.inner.Frames.{IsSite};
+ghost use Rattle.pie_topdown.specs.inner.Handed.{IsEnding, IsOutput};
 ghost use Rattle.pie_topdown.specs.inner.Right.{FailsSo};
 ghost use Rattle.pie_topdown.specs.inner.Ran.{FallsWhole};
 ghost use Rattle.pie_topdown.specs.inner.Roots.{Started};
@@ -29,10 +26,7 @@ impl<'a> Builder<'a> {
         notes: Notes,
         output: Value,
     ) -> Result<Turn<'a>, OutOfMemory>
-        requires site { IsSite self.old }
-        requires sound { IsSound notes }
-        requires noted { IsNoted self.old.ledger notes }
-        requires number { no.0 ≡ notes.number }
+        requires { IsEnding self.old no.0 notes }
         ensures turns { IfOk result (TurnsTo self.new) }
         ensures nearer { IfOk result (Nearer (below self.old + 1) self.new) }
         ensures fits { IfOk result (Fits (room self.old) self.new) }
@@ -55,13 +49,8 @@ impl<'a> Builder<'a> {
         notes: Notes,
         output: Value,
     ) -> Result<Turn<'a>, OutOfMemory>
-        requires site { IsSite self.old }
-        requires sound { IsSound notes }
-        requires noted { IsNoted self.old.ledger notes }
-        requires number { no.0 ≡ notes.number }
-        requires output { IsEncodable (tree_of output) }
-        requires leaves { HasTrueLeaves (tree_of output) }
-        requires small { is_small (tree_of output) ≡ true }
+        requires ends { IsEnding self.old no.0 notes }
+        requires output { IsOutput output }
         ensures turns { IfOk result (TurnsTo self.new) }
         ensures nearer { IfOk result (Nearer (below self.old + 1) self.new) }
         ensures fits { IfOk result (Fits (room self.old) self.new) }

@@ -1,11 +1,11 @@
 //! Events of the task that runs.
-ghost use Rattle.std.specs.Prelude.{◌≡◌, ◌<◌, ◌+◌, ◌*◌, length, IfOk, OnOk};
+ghost use Rattle.std.specs.Prelude.{◌+◌, ◌*◌, IfOk, OnOk};
 ghost use Rattle.pie_files.specs.Reading.{ReadsOnly};
-ghost use Rattle.pie_running.specs.inner.Frames.{IsWaiting};
 ghost use Rattle.pie_value.specs.declared.event.Event.TheVariants as events;
+ghost use Rattle.pie_topdown.specs.declared.hand.Hand.TheVariants as hands;
 ghost use Rattle.pie_topdown.specs.inner.Asking.{ActsSo, AsksSo, LooksSo, RunsSo, ToldSo};
-ghost use Rattle.pie_topdown.specs.inner.Frames.{IsNoted, IsRunning, IsSite};
-ghost use Rattle.pie_topdown.specs.inner.Turns.{TurnsTo, below, Nearer, room, Fits, Keeps, MayGo, told_mass};
+ghost use Rattle.pie_topdown.specs.inner.Handed.{IsAsking, StandsWith};
+ghost use Rattle.pie_topdown.specs.inner.Turns.{Stands, TurnsTo, below, Nearer, room, Fits, Keeps, MayGo, told_mass};
 ghost use Rattle.pie_topdown.specs.inner.Unoffered.{GoesMarked};
 
 use crate::builder::Builder;
@@ -24,8 +24,7 @@ impl<'a> Builder<'a> {
         task: RunningTask<'a>,
         files: &mut F,
     ) -> Result<Turn<'a>, FilesError>
-        requires site { IsSite self.old }
-        requires runs { IsRunning self.old.ledger task }
+        requires { Stands self.old (hands.Runs task) }
         ensures turns { IfOk result (TurnsTo self.new) }
         ensures nearer { IfOk result (Nearer (below self.old + (2 * task.entry.notes.left + 1)) self.new) }
         ensures fits { IfOk result (Fits (room self.old) self.new) }
@@ -51,10 +50,7 @@ impl<'a> Builder<'a> {
         event: Event,
         files: &mut F,
     ) -> Result<Turn<'a>, FilesError>
-        requires site { IsSite self.old }
-        requires waits { IsWaiting waiting }
-        requires noted { IsNoted self.old.ledger waiting.notes }
-        requires number { no.0 ≡ waiting.notes.number }
+        requires { IsAsking self.old no.0 waiting }
         ensures turns { IfOk result (TurnsTo self.new) }
         ensures nearer { IfOk result (Nearer (below self.old + (2 * waiting.entry.notes.left + 1)) self.new) }
         ensures fits { IfOk result (Fits (room self.old) self.new) }
@@ -82,10 +78,7 @@ impl<'a> Builder<'a> {
         path: Path,
         files: &mut F,
     ) -> Result<Turn<'a>, FilesError>
-        requires site { IsSite self.old }
-        requires waits { IsWaiting waiting }
-        requires noted { IsNoted self.old.ledger waiting.notes }
-        requires number { no.0 ≡ waiting.notes.number }
+        requires { IsAsking self.old no.0 waiting }
         ensures turns { IfOk result (TurnsTo self.new) }
         ensures nearer { IfOk result (Nearer (below self.old + (2 * waiting.entry.notes.left + 1)) self.new) }
         ensures fits { IfOk result (Fits (room self.old) self.new) }
@@ -106,10 +99,7 @@ impl<'a> Builder<'a> {
         path: Path,
         files: &mut F,
     ) -> Result<Turn<'a>, FilesError>
-        requires site { IsSite self.old }
-        requires waits { IsWaiting waiting }
-        requires noted { IsNoted self.old.ledger waiting.notes }
-        requires number { no.0 ≡ waiting.notes.number }
+        requires { IsAsking self.old no.0 waiting }
         ensures turns { IfOk result (TurnsTo self.new) }
         ensures nearer { IfOk result (Nearer (below self.old + (2 * waiting.entry.notes.left + 1)) self.new) }
         ensures fits { IfOk result (Fits (room self.old) self.new) }
@@ -131,10 +121,7 @@ impl<'a> Builder<'a> {
         by: By,
         files: &mut F,
     ) -> Result<Turn<'a>, FilesError>
-        requires site { IsSite self.old }
-        requires waits { IsWaiting waiting }
-        requires noted { IsNoted self.old.ledger waiting.notes }
-        requires number { no.0 ≡ waiting.notes.number }
+        requires { IsAsking self.old no.0 waiting }
         ensures turns { IfOk result (TurnsTo self.new) }
         ensures nearer { IfOk result (Nearer (below self.old + (2 * waiting.entry.notes.left + 1)) self.new) }
         ensures fits { IfOk result (Fits (room self.old) self.new) }
@@ -156,10 +143,7 @@ impl<'a> Builder<'a> {
         by: By,
         files: &mut F,
     ) -> Result<Turn<'a>, FilesError>
-        requires site { IsSite self.old }
-        requires waits { IsWaiting waiting }
-        requires noted { IsNoted self.old.ledger waiting.notes }
-        requires number { no.0 ≡ waiting.notes.number }
+        requires { IsAsking self.old no.0 waiting }
         ensures turns { IfOk result (TurnsTo self.new) }
         ensures nearer { IfOk result (Nearer (below self.old + (2 * waiting.entry.notes.left + 1)) self.new) }
         ensures fits { IfOk result (Fits (room self.old) self.new) }
@@ -180,10 +164,7 @@ impl<'a> Builder<'a> {
         path: Path,
         files: &mut F,
     ) -> Result<Turn<'a>, FilesError>
-        requires site { IsSite self.old }
-        requires waits { IsWaiting waiting }
-        requires noted { IsNoted self.old.ledger waiting.notes }
-        requires number { no.0 ≡ waiting.notes.number }
+        requires { IsAsking self.old no.0 waiting }
         ensures turns { IfOk result (TurnsTo self.new) }
         ensures nearer { IfOk result (Nearer (below self.old + (2 * waiting.entry.notes.left + 1)) self.new) }
         ensures fits { IfOk result (Fits (room self.old) self.new) }
@@ -204,10 +185,7 @@ impl<'a> Builder<'a> {
         path: Path,
         files: &mut F,
     ) -> Result<Turn<'a>, FilesError>
-        requires site { IsSite self.old }
-        requires waits { IsWaiting waiting }
-        requires noted { IsNoted self.old.ledger waiting.notes }
-        requires number { no.0 ≡ waiting.notes.number }
+        requires { IsAsking self.old no.0 waiting }
         ensures turns { IfOk result (TurnsTo self.new) }
         ensures nearer { IfOk result (Nearer (below self.old + (2 * waiting.entry.notes.left + 1)) self.new) }
         ensures fits { IfOk result (Fits (room self.old) self.new) }
@@ -228,10 +206,7 @@ impl<'a> Builder<'a> {
         dir: Path,
         files: &mut F,
     ) -> Result<Turn<'a>, FilesError>
-        requires site { IsSite self.old }
-        requires waits { IsWaiting waiting }
-        requires noted { IsNoted self.old.ledger waiting.notes }
-        requires number { no.0 ≡ waiting.notes.number }
+        requires { IsAsking self.old no.0 waiting }
         ensures turns { IfOk result (TurnsTo self.new) }
         ensures nearer { IfOk result (Nearer (below self.old + (2 * waiting.entry.notes.left + 1)) self.new) }
         ensures fits { IfOk result (Fits (room self.old) self.new) }
@@ -251,10 +226,7 @@ impl<'a> Builder<'a> {
         path: Path,
         bytes: Blob,
     ) -> Result<Turn<'a>, OutOfMemory>
-        requires site { IsSite self.old }
-        requires waits { IsWaiting waiting }
-        requires noted { IsNoted self.old.ledger waiting.notes }
-        requires number { no.0 ≡ waiting.notes.number }
+        requires { IsAsking self.old no.0 waiting }
         ensures turns { IfOk result (TurnsTo self.new) }
         ensures nearer { IfOk result (Nearer (below self.old + (2 * waiting.entry.notes.left + 1)) self.new) }
         ensures fits { IfOk result (Fits (room self.old) self.new) }
@@ -268,8 +240,7 @@ impl<'a> Builder<'a> {
 
     // The task goes on as it was told, or fails.
     fn told(&mut self, no: TaskNo, told: Told<'a>) -> Result<Turn<'a>, OutOfMemory>
-        requires site { IsSite self.old }
-        requires number { no.0 < length self.old.ledger.tables.names }
+        requires entered { StandsWith self.old no.0 }
         requires goes { MayGo self.old told }
         ensures turns { IfOk result (TurnsTo self.new) }
         ensures nearer { IfOk result (Nearer (below self.old + told_mass told.entry) self.new) }

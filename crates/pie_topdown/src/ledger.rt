@@ -1,17 +1,15 @@
 //! The tasks that were entered, by their numbers.
-ghost use Rattle.std.specs.List.{Contains};
 ghost use Rattle.std.specs.Option.{option_map};
-ghost use Rattle.std.specs.Prelude.{◌≡◌, ◌<◌, ◌++◌, ◌∷◌, [], length, map, All, Some, None, is_some, slice_get, slice_set, IfOk, IfSome, OnOk};
+ghost use Rattle.std.specs.Prelude.{◌≡◌, ◌<◌, ◌++◌, ◌∷◌, [], length, All, None, is_some, slice_set, IfOk, IfSome, OnOk};
 ghost use Rattle.pie_graph.specs.Numbers.{numbers};
 ghost use Rattle.pie_graph.specs.Rows.{no_edges};
-ghost use Rattle.pie_old.specs.inner.Rows.{paths_in, tasks_at};
-ghost use Rattle.pie_record.specs.Canonical.{IsStorable};
+ghost use Rattle.pie_old.specs.inner.Rows.{paths_in};
 ghost use Rattle.pie_record.specs.inner.Records.{record_of};
-ghost use Rattle.pie_store.specs.Canonical.{needs as needs_by};
 ghost use Rattle.pie_tables.specs.Tabled.{IsGiven};
-ghost use Rattle.pie_value.specs.Canonical.{IsEncodableTask};
-ghost use Rattle.pie_topdown.specs.inner.Ledgers.{HasOutput, row_with, IsLedger, Grows};
+ghost use Rattle.pie_topdown.specs.inner.Ledgers.{row_with, IsLedger, Grows};
 ghost use Rattle.pie_topdown.specs.inner.Effects.{HasAdded, HasEnded, HasStarted, EndsIfNew};
+ghost use Rattle.pie_topdown.specs.inner.Handed.{MayEndWith};
+ghost use Rattle.pie_topdown.specs.inner.Places.{IsNew};
 
 use pie_base::{MAX_TASKS, OutOfMemory, Path};
 use pie_graph::{Edges, IndexedRows, TaskNo, TaskRows};
@@ -54,8 +52,7 @@ impl Ledger {
     #[tactic(auto, using(crate::proofs::Keeping::added_grows))]
     pub(crate) fn add(&mut self, task: Task) -> Result<TaskNo, OutOfMemory>
         requires ledger { IsLedger self.old }
-        requires encodable { IsEncodableTask task }
-        requires absent { ¬ (Contains self.old.tables.names task) }
+        requires task { IsNew self.old task }
         requires few { length self.old.tables.names < MAX_TASKS }
         ensures ledger { OnOk result (IsLedger self.new) }
         ensures grows { OnOk result (Grows self.old self.new) }
@@ -100,10 +97,7 @@ impl Ledger {
         needs: Vec<TaskNo>,
     ) -> Result<(), OutOfMemory>
         requires ledger { IsLedger self.old }
-        requires named { slice_get self.old.tables.names no.0 ≡ Some rec.task }
-        requires storable { IsStorable rec }
-        requires needs { tasks_at self.old.tables.names (numbers needs.items) ≡ map Some (needs_by rec) }
-        requires ended { All (HasOutput self.old.tables.records) (numbers needs.items) }
+        requires may { MayEndWith self.old no.0 rec (numbers needs.items) }
         ensures ledger { OnOk result (IsLedger self.new) }
         ensures grows { OnOk result (Grows self.old self.new) }
         ensures names { OnOk result (self.new.tables.names ≡ self.old.tables.names) }
@@ -132,10 +126,7 @@ impl Ledger {
     ) -> Result<(), OutOfMemory>
         requires ledger { IsLedger self.old }
         requires unended { record_of self.old.tables.records no.0 ≡ None }
-        requires named { slice_get self.old.tables.names no.0 ≡ Some rec.task }
-        requires storable { IsStorable rec }
-        requires needs { tasks_at self.old.tables.names (numbers needs.items) ≡ map Some (needs_by rec) }
-        requires ended { All (HasOutput self.old.tables.records) (numbers needs.items) }
+        requires may { MayEndWith self.old no.0 rec (numbers needs.items) }
         ensures ledger { OnOk result (IsLedger self.new) }
         ensures grows { OnOk result (Grows self.old self.new) }
         ensures names { OnOk result (self.new.tables.names ≡ self.old.tables.names) }

@@ -1,16 +1,10 @@
 //! Tasks that the task that runs requires.
 ghost use Rattle.std.specs.List.{Contains};
 ghost use Rattle.std.specs.Prelude.{◌≡◌, ◌+◌, ◌*◌, Some, slice_get, IfOk, OnOk};
-ghost use Rattle.pie_running.specs.inner.Frames.{IsWaiting};
-ghost use Rattle.pie_value.specs.Canonical.{IsEncodable};
-ghost use Rattle.pie_value.specs.Values.{tree_of};
 ghost use Rattle.pie_value.specs.declared.event.Event.TheVariants as events;
-ghost use Rattle.pie_topdown.specs.declared.entering.Entry.TheVariants.{May};
 ghost use Rattle.pie_topdown.specs.inner.Asking.{ActsSo};
 ghost use Rattle.pie_topdown.specs.inner.Calling.{AnswersSo, CallsSo, DescendsSo, GivesSo, LosesSo};
-ghost use Rattle.pie_topdown.specs.inner.Entries.{MayEnter};
-ghost use Rattle.pie_topdown.specs.inner.Frames.{IsNoted, IsCaller, IsSite};
-ghost use Rattle.pie_topdown.specs.inner.Ledgers.{HasOutput};
+ghost use Rattle.pie_topdown.specs.inner.Handed.{Awaits, IsAnswered, IsAsking, IsEnterable};
 ghost use Rattle.pie_topdown.specs.inner.Turns.{TurnsTo, below, Nearer, room, Fits, Keeps};
 ghost use Rattle.pie_topdown.specs.inner.Unoffered.{ComparesNothing, GoesMarked};
 
@@ -34,10 +28,7 @@ impl<'a> Builder<'a> {
         required: Task,
         how: How,
     ) -> Result<Turn<'a>, OutOfMemory>
-        requires site { IsSite self.old }
-        requires waits { IsWaiting waiting }
-        requires noted { IsNoted self.old.ledger waiting.notes }
-        requires number { no.0 ≡ waiting.notes.number }
+        requires { IsAsking self.old no.0 waiting }
         ensures turns { IfOk result (TurnsTo self.new) }
         ensures nearer { IfOk result (Nearer (below self.old + (2 * waiting.entry.notes.left + 1)) self.new) }
         ensures fits { IfOk result (Fits (room self.old) self.new) }
@@ -61,8 +52,7 @@ impl<'a> Builder<'a> {
 
     /// The task that a caller waited for has ended.
     pub(crate) fn answer_again(&mut self, caller: Caller<'a>) -> Result<Turn<'a>, OutOfMemory>
-        requires site { IsSite self.old }
-        requires caller { IsCaller self.old.ledger caller }
+        requires { Awaits self.old caller }
         ensures turns { IfOk result (TurnsTo self.new) }
         ensures nearer { IfOk result (Nearer (below self.old + (2 * caller.entry.waiting.notes.left + 1)) self.new) }
         ensures fits { IfOk result (Fits (room self.old) self.new) }
@@ -78,8 +68,7 @@ impl<'a> Builder<'a> {
 
     // An entered task is required. Where it hasn't ended with an output, it stands on the stack, since a build stops where a task fails.
     fn answer(&mut self, caller: Caller<'a>, callee: TaskNo) -> Result<Turn<'a>, OutOfMemory>
-        requires site { IsSite self.old }
-        requires caller { IsCaller self.old.ledger caller }
+        requires waits { Awaits self.old caller }
         requires named { slice_get self.old.ledger.tables.names callee.0 ≡ Some caller.required }
         ensures turns { IfOk result (TurnsTo self.new) }
         ensures nearer { IfOk result (Nearer (below self.old + (2 * caller.entry.waiting.notes.left + 1)) self.new) }
@@ -101,11 +90,7 @@ impl<'a> Builder<'a> {
         callee: TaskNo,
         output: Value,
     ) -> Result<Turn<'a>, OutOfMemory>
-        requires site { IsSite self.now }
-        requires caller { IsCaller self.now.ledger caller }
-        requires named { slice_get self.now.ledger.tables.names callee.0 ≡ Some caller.required }
-        requires output { IsEncodable (tree_of output) }
-        requires ended { HasOutput self.now.ledger.tables.records callee.0 }
+        requires { IsAnswered self.now caller callee.0 output }
         ensures turns { IfOk result (TurnsTo self.now) }
         ensures nearer { IfOk result (Nearer (below self.now + (2 * caller.entry.waiting.notes.left + 1)) self.now) }
         ensures fits { IfOk result (Fits (room self.now) self.now) }
@@ -128,8 +113,7 @@ impl<'a> Builder<'a> {
 
     // A task that wasn't entered is required.
     fn descend_from(&mut self, caller: Caller<'a>) -> Result<Turn<'a>, OutOfMemory>
-        requires site { IsSite self.old }
-        requires caller { IsCaller self.old.ledger caller }
+        requires waits { Awaits self.old caller }
         requires absent { ¬ (Contains self.old.ledger.tables.names caller.required) }
         ensures turns { IfOk result (TurnsTo self.new) }
         ensures nearer { IfOk result (Nearer (below self.old + (2 * caller.entry.waiting.notes.left + 1)) self.new) }
@@ -157,10 +141,8 @@ impl<'a> Builder<'a> {
         caller: Caller<'a>,
         code: &'a Checked,
     ) -> Result<Turn<'a>, OutOfMemory>
-        requires site { IsSite self.old }
-        requires caller { IsCaller self.old.ledger caller }
-        requires absent { ¬ (Contains self.old.ledger.tables.names caller.required) }
-        requires may { MayEnter self.old caller.required (May code) }
+        requires waits { Awaits self.old caller }
+        requires enters { IsEnterable self.old caller.required code.now }
         ensures turns { IfOk result (TurnsTo self.new) }
         ensures nearer { IfOk result (Nearer (below self.old + (2 * caller.entry.waiting.notes.left + 1)) self.new) }
         ensures fits { IfOk result (Fits (room self.old) self.new) }
@@ -175,8 +157,7 @@ impl<'a> Builder<'a> {
 
     // The required task is of no function.
     fn fail_as_unknown(&mut self, caller: Caller<'a>) -> Result<Turn<'a>, OutOfMemory>
-        requires site { IsSite self.old }
-        requires caller { IsCaller self.old.ledger caller }
+        requires { Awaits self.old caller }
         ensures turns { IfOk result (TurnsTo self.new) }
         ensures nearer { IfOk result (Nearer (below self.old + (2 * caller.entry.waiting.notes.left + 1)) self.new) }
         ensures fits { IfOk result (Fits (room self.old) self.new) }

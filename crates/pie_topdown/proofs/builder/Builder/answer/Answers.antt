@@ -31,5 +31,5 @@ returns-clause-right c =
           subst HasFailed (sym (one_outcome (outcomes.Done v) w.in_default.field-0 (e ∙ sym c.in_ok-output.ensures.outcome ∙ w.in_default.is))) failed
       | in_default-via-in_default w ↦ never (outcomes.Done v) (sym w.in_default.is ∙ c.in_ok-output.ensures.outcome ∙ sym e)
     ] in
-    closes_if c.args.self.now c.close.new.self c.args.caller c.args.callee.0 c.task.result.now c.close.result c.requires.site c.task.ensures c.requires.named
+    closes_if c.args.self.now c.close.new.self c.args.caller c.args.callee.0 c.task.result.now c.close.result c.requires.waits.site c.task.ensures c.requires.named
     none c.close.ensures.closed

@@ -13,4 +13,4 @@ pub returns-clause-right : goal.returns-clause-right
 returns-clause-right c =
     let may : MayEnter c.args.self.now c.args.caller.required Full = rw c.in-Full.is at c.entry.ensures in
     full_descends c.args.self.now c.args.caller c.in_ok-_bytes-in-Full._bytes.items c.in_ok-_bytes-in-Full.ensures.canonical may c.requires.absent
-    c.requires.caller.waits.left
+    c.requires.waits.caller.waits.left

@@ -27,5 +27,5 @@ returns-clause-right g c =
 pub fail-requires-clause-number : goal.fail-requires-clause-number
 fail-requires-clause-number g c =
     let n = c.args.task.notes in
-    let inside = slice_get_within c.args.self.now.ledger.tables.names n.number n.task c.requires.runs.noted.task in
+    let inside = slice_get_within c.args.self.now.ledger.tables.names n.number n.task c.requires.hand.noted.task in
     omega (arith, inside, c.no-no.ensures)

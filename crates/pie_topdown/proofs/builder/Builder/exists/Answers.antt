@@ -1,4 +1,5 @@
-use Rattle.std.proofs.Common.{ap}
+use Rattle.std.proofs.Common.{sym, ap, subst}
+use Rattle.pie_topdown.specs.inner.Frames.{IsNoted}
 use Rattle.pie_topdown.proofs.Twice.{reads_then}
 use Rattle.pie_topdown.proofs.Growing.{noted_below}
 use Rattle.pie_topdown.proofs.Stacking.{same_site}
@@ -10,10 +11,15 @@ use Rattle.pie_topdown.proofs.builder.Builder.exists.Goals as goal
 pub fetch-requires : goal.fetch-requires
 fetch-requires g c = noted_below c.args.self.now.ledger c.args.waiting.notes c.requires.site.ledger c.requires.noted
 
-pub exists_there-requires-clause-site : goal.exists_there-requires-clause-site
-exists_there-requires-clause-site g c =
+pub exists_there-requires : goal.exists_there-requires
+exists_there-requires g c =
     let e = c.fetch.ensures.same in
-    same_site c.args.self.now c.fetch.new.self (ap (λ b. b.plan) e) (ap (λ b. b.ledger) e) (ap (λ b. b.stack) e) c.requires.site
+    record {
+      site = same_site c.args.self.now c.fetch.new.self (ap (λ b. b.plan) e) (ap (λ b. b.ledger) e) (ap (λ b. b.stack) e) c.requires.site;
+      waits = c.requires.waits;
+      noted = subst (λ l. IsNoted l c.args.waiting.notes) (ap (λ b. b.ledger) (sym e)) c.requires.noted;
+      number = c.requires.number;
+    }
 
 pub returns-clause-reads : goal.returns-clause-reads
 returns-clause-reads g c =

@@ -14,7 +14,7 @@ returns-clause-ledger c =
     ended_ledger c.args.self.now _ c.args.no.0 c.args.rec (numbers c.args.needs.items) (paths_in c.args.rec.writes) c.requires.ledger c.in_ok-put.ensures.tables
     (c.put.ensures.names ∙ ap (λ t. t.names) c.set_row.ensures.tables)
     (subst (λ t. Puts t.records c.put.new.self.records c.args.no.0 c.args.rec) c.set_row.ensures.tables c.in_ok-put.ensures.puts)
-    c.requires.unended (slice_get_within c.args.self.now.tables.names c.args.no.0 c.args.rec.task c.requires.named) c.requires.needs c.requires.ended
+    c.requires.unended (slice_get_within c.args.self.now.tables.names c.args.no.0 c.args.rec.task c.requires.may.named) c.requires.may.needs c.requires.may.ended
     (c.in_ok-set_row.ensures.set ∙ ap (λ ws. set c.args.self.now.rows c.args.no.0 (row_with (numbers c.args.needs.items) (paths_in ws))) c.as_slice.ensures)
     (ap (λ v. set v.items c.args.no.0 c.len.result) c.set_row.ensures.places
     ∙ ap (set c.args.self.now.places.items c.args.no.0) (c.len.ensures ∙ ap vec_len c.set_row.ensures.order ∙ c.args.self.now.order.ok.0))
