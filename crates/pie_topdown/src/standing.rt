@@ -1,16 +1,15 @@
 //! Records that stand: their tasks end with them.
-ghost use Rattle.std.specs.Prelude.{◌≡◌, ◌≤◌, ◌+◌, [], ◌∷◌, ◌++◌, length, map, All, Some, slice_get, IfOk, OnOk};
+ghost use Rattle.std.specs.Prelude.{◌≡◌, ◌≤◌, ◌+◌, [], ◌∷◌, ◌++◌, length, map, IfOk, OnOk};
 ghost use Rattle.pie_graph.specs.Numbers.{numbers};
-ghost use Rattle.pie_old.specs.inner.Rows.{tasks_at};
-ghost use Rattle.pie_record.specs.Canonical.{IsStorable};
-ghost use Rattle.pie_store.specs.Canonical.{needs as needs_by};
-ghost use Rattle.pie_topdown.specs.inner.Frames.{IsCheck, IsSite};
-ghost use Rattle.pie_topdown.specs.inner.Ledgers.{HasOutput};
+ghost use Rattle.pie_topdown.specs.declared.hand.Hand.TheVariants as hands;
+ghost use Rattle.pie_topdown.specs.inner.Frames.{IsSite};
+ghost use Rattle.pie_topdown.specs.inner.Handed.{MayEndWith};
 ghost use Rattle.pie_topdown.specs.inner.Offering.{EndsReused, StagesAll};
 ghost use Rattle.pie_topdown.specs.inner.Right.{KeepsRight, EndsKept};
 ghost use Rattle.pie_topdown.specs.inner.Marks.{StaysMarked, ReusesOne, KeepsMarks};
 ghost use Rattle.pie_topdown.specs.inner.Trying.{HoldsTried, KeepsTried};
-ghost use Rattle.pie_topdown.specs.inner.Turns.{TurnsTo, below, Nearer, room, Fits, Keeps};
+ghost use Rattle.pie_topdown.specs.inner.Steps.{StepsTo};
+ghost use Rattle.pie_topdown.specs.inner.Turns.{Stands, below, room};
 ghost use Rattle.pie_topdown.specs.inner.Unoffered.{HoldsOwn, IsOwnCheck};
 
 use crate::builder::Builder;
@@ -23,13 +22,9 @@ use pie_view::Stage;
 impl<'a> Builder<'a> {
     /// The record of a check stands: the task ends with it.
     pub(crate) fn keep(&mut self, check: Box<Check<'a>>) -> Result<Turn<'a>, OutOfMemory>
-        requires site { IsSite self.old }
-        requires check { IsCheck self.old.ledger check.value }
+        requires stands { Stands self.old (hands.Checks check) }
         requires over { length check.value.rec.deps ≤ check.value.at }
-        ensures turns { IfOk result (TurnsTo self.new) }
-        ensures nearer { IfOk result (Nearer (below self.old + 1) self.new) }
-        ensures fits { IfOk result (Fits (room self.old) self.new) }
-        ensures kept { OnOk result (Keeps self.old self.new) }
+        ensures steps { IfOk result (StepsTo (below self.old + 1) (room self.old) self.old self.new) }
         ensures marks { OnOk result (KeepsMarks self.old check.entry.value.no.0 self.new) }
         ensures own { IsOwnCheck check.entry.value → IfOk result (HoldsOwn self.old self.new) }
         ensures tried { IfOk result (KeepsTried self.old check.entry.value self.new) }
@@ -56,14 +51,8 @@ impl<'a> Builder<'a> {
         required: Vec<TaskNo>,
     ) -> Result<Turn<'a>, OutOfMemory>
         requires site { IsSite self.old }
-        requires named { slice_get self.old.ledger.tables.names no.0 ≡ Some rec.task }
-        requires storable { IsStorable rec }
-        requires needs { tasks_at self.old.ledger.tables.names (numbers required.items) ≡ map Some (needs_by rec) }
-        requires ended { All (HasOutput self.old.ledger.tables.records) (numbers required.items) }
-        ensures turns { IfOk result (TurnsTo self.new) }
-        ensures nearer { IfOk result (Nearer (below self.old + 1) self.new) }
-        ensures fits { IfOk result (Fits (room self.old) self.new) }
-        ensures kept { OnOk result (Keeps self.old self.new) }
+        requires may { MayEndWith self.old.ledger no.0 rec (numbers required.items) }
+        ensures steps { IfOk result (StepsTo (below self.old + 1) (room self.old) self.old self.new) }
         ensures marks { OnOk result (StaysMarked self.old self.new) }
         ensures own { IfOk result (HoldsOwn self.old self.new) }
         ensures tried { IfOk result (HoldsTried self.old self.new) }
@@ -82,14 +71,8 @@ impl<'a> Builder<'a> {
         contents: Vec<Vec<u8>>,
     ) -> Result<Turn<'a>, OutOfMemory>
         requires site { IsSite self.old }
-        requires named { slice_get self.old.ledger.tables.names no.0 ≡ Some rec.task }
-        requires storable { IsStorable rec }
-        requires needs { tasks_at self.old.ledger.tables.names (numbers required.items) ≡ map Some (needs_by rec) }
-        requires ended { All (HasOutput self.old.ledger.tables.records) (numbers required.items) }
-        ensures turns { IfOk result (TurnsTo self.new) }
-        ensures nearer { IfOk result (Nearer (below self.old + 1) self.new) }
-        ensures fits { IfOk result (Fits (room self.old) self.new) }
-        ensures kept { OnOk result (Keeps self.old self.new) }
+        requires may { MayEndWith self.old.ledger no.0 rec (numbers required.items) }
+        ensures steps { IfOk result (StepsTo (below self.old + 1) (room self.old) self.old self.new) }
         ensures marks { OnOk result (ReusesOne self.old no.0 self.new) }
         ensures tried { IfOk result (HoldsTried self.old self.new) }
         ensures ended { IfOk result (EndsReused self.old no.0 rec (numbers required.items) (map (λ v. v.items) contents.items) self.new) }

@@ -14,14 +14,14 @@ use Rattle.pie_topdown.proofs.builder.Builder.keep.Goals as goal
 
 pub returns-in-Some-clause-right : goal.returns-in-Some-clause-right
 returns-in-Some-clause-right c =
-    reuses_if c.args.self.now c.keep_offered.new.self c.args.check.value c.in-Some.contents c.keep_offered.result c.requires.site c.requires.check
+    reuses_if c.args.self.now c.keep_offered.new.self c.args.check.value c.in-Some.contents c.keep_offered.result c.requires.stands.site c.requires.stands.hand
     c.requires.over (ap (λ (x : Check). x.contents) (sym c.into_inner-rec.ensures) ∙ c.in-Some.is)
     (subst (λ (x : Check). IfOk c.keep_offered.result (EndsReused c.args.self.now x.no.0 x.rec (numbers x.required.items) (bytes_in c.in-Some.contents.items)
     c.keep_offered.new.self)) c.into_inner-rec.ensures c.keep_offered.ensures.ended)
 
 pub returns-in-None-clause-right : goal.returns-in-None-clause-right
 returns-in-None-clause-right c =
-    keeps_if c.args.self.now c.keep_own.new.self c.args.check.value c.keep_own.result c.requires.check c.requires.over
+    keeps_if c.args.self.now c.keep_own.new.self c.args.check.value c.keep_own.result c.requires.stands.hand c.requires.over
     (ap (λ (x : Check). x.contents) (sym c.into_inner-rec.ensures) ∙ c.in-None.is)
     (subst (λ (x : Check). IfOk c.keep_own.result (EndsKept c.args.self.now x.no.0 x.rec (numbers x.required.items) c.keep_own.new.self)) c.into_inner-rec.ensures
     c.keep_own.ensures.ended)
@@ -36,8 +36,8 @@ returns-in-None-clause-own c = λ this. c.keep_own.ensures.own
 pub returns-in-Some-clause-tried : goal.returns-in-Some-clause-tried
 returns-in-Some-clause-tried c =
     let own = ap (λ (x : Check). x.contents) (sym c.into_inner-rec.ensures) ∙ c.in-Some.is in
-    offer_kept c.args.self.now c.keep_offered.new.self c.args.check.value c.in-Some.contents c.keep_offered.result own c.requires.check.named
-    (stands_if c.args.self.now c.keep_offered.new.self c.args.check.value c.in-Some.contents c.keep_offered.result c.requires.site c.requires.check
+    offer_kept c.args.self.now c.keep_offered.new.self c.args.check.value c.in-Some.contents c.keep_offered.result own c.requires.stands.hand.named
+    (stands_if c.args.self.now c.keep_offered.new.self c.args.check.value c.in-Some.contents c.keep_offered.result c.requires.stands.site c.requires.stands.hand
     c.requires.over own
     (subst (λ (x : Check). IfOk c.keep_offered.result (EndsReused c.args.self.now x.no.0 x.rec (numbers x.required.items) (bytes_in c.in-Some.contents.items)
     c.keep_offered.new.self)) c.into_inner-rec.ensures c.keep_offered.ensures.ended))
