@@ -1,18 +1,20 @@
 //! Entered tasks that begin: with the check of an old record, with offers, or with a run.
-ghost use Rattle.std.specs.Prelude.{◌≡◌, ◌<◌, ◌≤◌, ◌+◌, length, Some, None, true, false, slice_get, slice_index_or, IfOk, IfSome, OnOk};
-ghost use Rattle.pie_files.specs.Reading.{ReadsOnly};
+ghost use Rattle.std.specs.Prelude.{◌≡◌, ◌<◌, ◌+◌, length, Some, None, true, false, slice_get, slice_index_or, IfOk, IfSome, OnOk};
 ghost use Rattle.pie_record.specs.Canonical.{IsStorable};
 ghost use Rattle.pie_results.specs.inner.Failures.{is_done as specs_is_done};
+ghost use Rattle.pie_topdown.specs.declared.hand.Hand.TheVariants as hands;
 ghost use Rattle.pie_topdown.specs.inner.Calling.{HasBegun, StartsSo};
 ghost use Rattle.pie_topdown.specs.inner.Due.{LacksOwn};
 ghost use Rattle.pie_topdown.specs.inner.Effects.{HasStarted};
 ghost use Rattle.pie_topdown.specs.inner.Ledgers.{Grows};
 ghost use Rattle.pie_topdown.specs.inner.Frames.{AreOffers, IsCheck, IsOwnRecord, MayStart, IsSite};
+ghost use Rattle.pie_topdown.specs.inner.Handed.{HasRecord};
 ghost use Rattle.pie_topdown.specs.inner.Offering.{BeginsSo, BeginsWith};
 ghost use Rattle.pie_topdown.specs.inner.Right.{BeginsCheck};
 ghost use Rattle.pie_topdown.specs.inner.Marks.{Marks, RunsOne};
+ghost use Rattle.pie_topdown.specs.inner.Steps.{OnlyAsks, SpendsTo, StartsWithin};
 ghost use Rattle.pie_topdown.specs.inner.Trying.{TriesFrom, HoldsTried};
-ghost use Rattle.pie_topdown.specs.inner.Turns.{TurnsTo, check_mass, rest_mass, below, Nearer, room, Spends, StartsOne, Keeps};
+ghost use Rattle.pie_topdown.specs.inner.Turns.{Stands, check_mass, rest_mass, below, room, StartsOne};
 ghost use Rattle.pie_topdown.specs.inner.Unoffered.{BeginsOwn, HoldsOwn};
 
 use crate::builder::Builder;
@@ -40,17 +42,11 @@ impl<'a> Builder<'a> {
         files: &mut F,
         runs: &mut Runs,
     ) -> Result<Turn<'a>, FilesError>
-        requires site { IsSite self.old }
-        requires starts { MayStart self.old.ledger no.0 code.now.params }
-        ensures turns { IfOk result (TurnsTo self.new) }
-        ensures nearer { IfOk result (Nearer (below self.old + 7000018) self.new) }
-        ensures spends { IfOk result (Spends (room self.old + 1) runs.old runs.new self.new) }
-        ensures starts { StartsOne runs.old runs.new }
-        ensures few { length runs.new ≤ length runs.old + (room self.old + 1) }
-        ensures kept { OnOk result (Keeps self.old self.new) }
+        requires { Stands self.old (hands.Enters no code) }
+        ensures steps { IfOk result (SpendsTo (below self.old + 7000018) (room self.old + 1) self.old runs.old runs.new self.new) }
+        ensures starts { StartsWithin (room self.old + 1) runs.old runs.new }
         ensures marks { OnOk result (Marks self.old no.0 self.new runs.old runs.new) }
-        ensures reads { ReadsOnly F.holds F.moment F.left_since F.images F.faults files.old files.new result }
-        ensures told { O.told offers.new ≡ O.told offers.old }
+        ensures asks { OnlyAsks F.holds F.moment F.left_since F.images F.faults O.told files.old files.new offers.old offers.new result }
         ensures own { IfOk result (BeginsOwn (F.holds files.old) (O.told offers.old) self.old self.new) }
         ensures tried { IfOk result (TriesFrom (F.holds files.old) (O.told offers.old) self.old no.0 self.new runs.old runs.new) }
         ensures right { IfOk result (BeginsSo (F.holds files.old) (O.told offers.old) self.old no.0 code.now self.new) }
@@ -99,19 +95,11 @@ impl<'a> Builder<'a> {
         files: &mut F,
         runs: &mut Runs,
     ) -> Result<Turn<'a>, FilesError>
-        requires site { IsSite self.old }
-        requires starts { MayStart self.old.ledger no.0 code.now.params }
-        requires storable { IsStorable rec.value }
-        requires named { slice_get self.old.ledger.tables.names no.0 ≡ Some rec.value.task }
-        ensures turns { IfOk result (TurnsTo self.new) }
-        ensures nearer { IfOk result (Nearer (below self.old + 7000018) self.new) }
-        ensures spends { IfOk result (Spends (room self.old + 1) runs.old runs.new self.new) }
-        ensures starts { StartsOne runs.old runs.new }
-        ensures few { length runs.new ≤ length runs.old + (room self.old + 1) }
-        ensures kept { OnOk result (Keeps self.old self.new) }
+        requires { HasRecord self.old no.0 code.now.params rec.value }
+        ensures steps { IfOk result (SpendsTo (below self.old + 7000018) (room self.old + 1) self.old runs.old runs.new self.new) }
+        ensures starts { StartsWithin (room self.old + 1) runs.old runs.new }
         ensures marks { OnOk result (Marks self.old no.0 self.new runs.old runs.new) }
-        ensures reads { ReadsOnly F.holds F.moment F.left_since F.images F.faults files.old files.new result }
-        ensures told { O.told offers.new ≡ O.told offers.old }
+        ensures asks { OnlyAsks F.holds F.moment F.left_since F.images F.faults O.told files.old files.new offers.old offers.new result }
         ensures own { IfOk result (BeginsOwn (F.holds files.old) (O.told offers.old) self.old self.new) }
         ensures tried { IfOk result (TriesFrom (F.holds files.old) (O.told offers.old) self.old no.0 self.new runs.old runs.new) }
         ensures right { IfOk result (BeginsWith (F.holds files.old) (O.told offers.old) self.old no.0 code.now rec.value self.new) }
@@ -162,14 +150,9 @@ impl<'a> Builder<'a> {
         code: &'a Checked,
         runs: &mut Runs,
     ) -> Result<Turn<'a>, OutOfMemory>
-        requires site { IsSite self.old }
-        requires starts { MayStart self.old.ledger no.0 code.now.params }
-        ensures turns { IfOk result (TurnsTo self.new) }
-        ensures nearer { IfOk result (Nearer (below self.old + 2000004) self.new) }
-        ensures spends { IfOk result (Spends (room self.old + 1) runs.old runs.new self.new) }
-        ensures starts { StartsOne runs.old runs.new }
-        ensures few { length runs.new ≤ length runs.old + (room self.old + 1) }
-        ensures kept { OnOk result (Keeps self.old self.new) }
+        requires { Stands self.old (hands.Enters no code) }
+        ensures steps { IfOk result (SpendsTo (below self.old + 2000004) (room self.old + 1) self.old runs.old runs.new self.new) }
+        ensures starts { StartsWithin (room self.old + 1) runs.old runs.new }
         ensures marks { OnOk result (RunsOne self.old no.0 self.new runs.old runs.new) }
         ensures own { IfOk result (HoldsOwn self.old self.new) }
         ensures tried { IfOk result (HoldsTried self.old self.new) }

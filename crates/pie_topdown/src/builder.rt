@@ -1,13 +1,12 @@
 //! A build between two steps, and its steps.
-ghost use Rattle.std.specs.Prelude.{◌≡◌, ◌≤◌, ◌+◌, length, IfOk, OnOk};
-ghost use Rattle.pie_files.specs.Reading.{ReadsOnly};
+ghost use Rattle.std.specs.Prelude.{◌+◌, IfOk, OnOk};
 ghost use Rattle.pie_topdown.specs.inner.Calling.{ResumesSo};
 ghost use Rattle.pie_topdown.specs.inner.Frames.{IsSite};
 ghost use Rattle.pie_topdown.specs.inner.Right.{StepsRight};
 ghost use Rattle.pie_topdown.specs.inner.Marks.{MarksBy};
-ghost use Rattle.pie_topdown.specs.inner.Steps.{KeepsMarked};
+ghost use Rattle.pie_topdown.specs.inner.Steps.{KeepsMarked, OnlyAsks, SpendsTo, StartsWithin};
 ghost use Rattle.pie_topdown.specs.inner.Trying.{HoldsTried, StepsTried};
-ghost use Rattle.pie_topdown.specs.inner.Turns.{Stands, TurnsTo, hand_mass, below, Nearer, hand_room, room, Fits, Spends, StartsOne, Keeps};
+ghost use Rattle.pie_topdown.specs.inner.Turns.{Stands, TurnsTo, hand_mass, below, Nearer, hand_room, room, Fits};
 ghost use Rattle.pie_topdown.specs.inner.Unoffered.{HoldsOwn, StepsOwn};
 
 use crate::hand::{Frame, Hand, Turn};
@@ -51,15 +50,10 @@ impl<'a> Builder<'a> {
         runs: &mut Runs,
     ) -> Result<Turn<'a>, FilesError>
         requires { Stands self.old hand }
-        ensures turns { IfOk result (TurnsTo self.new) }
-        ensures nearer { IfOk result (Nearer (below self.old + hand_mass hand.entry) self.new) }
-        ensures spends { IfOk result (Spends (room self.old + hand_room hand.entry) runs.old runs.new self.new) }
-        ensures starts { StartsOne runs.old runs.new }
-        ensures few { length runs.new ≤ length runs.old + (room self.old + hand_room hand.entry) }
-        ensures kept { OnOk result (Keeps self.old self.new) }
+        ensures steps { IfOk result (SpendsTo (below self.old + hand_mass hand.entry) (room self.old + hand_room hand.entry) self.old runs.old runs.new self.new) }
+        ensures starts { StartsWithin (room self.old + hand_room hand.entry) runs.old runs.new }
         ensures marks { OnOk result (MarksBy self.old hand.entry self.new runs.old runs.new) }
-        ensures reads { ReadsOnly F.holds F.moment F.left_since F.images F.faults files.old files.new result }
-        ensures told { O.told offers.new ≡ O.told offers.old }
+        ensures asks { OnlyAsks F.holds F.moment F.left_since F.images F.faults O.told files.old files.new offers.old offers.new result }
         ensures own { IfOk result (StepsOwn (F.holds files.old) (O.told offers.old) self.old hand.entry self.new) }
         ensures tried { IfOk result (StepsTried (F.holds files.old) (O.told offers.old) self.old hand.entry self.new runs.old runs.new) }
         ensures right { IfOk result (StepsRight (F.holds files.old) (O.told offers.old) self.old hand.entry self.new) }

@@ -1,21 +1,22 @@
 //! Records that are held against what is there now, one observation after another.
-ghost use Rattle.std.specs.List.{Contains};
-ghost use Rattle.std.specs.Prelude.{◌≡◌, ◌<◌, ◌≤◌, ◌+◌, length, IfOk, OnOk};
+ghost use Rattle.std.specs.Prelude.{◌≡◌, ◌+◌, length, IfOk, OnOk};
 ghost use Rattle.pie_files.specs.Reading.{ReadsOnly};
 ghost use Rattle.pie_graph.specs.Numbers.{numbers, AllBelow};
 ghost use Rattle.pie_record.specs.Canonical.{IsStorableDep};
-ghost use Rattle.pie_value.specs.Canonical.{IsEncodableTask};
 ghost use Rattle.pie_compare.specs.inner.Standing.{DepStands, Tells};
 ghost use Rattle.pie_topdown.specs.declared.entering.Entry.TheVariants.{May};
+ghost use Rattle.pie_topdown.specs.declared.hand.Hand.TheVariants as hands;
 ghost use Rattle.pie_topdown.specs.inner.Calling.{ChecksSo};
 ghost use Rattle.pie_topdown.specs.inner.Entries.{MayEnter};
 ghost use Rattle.pie_topdown.specs.inner.Frames.{IsCheck, IsSite};
+ghost use Rattle.pie_topdown.specs.inner.Handed.{HasFound, HasNext, IsAtNew};
 ghost use Rattle.pie_topdown.specs.inner.Offering.{ComparesSo, GoesOnSo, RequiresSo};
 ghost use Rattle.pie_topdown.specs.inner.Places.{beside, AsksSource, Finds, IsPassed, IsPlace, IsUnentered};
 ghost use Rattle.pie_topdown.specs.inner.Right.{PassesRight};
 ghost use Rattle.pie_topdown.specs.inner.Marks.{StaysMarked, Marks};
+ghost use Rattle.pie_topdown.specs.inner.Steps.{OnlyAsks, SpendsTo, StartsWithin, StepsTo};
 ghost use Rattle.pie_topdown.specs.inner.Trying.{ComparesTried, GoesOnTried, RequiresTried, WaitsTried};
-ghost use Rattle.pie_topdown.specs.inner.Turns.{TurnsTo, check_mass, below, Nearer, room, Fits, Spends, StartsOne, Keeps};
+ghost use Rattle.pie_topdown.specs.inner.Turns.{Stands, TurnsTo, check_mass, below, Nearer, room, Fits};
 ghost use Rattle.pie_topdown.specs.inner.Unoffered.{ChecksOwn, HoldsOwn, IsOwnCheck, IsOwnTurn};
 
 use crate::builder::Builder;
@@ -53,17 +54,11 @@ impl<'a> Builder<'a> {
         files: &mut F,
         runs: &mut Runs,
     ) -> Result<Turn<'a>, FilesError>
-        requires site { IsSite self.old }
-        requires check { IsCheck self.old.ledger check.value }
-        ensures turns { IfOk result (TurnsTo self.new) }
-        ensures nearer { IfOk result (Nearer (below self.old + check_mass check.entry.value) self.new) }
-        ensures spends { IfOk result (Spends (room self.old + 1) runs.old runs.new self.new) }
-        ensures starts { StartsOne runs.old runs.new }
-        ensures few { length runs.new ≤ length runs.old + (room self.old + 1) }
-        ensures kept { OnOk result (Keeps self.old self.new) }
+        requires { Stands self.old (hands.Checks check) }
+        ensures steps { IfOk result (SpendsTo (below self.old + check_mass check.entry.value) (room self.old + 1) self.old runs.old runs.new self.new) }
+        ensures starts { StartsWithin (room self.old + 1) runs.old runs.new }
         ensures marks { OnOk result (Marks self.old check.entry.value.no.0 self.new runs.old runs.new) }
-        ensures reads { ReadsOnly F.holds F.moment F.left_since F.images F.faults files.old files.new result }
-        ensures told { O.told offers.new ≡ O.told offers.old }
+        ensures asks { OnlyAsks F.holds F.moment F.left_since F.images F.faults O.told files.old files.new offers.old offers.new result }
         ensures own { IfOk result (ChecksOwn (F.holds files.old) (O.told offers.old) self.old check.entry.value self.new) }
         ensures tried { IfOk result (ComparesTried (F.holds files.old) (O.told offers.old) self.old check.entry.value self.new runs.old runs.new) }
         ensures right { IfOk result (ComparesSo (F.holds files.old) (O.told offers.old) self.old check.entry.value self.new) }
@@ -83,17 +78,11 @@ impl<'a> Builder<'a> {
         files: &mut F,
         runs: &mut Runs,
     ) -> Result<Turn<'a>, FilesError>
-        requires site { IsSite self.old }
-        requires place { IsPlace self.old.ledger check.value place }
-        ensures turns { IfOk result (TurnsTo self.new) }
-        ensures nearer { IfOk result (Nearer (below self.old + check_mass check.entry.value) self.new) }
-        ensures spends { IfOk result (Spends (room self.old + 1) runs.old runs.new self.new) }
-        ensures starts { StartsOne runs.old runs.new }
-        ensures few { length runs.new ≤ length runs.old + (room self.old + 1) }
-        ensures kept { OnOk result (Keeps self.old self.new) }
+        requires { HasFound self.old check.value place }
+        ensures steps { IfOk result (SpendsTo (below self.old + check_mass check.entry.value) (room self.old + 1) self.old runs.old runs.new self.new) }
+        ensures starts { StartsWithin (room self.old + 1) runs.old runs.new }
         ensures marks { OnOk result (Marks self.old check.entry.value.no.0 self.new runs.old runs.new) }
-        ensures reads { ReadsOnly F.holds F.moment F.left_since F.images F.faults files.old files.new result }
-        ensures told { O.told offers.new ≡ O.told offers.old }
+        ensures asks { OnlyAsks F.holds F.moment F.left_since F.images F.faults O.told files.old files.new offers.old offers.new result }
         ensures own { IfOk result (ChecksOwn (F.holds files.old) (O.told offers.old) self.old check.entry.value self.new) }
         ensures tried { IfOk result (GoesOnTried (F.holds files.old) (O.told offers.old) self.old check.entry.value place self.new runs.old runs.new) }
         ensures right { IfOk result (GoesOnSo (F.holds files.old) (O.told offers.old) self.old check.entry.value place self.new) }
@@ -132,19 +121,11 @@ impl<'a> Builder<'a> {
         files: &mut F,
         runs: &mut Runs,
     ) -> Result<Turn<'a>, FilesError>
-        requires site { IsSite self.old }
-        requires check { IsCheck self.old.ledger check.value }
-        requires encodable { IsEncodableTask task }
-        requires absent { ¬ (Contains self.old.ledger.tables.names task) }
-        ensures turns { IfOk result (TurnsTo self.new) }
-        ensures nearer { IfOk result (Nearer (below self.old + check_mass check.entry.value) self.new) }
-        ensures spends { IfOk result (Spends (room self.old + 1) runs.old runs.new self.new) }
-        ensures starts { StartsOne runs.old runs.new }
-        ensures few { length runs.new ≤ length runs.old + (room self.old + 1) }
-        ensures kept { OnOk result (Keeps self.old self.new) }
+        requires { IsAtNew self.old check.value task }
+        ensures steps { IfOk result (SpendsTo (below self.old + check_mass check.entry.value) (room self.old + 1) self.old runs.old runs.new self.new) }
+        ensures starts { StartsWithin (room self.old + 1) runs.old runs.new }
         ensures marks { OnOk result (Marks self.old check.entry.value.no.0 self.new runs.old runs.new) }
-        ensures reads { ReadsOnly F.holds F.moment F.left_since F.images F.faults files.old files.new result }
-        ensures told { O.told offers.new ≡ O.told offers.old }
+        ensures asks { OnlyAsks F.holds F.moment F.left_since F.images F.faults O.told files.old files.new offers.old offers.new result }
         ensures own { IfOk result (ChecksOwn (F.holds files.old) (O.told offers.old) self.old check.entry.value self.new) }
         ensures tried { IfOk result (RequiresTried (F.holds files.old) (O.told offers.old) self.old check.entry.value task self.new runs.old runs.new) }
         ensures right { IfOk result (RequiresSo (F.holds files.old) (O.told offers.old) self.old check.entry.value task self.new) }
@@ -163,15 +144,9 @@ impl<'a> Builder<'a> {
         task: Task,
         code: &'a Checked,
     ) -> Result<Turn<'a>, OutOfMemory>
-        requires site { IsSite self.old }
-        requires check { IsCheck self.old.ledger check.value }
-        requires encodable { IsEncodableTask task }
-        requires absent { ¬ (Contains self.old.ledger.tables.names task) }
+        requires finds { IsAtNew self.old check.value task }
         requires may { MayEnter self.old task (May code) }
-        ensures turns { IfOk result (TurnsTo self.new) }
-        ensures nearer { IfOk result (Nearer (below self.old + check_mass check.entry.value) self.new) }
-        ensures fits { IfOk result (Fits (room self.old + 1) self.new) }
-        ensures kept { OnOk result (Keeps self.old self.new) }
+        ensures steps { IfOk result (StepsTo (below self.old + check_mass check.entry.value) (room self.old + 1) self.old self.new) }
         ensures marks { OnOk result (StaysMarked self.old self.new) }
         ensures own { IsOwnCheck check.entry.value → IfOk result (HoldsOwn self.old self.new) }
         ensures tried { IfOk result (WaitsTried self.old check.entry.value self.new) }
@@ -211,8 +186,7 @@ impl<'a> Builder<'a> {
     ) -> Result<Place, FilesError>
         requires site { IsSite self.old }
         requires check { IsCheck self.old.ledger check.old }
-        requires inside { check.old.at < length check.old.rec.deps }
-        requires few { check.old.at ≤ 1000000 }
+        requires next { HasNext check.old }
         ensures same { self.new ≡ record self.old { named = self.new.named } }
         ensures check { check.new ≡ record check.old { required = check.new.required } }
         ensures place { IfOk result (IsPlace self.old.ledger check.new) }

@@ -3,12 +3,13 @@ ghost use Rattle.std.specs.Prelude.{◌≡◌, ◌<◌, ◌≤◌, ◌+◌, ◌*
 ghost use Rattle.pie_files.specs.Reading.{ReadsOnly};
 ghost use Rattle.pie_record.specs.Canonical.{IsStorable};
 ghost use Rattle.pie_store.specs.inner.Offers.{IsOffer};
-ghost use Rattle.pie_topdown.specs.inner.Frames.{MayStart, IsSite};
+ghost use Rattle.pie_topdown.specs.declared.hand.Hand.TheVariants as hands;
+ghost use Rattle.pie_topdown.specs.inner.Handed.{HasRecord, IsReplaceable};
 ghost use Rattle.pie_topdown.specs.inner.Offering.{OffersOrRuns, DiffersSo, FitsSo, HaveHashes, OffersSo, Takes, TellsOnce, TriesSo, ChecksOffer};
-ghost use Rattle.pie_topdown.specs.inner.Places.{MayGiveWay};
 ghost use Rattle.pie_topdown.specs.inner.Marks.{Marks};
+ghost use Rattle.pie_topdown.specs.inner.Steps.{OnlyAsks, SpendsTo, StartsWithin};
 ghost use Rattle.pie_topdown.specs.inner.Trying.{AsksFor, ChecksTried, DiffersTried, TriesFrom, TriesOffers};
-ghost use Rattle.pie_topdown.specs.inner.Turns.{TurnsTo, check_mass, below, Nearer, room, Fits, Spends, StartsOne, Keeps};
+ghost use Rattle.pie_topdown.specs.inner.Turns.{Stands, TurnsTo, check_mass, below, Nearer, room, Fits};
 ghost use Rattle.pie_topdown.specs.inner.Unoffered.{BeginsOwn, ChecksOwn, HoldsOwn, OffersNothing};
 
 use crate::begin::is_done;
@@ -37,17 +38,11 @@ impl<'a> Builder<'a> {
         files: &mut F,
         runs: &mut Runs,
     ) -> Result<Turn<'a>, FilesError>
-        requires site { IsSite self.old }
-        requires check { MayGiveWay self.old.ledger check.value }
-        ensures turns { IfOk result (TurnsTo self.new) }
-        ensures nearer { IfOk result (Nearer (below self.old + check_mass check.entry.value) self.new) }
-        ensures spends { IfOk result (Spends (room self.old + 1) runs.old runs.new self.new) }
-        ensures starts { StartsOne runs.old runs.new }
-        ensures few { length runs.new ≤ length runs.old + (room self.old + 1) }
-        ensures kept { OnOk result (Keeps self.old self.new) }
+        requires { IsReplaceable self.old check.value }
+        ensures steps { IfOk result (SpendsTo (below self.old + check_mass check.entry.value) (room self.old + 1) self.old runs.old runs.new self.new) }
+        ensures starts { StartsWithin (room self.old + 1) runs.old runs.new }
         ensures marks { OnOk result (Marks self.old check.entry.value.no.0 self.new runs.old runs.new) }
-        ensures reads { ReadsOnly F.holds F.moment F.left_since F.images F.faults files.old files.new result }
-        ensures told { O.told offers.new ≡ O.told offers.old }
+        ensures asks { OnlyAsks F.holds F.moment F.left_since F.images F.faults O.told files.old files.new offers.old offers.new result }
         ensures own { IfOk result (ChecksOwn (F.holds files.old) (O.told offers.old) self.old check.entry.value self.new) }
         ensures tried { IfOk result (DiffersTried (F.holds files.old) (O.told offers.old) self.old check.entry.value self.new runs.old runs.new) }
         ensures right { IfOk result (DiffersSo (F.holds files.old) (O.told offers.old) self.old check.entry.value self.new) }
@@ -69,17 +64,11 @@ impl<'a> Builder<'a> {
         files: &mut F,
         runs: &mut Runs,
     ) -> Result<Turn<'a>, FilesError>
-        requires site { IsSite self.old }
-        requires starts { MayStart self.old.ledger no.0 code.now.params }
-        ensures turns { IfOk result (TurnsTo self.new) }
-        ensures nearer { IfOk result (Nearer (below self.old + 6000016) self.new) }
-        ensures spends { IfOk result (Spends (room self.old + 1) runs.old runs.new self.new) }
-        ensures starts { StartsOne runs.old runs.new }
-        ensures few { length runs.new ≤ length runs.old + (room self.old + 1) }
-        ensures kept { OnOk result (Keeps self.old self.new) }
+        requires { Stands self.old (hands.Enters no code) }
+        ensures steps { IfOk result (SpendsTo (below self.old + 6000016) (room self.old + 1) self.old runs.old runs.new self.new) }
+        ensures starts { StartsWithin (room self.old + 1) runs.old runs.new }
         ensures marks { OnOk result (Marks self.old no.0 self.new runs.old runs.new) }
-        ensures reads { ReadsOnly F.holds F.moment F.left_since F.images F.faults files.old files.new result }
-        ensures told { O.told offers.new ≡ O.told offers.old }
+        ensures asks { OnlyAsks F.holds F.moment F.left_since F.images F.faults O.told files.old files.new offers.old offers.new result }
         ensures own { IfOk result (BeginsOwn (F.holds files.old) (O.told offers.old) self.old self.new) }
         ensures tried { IfOk result (TriesFrom (F.holds files.old) (O.told offers.old) self.old no.0 self.new runs.old runs.new) }
         ensures right { IfOk result (OffersOrRuns (F.holds files.old) (O.told offers.old) self.old no.0 code.now self.new) }
@@ -123,15 +112,10 @@ impl<'a> Builder<'a> {
         rest: Vec<Offer>,
         runs: &mut Runs,
     ) -> Result<Turn<'a>, OutOfMemory>
-        requires site { IsSite self.old }
-        requires starts { MayStart self.old.ledger no.0 code.now.params }
+        requires stands { Stands self.old (hands.Enters no code) }
         requires offers { All IsOffer rest.items }
-        ensures turns { IfOk result (TurnsTo self.new) }
-        ensures nearer { IfOk result (Nearer (below self.old + (length rest.items * 1000003 + 2000004)) self.new) }
-        ensures spends { IfOk result (Spends (room self.old + 1) runs.old runs.new self.new) }
-        ensures starts { StartsOne runs.old runs.new }
-        ensures few { length runs.new ≤ length runs.old + (room self.old + 1) }
-        ensures kept { OnOk result (Keeps self.old self.new) }
+        ensures steps { IfOk result (SpendsTo (below self.old + (length rest.items * 1000003 + 2000004)) (room self.old + 1) self.old runs.old runs.new self.new) }
+        ensures starts { StartsWithin (room self.old + 1) runs.old runs.new }
         ensures marks { OnOk result (Marks self.old no.0 self.new runs.old runs.new) }
         ensures own { rest.items ≡ [] → IfOk result (HoldsOwn self.old self.new) }
         ensures tried { IfOk result (TriesOffers self.old no.0 rest.items self.new runs.old runs.new) }
@@ -194,10 +178,7 @@ impl<'a> Builder<'a> {
         offer: Box<Offer>,
         rest: Vec<Offer>,
     ) -> Result<Turn<'a>, OutOfMemory>
-        requires site { IsSite self.now }
-        requires starts { MayStart self.now.ledger no.0 code.now.params }
-        requires storable { IsStorable offer.value.row }
-        requires named { slice_get self.now.ledger.tables.names no.0 ≡ Some offer.value.row.task }
+        requires offer { HasRecord self.now no.0 code.now.params offer.value.row }
         requires rest { All IsOffer rest.items }
         ensures turns { IfOk result (TurnsTo self.now) }
         ensures nearer { IfOk result (Nearer (below self.now + (length rest.items * 1000003 + 3000006)) self.now) }

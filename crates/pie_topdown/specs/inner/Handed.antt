@@ -1,5 +1,5 @@
 -- What a build that stands is handed: the task that asks, is told or ends, and the record with which one may end.
-use Rattle.std.specs.Prelude.{◌≡◌, ℕ, ◌<◌, true, List, length, map, All, Some, slice_get}
+use Rattle.std.specs.Prelude.{◌≡◌, ℕ, ◌<◌, ◌≤◌, true, List, length, map, All, Some, slice_get}
 use Rattle.std.specs.List.{Contains}
 use Rattle.pie_value.specs.declared.task.Task.{Task}
 use Rattle.pie_value.specs.declared.value.Value.{Value}
@@ -16,10 +16,13 @@ use Rattle.pie_running.specs.inner.Frames.{IsWaiting}
 use Rattle.pie_running.specs.inner.Noted.{Noted, IsSound}
 use Rattle.pie_store.specs.Canonical.{needs as needs_by}
 use Rattle.pie_topdown.specs.declared.builder.Builder.{Builder}
+use Rattle.pie_topdown.specs.declared.checking.Place.{Place}
+use Rattle.pie_topdown.specs.declared.hand.Check.{Check}
 use Rattle.pie_topdown.specs.declared.ledger.Ledger.{Ledger}
 use Rattle.pie_topdown.specs.inner.Entries.{MayBe}
-use Rattle.pie_topdown.specs.inner.Frames.{IsCaller, IsNoted, IsSite}
+use Rattle.pie_topdown.specs.inner.Frames.{IsCaller, IsCheck, IsNoted, IsSite, MayStart}
 use Rattle.pie_topdown.specs.inner.Ledgers.{HasOutput}
+use Rattle.pie_topdown.specs.inner.Places.{IsNew, IsPlace, MayGiveWay}
 
 -- a build stands in which the task with this number was entered
 pub record StandsWith (b : Builder) (n : ℕ) : Type 0 where
@@ -71,7 +74,32 @@ pub record MayEndWith (l : Ledger) (n : ℕ) (rec : TaskRecord) (required : List
   pub needs : tasks_at l.tables.names required ≡ map Some (needs_by rec)
   pub ended : All (HasOutput l.tables.records) required
 
--- a record that can be stored is of the task with this number
-pub record IsRecordOf (l : Ledger) (n : ℕ) (rec : TaskRecord) : Type 0 where
-  pub named : slice_get l.tables.names n ≡ Some rec.task
+-- the task with this number may start with code that takes so many arguments, and this record, which can be stored, is of it
+pub record HasRecord (b : Builder) (n params : ℕ) (rec : TaskRecord) : Type 0 where
+  pub site : IsSite b
+  pub starts : MayStart b.ledger n params
   pub storable : IsStorable rec
+  pub named : slice_get b.ledger.tables.names n ≡ Some rec.task
+
+-- ---- what a check is handed
+
+-- a record has an observation more, one of those that a task can make
+pub record HasNext (c : Check) : Type 0 where
+  pub inside : c.at < length c.rec.deps
+  pub few : c.at ≤ 1000000
+
+-- this was found at the next observation of a check
+pub record HasFound (b : Builder) (c : Check) (p : Place) : Type 0 where
+  pub site : IsSite b
+  pub place : IsPlace b.ledger c p
+
+-- a check is at a task that wasn't entered
+pub record IsAtNew (b : Builder) (c : Check) (t : Task) : Type 0 where
+  pub site : IsSite b
+  pub check : IsCheck b.ledger c
+  pub task : IsNew b.ledger t
+
+-- another record may be checked in place of that of a check, or its task may run
+pub record IsReplaceable (b : Builder) (c : Check) : Type 0 where
+  pub site : IsSite b
+  pub check : MayGiveWay b.ledger c

@@ -15,5 +15,5 @@ returns-clause-own g c = λ o own. c.in_ok-try_next.ensures.own (c.in_ok-rest.en
 pub returns-clause-tried : goal.returns-clause-tried
 returns-clause-tried g c =
     ask_tried {E = FilesError} (g.F.Files.holds c.args.files.now) (g.O.Offers.told c.args.offers.now) c.args.self.now c.try_next.new.self c.args.no.0
-    c.in_ok-rest.rest.items c.args.runs.now c.try_next.new.runs (Ok c.in_ok-try_next.field-0) c.requires.starts.inside c.in_ok-rest.ensures.asks
+    c.in_ok-rest.rest.items c.args.runs.now c.try_next.new.runs (Ok c.in_ok-try_next.field-0) c.requires.hand.inside c.in_ok-rest.ensures.asks
     c.in_ok-try_next.ensures.tried

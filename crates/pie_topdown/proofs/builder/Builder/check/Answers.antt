@@ -1,7 +1,7 @@
-use Rattle.std.proofs.Common.{◌≡◌, ℕ, ap, subst}
+use Rattle.std.proofs.Common.{◌≡◌, ℕ, sym, ap, subst}
 use Rattle.std.specs.Prelude.{OnOk}
 use Rattle.pie_topdown.specs.declared.hand.Check.{Check}
-use Rattle.pie_topdown.specs.inner.Places.{Finds}
+use Rattle.pie_topdown.specs.inner.Places.{Finds, IsPlace}
 use Rattle.pie_topdown.specs.inner.Marks.{Marks}
 use Rattle.pie_topdown.proofs.Twice.{reads_then}
 use Rattle.pie_topdown.proofs.Differing.{compares}
@@ -11,15 +11,20 @@ use Rattle.pie_topdown.proofs.Owning.{checks_after}
 use Rattle.pie_topdown.proofs.Stepped.{compares_tried}
 use Rattle.pie_topdown.proofs.builder.Builder.check.Goals as goal
 
-pub go_on-requires-clause-site : goal.go_on-requires-clause-site
-go_on-requires-clause-site g c =
+pub go_on-requires : goal.go_on-requires
+go_on-requires g c =
     let e = c.look.ensures.same in
-    same_site c.args.self.now c.look.new.self (ap (λ b. b.plan) e) (ap (λ b. b.ledger) e) (ap (λ b. b.stack) e) c.requires.site
+    record {
+      site = same_site c.args.self.now c.look.new.self (ap (λ b. b.plan) e) (ap (λ b. b.ledger) e) (ap (λ b. b.stack) e) c.requires.site;
+      place = subst (λ l. IsPlace l c.look.new.check c.in_ok-place.place) (ap (λ b. b.ledger) (sym e)) c.in_ok-place.ensures.place;
+    }
 
-pub returns-clause-reads : goal.returns-clause-reads
-returns-clause-reads g c =
-    reads_then g.F.Files.holds g.F.Files.moment g.F.Files.left_since g.F.Files.images g.F.Files.faults c.args.files.now c.look.new.files
-    c.go_on.new.files _ c.go_on.result c.in_ok-place.ensures.reads c.go_on.ensures.reads
+pub returns-clause-asks : goal.returns-clause-asks
+returns-clause-asks g c = record {
+  reads = reads_then g.F.Files.holds g.F.Files.moment g.F.Files.left_since g.F.Files.images g.F.Files.faults c.args.files.now c.look.new.files
+      c.go_on.new.files _ c.go_on.result c.in_ok-place.ensures.reads c.go_on.ensures.asks.reads;
+  told = c.go_on.ensures.asks.told;
+}
 
 pub returns-clause-right : goal.returns-clause-right
 returns-clause-right g c =

@@ -9,7 +9,7 @@ use Rattle.pie_topdown.proofs.builder.Builder.check_offer.Goals as goal
 
 pub returns-clause-right : goal.returns-clause-right
 returns-clause-right c =
-    offer_checks c.args.self.now c.args.no.0 c.args.code.now c.args.offer.value c.args.rest c.in_ok-check.check c.requires.named
+    offer_checks c.args.self.now c.args.no.0 c.args.code.now c.args.offer.value c.args.rest c.in_ok-check.check c.requires.offer.named
     (subst (λ (o : Offer). BeginsCheck c.args.self.now c.args.no.0 c.args.code.now o.row (Some o.contents) (rests.Asked c.args.rest) c.in_ok-check.check.value)
     c.into_inner-row.ensures
     (subst (λ (r : TaskRecord). BeginsCheck c.args.self.now c.args.no.0 c.args.code.now r (Some c.into_inner-row.result.contents) (rests.Asked c.args.rest)

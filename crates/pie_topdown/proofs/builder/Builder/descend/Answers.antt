@@ -15,13 +15,13 @@ pub returns-in-Unknown-clause-right : goal.returns-in-Unknown-clause-right
 returns-in-Unknown-clause-right g c =
     let may : MayEnter c.args.self.now c.args.task Unknown = rw c.in-Unknown.is at c.entry.ensures in
     lost_requires (g.F.Files.holds c.args.files.now) (g.O.Offers.told c.args.offers.now) c.args.self.now c.differs.new.self c.args.check.value c.args.task
-    c.differs.result c.requires.check.named c.differs.ensures.right may c.requires.encodable c.requires.absent
+    c.differs.result c.requires.check.named c.differs.ensures.right may c.requires.task.encodable c.requires.task.absent
 
 pub returns-clause-right : goal.returns-clause-right
 returns-clause-right g c =
     let may : MayEnter c.args.self.now c.args.task Full = rw c.in-Full.is at c.entry.ensures in
     full_requires (g.F.Files.holds c.args.files.now) (g.O.Offers.told c.args.offers.now) c.args.self.now c.args.check.value c.args.task may
-    c.requires.encodable c.requires.absent
+    c.requires.task.encodable c.requires.task.absent
 
 pub returns-in-May-clause-own : goal.returns-in-May-clause-own
 returns-in-May-clause-own g c = λ o own this. c.in_ok-push_check-in-May.ensures.own this own
@@ -39,7 +39,7 @@ pub returns-in-Unknown-clause-tried : goal.returns-in-Unknown-clause-tried
 returns-in-Unknown-clause-tried g c =
     let may : MayEnter c.args.self.now c.args.task Unknown = rw c.in-Unknown.is at c.entry.ensures in
     lost_tried (g.F.Files.holds c.args.files.now) (g.O.Offers.told c.args.offers.now) c.args.self.now c.differs.new.self c.args.check.value c.args.task
-    c.args.runs.now c.differs.new.runs c.differs.result may c.requires.encodable c.differs.ensures.tried
+    c.args.runs.now c.differs.new.runs c.differs.result may c.requires.task.encodable c.differs.ensures.tried
 
 pub returns-clause-tried : goal.returns-clause-tried
 returns-clause-tried g c =

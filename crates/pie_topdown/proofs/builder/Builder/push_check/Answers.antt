@@ -9,31 +9,28 @@ use Rattle.pie_topdown.proofs.Owning.{pushed_own, same_own}
 use Rattle.pie_topdown.proofs.Trying.{check_waits}
 use Rattle.pie_topdown.proofs.builder.Builder.push_check.Goals as goal
 
-pub returns-clause-turns : goal.returns-clause-turns
-returns-clause-turns c = record {
-  site = pushed_site c.enter.new.self _ (frames.Checks c.args.check) c.in_ok-no.ensures.site
-      (check_grows c.args.self.now.ledger c.enter.new.self.ledger c.in_ok-no.ensures.kept.grows c.args.check.value c.requires.check) refl refl
-      c.in_ok-push.ensures.items;
-  hand = c.in_ok-no.ensures.starts;
-}
-
-pub returns-clause-nearer : goal.returns-clause-nearer
-returns-clause-nearer c =
-    pushed_nearer (length c.args.self.now.ledger.tables.names) (length c.enter.new.self.ledger.tables.names) c.args.self.now.stack.items
-    c.push.new.self.items (frames.Checks c.args.check) (check_mass c.args.check.value) c.requires.may.few c.in_ok-no.ensures.one
-    (c.in_ok-push.ensures.items ∙ ap (λ v. v.items ++ frames.Checks c.args.check ∷ []) c.in_ok-no.ensures.stack) (omega arith)
-
-pub returns-clause-fits : goal.returns-clause-fits
-returns-clause-fits c =
+pub returns-clause-steps : goal.returns-clause-steps
+returns-clause-steps c =
+    let items = c.in_ok-push.ensures.items ∙ ap (λ v. v.items ++ frames.Checks c.args.check ∷ []) c.in_ok-no.ensures.stack in
     let r = pushed_room (length c.args.self.now.ledger.tables.names) (length c.enter.new.self.ledger.tables.names) c.args.self.now.stack.items
-    c.push.new.self.items (frames.Checks c.args.check) c.requires.may.few c.in_ok-no.ensures.one
-    (c.in_ok-push.ensures.items ∙ ap (λ v. v.items ++ frames.Checks c.args.check ∷ []) c.in_ok-no.ensures.stack) in
-    omega (arith, r)
+    c.push.new.self.items (frames.Checks c.args.check) c.requires.may.few c.in_ok-no.ensures.one items in
+    record {
+      turns = record {
+        site = pushed_site c.enter.new.self _ (frames.Checks c.args.check) c.in_ok-no.ensures.site
+            (check_grows c.args.self.now.ledger c.enter.new.self.ledger c.in_ok-no.ensures.kept.grows c.args.check.value c.requires.finds.check) refl refl
+            c.in_ok-push.ensures.items;
+        hand = c.in_ok-no.ensures.starts;
+      };
+      nearer = pushed_nearer (length c.args.self.now.ledger.tables.names) (length c.enter.new.self.ledger.tables.names) c.args.self.now.stack.items
+          c.push.new.self.items (frames.Checks c.args.check) (check_mass c.args.check.value) c.requires.may.few c.in_ok-no.ensures.one items (omega arith);
+      fits = omega (arith, r);
+      kept = record { plan = c.in_ok-no.ensures.kept.plan; grows = c.in_ok-no.ensures.kept.grows };
+    }
 
 pub returns-clause-right : goal.returns-clause-right
 returns-clause-right c =
     check_pushed c.args.self.now c.enter.new.self c.args.check c.args.task c.args.code c.in_ok-no.no c.push.new.self c.in_ok-no.ensures.number
-    c.in_ok-no.ensures.added c.in_ok-no.ensures.right c.requires.may (last_unrecorded c.args.self.now.ledger c.requires.site.ledger) c.requires.absent
+    c.in_ok-no.ensures.added c.in_ok-no.ensures.right c.requires.may (last_unrecorded c.args.self.now.ledger c.requires.finds.site.ledger) c.requires.finds.task.absent
     c.in_ok-push.ensures.items
 
 pub returns-clause-own : goal.returns-clause-own

@@ -11,21 +11,21 @@ pub steps-preserved : goal.steps-preserved
 steps-preserved g c =
     let before = c.steps.invariant in
     let spends = subst (Spends (room c.steps.self + hand_room c.steps.hand) c.steps.runs c.step.new.runs c.step.new.self) c.in-Goes.is
-    c.in_ok-next.ensures.spends in (
-      subst (TurnsTo c.step.new.self) c.in-Goes.is c.in_ok-next.ensures.turns,
-      keeps_then c.args.self.now c.steps.self c.step.new.self before.1 c.in_ok-next.ensures.kept,
-      started_more c.args.runs.now c.steps.runs c.step.new.runs before.2 c.step.ensures.starts,
+    c.in_ok-next.ensures.steps.spends in (
+      subst (TurnsTo c.step.new.self) c.in-Goes.is c.in_ok-next.ensures.steps.turns,
+      keeps_then c.args.self.now c.steps.self c.step.new.self before.1 c.in_ok-next.ensures.steps.kept,
+      started_more c.args.runs.now c.steps.runs c.step.new.runs before.2 c.step.ensures.starts.starts,
       omega (arith, spends, before.3),
-      c.step.ensures.reads.same ∙ before.4,
-      c.in_ok-next.ensures.reads.counted.steady ∙ before.5,
+      c.step.ensures.asks.reads.same ∙ before.4,
+      c.in_ok-next.ensures.asks.reads.counted.steady ∙ before.5,
       both_before g.F.Files.holds g.F.Files.moment g.F.Files.left_since g.F.Files.images c.args.files.now c.steps.files c.step.new.files before.4
-          before.6 c.step.ensures.reads.crash,
+          before.6 c.step.ensures.asks.reads.crash,
       stays_on (g.F.Files.holds c.args.files.now) (g.F.Files.holds c.steps.files) (g.O.Offers.told c.args.offers.now) (g.O.Offers.told c.steps.offers) c.args.self.now
           c.steps.self c.step.new.self c.args.hand c.steps.hand _ before.4 before.8 before.1.plan before.7 c.in_ok-next.ensures.right c.in-Goes.next c.in-Goes.is,
-      c.step.ensures.told ∙ before.8,
+      c.step.ensures.asks.told ∙ before.8,
       ran_on (g.F.Files.holds c.args.files.now) (g.F.Files.holds c.steps.files) (g.O.Offers.told c.args.offers.now) (g.O.Offers.told c.steps.offers) c.args.self.now
           c.steps.self c.step.new.self c.args.hand c.steps.hand _ c.args.runs.now c.steps.runs c.step.new.runs before.4 before.8 before.1.plan before.7
-          c.in_ok-next.ensures.tried before.11 c.in_ok-next.ensures.kept c.in_ok-next.ensures.marks before.9,
+          c.in_ok-next.ensures.tried before.11 c.in_ok-next.ensures.steps.kept c.in_ok-next.ensures.marks before.9,
       own_on (g.F.Files.holds c.args.files.now) (g.F.Files.holds c.steps.files) (g.O.Offers.told c.args.offers.now) (g.O.Offers.told c.steps.offers)
           before.4 before.8 c.args.self.now c.steps.self c.step.new.self c.args.hand c.steps.hand _ before.10 c.in_ok-next.ensures.own c.in-Goes.next c.in-Goes.is,
       tried_on (g.F.Files.holds c.args.files.now) (g.F.Files.holds c.steps.files) (g.O.Offers.told c.args.offers.now) (g.O.Offers.told c.steps.offers)
@@ -35,25 +35,25 @@ steps-preserved g c =
 
 pub returns-in_err-next-clause-started : goal.returns-in_err-next-clause-started
 returns-in_err-next-clause-started g c =
-    started_more c.args.runs.now c.steps.runs c.step.new.runs c.steps.invariant.2 c.step.ensures.starts
+    started_more c.args.runs.now c.steps.runs c.step.new.runs c.steps.invariant.2 c.step.ensures.starts.starts
 
 pub returns-in-Rests-clause-kept : goal.returns-in-Rests-clause-kept
-returns-in-Rests-clause-kept g c = keeps_then c.args.self.now c.steps.self c.step.new.self c.steps.invariant.1 c.in_ok-next.ensures.kept
+returns-in-Rests-clause-kept g c = keeps_then c.args.self.now c.steps.self c.step.new.self c.steps.invariant.1 c.in_ok-next.ensures.steps.kept
 
 pub returns-in-Rests-clause-started : goal.returns-in-Rests-clause-started
-returns-in-Rests-clause-started g c = started_more c.args.runs.now c.steps.runs c.step.new.runs c.steps.invariant.2 c.step.ensures.starts
+returns-in-Rests-clause-started g c = started_more c.args.runs.now c.steps.runs c.step.new.runs c.steps.invariant.2 c.step.ensures.starts.starts
 
 pub returns-in-Many-clause-kept : goal.returns-in-Many-clause-kept
-returns-in-Many-clause-kept g c = keeps_then c.args.self.now c.steps.self c.step.new.self c.steps.invariant.1 c.in_ok-next.ensures.kept
+returns-in-Many-clause-kept g c = keeps_then c.args.self.now c.steps.self c.step.new.self c.steps.invariant.1 c.in_ok-next.ensures.steps.kept
 
 pub returns-in-Fails-clause-kept : goal.returns-in-Fails-clause-kept
-returns-in-Fails-clause-kept g c = keeps_then c.args.self.now c.steps.self c.step.new.self c.steps.invariant.1 c.in_ok-next.ensures.kept
+returns-in-Fails-clause-kept g c = keeps_then c.args.self.now c.steps.self c.step.new.self c.steps.invariant.1 c.in_ok-next.ensures.steps.kept
 
 pub returns-in-Many-clause-started : goal.returns-in-Many-clause-started
-returns-in-Many-clause-started g c = started_more c.args.runs.now c.steps.runs c.step.new.runs c.steps.invariant.2 c.step.ensures.starts
+returns-in-Many-clause-started g c = started_more c.args.runs.now c.steps.runs c.step.new.runs c.steps.invariant.2 c.step.ensures.starts.starts
 
 pub returns-in-Fails-clause-started : goal.returns-in-Fails-clause-started
-returns-in-Fails-clause-started g c = started_more c.args.runs.now c.steps.runs c.step.new.runs c.steps.invariant.2 c.step.ensures.starts
+returns-in-Fails-clause-started g c = started_more c.args.runs.now c.steps.runs c.step.new.runs c.steps.invariant.2 c.step.ensures.starts.starts
 
 pub returns-in-Rests-clause-right : goal.returns-in-Rests-clause-right
 returns-in-Rests-clause-right g c =
@@ -78,21 +78,21 @@ returns-in-Rests-clause-ran g c =
     let before = c.steps.invariant in
     ran_on (g.F.Files.holds c.args.files.now) (g.F.Files.holds c.steps.files) (g.O.Offers.told c.args.offers.now) (g.O.Offers.told c.steps.offers) c.args.self.now
     c.steps.self c.step.new.self c.args.hand c.steps.hand _ c.args.runs.now c.steps.runs c.step.new.runs before.4 before.8 before.1.plan before.7
-    c.in_ok-next.ensures.tried before.11 c.in_ok-next.ensures.kept c.in_ok-next.ensures.marks before.9
+    c.in_ok-next.ensures.tried before.11 c.in_ok-next.ensures.steps.kept c.in_ok-next.ensures.marks before.9
 
 pub returns-in-Many-clause-ran : goal.returns-in-Many-clause-ran
 returns-in-Many-clause-ran g c =
     let before = c.steps.invariant in
     ran_on (g.F.Files.holds c.args.files.now) (g.F.Files.holds c.steps.files) (g.O.Offers.told c.args.offers.now) (g.O.Offers.told c.steps.offers) c.args.self.now
     c.steps.self c.step.new.self c.args.hand c.steps.hand _ c.args.runs.now c.steps.runs c.step.new.runs before.4 before.8 before.1.plan before.7
-    c.in_ok-next.ensures.tried before.11 c.in_ok-next.ensures.kept c.in_ok-next.ensures.marks before.9
+    c.in_ok-next.ensures.tried before.11 c.in_ok-next.ensures.steps.kept c.in_ok-next.ensures.marks before.9
 
 pub returns-in-Fails-clause-ran : goal.returns-in-Fails-clause-ran
 returns-in-Fails-clause-ran g c =
     let before = c.steps.invariant in
     ran_on (g.F.Files.holds c.args.files.now) (g.F.Files.holds c.steps.files) (g.O.Offers.told c.args.offers.now) (g.O.Offers.told c.steps.offers) c.args.self.now
     c.steps.self c.step.new.self c.args.hand c.steps.hand _ c.args.runs.now c.steps.runs c.step.new.runs before.4 before.8 before.1.plan before.7
-    c.in_ok-next.ensures.tried before.11 c.in_ok-next.ensures.kept c.in_ok-next.ensures.marks before.9
+    c.in_ok-next.ensures.tried before.11 c.in_ok-next.ensures.steps.kept c.in_ok-next.ensures.marks before.9
 
 pub returns-in-Rests-clause-own : goal.returns-in-Rests-clause-own
 returns-in-Rests-clause-own g c =
