@@ -3,10 +3,11 @@ use Rattle.std.specs.Prelude.{◌≡◌, ℕ, ◌<◌, ◌≤◌, true, List, le
 use Rattle.std.specs.List.{Contains}
 use Rattle.pie_value.specs.declared.task.Task.{Task}
 use Rattle.pie_value.specs.declared.value.Value.{Value}
-use Rattle.pie_value.specs.Canonical.{IsEncodable, HasTrueLeaves}
+use Rattle.pie_value.specs.Canonical.{IsEncodable, IsEncodableTask, HasTrueLeaves}
 use Rattle.pie_value.specs.Limits.{is_small}
 use Rattle.pie_value.specs.Values.{tree_of}
 use Rattle.pie_code.specs.declared.code.Code.{Code}
+use Rattle.pie_digest.specs.Digests.{function_names}
 use Rattle.pie_old.specs.inner.Rows.{tasks_at}
 use Rattle.pie_record.specs.Canonical.{IsStorable}
 use Rattle.pie_record.specs.declared.task_record.TaskRecord.{TaskRecord}
@@ -66,6 +67,15 @@ pub record IsAnswered (b : Builder) (c : Caller) (callee : ℕ) (v : Value) : Ty
 pub record IsEnterable (b : Builder) (t : Task) (code : Code) : Type 0 where
   pub absent : ¬ (Contains b.ledger.tables.names t)
   pub may : MayBe b t code
+
+-- a task with canonical bytes that wasn't entered may be, by code that takes so many arguments
+pub record MayGainTask (b : Builder) (t : Task) (params : ℕ) : Type 0 where
+  pub site : IsSite b
+  pub encodable : IsEncodableTask t
+  pub absent : ¬ (Contains b.ledger.tables.names t)
+  pub few : length b.ledger.tables.names < 50000
+  pub takes : length t.args ≡ params
+  pub known : Contains (function_names b.plan.typed.now) t.func
 
 -- a task may end with this record: it can be stored, and the tasks that it requires have these numbers, in order, and outputs
 pub record MayEndWith (l : Ledger) (n : ℕ) (rec : TaskRecord) (required : List ℕ) : Type 0 where

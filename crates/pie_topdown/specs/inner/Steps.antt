@@ -15,6 +15,12 @@ pub record KeepsMarked (old new : Builder) : Type 0 where
   pub kept : Keeps old new
   pub marks : StaysMarked old new
 
+-- so it does, and one task more was entered
+pub record GainsOne (old new : Builder) : Type 0 where
+  pub one : length new.ledger.tables.names ≡ length old.ledger.tables.names + 1
+  pub kept : Keeps old new
+  pub marks : StaysMarked old new
+
 -- a step leaves the build standing and nearer to its end, and no more tasks may be started than so many
 pub record StepsTo (mass places : ℕ) (old new : Builder) (t : Turn) : Type 0 where
   pub turns : TurnsTo new t

@@ -14,7 +14,7 @@ use Rattle.pie_topdown.proofs.builder.Builder.push_caller.Goals as goal
 pub returns-clause-turns : goal.returns-clause-turns
 returns-clause-turns c = record {
   site = pushed_site c.enter.new.self _ (frames.Waits c.args.caller) c.in_ok-no.ensures.site
-      (caller_grows c.args.self.now.ledger c.enter.new.self.ledger c.in_ok-no.ensures.kept.grows c.args.caller c.requires.waits.caller) refl refl
+      (caller_grows c.args.self.now.ledger c.enter.new.self.ledger c.in_ok-no.ensures.gains.kept.grows c.args.caller c.requires.waits.caller) refl refl
       c.in_ok-push.ensures.items;
   hand = c.in_ok-no.ensures.starts;
 }
@@ -22,13 +22,13 @@ returns-clause-turns c = record {
 pub returns-clause-nearer : goal.returns-clause-nearer
 returns-clause-nearer c =
     pushed_nearer (length c.args.self.now.ledger.tables.names) (length c.enter.new.self.ledger.tables.names) c.args.self.now.stack.items
-    c.push.new.self.items (frames.Waits c.args.caller) (2 * c.args.caller.waiting.notes.left + 1) c.requires.enters.may.few c.in_ok-no.ensures.one
+    c.push.new.self.items (frames.Waits c.args.caller) (2 * c.args.caller.waiting.notes.left + 1) c.requires.enters.may.few c.in_ok-no.ensures.gains.one
     (c.in_ok-push.ensures.items ∙ ap (λ v. v.items ++ frames.Waits c.args.caller ∷ []) c.in_ok-no.ensures.stack) (omega arith)
 
 pub returns-clause-fits : goal.returns-clause-fits
 returns-clause-fits c =
     let r = pushed_room (length c.args.self.now.ledger.tables.names) (length c.enter.new.self.ledger.tables.names) c.args.self.now.stack.items
-    c.push.new.self.items (frames.Waits c.args.caller) c.requires.enters.may.few c.in_ok-no.ensures.one
+    c.push.new.self.items (frames.Waits c.args.caller) c.requires.enters.may.few c.in_ok-no.ensures.gains.one
     (c.in_ok-push.ensures.items ∙ ap (λ v. v.items ++ frames.Waits c.args.caller ∷ []) c.in_ok-no.ensures.stack) in
     omega (arith, r)
 
@@ -43,6 +43,6 @@ returns-clause-right c =
 pub returns-clause-marks : goal.returns-clause-marks
 returns-clause-marks c =
     goes_waiting c.args.self.now c.enter.new.self (record c.enter.new.self { stack = c.push.new.self }) c.args.caller c.in_ok-no.no c.args.code
-    (stays_then c.args.self.now c.enter.new.self (record c.enter.new.self { stack = c.push.new.self }) c.in_ok-no.ensures.marks
+    (stays_then c.args.self.now c.enter.new.self (record c.enter.new.self { stack = c.push.new.self }) c.in_ok-no.ensures.gains.marks
     (stays_same c.enter.new.self (record c.enter.new.self { stack = c.push.new.self }) refl refl))
     (ap (λ v. v.items) c.in_ok-no.ensures.stack) c.in_ok-push.ensures.items

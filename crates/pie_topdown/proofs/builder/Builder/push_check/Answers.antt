@@ -13,18 +13,18 @@ pub returns-clause-steps : goal.returns-clause-steps
 returns-clause-steps c =
     let items = c.in_ok-push.ensures.items ∙ ap (λ v. v.items ++ frames.Checks c.args.check ∷ []) c.in_ok-no.ensures.stack in
     let r = pushed_room (length c.args.self.now.ledger.tables.names) (length c.enter.new.self.ledger.tables.names) c.args.self.now.stack.items
-    c.push.new.self.items (frames.Checks c.args.check) c.requires.may.few c.in_ok-no.ensures.one items in
+    c.push.new.self.items (frames.Checks c.args.check) c.requires.may.few c.in_ok-no.ensures.gains.one items in
     record {
       turns = record {
         site = pushed_site c.enter.new.self _ (frames.Checks c.args.check) c.in_ok-no.ensures.site
-            (check_grows c.args.self.now.ledger c.enter.new.self.ledger c.in_ok-no.ensures.kept.grows c.args.check.value c.requires.finds.check) refl refl
+            (check_grows c.args.self.now.ledger c.enter.new.self.ledger c.in_ok-no.ensures.gains.kept.grows c.args.check.value c.requires.finds.check) refl refl
             c.in_ok-push.ensures.items;
         hand = c.in_ok-no.ensures.starts;
       };
       nearer = pushed_nearer (length c.args.self.now.ledger.tables.names) (length c.enter.new.self.ledger.tables.names) c.args.self.now.stack.items
-          c.push.new.self.items (frames.Checks c.args.check) (check_mass c.args.check.value) c.requires.may.few c.in_ok-no.ensures.one items (omega arith);
+          c.push.new.self.items (frames.Checks c.args.check) (check_mass c.args.check.value) c.requires.may.few c.in_ok-no.ensures.gains.one items (omega arith);
       fits = omega (arith, r);
-      kept = record { plan = c.in_ok-no.ensures.kept.plan; grows = c.in_ok-no.ensures.kept.grows };
+      kept = record { plan = c.in_ok-no.ensures.gains.kept.plan; grows = c.in_ok-no.ensures.gains.kept.grows };
     }
 
 pub returns-clause-right : goal.returns-clause-right
@@ -38,7 +38,7 @@ returns-clause-own c = λ this own. record {
   stack = pushed_own c.enter.new.self (record c.enter.new.self { stack = c.push.new.self }) (frames.Checks c.args.check) c.in_ok-push.ensures.items this
       (same_own c.args.self.now c.enter.new.self (ap (λ v. v.items) c.in_ok-no.ensures.stack) own);
   turn = tt;
-  reused = c.in_ok-no.ensures.marks.reused;
+  reused = c.in_ok-no.ensures.gains.marks.reused;
 }
 
 pub returns-clause-tried : goal.returns-clause-tried

@@ -17,9 +17,9 @@ returns-clause-continues g c = λ _.
     let spends = c.in_ok-rests.ensures.spends in
     let waits = ap (λ v. stack_room v.items) c.in_ok-no.ensures.stack in
     record {
-      plan = c.in_ok-rests.ensures.kept.plan ∙ c.in_ok-no.ensures.kept.plan;
-      grows = grows_then c.args.self.now.ledger c.enter.new.self.ledger c.run.new.self.ledger c.in_ok-no.ensures.kept.grows c.in_ok-rests.ensures.kept.grows;
-      spends = omega (arith, spends, waits, c.in_ok-no.ensures.one, c.requires.may.few);
+      plan = c.in_ok-rests.ensures.kept.plan ∙ c.in_ok-no.ensures.gains.kept.plan;
+      grows = grows_then c.args.self.now.ledger c.enter.new.self.ledger c.run.new.self.ledger c.in_ok-no.ensures.gains.kept.grows c.in_ok-rests.ensures.kept.grows;
+      spends = omega (arith, spends, waits, c.in_ok-no.ensures.gains.one, c.requires.may.few);
     }
 
 pub returns-in-Some-clause-right : goal.returns-in-Some-clause-right
@@ -66,7 +66,7 @@ returns-clause-ran g c =
     c.args.runs.now c.run.new.runs c.in_ok-rests.rests c.in_ok-no.ensures.number
     (subst (λ t. HasEntered a t c.enter.new.self) c.in_ok-copy.ensures c.in_ok-no.ensures.added)
     (subst (λ t. EntersSite a t c.enter.new.self) c.in_ok-copy.ensures c.in_ok-no.ensures.right) c.requires.may c.requires.site c.requires.absent
-    c.in_ok-no.ensures.kept c.in_ok-no.ensures.marks c.in_ok-rests.ensures.kept c.in_ok-rests.ensures.right c.in_ok-rests.ensures.ran
+    c.in_ok-no.ensures.gains.kept c.in_ok-no.ensures.gains.marks c.in_ok-rests.ensures.kept c.in_ok-rests.ensures.right c.in_ok-rests.ensures.ran
     (record c.run.new.self { failure = c.take.new.self }) c.in_ok-unless_done.field-0 (ap (λ f. record c.run.new.self { failure = f }) c.take.ensures.after)
 
 pub returns-in-Some-clause-full : goal.returns-in-Some-clause-full
@@ -77,7 +77,7 @@ returns-in-Some-clause-full g c =
     c.args.runs.now c.run.new.runs c.in_ok-rests.rests c.in_ok-no.ensures.number
     (subst (λ t. HasEntered a t c.enter.new.self) c.in_ok-copy.ensures c.in_ok-no.ensures.added)
     (subst (λ t. EntersSite a t c.enter.new.self) c.in_ok-copy.ensures c.in_ok-no.ensures.right) c.requires.may c.requires.site c.requires.absent
-    c.in_ok-no.ensures.kept c.in_ok-no.ensures.marks c.in_ok-rests.ensures.kept c.in_ok-rests.ensures.right c.in_ok-rests.ensures.ran
+    c.in_ok-no.ensures.gains.kept c.in_ok-no.ensures.gains.marks c.in_ok-rests.ensures.kept c.in_ok-rests.ensures.right c.in_ok-rests.ensures.ran
     c.start_waiting.new.self c.start_waiting.new.runs c.in-Some.why failed c.in_ok-start_waiting.ensures.names
     (subst (λ (f : Option Refusal). FallsWhole (record c.run.new.self { failure = f }) c.start_waiting.new.self c.run.new.runs c.start_waiting.new.runs)
     c.take.ensures.after c.in_ok-start_waiting.ensures.falls)
@@ -90,7 +90,7 @@ returns-then-not-rests-clause-full g c =
     c.args.runs.now c.run.new.runs c.in_ok-rests.rests c.in_ok-no.ensures.number
     (subst (λ t. HasEntered a t c.enter.new.self) c.in_ok-copy.ensures c.in_ok-no.ensures.added)
     (subst (λ t. EntersSite a t c.enter.new.self) c.in_ok-copy.ensures c.in_ok-no.ensures.right) c.requires.may c.requires.site c.requires.absent
-    c.in_ok-no.ensures.kept c.in_ok-no.ensures.marks c.in_ok-rests.ensures.kept c.in_ok-rests.ensures.right c.in_ok-rests.ensures.ran
+    c.in_ok-no.ensures.gains.kept c.in_ok-no.ensures.gains.marks c.in_ok-rests.ensures.kept c.in_ok-rests.ensures.right c.in_ok-rests.ensures.ran
     (record c.run.new.self { failure = c.take.new.self }) (ap (λ f. record c.run.new.self { failure = f }) c.take.ensures.after) c.if-not-rests.true calm
 
 pub returns-clause-full : goal.returns-clause-full
@@ -100,25 +100,25 @@ returns-clause-full g c =
     c.args.runs.now c.run.new.runs c.in_ok-rests.rests c.in_ok-no.ensures.number
     (subst (λ t. HasEntered a t c.enter.new.self) c.in_ok-copy.ensures c.in_ok-no.ensures.added)
     (subst (λ t. EntersSite a t c.enter.new.self) c.in_ok-copy.ensures c.in_ok-no.ensures.right) c.requires.may c.requires.site c.requires.absent
-    c.in_ok-no.ensures.kept c.in_ok-no.ensures.marks c.in_ok-rests.ensures.kept c.in_ok-rests.ensures.right c.in_ok-rests.ensures.ran
+    c.in_ok-no.ensures.gains.kept c.in_ok-no.ensures.gains.marks c.in_ok-rests.ensures.kept c.in_ok-rests.ensures.right c.in_ok-rests.ensures.ran
     (record c.run.new.self { failure = c.take.new.self }) c.in_ok-unless_done.field-0 (ap (λ f. record c.run.new.self { failure = f }) c.take.ensures.after)
     c.if-not-rests.false c.in_ok-unless_done.ensures.none
 
 pub returns-in-Some-clause-own : goal.returns-in-Some-clause-own
 returns-in-Some-clause-own g c =
     own_fallen (g.F.Files.holds c.args.files.now) (g.O.Offers.told c.args.offers.now) c.args.self.now c.enter.new.self c.run.new.self c.start_waiting.new.self
-    (hands.Enters c.in_ok-no.no c.args.code) (ap (λ v. v.items) c.in_ok-no.ensures.stack) c.in_ok-no.ensures.marks.reused tt c.in_ok-rests.ensures.own
+    (hands.Enters c.in_ok-no.no c.args.code) (ap (λ v. v.items) c.in_ok-no.ensures.stack) c.in_ok-no.ensures.gains.marks.reused tt c.in_ok-rests.ensures.own
     c.in_ok-start_waiting.ensures.empty (ap (λ b. b.reused.items) c.in_ok-start_waiting.ensures.rest)
 
 pub returns-then-not-rests-clause-own : goal.returns-then-not-rests-clause-own
 returns-then-not-rests-clause-own g c =
     own_root (g.F.Files.holds c.args.files.now) (g.O.Offers.told c.args.offers.now) c.args.self.now c.enter.new.self c.run.new.self (record c.run.new.self { failure = c.take.new.self })
-    (hands.Enters c.in_ok-no.no c.args.code) (ap (λ v. v.items) c.in_ok-no.ensures.stack) c.in_ok-no.ensures.marks.reused tt c.in_ok-rests.ensures.own refl refl
+    (hands.Enters c.in_ok-no.no c.args.code) (ap (λ v. v.items) c.in_ok-no.ensures.stack) c.in_ok-no.ensures.gains.marks.reused tt c.in_ok-rests.ensures.own refl refl
 
 pub returns-clause-own : goal.returns-clause-own
 returns-clause-own g c =
     own_root (g.F.Files.holds c.args.files.now) (g.O.Offers.told c.args.offers.now) c.args.self.now c.enter.new.self c.run.new.self (record c.run.new.self { failure = c.take.new.self })
-    (hands.Enters c.in_ok-no.no c.args.code) (ap (λ v. v.items) c.in_ok-no.ensures.stack) c.in_ok-no.ensures.marks.reused tt c.in_ok-rests.ensures.own refl refl
+    (hands.Enters c.in_ok-no.no c.args.code) (ap (λ v. v.items) c.in_ok-no.ensures.stack) c.in_ok-no.ensures.gains.marks.reused tt c.in_ok-rests.ensures.own refl refl
 
 pub returns-in_err-start_waiting-clause-started : goal.returns-in_err-start_waiting-clause-started
 returns-in_err-start_waiting-clause-started g c =
