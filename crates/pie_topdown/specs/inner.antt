@@ -22,3 +22,4 @@ pub mod Unoffered
 pub mod Filed
 pub mod Handed
 pub mod Steps
+pub mod Settled

@@ -1,18 +1,15 @@
 //! The roots, one after another.
-ghost use Rattle.std.specs.List.{Contains};
-ghost use Rattle.std.specs.Prelude.{◌≡◌, ◌≤◌, ◌+◌, length, All, None, true, false, IfOk, OnOk};
+ghost use Rattle.std.specs.Prelude.{◌≡◌, ◌≤◌, ◌+◌, length, None, true, false, IfOk, OnOk};
 ghost use Rattle.std.specs.Option.{option_map_or};
-ghost use Rattle.pie_files.specs.Reading.{ReadsOnly};
 ghost use Rattle.pie_results.specs.inner.Failures.{is_done as specs_is_done};
 ghost use Rattle.pie_value.specs.Canonical.{IsEncodableTask};
-ghost use Rattle.pie_topdown.specs.inner.Entries.{MayBe};
 ghost use Rattle.pie_topdown.specs.inner.Frames.{IsSite};
-ghost use Rattle.pie_topdown.specs.inner.Ran.{RansOn, SettlesRan, StopsRan, SettlesAllRan, StopsAllRan};
+ghost use Rattle.pie_topdown.specs.inner.Places.{IsNew};
 ghost use Rattle.pie_topdown.specs.inner.Right.{lost};
-ghost use Rattle.pie_topdown.specs.inner.Rooted.{RunsOnRight, SettlesRight, SettlesAllRight};
-ghost use Rattle.pie_topdown.specs.inner.Roots.{IsSettledRoot, AreSettled, Started, Continues};
+ghost use Rattle.pie_topdown.specs.inner.Roots.{IsSettledRoot, AreSettled, Started};
+ghost use Rattle.pie_topdown.specs.inner.Settled.{EndsRoot, EndsRoots, EndsSteps, HasSettled, MayGainRoot, StandsBefore};
+ghost use Rattle.pie_topdown.specs.inner.Steps.{OnlyAsks};
 ghost use Rattle.pie_topdown.specs.inner.Turns.{Stands, hand_room, room, Keeps};
-ghost use Rattle.pie_topdown.specs.inner.Unoffered.{EndsOwn, RunsOwn};
 
 use crate::begin::is_done;
 use crate::builder::Builder;
@@ -36,19 +33,14 @@ impl<'a> Builder<'a> {
         files: &mut F,
         runs: &mut Runs,
     ) -> Result<Option<Refusal>, FilesError>
-        requires site { IsSite self.old }
-        requires roots { All IsEncodableTask roots.now }
+        requires { StandsBefore self.old roots.now }
         ensures site { IfOk result (λ why. why ≡ None → IsSite self.new) }
         ensures settled { IfOk result (λ why. why ≡ None → AreSettled self.new.ledger roots.now) }
         ensures plan { OnOk result (self.new.plan ≡ self.old.plan) }
         ensures started { Started runs.old runs.new }
         ensures few { length runs.new ≤ length runs.old + room self.old }
-        ensures reads { ReadsOnly F.holds F.moment F.left_since F.images F.faults files.old files.new result }
-        ensures told { O.told offers.new ≡ O.told offers.old }
-        ensures own { OnOk result (EndsOwn (F.holds files.old) (O.told offers.old) self.old self.new) }
-        ensures right { IfOk result (SettlesAllRight (F.holds files.old) (O.told offers.old) self.old roots.now self.new) }
-        ensures ran { IfOk result (SettlesAllRan (F.holds files.old) (O.told offers.old) self.old roots.now self.new runs.old runs.new) }
-        ensures full { IfOk result (StopsAllRan (F.holds files.old) (O.told offers.old) self.old roots.now self.new runs.old runs.new) }
+        ensures asks { OnlyAsks F.holds F.moment F.left_since F.images F.faults O.told files.old files.new offers.old offers.new result }
+        ensures ends { IfOk result (EndsRoots (F.holds files.old) (O.told offers.old) self.old roots.now self.new runs.old runs.new) }
     {
         for root in roots {
             match self.settle(root, offers, files, runs)? {
@@ -70,18 +62,12 @@ impl<'a> Builder<'a> {
     ) -> Result<Option<Refusal>, FilesError>
         requires site { IsSite self.old }
         requires root { IsEncodableTask root.now }
-        ensures site { IfOk result (λ why. why ≡ None → IsSite self.new) }
-        ensures settled { IfOk result (λ why. why ≡ None → IsSettledRoot self.new.ledger root.now) }
-        ensures continues { IfOk result (λ why. why ≡ None → Continues self.old self.new runs.old runs.new) }
+        ensures settled { IfOk result (λ why. why ≡ None → HasSettled self.old root.now runs.old runs.new self.new) }
         ensures plan { OnOk result (self.new.plan ≡ self.old.plan) }
         ensures started { Started runs.old runs.new }
         ensures few { length runs.new ≤ length runs.old + room self.old }
-        ensures reads { ReadsOnly F.holds F.moment F.left_since F.images F.faults files.old files.new result }
-        ensures told { O.told offers.new ≡ O.told offers.old }
-        ensures own { OnOk result (EndsOwn (F.holds files.old) (O.told offers.old) self.old self.new) }
-        ensures right { IfOk result (SettlesRight (F.holds files.old) (O.told offers.old) self.old root.now self.new) }
-        ensures ran { IfOk result (SettlesRan (F.holds files.old) (O.told offers.old) self.old root.now self.new runs.old runs.new) }
-        ensures full { IfOk result (StopsRan (F.holds files.old) (O.told offers.old) self.old root.now self.new runs.old runs.new) }
+        ensures asks { OnlyAsks F.holds F.moment F.left_since F.images F.faults O.told files.old files.new offers.old offers.new result }
+        ensures ends { IfOk result (EndsRoot (F.holds files.old) (O.told offers.old) self.old root.now self.new runs.old runs.new) }
     {
         match self.ledger.tables.names.number(root)? {
             Some(_no) => Ok(self.unless_done(root)?),
@@ -99,20 +85,13 @@ impl<'a> Builder<'a> {
         runs: &mut Runs,
     ) -> Result<Option<Refusal>, FilesError>
         requires site { IsSite self.old }
-        requires root { IsEncodableTask root.now }
-        requires absent { ¬ (Contains self.old.ledger.tables.names root.now) }
-        ensures site { IfOk result (λ why. why ≡ None → IsSite self.new) }
-        ensures settled { IfOk result (λ why. why ≡ None → IsSettledRoot self.new.ledger root.now) }
-        ensures continues { IfOk result (λ why. why ≡ None → Continues self.old self.new runs.old runs.new) }
+        requires root { IsNew self.old.ledger root.now }
+        ensures settled { IfOk result (λ why. why ≡ None → HasSettled self.old root.now runs.old runs.new self.new) }
         ensures plan { OnOk result (self.new.plan ≡ self.old.plan) }
         ensures started { Started runs.old runs.new }
         ensures few { length runs.new ≤ length runs.old + room self.old }
-        ensures reads { ReadsOnly F.holds F.moment F.left_since F.images F.faults files.old files.new result }
-        ensures told { O.told offers.new ≡ O.told offers.old }
-        ensures own { OnOk result (EndsOwn (F.holds files.old) (O.told offers.old) self.old self.new) }
-        ensures right { IfOk result (SettlesRight (F.holds files.old) (O.told offers.old) self.old root.now self.new) }
-        ensures ran { IfOk result (SettlesRan (F.holds files.old) (O.told offers.old) self.old root.now self.new runs.old runs.new) }
-        ensures full { IfOk result (StopsRan (F.holds files.old) (O.told offers.old) self.old root.now self.new runs.old runs.new) }
+        ensures asks { OnlyAsks F.holds F.moment F.left_since F.images F.faults O.told files.old files.new offers.old offers.new result }
+        ensures ends { IfOk result (EndsRoot (F.holds files.old) (O.told offers.old) self.old root.now self.new runs.old runs.new) }
     {
         // The model knows the root by its canonical bytes.
         let _bytes = encode_task(self.alloc, root)?;
@@ -133,22 +112,13 @@ impl<'a> Builder<'a> {
         files: &mut F,
         runs: &mut Runs,
     ) -> Result<Option<Refusal>, FilesError>
-        requires site { IsSite self.old }
-        requires root { IsEncodableTask root.now }
-        requires absent { ¬ (Contains self.old.ledger.tables.names root.now) }
-        requires may { MayBe self.old root.now code.now }
-        ensures site { IfOk result (λ why. why ≡ None → IsSite self.new) }
-        ensures settled { IfOk result (λ why. why ≡ None → IsSettledRoot self.new.ledger root.now) }
-        ensures continues { IfOk result (λ why. why ≡ None → Continues self.old self.new runs.old runs.new) }
+        requires { MayGainRoot self.old root.now code.now }
+        ensures settled { IfOk result (λ why. why ≡ None → HasSettled self.old root.now runs.old runs.new self.new) }
         ensures plan { OnOk result (self.new.plan ≡ self.old.plan) }
         ensures started { Started runs.old runs.new }
         ensures few { length runs.new ≤ length runs.old + room self.old }
-        ensures reads { ReadsOnly F.holds F.moment F.left_since F.images F.faults files.old files.new result }
-        ensures told { O.told offers.new ≡ O.told offers.old }
-        ensures own { OnOk result (EndsOwn (F.holds files.old) (O.told offers.old) self.old self.new) }
-        ensures right { IfOk result (SettlesRight (F.holds files.old) (O.told offers.old) self.old root.now self.new) }
-        ensures ran { IfOk result (SettlesRan (F.holds files.old) (O.told offers.old) self.old root.now self.new runs.old runs.new) }
-        ensures full { IfOk result (StopsRan (F.holds files.old) (O.told offers.old) self.old root.now self.new runs.old runs.new) }
+        ensures asks { OnlyAsks F.holds F.moment F.left_since F.images F.faults O.told files.old files.new offers.old offers.new result }
+        ensures ends { IfOk result (EndsRoot (F.holds files.old) (O.told offers.old) self.old root.now self.new runs.old runs.new) }
     {
         let no = self.enter(root.copy()?, code)?;
         let rests = self.run(Hand::Enters(no, code), offers, files, runs)?;
@@ -177,11 +147,8 @@ impl<'a> Builder<'a> {
         ensures spends { OnOk result (length runs.new + room self.new ≤ length runs.old + (room self.old + hand_room hand.entry)) }
         ensures started { Started runs.old runs.new }
         ensures few { length runs.new ≤ length runs.old + (room self.old + hand_room hand.entry) }
-        ensures reads { ReadsOnly F.holds F.moment F.left_since F.images F.faults files.old files.new result }
-        ensures told { O.told offers.new ≡ O.told offers.old }
-        ensures own { OnOk result (RunsOwn (F.holds files.old) (O.told offers.old) self.old hand.entry self.new) }
-        ensures right { IfOk result (RunsOnRight (F.holds files.old) (O.told offers.old) self.old hand.entry self.new) }
-        ensures ran { OnOk result (RansOn (F.holds files.old) (O.told offers.old) self.old hand.entry self.new runs.old runs.new) }
+        ensures asks { OnlyAsks F.holds F.moment F.left_since F.images F.faults O.told files.old files.new offers.old offers.new result }
+        ensures ends { IfOk result (EndsSteps (F.holds files.old) (O.told offers.old) self.old hand.entry self.new runs.old runs.new) }
     {
         let mut hand = hand;
         'steps: loop {

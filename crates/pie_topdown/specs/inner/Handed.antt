@@ -38,11 +38,11 @@ pub record IsAsking (b : Builder) (n : ℕ) (w : Waiting) : Type 0 where
   pub number : n ≡ w.notes.number
 
 -- a task that ran under this number is at its end, with what it noted
-pub record IsEnding (b : Builder) (n : ℕ) (noted_last : Noted) : Type 0 where
+pub record IsEnding (b : Builder) (n : ℕ) (last : Noted) : Type 0 where
   pub site : IsSite b
-  pub sound : IsSound noted_last
-  pub noted : IsNoted b.ledger noted_last
-  pub number : n ≡ noted_last.number
+  pub sound : IsSound last
+  pub noted : IsNoted b.ledger last
+  pub number : n ≡ last.number
 
 -- a value of a program that has canonical bytes and is within the limits
 pub record IsOutput (v : Value) : Type 0 where

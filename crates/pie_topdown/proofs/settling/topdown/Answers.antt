@@ -20,7 +20,7 @@ returns-in-Some-clause-clean g c = λ program.
     (subst IsSite (sym first) c.in_ok-builder.ensures.site)
     (subst (λ (b : Builder). IsPlanOf c.args.typed.now c.args.code.now c.args.image.funcs c.args.digests.now c.args.image.rows b.plan) (sym first)
     c.in_ok-builder.ensures.plan) (subst IsUnbegun (sym first) c.in_ok-builder.ensures.unbegun) c.in_ok-why.why c.in-Some.refusal c.in-Some.is
-    c.refused.ensures.verdict c.in_ok-why.ensures.right
+    c.refused.ensures.verdict c.in_ok-why.ensures.ends.right
 
 pub returns-clause-clean : goal.returns-clause-clean
 returns-clause-clean g c = λ program.
@@ -31,7 +31,7 @@ returns-clause-clean g c = λ program.
     (g.O.Offers.told c.args.offers.now) c.args.roots.now old c.settle_all.new.self c.in_ok-built-in-None.built program c.requires.storable
     (subst IsSite (sym first) c.in_ok-builder.ensures.site)
     (subst (λ (b : Builder). IsPlanOf c.args.typed.now c.args.code.now c.args.image.funcs c.args.digests.now c.args.image.rows b.plan) (sym first)
-    c.in_ok-builder.ensures.plan) (subst IsUnbegun (sym first) c.in_ok-builder.ensures.unbegun) c.in_ok-why.why c.in-None.is c.in_ok-why.ensures.right makes
+    c.in_ok-builder.ensures.plan) (subst IsUnbegun (sym first) c.in_ok-builder.ensures.unbegun) c.in_ok-why.why c.in-None.is c.in_ok-why.ensures.ends.right makes
 
 pub returns-in-Some-clause-ran : goal.returns-in-Some-clause-ran
 returns-in-Some-clause-ran g c = λ program.
@@ -45,7 +45,7 @@ returns-in-Some-clause-ran g c = λ program.
     c.tell_reused.new.reused.items program c.requires.storable (subst IsSite (sym first) c.in_ok-builder.ensures.site)
     (subst (λ (b : Builder). IsPlanOf c.args.typed.now c.args.code.now c.args.image.funcs c.args.digests.now c.args.image.rows b.plan) (sym first)
     c.in_ok-builder.ensures.plan) (subst IsUnbegun (sym first) c.in_ok-builder.ensures.unbegun) c.in_ok-why.why c.in-Some.refusal c.in-Some.is
-    c.refused.ensures.verdict c.in_ok-why.ensures.plan c.in_ok-why.ensures.full adds
+    c.refused.ensures.verdict c.in_ok-why.ensures.plan c.in_ok-why.ensures.ends.full adds
 
 pub returns-clause-ran : goal.returns-clause-ran
 returns-clause-ran g c = λ program.
@@ -59,7 +59,7 @@ returns-clause-ran g c = λ program.
     c.tell_reused.new.reused.items program c.requires.storable (subst IsSite (sym first) c.in_ok-builder.ensures.site)
     (subst (λ (b : Builder). IsPlanOf c.args.typed.now c.args.code.now c.args.image.funcs c.args.digests.now c.args.image.rows b.plan) (sym first)
     c.in_ok-builder.ensures.plan) (subst IsUnbegun (sym first) c.in_ok-builder.ensures.unbegun) c.in_ok-why.why c.in-None.is
-    (c.in_ok-why.ensures.site c.in-None.is) c.in_ok-why.ensures.plan c.in_ok-why.ensures.right c.in_ok-why.ensures.ran adds
+    (c.in_ok-why.ensures.site c.in-None.is) c.in_ok-why.ensures.plan c.in_ok-why.ensures.ends.right c.in_ok-why.ensures.ends.ran adds
 
 pub returns-in-Some-clause-none : goal.returns-in-Some-clause-none
 returns-in-Some-clause-none g c =
@@ -69,7 +69,7 @@ returns-in-Some-clause-none g c =
     let adds : AddsNamed c.settle_all.new.self (numbers c.settle_all.new.self.reused.items) c.args.reused.now.items c.tell_reused.new.reused.items =
     subst (λ (b : Builder). AddsNamed b (numbers b.reused.items) c.args.reused.now.items c.tell_reused.new.reused.items) there c.in_ok-tell_reused.ensures.named in
     nothing_reused (g.F.Files.holds c.args.files.now) (g.O.Offers.told c.args.offers.now) old c.settle_all.new.self c.args.reused.now.items c.tell_reused.new.reused.items
-    (subst IsUnbegun (sym first) c.in_ok-builder.ensures.unbegun) c.in_ok-why.ensures.own adds
+    (subst IsUnbegun (sym first) c.in_ok-builder.ensures.unbegun) c.in_ok-why.ensures.ends.own adds
 
 pub returns-clause-none : goal.returns-clause-none
 returns-clause-none g c =
@@ -79,7 +79,7 @@ returns-clause-none g c =
     let adds : AddsNamed c.settle_all.new.self (numbers c.settle_all.new.self.reused.items) c.args.reused.now.items c.tell_reused.new.reused.items =
     subst (λ (b : Builder). AddsNamed b (numbers b.reused.items) c.args.reused.now.items c.tell_reused.new.reused.items) there c.in_ok-tell_reused.ensures.named in
     nothing_reused (g.F.Files.holds c.args.files.now) (g.O.Offers.told c.args.offers.now) old c.settle_all.new.self c.args.reused.now.items c.tell_reused.new.reused.items
-    (subst IsUnbegun (sym first) c.in_ok-builder.ensures.unbegun) c.in_ok-why.ensures.own adds
+    (subst IsUnbegun (sym first) c.in_ok-builder.ensures.unbegun) c.in_ok-why.ensures.ends.own adds
 
 pub returns-in-Some-clause-files : goal.returns-in-Some-clause-files
 returns-in-Some-clause-files g c = λ program.
@@ -102,4 +102,4 @@ returns-clause-files g c = λ program.
     c.args.reused.now.items c.tell_reused.new.reused.items program c.requires.storable (subst IsSite (sym first) c.in_ok-builder.ensures.site)
     (subst (λ (b : Builder). IsPlanOf c.args.typed.now c.args.code.now c.args.image.funcs c.args.digests.now c.args.image.rows b.plan) (sym first)
     c.in_ok-builder.ensures.plan) (subst IsUnbegun (sym first) c.in_ok-builder.ensures.unbegun) c.in_ok-why.why c.in-None.is c.in_ok-why.ensures.plan
-    c.in_ok-why.ensures.right c.in_ok-why.ensures.ran adds makes
+    c.in_ok-why.ensures.ends.right c.in_ok-why.ensures.ends.ran adds makes

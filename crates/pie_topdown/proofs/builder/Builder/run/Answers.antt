@@ -55,59 +55,44 @@ returns-in-Many-clause-started g c = started_more c.args.runs.now c.steps.runs c
 pub returns-in-Fails-clause-started : goal.returns-in-Fails-clause-started
 returns-in-Fails-clause-started g c = started_more c.args.runs.now c.steps.runs c.step.new.runs c.steps.invariant.2 c.step.ensures.starts.starts
 
-pub returns-in-Rests-clause-right : goal.returns-in-Rests-clause-right
-returns-in-Rests-clause-right g c =
-    let before = c.steps.invariant in
-    stops_rests (g.F.Files.holds c.args.files.now) (g.F.Files.holds c.steps.files) (g.O.Offers.told c.args.offers.now) (g.O.Offers.told c.steps.offers) c.args.self.now
-    c.steps.self c.step.new.self c.args.hand c.steps.hand _ before.4 before.8 before.1.plan before.7 c.in_ok-next.ensures.right c.in-Rests.is
+pub returns-in-Rests-clause-ends : goal.returns-in-Rests-clause-ends
+returns-in-Rests-clause-ends g c = record {
+  own = let before = c.steps.invariant in
+      own_stepped (g.F.Files.holds c.args.files.now) (g.F.Files.holds c.steps.files) (g.O.Offers.told c.args.offers.now) (g.O.Offers.told c.steps.offers)
+      before.4 before.8 c.args.self.now c.steps.self c.step.new.self c.args.hand c.steps.hand _ before.10 c.in_ok-next.ensures.own;
+  right = let before = c.steps.invariant in
+      stops_rests (g.F.Files.holds c.args.files.now) (g.F.Files.holds c.steps.files) (g.O.Offers.told c.args.offers.now) (g.O.Offers.told c.steps.offers) c.args.self.now
+      c.steps.self c.step.new.self c.args.hand c.steps.hand _ before.4 before.8 before.1.plan before.7 c.in_ok-next.ensures.right c.in-Rests.is;
+  ran = let before = c.steps.invariant in
+      ran_on (g.F.Files.holds c.args.files.now) (g.F.Files.holds c.steps.files) (g.O.Offers.told c.args.offers.now) (g.O.Offers.told c.steps.offers) c.args.self.now
+      c.steps.self c.step.new.self c.args.hand c.steps.hand _ c.args.runs.now c.steps.runs c.step.new.runs before.4 before.8 before.1.plan before.7
+      c.in_ok-next.ensures.tried before.11 c.in_ok-next.ensures.steps.kept c.in_ok-next.ensures.marks before.9;
+}
 
-pub returns-in-Many-clause-right : goal.returns-in-Many-clause-right
-returns-in-Many-clause-right g c =
-    let before = c.steps.invariant in
-    stops_many (g.F.Files.holds c.args.files.now) (g.F.Files.holds c.steps.files) (g.O.Offers.told c.args.offers.now) (g.O.Offers.told c.steps.offers) c.args.self.now
-    c.steps.self c.step.new.self c.args.hand c.steps.hand _ before.4 before.8 before.1.plan before.7 c.in_ok-next.ensures.right c.in-Many.is
+pub returns-in-Many-clause-ends : goal.returns-in-Many-clause-ends
+returns-in-Many-clause-ends g c = record {
+  own = let before = c.steps.invariant in
+      own_stepped (g.F.Files.holds c.args.files.now) (g.F.Files.holds c.steps.files) (g.O.Offers.told c.args.offers.now) (g.O.Offers.told c.steps.offers)
+      before.4 before.8 c.args.self.now c.steps.self c.step.new.self c.args.hand c.steps.hand _ before.10 c.in_ok-next.ensures.own;
+  right = let before = c.steps.invariant in
+      stops_many (g.F.Files.holds c.args.files.now) (g.F.Files.holds c.steps.files) (g.O.Offers.told c.args.offers.now) (g.O.Offers.told c.steps.offers) c.args.self.now
+      c.steps.self c.step.new.self c.args.hand c.steps.hand _ before.4 before.8 before.1.plan before.7 c.in_ok-next.ensures.right c.in-Many.is;
+  ran = let before = c.steps.invariant in
+      ran_on (g.F.Files.holds c.args.files.now) (g.F.Files.holds c.steps.files) (g.O.Offers.told c.args.offers.now) (g.O.Offers.told c.steps.offers) c.args.self.now
+      c.steps.self c.step.new.self c.args.hand c.steps.hand _ c.args.runs.now c.steps.runs c.step.new.runs before.4 before.8 before.1.plan before.7
+      c.in_ok-next.ensures.tried before.11 c.in_ok-next.ensures.steps.kept c.in_ok-next.ensures.marks before.9;
+}
 
-pub returns-in-Fails-clause-right : goal.returns-in-Fails-clause-right
-returns-in-Fails-clause-right g c =
-    let before = c.steps.invariant in
-    stops_fails (g.F.Files.holds c.args.files.now) (g.F.Files.holds c.steps.files) (g.O.Offers.told c.args.offers.now) (g.O.Offers.told c.steps.offers) c.args.self.now
-    c.steps.self c.step.new.self c.args.hand c.steps.hand _ before.4 before.8 before.1.plan before.7 c.in_ok-next.ensures.right c.in-Fails.is
-
-pub returns-in-Rests-clause-ran : goal.returns-in-Rests-clause-ran
-returns-in-Rests-clause-ran g c =
-    let before = c.steps.invariant in
-    ran_on (g.F.Files.holds c.args.files.now) (g.F.Files.holds c.steps.files) (g.O.Offers.told c.args.offers.now) (g.O.Offers.told c.steps.offers) c.args.self.now
-    c.steps.self c.step.new.self c.args.hand c.steps.hand _ c.args.runs.now c.steps.runs c.step.new.runs before.4 before.8 before.1.plan before.7
-    c.in_ok-next.ensures.tried before.11 c.in_ok-next.ensures.steps.kept c.in_ok-next.ensures.marks before.9
-
-pub returns-in-Many-clause-ran : goal.returns-in-Many-clause-ran
-returns-in-Many-clause-ran g c =
-    let before = c.steps.invariant in
-    ran_on (g.F.Files.holds c.args.files.now) (g.F.Files.holds c.steps.files) (g.O.Offers.told c.args.offers.now) (g.O.Offers.told c.steps.offers) c.args.self.now
-    c.steps.self c.step.new.self c.args.hand c.steps.hand _ c.args.runs.now c.steps.runs c.step.new.runs before.4 before.8 before.1.plan before.7
-    c.in_ok-next.ensures.tried before.11 c.in_ok-next.ensures.steps.kept c.in_ok-next.ensures.marks before.9
-
-pub returns-in-Fails-clause-ran : goal.returns-in-Fails-clause-ran
-returns-in-Fails-clause-ran g c =
-    let before = c.steps.invariant in
-    ran_on (g.F.Files.holds c.args.files.now) (g.F.Files.holds c.steps.files) (g.O.Offers.told c.args.offers.now) (g.O.Offers.told c.steps.offers) c.args.self.now
-    c.steps.self c.step.new.self c.args.hand c.steps.hand _ c.args.runs.now c.steps.runs c.step.new.runs before.4 before.8 before.1.plan before.7
-    c.in_ok-next.ensures.tried before.11 c.in_ok-next.ensures.steps.kept c.in_ok-next.ensures.marks before.9
-
-pub returns-in-Rests-clause-own : goal.returns-in-Rests-clause-own
-returns-in-Rests-clause-own g c =
-    let before = c.steps.invariant in
-    own_stepped (g.F.Files.holds c.args.files.now) (g.F.Files.holds c.steps.files) (g.O.Offers.told c.args.offers.now) (g.O.Offers.told c.steps.offers)
-    before.4 before.8 c.args.self.now c.steps.self c.step.new.self c.args.hand c.steps.hand _ before.10 c.in_ok-next.ensures.own
-
-pub returns-in-Many-clause-own : goal.returns-in-Many-clause-own
-returns-in-Many-clause-own g c =
-    let before = c.steps.invariant in
-    own_stepped (g.F.Files.holds c.args.files.now) (g.F.Files.holds c.steps.files) (g.O.Offers.told c.args.offers.now) (g.O.Offers.told c.steps.offers)
-    before.4 before.8 c.args.self.now c.steps.self c.step.new.self c.args.hand c.steps.hand _ before.10 c.in_ok-next.ensures.own
-
-pub returns-in-Fails-clause-own : goal.returns-in-Fails-clause-own
-returns-in-Fails-clause-own g c =
-    let before = c.steps.invariant in
-    own_stepped (g.F.Files.holds c.args.files.now) (g.F.Files.holds c.steps.files) (g.O.Offers.told c.args.offers.now) (g.O.Offers.told c.steps.offers)
-    before.4 before.8 c.args.self.now c.steps.self c.step.new.self c.args.hand c.steps.hand _ before.10 c.in_ok-next.ensures.own
+pub returns-in-Fails-clause-ends : goal.returns-in-Fails-clause-ends
+returns-in-Fails-clause-ends g c = record {
+  own = let before = c.steps.invariant in
+      own_stepped (g.F.Files.holds c.args.files.now) (g.F.Files.holds c.steps.files) (g.O.Offers.told c.args.offers.now) (g.O.Offers.told c.steps.offers)
+      before.4 before.8 c.args.self.now c.steps.self c.step.new.self c.args.hand c.steps.hand _ before.10 c.in_ok-next.ensures.own;
+  right = let before = c.steps.invariant in
+      stops_fails (g.F.Files.holds c.args.files.now) (g.F.Files.holds c.steps.files) (g.O.Offers.told c.args.offers.now) (g.O.Offers.told c.steps.offers) c.args.self.now
+      c.steps.self c.step.new.self c.args.hand c.steps.hand _ before.4 before.8 before.1.plan before.7 c.in_ok-next.ensures.right c.in-Fails.is;
+  ran = let before = c.steps.invariant in
+      ran_on (g.F.Files.holds c.args.files.now) (g.F.Files.holds c.steps.files) (g.O.Offers.told c.args.offers.now) (g.O.Offers.told c.steps.offers) c.args.self.now
+      c.steps.self c.step.new.self c.args.hand c.steps.hand _ c.args.runs.now c.steps.runs c.step.new.runs before.4 before.8 before.1.plan before.7
+      c.in_ok-next.ensures.tried before.11 c.in_ok-next.ensures.steps.kept c.in_ok-next.ensures.marks before.9;
+}

@@ -11,28 +11,29 @@ use Rattle.pie_topdown.proofs.builder.Builder.settle_all.Goals as goal
 pub loop-root-preserved : goal.loop-root-preserved
 loop-root-preserved g c =
     let before = c.loop-root.invariant in
-    let continues = c.in_ok-refusal.ensures.continues c.in-None.is in (
-      c.in_ok-refusal.ensures.site c.in-None.is,
+    let one = c.in_ok-refusal.ensures.settled c.in-None.is in
+    let continues = one.continues in (
+      one.site,
       settled_more c.loop-root.self.ledger c.settle.new.self.ledger c.args.roots.now c.loop-root.root-index c.root-item.result continues.grows
-          c.loop-root-test.true c.root-item.is before.1 (c.in_ok-refusal.ensures.settled c.in-None.is),
+          c.loop-root-test.true c.root-item.is before.1 one.settled,
       continues_then c.args.self.now c.loop-root.self c.settle.new.self c.args.runs.now c.loop-root.runs c.settle.new.runs before.2 continues,
       started_then c.args.runs.now c.loop-root.runs c.settle.new.runs before.3 c.settle.ensures.started,
-      c.settle.ensures.reads.same ∙ before.4,
-      c.in_ok-refusal.ensures.reads.counted.steady ∙ before.5,
+      c.settle.ensures.asks.reads.same ∙ before.4,
+      c.in_ok-refusal.ensures.asks.reads.counted.steady ∙ before.5,
       both_before g.F.Files.holds g.F.Files.moment g.F.Files.left_since g.F.Files.images c.args.files.now c.loop-root.files c.settle.new.files before.4
-          before.6 c.settle.ensures.reads.crash,
+          before.6 c.settle.ensures.asks.reads.crash,
       settled_one (g.F.Files.holds c.args.files.now) (g.F.Files.holds c.loop-root.files) (g.O.Offers.told c.args.offers.now) (g.O.Offers.told c.loop-root.offers)
           c.args.self.now c.loop-root.self c.settle.new.self c.args.roots.now c.loop-root.root-index c.root-item.result c.loop-root-test.true c.root-item.is before.4
           before.8 before.2.plan before.7
           (subst (SettlesRight (g.F.Files.holds c.loop-root.files) (g.O.Offers.told c.loop-root.offers) c.loop-root.self c.root-item.result c.settle.new.self)
-          c.in-None.is c.in_ok-refusal.ensures.right),
-      c.settle.ensures.told ∙ before.8,
+          c.in-None.is c.in_ok-refusal.ensures.ends.right),
+      c.settle.ensures.asks.told ∙ before.8,
       ran_one_more (g.F.Files.holds c.args.files.now) (g.F.Files.holds c.loop-root.files) (g.O.Offers.told c.args.offers.now) (g.O.Offers.told c.loop-root.offers)
           c.args.self.now c.loop-root.self c.settle.new.self c.args.roots.now c.loop-root.root-index c.root-item.result c.args.runs.now c.loop-root.runs
-          c.settle.new.runs c.in_ok-refusal.field-0 c.loop-root-test.true c.root-item.is before.4 before.8 before.2.plan before.7 c.in_ok-refusal.ensures.ran
+          c.settle.new.runs c.in_ok-refusal.field-0 c.loop-root-test.true c.root-item.is before.4 before.8 before.2.plan before.7 c.in_ok-refusal.ensures.ends.ran
           c.in-None.is before.9,
       own_then (g.F.Files.holds c.args.files.now) (g.F.Files.holds c.loop-root.files) (g.O.Offers.told c.args.offers.now) (g.O.Offers.told c.loop-root.offers)
-          before.4 before.8 c.args.self.now c.loop-root.self c.settle.new.self before.10 c.in_ok-refusal.ensures.own,
+          before.4 before.8 c.args.self.now c.loop-root.self c.settle.new.self before.10 c.in_ok-refusal.ensures.ends.own,
     )
 
 pub returns-clause-settled : goal.returns-clause-settled
@@ -47,57 +48,45 @@ pub returns-in-Some-clause-started : goal.returns-in-Some-clause-started
 returns-in-Some-clause-started g c =
     started_then c.args.runs.now c.loop-root.runs c.settle.new.runs c.loop-root.invariant.3 c.settle.ensures.started
 
-pub returns-clause-right : goal.returns-clause-right
-returns-clause-right g c =
-    all_settled (g.F.Files.holds c.args.files.now) (g.O.Offers.told c.args.offers.now) c.args.self.now c.loop-root.self c.args.roots.now c.loop-root.root-index
-    c.loop-root-test.false c.loop-root.invariant.7
+pub returns-clause-ends : goal.returns-clause-ends
+returns-clause-ends g c = record {
+  own = c.loop-root.invariant.10;
+  right = all_settled (g.F.Files.holds c.args.files.now) (g.O.Offers.told c.args.offers.now) c.args.self.now c.loop-root.self c.args.roots.now c.loop-root.root-index
+      c.loop-root-test.false c.loop-root.invariant.7;
+  ran = all_ran (g.F.Files.holds c.args.files.now) (g.O.Offers.told c.args.offers.now) c.args.self.now c.loop-root.self c.args.roots.now c.args.runs.now c.loop-root.runs c.loop-root.invariant.9;
+  full = stops_none (g.F.Files.holds c.args.files.now) (g.O.Offers.told c.args.offers.now) c.args.self.now c.loop-root.self c.args.roots.now c.args.runs.now c.loop-root.runs;
+}
 
-pub returns-in-Some-clause-right : goal.returns-in-Some-clause-right
-returns-in-Some-clause-right g c =
+pub returns-in-Some-clause-ends : goal.returns-in-Some-clause-ends
+returns-in-Some-clause-ends g c = record {
+  own = let before = c.loop-root.invariant in
+      own_then (g.F.Files.holds c.args.files.now) (g.F.Files.holds c.loop-root.files) (g.O.Offers.told c.args.offers.now) (g.O.Offers.told c.loop-root.offers)
+      before.4 before.8 c.args.self.now c.loop-root.self c.settle.new.self before.10 c.in_ok-refusal.ensures.ends.own;
+  right = let before = c.loop-root.invariant in
+      refused_one (g.F.Files.holds c.args.files.now) (g.F.Files.holds c.loop-root.files) (g.O.Offers.told c.args.offers.now) (g.O.Offers.told c.loop-root.offers)
+      c.args.self.now c.loop-root.self c.settle.new.self c.args.roots.now c.loop-root.root-index c.root-item.result c.loop-root-test.true c.root-item.is before.4
+      before.8 before.2.plan before.7 c.in-Some.refusal
+      (subst (SettlesRight (g.F.Files.holds c.loop-root.files) (g.O.Offers.told c.loop-root.offers) c.loop-root.self c.root-item.result c.settle.new.self)
+      c.in-Some.is c.in_ok-refusal.ensures.ends.right);
+  ran = all_refused (g.F.Files.holds c.args.files.now) (g.O.Offers.told c.args.offers.now) c.args.self.now c.settle.new.self c.args.roots.now c.args.runs.now c.settle.new.runs c.in-Some.refusal;
+  full = let before = c.loop-root.invariant in
+      stops_one_more (g.F.Files.holds c.args.files.now) (g.F.Files.holds c.loop-root.files) (g.O.Offers.told c.args.offers.now) (g.O.Offers.told c.loop-root.offers)
+      c.args.self.now c.loop-root.self c.settle.new.self c.args.roots.now c.loop-root.root-index c.root-item.result c.args.runs.now c.loop-root.runs
+      c.settle.new.runs c.in-Some.refusal c.loop-root-test.true c.root-item.is before.4 before.8 before.2.plan before.7
+      (subst (StopsRan (g.F.Files.holds c.loop-root.files) (g.O.Offers.told c.loop-root.offers) c.loop-root.self c.root-item.result c.settle.new.self
+      c.loop-root.runs c.settle.new.runs) c.in-Some.is c.in_ok-refusal.ensures.ends.full) before.9;
+}
+
+pub returns-in-Some-clause-asks : goal.returns-in-Some-clause-asks
+returns-in-Some-clause-asks g c =
     let before = c.loop-root.invariant in
-    refused_one (g.F.Files.holds c.args.files.now) (g.F.Files.holds c.loop-root.files) (g.O.Offers.told c.args.offers.now) (g.O.Offers.told c.loop-root.offers)
-    c.args.self.now c.loop-root.self c.settle.new.self c.args.roots.now c.loop-root.root-index c.root-item.result c.loop-root-test.true c.root-item.is before.4
-    before.8 before.2.plan before.7 c.in-Some.refusal
-    (subst (SettlesRight (g.F.Files.holds c.loop-root.files) (g.O.Offers.told c.loop-root.offers) c.loop-root.self c.root-item.result c.settle.new.self)
-    c.in-Some.is c.in_ok-refusal.ensures.right)
-
-pub returns-clause-ran : goal.returns-clause-ran
-returns-clause-ran g c =
-    all_ran (g.F.Files.holds c.args.files.now) (g.O.Offers.told c.args.offers.now) c.args.self.now c.loop-root.self c.args.roots.now c.args.runs.now c.loop-root.runs c.loop-root.invariant.9
-
-pub returns-in-Some-clause-ran : goal.returns-in-Some-clause-ran
-returns-in-Some-clause-ran g c =
-    all_refused (g.F.Files.holds c.args.files.now) (g.O.Offers.told c.args.offers.now) c.args.self.now c.settle.new.self c.args.roots.now c.args.runs.now c.settle.new.runs c.in-Some.refusal
-
-pub returns-clause-full : goal.returns-clause-full
-returns-clause-full g c =
-    stops_none (g.F.Files.holds c.args.files.now) (g.O.Offers.told c.args.offers.now) c.args.self.now c.loop-root.self c.args.roots.now c.args.runs.now c.loop-root.runs
-
-pub returns-in-Some-clause-full : goal.returns-in-Some-clause-full
-returns-in-Some-clause-full g c =
-    let before = c.loop-root.invariant in
-    stops_one_more (g.F.Files.holds c.args.files.now) (g.F.Files.holds c.loop-root.files) (g.O.Offers.told c.args.offers.now) (g.O.Offers.told c.loop-root.offers)
-    c.args.self.now c.loop-root.self c.settle.new.self c.args.roots.now c.loop-root.root-index c.root-item.result c.args.runs.now c.loop-root.runs
-    c.settle.new.runs c.in-Some.refusal c.loop-root-test.true c.root-item.is before.4 before.8 before.2.plan before.7
-    (subst (StopsRan (g.F.Files.holds c.loop-root.files) (g.O.Offers.told c.loop-root.offers) c.loop-root.self c.root-item.result c.settle.new.self
-    c.loop-root.runs c.settle.new.runs) c.in-Some.is c.in_ok-refusal.ensures.full) before.9
-
-pub returns-clause-own : goal.returns-clause-own
-returns-clause-own g c = c.loop-root.invariant.10
-
-pub returns-in-Some-clause-own : goal.returns-in-Some-clause-own
-returns-in-Some-clause-own g c =
-    let before = c.loop-root.invariant in
-    own_then (g.F.Files.holds c.args.files.now) (g.F.Files.holds c.loop-root.files) (g.O.Offers.told c.args.offers.now) (g.O.Offers.told c.loop-root.offers)
-    before.4 before.8 c.args.self.now c.loop-root.self c.settle.new.self before.10 c.in_ok-refusal.ensures.own
-
-pub returns-in-Some-clause-reads : goal.returns-in-Some-clause-reads
-returns-in-Some-clause-reads g c =
-    let before = c.loop-root.invariant in
-    let steady = c.in_ok-refusal.ensures.reads.counted.steady ∙ before.5 in
+    let steady = c.in_ok-refusal.ensures.asks.reads.counted.steady ∙ before.5 in
     record {
-      same = c.settle.ensures.reads.same ∙ before.4;
-      crash = both_before g.F.Files.holds g.F.Files.moment g.F.Files.left_since g.F.Files.images c.args.files.now c.loop-root.files c.settle.new.files before.4
-          before.6 c.settle.ensures.reads.crash;
-      counted = record { later = omega (arith, steady); steady = steady; cause = λ e. absurd (let never : ⊥ = cc in never) };
+      reads = record {
+        same = c.settle.ensures.asks.reads.same ∙ before.4;
+        crash = both_before g.F.Files.holds g.F.Files.moment g.F.Files.left_since g.F.Files.images c.args.files.now c.loop-root.files c.settle.new.files
+            before.4 before.6 c.settle.ensures.asks.reads.crash;
+        counted = record { later = omega (arith, steady); steady = steady; cause = λ e. absurd (let never : ⊥ = cc in never) };
+      };
+      told = c.settle.ensures.asks.told ∙ before.8;
     }

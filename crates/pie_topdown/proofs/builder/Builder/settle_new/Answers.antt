@@ -8,39 +8,29 @@ use Rattle.pie_topdown.proofs.Totals.{ran_refused, root_lost, root_over}
 use Rattle.pie_topdown.proofs.Owning.{own_none}
 use Rattle.pie_topdown.proofs.builder.Builder.settle_new.Goals as goal
 
-pub returns-in-Unknown-clause-right : goal.returns-in-Unknown-clause-right
-returns-in-Unknown-clause-right g c = λ u done of listed s.
-    let t = c.args.root.now in
-    let may = subst (MayEnter c.args.self.now t) c.in-Unknown.is c.entry.ensures in
-    subst (IsRefused u done (enc_task t)) (sym (c.unknown.ensures ∙ ap lost c.in_ok-copy-in-Unknown.ensures))
-    (lost_refused c.args.self.now t (subst (IsCanonicalTask t) c.in_ok-_bytes.ensures.bytes c.in_ok-_bytes.ensures.canonical) c.requires.absent u done s of.plan
-    may.0 may.1)
+pub returns-in-Unknown-clause-ends : goal.returns-in-Unknown-clause-ends
+returns-in-Unknown-clause-ends g c = record {
+  own = own_none (g.F.Files.holds c.args.files.now) (g.O.Offers.told c.args.offers.now) c.args.self.now;
+  right = λ u done of listed s.
+      let t = c.args.root.now in
+      let may = subst (MayEnter c.args.self.now t) c.in-Unknown.is c.entry.ensures in
+      subst (IsRefused u done (enc_task t)) (sym (c.unknown.ensures ∙ ap lost c.in_ok-copy-in-Unknown.ensures))
+      (lost_refused c.args.self.now t (subst (IsCanonicalTask t) c.in_ok-_bytes.ensures.bytes c.in_ok-_bytes.ensures.canonical) c.requires.root.absent u done s of.plan
+      may.0 may.1);
+  ran = ran_refused (g.F.Files.holds c.args.files.now) (g.O.Offers.told c.args.offers.now) c.args.self.now c.args.root.now c.args.self.now c.args.runs.now c.args.runs.now c.unknown.result;
+  full = let t = c.args.root.now in
+      root_lost (g.F.Files.holds c.args.files.now) (g.O.Offers.told c.args.offers.now) c.args.self.now t c.args.runs.now c.unknown.result
+      (c.unknown.ensures ∙ ap lost c.in_ok-copy-in-Unknown.ensures) (subst (IsCanonicalTask t) c.in_ok-_bytes.ensures.bytes c.in_ok-_bytes.ensures.canonical) c.requires.root.absent
+      (subst (MayEnter c.args.self.now t) c.in-Unknown.is c.entry.ensures);
+}
 
-pub returns-clause-right : goal.returns-clause-right
-returns-clause-right g c = λ u done of listed s.
-    let t = c.args.root.now in
-    full_refused c.args.self.now t (subst (IsCanonicalTask t) c.in_ok-_bytes.ensures.bytes c.in_ok-_bytes.ensures.canonical) c.requires.absent u done s
-    (subst (MayEnter c.args.self.now t) c.in-Full.is c.entry.ensures)
-
-pub returns-in-Unknown-clause-ran : goal.returns-in-Unknown-clause-ran
-returns-in-Unknown-clause-ran g c =
-    ran_refused (g.F.Files.holds c.args.files.now) (g.O.Offers.told c.args.offers.now) c.args.self.now c.args.root.now c.args.self.now c.args.runs.now c.args.runs.now c.unknown.result
-
-pub returns-clause-ran : goal.returns-clause-ran
-returns-clause-ran g c = ran_refused (g.F.Files.holds c.args.files.now) (g.O.Offers.told c.args.offers.now) c.args.self.now c.args.root.now c.args.self.now c.args.runs.now c.args.runs.now Many
-
-pub returns-in-Unknown-clause-full : goal.returns-in-Unknown-clause-full
-returns-in-Unknown-clause-full g c =
-    let t = c.args.root.now in
-    root_lost (g.F.Files.holds c.args.files.now) (g.O.Offers.told c.args.offers.now) c.args.self.now t c.args.runs.now c.unknown.result
-    (c.unknown.ensures ∙ ap lost c.in_ok-copy-in-Unknown.ensures) (subst (IsCanonicalTask t) c.in_ok-_bytes.ensures.bytes c.in_ok-_bytes.ensures.canonical) c.requires.absent
-    (subst (MayEnter c.args.self.now t) c.in-Unknown.is c.entry.ensures)
-
-pub returns-clause-full : goal.returns-clause-full
-returns-clause-full g c = root_over (g.F.Files.holds c.args.files.now) (g.O.Offers.told c.args.offers.now) c.args.self.now c.args.root.now c.args.runs.now
-
-pub returns-in-Unknown-clause-own : goal.returns-in-Unknown-clause-own
-returns-in-Unknown-clause-own g c = own_none (g.F.Files.holds c.args.files.now) (g.O.Offers.told c.args.offers.now) c.args.self.now
-
-pub returns-clause-own : goal.returns-clause-own
-returns-clause-own g c = own_none (g.F.Files.holds c.args.files.now) (g.O.Offers.told c.args.offers.now) c.args.self.now
+pub returns-clause-ends : goal.returns-clause-ends
+returns-clause-ends g c = record {
+  own = own_none (g.F.Files.holds c.args.files.now) (g.O.Offers.told c.args.offers.now) c.args.self.now;
+  right = λ u done of listed s.
+      let t = c.args.root.now in
+      full_refused c.args.self.now t (subst (IsCanonicalTask t) c.in_ok-_bytes.ensures.bytes c.in_ok-_bytes.ensures.canonical) c.requires.root.absent u done s
+      (subst (MayEnter c.args.self.now t) c.in-Full.is c.entry.ensures);
+  ran = ran_refused (g.F.Files.holds c.args.files.now) (g.O.Offers.told c.args.offers.now) c.args.self.now c.args.root.now c.args.self.now c.args.runs.now c.args.runs.now Many;
+  full = root_over (g.F.Files.holds c.args.files.now) (g.O.Offers.told c.args.offers.now) c.args.self.now c.args.root.now c.args.runs.now;
+}
