@@ -40,6 +40,7 @@ pub mod Reasoning
 pub mod Rings
 pub mod Ringing
 pub mod Speaking
+pub mod Stepping
 pub mod Trying
 pub mod Overflowing
 pub mod Settling

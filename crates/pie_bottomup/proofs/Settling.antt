@@ -7,7 +7,7 @@ use Rattle.std.specs.declared.cmp.Ordering.TheVariants.{Less, Equal, Greater}
 use Rattle.std.specs.Ordering.{nat_cmp, is_eq, MatchOrdering}
 use Rattle.std.specs.Cmp.{ranks}
 use Rattle.std.proofs.lemmas.Bool.{cases_order}
-use Rattle.std.proofs.lemmas.List.{get_or-set_same}
+use Rattle.std.proofs.lemmas.List.{get_or-set_same, length-set}
 use Rattle.std.proofs.lemmas.List.Elements.{All-contains}
 use Rattle.std.proofs.lemmas.Option.{slice_get_within, get_or_from_slice_get}
 use Rattle.pie_check_laws.proofs.Members.{into_map, from_map, from_flat, none_in, here_or_there, only_one}
@@ -30,7 +30,7 @@ use Rattle.pie_record.specs.inner.Records.{record_of, Puts}
 use Rattle.pie_store.specs.Canonical.{needs, required_on}
 use Rattle.pie_tables.specs.declared.tables.Tables.{Tables}
 use Rattle.pie_tables.specs.Tabled.{IsTables, IsRecordAt, HasFailed}
-use Rattle.pie_walk.specs.declared.marks.Mark.TheVariants.{Runs}
+use Rattle.pie_walk.specs.declared.marks.Mark.TheVariants.{New, Runs, Settled}
 use Rattle.pie_walk.specs.declared.stack.Entry.{Entry}
 use Rattle.pie_walk.specs.declared.stack.Entry.TheVariants.{Visit, Waits}
 use Rattle.pie_walk.specs.Marks.{mark_of, IsSettled, IsIdle}
@@ -273,3 +273,15 @@ site_ended c t f task from r writes site holds tables names puts named so called
           (subst (λ (ns : List Task). IsBased c.plan.roots.items ns (below old.stack)) (sym names)
           (based_popped c.plan.roots.items c.tables.names old.stack site.based));
     }
+
+-- the task that ended is settled, and has a row still
+pub ended_settled : (c : Core) (f : Frames) (task : TaskNo) (row : Row) → Holds task c.frames → f.walk ≡ settled (with_row c.frames.walk task.0 row) task.0
+    → IsSettled f.walk.marks task.0 × (task.0 < length f.walk.rows)
+ended_settled c f task row holds e =
+    let old = c.frames.walk in
+    let walk = holds.taken.stands.holds in
+    let inside : task.0 < length old.rows = top_inside old (Waits task) holds.top walk in
+    let marked : task.0 < length old.marks = omega (arith, inside, walk.marks_sized) in (
+      ap (λ (s : WalkState). mark_of s.marks task.0) e ∙ get_or-set_same old.marks task.0 Settled New marked,
+      subst (λ (s : WalkState). task.0 < length s.rows) (sym e) (omega (arith, inside, length-set old.rows task.0 row)),
+    )

@@ -1,4 +1,5 @@
 -- Definitions that no clause of `pie_cli::run` rests on: invariants, and what functions say to each other.
+pub mod Added
 pub mod Asked
 pub mod Causes
 pub mod Ended
@@ -14,4 +15,5 @@ pub mod Recorded
 pub mod Running
 pub mod Sights
 pub mod States
+pub mod Stepping
 pub mod Tested

@@ -1,9 +1,7 @@
 //! Tasks that waited, and are answered.
-ghost use Rattle.std.specs.Prelude.{◌≡◌, ◌+◌, true, None, Some, IfOk, OnOk};
+ghost use Rattle.std.specs.Prelude.{◌≡◌, ◌+◌, true, Some, IfOk, OnOk};
 ghost use Rattle.pie_tables.specs.Tabled.{HasFailed, IsTables, IsGiven};
-ghost use Rattle.pie_frames.specs.inner.Standing.{Holds, IsParked, number_of};
 ghost use Rattle.pie_frames.specs.inner.Weights.{left_of};
-ghost use Rattle.pie_walk.specs.Marks.{IsSettled};
 ghost use Rattle.pie_base.specs.declared.fault.FaultKind.TheVariants.{Unknown};
 ghost use Rattle.pie_record.specs.declared.task_record.Outcome.TheVariants.{Failed};
 ghost use Rattle.pie_results.specs.inner.Failures.{is_done};
@@ -12,8 +10,7 @@ ghost use Rattle.pie_record.specs.inner.Records.{record_of};
 ghost use Rattle.pie_bottomup.specs.inner.Going.{AnswersWhole, CallersWhole};
 ghost use Rattle.pie_bottomup.specs.inner.Exact.{lost_task};
 ghost use Rattle.pie_bottomup.specs.inner.Recorded.{HasOutput};
-ghost use Rattle.pie_bottomup.specs.inner.Running.{IsCaller};
-ghost use Rattle.pie_bottomup.specs.inner.States.{IsSite, GoesTo, Keeps, Nearer, rest};
+ghost use Rattle.pie_bottomup.specs.inner.States.{IsTaken, MayAnswer, GoesTo, Keeps, Nearer, rest};
 
 use crate::state::{Core, InHand, Turn};
 use pie_base::{FaultKind, OutOfMemory};
@@ -26,13 +23,8 @@ use pie_value::{Fault, How, Stamp, Task};
 impl<'a> Core<'a> {
     /// What a task required is settled: it goes on with the output, or fails as that one did.
     pub(crate) fn answer(&mut self, no: TaskNo, parked: Parked<'a>) -> Result<Turn, OutOfMemory>
-        requires site { IsSite self.old }
-        requires free { self.old.hand ≡ None }
-        requires holds { Holds no self.old.frames }
-        requires parked { IsParked self.old.frames.walk.rows parked }
-        requires number { number_of parked ≡ no.0 }
-        requires caller { IsCaller self.old.plan self.old.tables.names self.old.tables.records self.old.frames.walk.marks parked }
-        requires settled { IsSettled self.old.frames.walk.marks parked.callee.0 }
+        requires taken { IsTaken self.old no }
+        requires answers { MayAnswer self.old no parked }
         ensures turns { IfOk result (GoesTo self.new) }
         ensures nearer { IfOk result (Nearer (rest self.old + left_of parked.entry) self.new) }
         ensures kept { OnOk result (Keeps self.old self.new) }
@@ -72,9 +64,7 @@ impl<'a> Core<'a> {
         caller: Caller<'a>,
         outcome: Outcome,
     ) -> Result<Turn, OutOfMemory>
-        requires site { IsSite self.old }
-        requires free { self.old.hand ≡ None }
-        requires holds { Holds no self.old.frames }
+        requires taken { IsTaken self.old no }
         requires failed { HasFailed outcome }
         ensures turns { IfOk result (GoesTo self.new) }
         ensures nearer { IfOk result (Nearer (rest self.old + 1) self.new) }

@@ -1,17 +1,16 @@
 //! Tasks that end, and what that does to those that require them.
-ghost use Rattle.std.specs.Prelude.{◌≡◌, ◌<◌, ◌+◌, false, length, None, Some, slice_get, IfOk, OnOk};
+ghost use Rattle.std.specs.Prelude.{◌≡◌, ◌<◌, ◌+◌, false, length, Some, IfOk, OnOk};
 ghost use Rattle.pie_graph.specs.Rows.{row_at};
 ghost use Rattle.pie_record.specs.declared.task_record.TaskRecord.{TaskRecord};
 ghost use Rattle.pie_record.specs.inner.Records.{record_of};
 ghost use Rattle.pie_walk.specs.Marks.{IsSettled};
-ghost use Rattle.pie_tables.specs.Tabled.{IsKept};
 ghost use Rattle.pie_running.specs.inner.Noted.{IsSound};
 ghost use Rattle.pie_frames.specs.inner.Standing.{Holds};
 ghost use Rattle.pie_bottomup.specs.inner.Going.{EndsWhole, NotesWhole};
 ghost use Rattle.pie_task_laws.specs.Coming.{failed_by, output_by};
-ghost use Rattle.pie_bottomup.specs.inner.Finished.{HasFinished, HasSameEdges, HasSettledWith, HasSwept};
-ghost use Rattle.pie_bottomup.specs.inner.Running.{EndsSo};
-ghost use Rattle.pie_bottomup.specs.inner.States.{AreCalled, HasCalled, IsAtRest, IsOwn, IsSite, HasScheduled, MayEnd, GoesTo, Keeps, Nearer, rest};
+ghost use Rattle.pie_bottomup.specs.inner.Finished.{EndsSettled, HasEndedWith, HasSameEdges, HasSwept};
+ghost use Rattle.pie_bottomup.specs.inner.States.{AreCalled, HasCalled, IsAtRest, IsOwn, IsSite, IsTaken, HasScheduled, MayEnd, MayEndWith};
+ghost use Rattle.pie_bottomup.specs.inner.States.{GoesTo, Keeps, Nearer, rest};
 
 use crate::placing::{has_other_output, has_other_writes, is_twice, paths_of};
 use crate::state::{Core, Turn};
@@ -30,9 +29,7 @@ impl<'a> Core<'a> {
         notes: Notes,
         output: Value,
     ) -> Result<Turn, OutOfMemory>
-        requires site { IsSite self.old }
-        requires free { self.old.hand ≡ None }
-        requires holds { Holds no self.old.frames }
+        requires taken { IsTaken self.old no }
         requires sound { IsSound notes }
         requires own { IsOwn self.old no from notes }
         ensures turns { IfOk result (GoesTo self.new) }
@@ -55,9 +52,7 @@ impl<'a> Core<'a> {
         notes: Notes,
         kind: FaultKind,
     ) -> Result<Turn, OutOfMemory>
-        requires site { IsSite self.old }
-        requires free { self.old.hand ≡ None }
-        requires holds { Holds no self.old.frames }
+        requires { IsTaken self.old no }
         ensures turns { IfOk result (GoesTo self.new) }
         ensures nearer { IfOk result (Nearer (rest self.old + 1) self.new) }
         ensures kept { OnOk result (Keeps self.old self.new) }
@@ -79,9 +74,7 @@ impl<'a> Core<'a> {
         notes: Notes,
         outcome: Outcome,
     ) -> Result<Turn, OutOfMemory>
-        requires site { IsSite self.old }
-        requires free { self.old.hand ≡ None }
-        requires holds { Holds no self.old.frames }
+        requires taken { IsTaken self.old no }
         requires ends { MayEnd self.old no from notes outcome }
         ensures turns { IfOk result (GoesTo self.new) }
         ensures nearer { IfOk result (Nearer (rest self.old + 1) self.new) }
@@ -106,18 +99,12 @@ impl<'a> Core<'a> {
         from: usize,
         rec: TaskRecord,
     ) -> Result<Turn, OutOfMemory>
-        requires site { IsSite self.old }
-        requires free { self.old.hand ≡ None }
-        requires holds { Holds no self.old.frames }
-        requires named { slice_get self.old.tables.names no.0 ≡ Some rec.task }
-        requires kept { IsKept rec }
-        requires ends { EndsSo self.old.plan self.old.tables.names self.old.tables.records self.old.frames.walk no.0 from rec }
+        requires taken { IsTaken self.old no }
+        requires ends { MayEndWith self.old no.0 from rec }
         ensures turns { IfOk result (GoesTo self.new) }
         ensures nearer { IfOk result (Nearer (rest self.old + 1) self.new) }
         ensures kept { OnOk result (Keeps self.old self.new) }
-        ensures finished { OnOk result (HasFinished self.old self.new no.0 from rec) }
-        ensures same { OnOk result (self.new ≡ record self.old { frames = self.new.frames; tables = self.new.tables }) }
-        ensures ran { OnOk result (self.new.tables.ran.items ≡ self.old.tables.ran.items) }
+        ensures ended { OnOk result (HasEndedWith self.old self.new no.0 from rec) }
         ensures whole { IfOk result (EndsWhole self.old no.0 from rec self.new) }
     {
         let old = self.tables.records.get(no);
@@ -160,14 +147,9 @@ impl<'a> Core<'a> {
     fn settle_with(&mut self, no: TaskNo, from: usize, rec: TaskRecord) -> Result<(), OutOfMemory>
         requires site { IsSite self.old }
         requires holds { Holds no self.old.frames }
-        requires named { slice_get self.old.tables.names no.0 ≡ Some rec.task }
-        requires kept { IsKept rec }
-        requires ends { EndsSo self.old.plan self.old.tables.names self.old.tables.records self.old.frames.walk no.0 from rec }
+        requires ends { MayEndWith self.old no.0 from rec }
         requires called { AreCalled self.old no.0 rec }
-        ensures ended { OnOk result (HasScheduled self.old self.new) }
-        ensures settled { OnOk result (IsSettled self.new.frames.walk.marks no.0) }
-        ensures inside { OnOk result (no.0 < length self.new.frames.walk.rows) }
-        ensures settles { OnOk result (HasSettledWith self.old self.new no.0 from rec) }
+        ensures settles { OnOk result (EndsSettled self.old self.new no.0 from rec) }
         ensures same { self.new ≡ record self.old { frames = self.new.frames; tables = self.new.tables } }
         ensures parked { self.new.frames.parked ≡ self.old.frames.parked }
         ensures ran { self.new.tables.ran.items ≡ self.old.tables.ran.items }

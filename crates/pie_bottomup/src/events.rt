@@ -1,13 +1,11 @@
 //! Events of the task that runs.
-ghost use Rattle.std.specs.Prelude.{◌≡◌, ◌+◌, ◌*◌, None, IfOk, OnOk};
+ghost use Rattle.std.specs.Prelude.{◌+◌, ◌*◌, IfOk, OnOk};
 ghost use Rattle.pie_files.specs.Reading.{ReadsOnly};
-ghost use Rattle.pie_running.specs.inner.Frames.{IsWaiting};
-ghost use Rattle.pie_frames.specs.inner.Standing.{Holds};
 ghost use Rattle.pie_bottomup.specs.inner.Going.{AsksWhole, GoesWhole, LooksWhole, ToldWhole};
 ghost use Rattle.pie_bottomup.specs.inner.Asked.{GoesAsking, IsAskedBy};
 ghost use Rattle.pie_named.specs.Asking.{AsksFor};
 ghost use Rattle.pie_value.specs.declared.event.Event.TheVariants as events;
-ghost use Rattle.pie_bottomup.specs.inner.States.{IsInHand, IsOwn, IsSite, MayGo, GoesTo, Keeps, Nearer, rest, told_mass};
+ghost use Rattle.pie_bottomup.specs.inner.States.{Awaits, IsTaken, IsTreated, MayGo, GoesTo, Keeps, Nearer, rest, told_mass};
 
 use crate::state::{Core, InHand, Turn};
 use pie_base::{FaultKind, OutOfMemory, Path};
@@ -24,9 +22,7 @@ impl<'a> Core<'a> {
         hand: InHand<'a>,
         files: &mut F,
     ) -> Result<Turn, FilesError>
-        requires site { IsSite self.old }
-        requires free { self.old.hand ≡ None }
-        requires hand { IsInHand self.old hand }
+        requires { IsTreated self.old hand }
         ensures turns { IfOk result (GoesTo self.new) }
         ensures nearer { IfOk result (Nearer (rest self.old + 2 * hand.entry.task.notes.left + 1) self.new) }
         ensures kept { OnOk result (Keeps self.old self.new) }
@@ -52,11 +48,7 @@ impl<'a> Core<'a> {
         event: Event,
         files: &mut F,
     ) -> Result<Turn, FilesError>
-        requires site { IsSite self.old }
-        requires free { self.old.hand ≡ None }
-        requires holds { Holds no self.old.frames }
-        requires waits { IsWaiting waiting }
-        requires own { IsOwn self.old no from waiting.notes }
+        requires { Awaits self.old no from waiting }
         ensures turns { IfOk result (GoesTo self.new) }
         ensures nearer { IfOk result (Nearer (rest self.old + 2 * waiting.entry.notes.left + 1) self.new) }
         ensures kept { OnOk result (Keeps self.old self.new) }
@@ -89,11 +81,7 @@ impl<'a> Core<'a> {
         path: Path,
         files: &mut F,
     ) -> Result<Turn, FilesError>
-        requires site { IsSite self.old }
-        requires free { self.old.hand ≡ None }
-        requires holds { Holds no self.old.frames }
-        requires waits { IsWaiting waiting }
-        requires own { IsOwn self.old no from waiting.notes }
+        requires { Awaits self.old no from waiting }
         ensures turns { IfOk result (GoesTo self.new) }
         ensures nearer { IfOk result (Nearer (rest self.old + 2 * waiting.entry.notes.left + 1) self.new) }
         ensures kept { OnOk result (Keeps self.old self.new) }
@@ -114,11 +102,7 @@ impl<'a> Core<'a> {
         path: Path,
         files: &mut F,
     ) -> Result<Turn, FilesError>
-        requires site { IsSite self.old }
-        requires free { self.old.hand ≡ None }
-        requires holds { Holds no self.old.frames }
-        requires waits { IsWaiting waiting }
-        requires own { IsOwn self.old no from waiting.notes }
+        requires { Awaits self.old no from waiting }
         ensures turns { IfOk result (GoesTo self.new) }
         ensures nearer { IfOk result (Nearer (rest self.old + 2 * waiting.entry.notes.left + 1) self.new) }
         ensures kept { OnOk result (Keeps self.old self.new) }
@@ -140,11 +124,7 @@ impl<'a> Core<'a> {
         by: By,
         files: &mut F,
     ) -> Result<Turn, FilesError>
-        requires site { IsSite self.old }
-        requires free { self.old.hand ≡ None }
-        requires holds { Holds no self.old.frames }
-        requires waits { IsWaiting waiting }
-        requires own { IsOwn self.old no from waiting.notes }
+        requires { Awaits self.old no from waiting }
         ensures turns { IfOk result (GoesTo self.new) }
         ensures nearer { IfOk result (Nearer (rest self.old + 2 * waiting.entry.notes.left + 1) self.new) }
         ensures kept { OnOk result (Keeps self.old self.new) }
@@ -166,11 +146,7 @@ impl<'a> Core<'a> {
         by: By,
         files: &mut F,
     ) -> Result<Turn, FilesError>
-        requires site { IsSite self.old }
-        requires free { self.old.hand ≡ None }
-        requires holds { Holds no self.old.frames }
-        requires waits { IsWaiting waiting }
-        requires own { IsOwn self.old no from waiting.notes }
+        requires { Awaits self.old no from waiting }
         ensures turns { IfOk result (GoesTo self.new) }
         ensures nearer { IfOk result (Nearer (rest self.old + 2 * waiting.entry.notes.left + 1) self.new) }
         ensures kept { OnOk result (Keeps self.old self.new) }
@@ -191,11 +167,7 @@ impl<'a> Core<'a> {
         path: Path,
         files: &mut F,
     ) -> Result<Turn, FilesError>
-        requires site { IsSite self.old }
-        requires free { self.old.hand ≡ None }
-        requires holds { Holds no self.old.frames }
-        requires waits { IsWaiting waiting }
-        requires own { IsOwn self.old no from waiting.notes }
+        requires { Awaits self.old no from waiting }
         ensures turns { IfOk result (GoesTo self.new) }
         ensures nearer { IfOk result (Nearer (rest self.old + 2 * waiting.entry.notes.left + 1) self.new) }
         ensures kept { OnOk result (Keeps self.old self.new) }
@@ -216,11 +188,7 @@ impl<'a> Core<'a> {
         path: Path,
         files: &mut F,
     ) -> Result<Turn, FilesError>
-        requires site { IsSite self.old }
-        requires free { self.old.hand ≡ None }
-        requires holds { Holds no self.old.frames }
-        requires waits { IsWaiting waiting }
-        requires own { IsOwn self.old no from waiting.notes }
+        requires { Awaits self.old no from waiting }
         ensures turns { IfOk result (GoesTo self.new) }
         ensures nearer { IfOk result (Nearer (rest self.old + 2 * waiting.entry.notes.left + 1) self.new) }
         ensures kept { OnOk result (Keeps self.old self.new) }
@@ -241,11 +209,7 @@ impl<'a> Core<'a> {
         dir: Path,
         files: &mut F,
     ) -> Result<Turn, FilesError>
-        requires site { IsSite self.old }
-        requires free { self.old.hand ≡ None }
-        requires holds { Holds no self.old.frames }
-        requires waits { IsWaiting waiting }
-        requires own { IsOwn self.old no from waiting.notes }
+        requires { Awaits self.old no from waiting }
         ensures turns { IfOk result (GoesTo self.new) }
         ensures nearer { IfOk result (Nearer (rest self.old + 2 * waiting.entry.notes.left + 1) self.new) }
         ensures kept { OnOk result (Keeps self.old self.new) }
@@ -259,9 +223,7 @@ impl<'a> Core<'a> {
 
     // The task goes on as it was told, or fails.
     fn told(&mut self, no: TaskNo, from: usize, told: Told<'a>) -> Result<Turn, OutOfMemory>
-        requires site { IsSite self.old }
-        requires free { self.old.hand ≡ None }
-        requires holds { Holds no self.old.frames }
+        requires taken { IsTaken self.old no }
         requires goes { MayGo self.old no from told }
         ensures turns { IfOk result (GoesTo self.new) }
         ensures nearer { IfOk result (Nearer (rest self.old + told_mass told.entry) self.new) }

@@ -1,15 +1,12 @@
 //! Tasks that the task that runs requires.
-ghost use Rattle.std.specs.Prelude.{◌≡◌, ◌<◌, ◌+◌, ◌*◌, true, [], ◌∷◌, ◌++◌, map, length, None, Some, All, slice_get, IfOk, OnOk};
-ghost use Rattle.std.specs.List.{Contains};
+ghost use Rattle.std.specs.Prelude.{◌≡◌, ◌<◌, ◌+◌, ◌*◌, true, [], ◌∷◌, ◌++◌, map, length, Some, All, slice_get, IfOk, OnOk};
 ghost use Rattle.pie_graph.specs.Numbers.{numbers, AllBelow};
 ghost use Rattle.pie_value.specs.Canonical.{IsEncodableTask};
-ghost use Rattle.pie_running.specs.inner.Frames.{IsWaiting};
-ghost use Rattle.pie_frames.specs.inner.Standing.{Holds};
 ghost use Rattle.pie_value.specs.Limits.{is_small_task};
 ghost use Rattle.pie_task_laws.specs.Beginning.{calling};
 ghost use Rattle.pie_bottomup.specs.inner.Causes.{AreTurned};
 ghost use Rattle.pie_bottomup.specs.inner.Going.{ParksWhole, RequiresWhole};
-ghost use Rattle.pie_bottomup.specs.inner.States.{IsOwn, IsSite, GoesTo, Keeps, Nearer, rest};
+ghost use Rattle.pie_bottomup.specs.inner.States.{Awaits, IsNewTask, GoesTo, Keeps, Nearer, rest};
 
 use crate::cycle::turned;
 use crate::state::{Core, Turn};
@@ -29,11 +26,7 @@ impl<'a> Core<'a> {
         required: Task,
         how: How,
     ) -> Result<Turn, OutOfMemory>
-        requires site { IsSite self.old }
-        requires free { self.old.hand ≡ None }
-        requires holds { Holds no self.old.frames }
-        requires waits { IsWaiting waiting }
-        requires own { IsOwn self.old no from waiting.notes }
+        requires { Awaits self.old no from waiting }
         ensures turns { IfOk result (GoesTo self.new) }
         ensures nearer { IfOk result (Nearer (rest self.old + 2 * waiting.entry.notes.left + 1) self.new) }
         ensures kept { OnOk result (Keeps self.old self.new) }
@@ -55,13 +48,8 @@ impl<'a> Core<'a> {
         from: usize,
         caller: Caller<'a>,
     ) -> Result<Turn, OutOfMemory>
-        requires site { IsSite self.old }
-        requires free { self.old.hand ≡ None }
-        requires holds { Holds no self.old.frames }
-        requires waits { IsWaiting caller.waiting }
-        requires own { IsOwn self.old no from caller.waiting.notes }
-        requires required { IsEncodableTask caller.required }
-        requires absent { ¬ (Contains self.old.tables.names caller.required) }
+        requires awaits { Awaits self.old no from caller.waiting }
+        requires absent { IsNewTask self.old.tables.names caller.required }
         ensures turns { IfOk result (GoesTo self.new) }
         ensures nearer { IfOk result (Nearer (rest self.old + 2 * caller.entry.waiting.notes.left + 1) self.new) }
         ensures kept { OnOk result (Keeps self.old self.new) }
@@ -83,11 +71,7 @@ impl<'a> Core<'a> {
         caller: Caller<'a>,
         callee: TaskNo,
     ) -> Result<Turn, OutOfMemory>
-        requires site { IsSite self.old }
-        requires free { self.old.hand ≡ None }
-        requires holds { Holds no self.old.frames }
-        requires waits { IsWaiting caller.waiting }
-        requires own { IsOwn self.old no from caller.waiting.notes }
+        requires awaits { Awaits self.old no from caller.waiting }
         requires required { IsEncodableTask caller.required }
         requires number { callee.0 < length self.old.frames.walk.rows }
         requires named { slice_get self.old.tables.names callee.0 ≡ Some caller.required }

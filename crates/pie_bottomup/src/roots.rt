@@ -1,18 +1,12 @@
 //! The roots, one after another.
-ghost use Rattle.std.specs.Prelude.{◌≡◌, ℕ, ◌<◌, ◌≤◌, ◌-◌, true, [], length, None, Some, IsSome, nat_le, slice_get, slice_index_or, IfOk, OnOk};
-ghost use Rattle.std.specs.List.{Contains};
-ghost use Rattle.pie_value.specs.Canonical.{IsEncodableTask};
-ghost use Rattle.pie_graph.specs.declared.edges.TaskNo.{TaskNo};
+ghost use Rattle.std.specs.Prelude.{◌≡◌, ◌<◌, ◌≤◌, ◌-◌, true, [], length, IsSome, nat_le, IfOk, OnOk};
 ghost use Rattle.pie_walk.specs.Standing.{Stands};
-ghost use Rattle.pie_frames.specs.inner.Standing.{Holds, Rests};
-ghost use Rattle.pie_value.specs.declared.task.Task.{Task};
 ghost use Rattle.pie_record.specs.inner.Records.{record_of};
 ghost use Rattle.pie_store.specs.declared.cause.Cause.TheVariants.{UnionMany};
 ghost use Rattle.pie_results.specs.inner.Failures.{refusal_by, refusal_in};
-ghost use Rattle.pie_running.specs.inner.Noted.{Noted};
-ghost use Rattle.pie_bottomup.specs.inner.Going.{HasGrown, MeetsWhole, RootsWhole};
-ghost use Rattle.pie_bottomup.specs.inner.Exact.{AddsExact, StillBegins};
-ghost use Rattle.pie_bottomup.specs.inner.States.{IsAtRest, IsNextRoot, IsOwn, IsSite, GoesTo, Keeps, Nearer, RootFailed, rest};
+ghost use Rattle.pie_bottomup.specs.inner.Added.{HasAdded, IsNumbered, StandsOn, StaysAt};
+ghost use Rattle.pie_bottomup.specs.inner.Going.{MeetsWhole, RootsWhole};
+ghost use Rattle.pie_bottomup.specs.inner.States.{IsFree, IsNewTask, IsNextRoot, IsNextToBegin, IsSite, GoesTo, Keeps, Nearer, RootFailed, rest};
 
 use crate::state::{Core, Turn};
 use pie_base::{MAX_TASKS, OutOfMemory};
@@ -24,8 +18,7 @@ use pie_value::Task;
 impl<'a> Core<'a> {
     /// Begins the next root, unless there is none or the one before it failed.
     pub(crate) fn next_root(&mut self) -> Result<Turn, OutOfMemory>
-        requires rests { IsAtRest self.old }
-        requires free { self.old.hand ≡ None }
+        requires free { IsFree self.old }
         requires idle { self.old.frames.walk.stack ≡ [] }
         ensures turns { IfOk result (GoesTo self.new) }
         ensures nearer { IfOk result (Nearer (rest self.old) self.new) }
@@ -44,8 +37,7 @@ impl<'a> Core<'a> {
 
     // Begins the next root, which has this number.
     fn begin(&mut self, no: TaskNo) -> Result<Turn, OutOfMemory>
-        requires rests { IsAtRest self.old }
-        requires free { self.old.hand ≡ None }
+        requires free { IsFree self.old }
         requires idle { self.old.frames.walk.stack ≡ [] }
         requires at { self.old.at < length self.old.plan.roots.items }
         requires root { IsNextRoot self.old no.0 }
@@ -86,13 +78,10 @@ impl<'a> Core<'a> {
 
     // Begins a root without a record.
     fn begin_new(&mut self, root: Task) -> Result<Turn, OutOfMemory>
-        requires rests { IsAtRest self.old }
-        requires free { self.old.hand ≡ None }
+        requires free { IsFree self.old }
         requires idle { self.old.frames.walk.stack ≡ [] }
-        requires encodable { IsEncodableTask root }
-        requires absent { ¬ (Contains self.old.tables.names root) }
-        requires at { self.old.at < length self.old.plan.roots.items }
-        requires next { (d : Task) → slice_index_or self.old.plan.roots.items self.old.at d ≡ root }
+        requires absent { IsNewTask self.old.tables.names root }
+        requires next { IsNextToBegin self.old root }
         ensures turns { IfOk result (GoesTo self.new) }
         ensures nearer { IfOk result (Nearer (rest self.old) self.new) }
         ensures kept { OnOk result (Keeps self.old self.new) }
@@ -126,23 +115,11 @@ impl<'a> Core<'a> {
         requires site { IsSite self.old }
         requires stands { Stands self.old.frames.walk }
         requires few { length self.old.frames.walk.rows < MAX_TASKS }
-        requires encodable { IsEncodableTask task }
-        requires absent { ¬ (Contains self.old.tables.names task) }
-        ensures site { OnOk result (IsSite self.new) }
-        ensures rests { Rests self.old.frames → OnOk result (Rests self.new.frames) }
-        ensures holds { (task : TaskNo) → Holds task self.old.frames → OnOk result (Holds task self.new.frames) }
-        ensures stack { OnOk result (self.new.frames.walk.stack ≡ self.old.frames.walk.stack) }
-        ensures inside { IfOk result (λ no. no.0 < length self.new.frames.walk.rows) }
-        ensures named { IfOk result (λ no. slice_get self.new.tables.names no.0 ≡ Some task) }
-        ensures own { (no : TaskNo) (from : ℕ) (n : Noted) → IsOwn self.old no from n → OnOk result (IsOwn self.new no from n) }
-        ensures hand { self.new.hand ≡ self.old.hand }
-        ensures at { self.new.at ≡ self.old.at }
-        ensures kept { OnOk result (Keeps self.old self.new) }
-        ensures weight { OnOk result (rest self.new ≤ rest self.old) }
-        ensures exact { OnOk result (AddsExact self.old task self.new) }
-        ensures grown { OnOk result (HasGrown self.old task self.new) }
-        ensures number { IfOk result (λ no. no.0 ≡ length self.old.frames.walk.rows) }
-        ensures begins { (n : ℕ) (from : ℕ) → OnOk result (StillBegins self.old self.new n from) }
+        requires absent { IsNewTask self.old.tables.names task }
+        ensures stands { OnOk result (StandsOn self.old self.new) }
+        ensures number { IfOk result (IsNumbered self.old task self.new) }
+        ensures added { OnOk result (HasAdded self.old task self.new) }
+        ensures same { StaysAt self.old self.new }
     {
         let no = self.frames.add()?;
         let _same = self.tables.add(task)?;

@@ -1,7 +1,6 @@
 //! Tasks that are taken: they are kept, run, or are no tasks any more.
 ghost use Rattle.std.specs.Prelude.{◌≡◌, ◌<◌, ◌≤◌, ◌+◌, true, false, length, None, slice_get, IfOk, IfSome, OnOk};
 ghost use Rattle.pie_tables.specs.Tabled.{HasFailed};
-ghost use Rattle.pie_frames.specs.inner.Standing.{Holds};
 ghost use Rattle.pie_compare.specs.inner.Standing.{RecordStands};
 ghost use Rattle.pie_graph.specs.Numbers.{IsMarked};
 ghost use Rattle.pie_running.specs.inner.Coded.{IsCodeFor};
@@ -9,7 +8,8 @@ ghost use Rattle.pie_bottomup.specs.inner.Going.{StartsWhole, TakesWhole, WalksW
 ghost use Rattle.pie_bottomup.specs.inner.Exact.{lost_record};
 ghost use Rattle.pie_bottomup.specs.inner.Ran.{HasStarted, TakesFor, WalksFor};
 ghost use Rattle.pie_bottomup.specs.inner.Running.{IsKnown};
-ghost use Rattle.pie_bottomup.specs.inner.States.{StartsOne, IsAsRecorded, IsAtRest, IsSite, GoesTo, Keeps, Nearer, Spends, SpendsOne, rest, room};
+ghost use Rattle.pie_bottomup.specs.inner.States.{StartsOne, HasKnownCode, IsFree, IsJustTaken, IsSite, IsTaken};
+ghost use Rattle.pie_bottomup.specs.inner.States.{GoesTo, Keeps, Nearer, Spends, SpendsOne, rest, room};
 
 use crate::answering::unknown;
 use crate::flags::flag_of;
@@ -28,8 +28,7 @@ use std::alloc::Global;
 impl<'a> Core<'a> {
     /// The walk goes on, up to the next task that is taken or answered, or to the next root.
     pub(crate) fn walk_on(&mut self, runs: &mut Runs) -> Result<Turn, OutOfMemory>
-        requires rests { IsAtRest self.old }
-        requires free { self.old.hand ≡ None }
+        requires { IsFree self.old }
         ensures turns { IfOk result (GoesTo self.new) }
         ensures nearer { IfOk result (Nearer (rest self.old) self.new) }
         ensures spends { OnOk result (Spends self.old self.new runs.old runs.new) }
@@ -47,10 +46,7 @@ impl<'a> Core<'a> {
 
     // A task was taken.
     fn take(&mut self, no: TaskNo, runs: &mut Runs) -> Result<Turn, OutOfMemory>
-        requires site { IsSite self.old }
-        requires free { self.old.hand ≡ None }
-        requires holds { Holds no self.old.frames }
-        requires recorded { IsAsRecorded self.old no.0 }
+        requires { IsJustTaken self.old no }
         ensures turns { IfOk result (GoesTo self.new) }
         ensures nearer { IfOk result (Nearer (rest self.old + 2000004) self.new) }
         ensures spends { OnOk result (SpendsOne self.old self.new runs.old runs.new) }
@@ -71,12 +67,8 @@ impl<'a> Core<'a> {
         code: &'a Checked,
         runs: &mut Runs,
     ) -> Result<Turn, OutOfMemory>
-        requires site { IsSite self.old }
-        requires free { self.old.hand ≡ None }
-        requires holds { Holds no self.old.frames }
-        requires recorded { IsAsRecorded self.old no.0 }
-        requires takes { IfSome (slice_get self.old.tables.names no.0) (λ t. length t.args ≡ code.now.params) }
-        requires known { IfSome (slice_get self.old.tables.names no.0) (IsKnown self.old.plan) }
+        requires taken { IsJustTaken self.old no }
+        requires known { HasKnownCode self.old no.0 code.now }
         ensures turns { IfOk result (GoesTo self.new) }
         ensures nearer { IfOk result (Nearer (rest self.old + 2000004) self.new) }
         ensures spends { OnOk result (SpendsOne self.old self.new runs.old runs.new) }
@@ -92,10 +84,7 @@ impl<'a> Core<'a> {
 
     // The record of a task that was taken stands.
     fn keep(&mut self, no: TaskNo) -> Turn
-        requires site { IsSite self.old }
-        requires free { self.old.hand ≡ None }
-        requires holds { Holds no self.old.frames }
-        requires recorded { IsAsRecorded self.old no.0 }
+        requires taken { IsJustTaken self.old no }
         requires known { IfSome (slice_get self.old.tables.names no.0) (IsKnown self.old.plan) }
         requires stands { RecordStands self.old.tables self.old.frames.walk.rows self.old.named no.0 }
         requires same { IsMarked self.old.plan.same.items no.0 }
@@ -129,11 +118,8 @@ impl<'a> Core<'a> {
     // A task that was taken starts to run.
     #[tactic(auto, using(crate::proofs::Parts::named_encodable))]
     fn start(&mut self, no: TaskNo, code: &'a Checked, runs: &mut Runs) -> Result<Turn, OutOfMemory>
-        requires site { IsSite self.old }
-        requires free { self.old.hand ≡ None }
-        requires holds { Holds no self.old.frames }
-        requires takes { IfSome (slice_get self.old.tables.names no.0) (λ t. length t.args ≡ code.now.params) }
-        requires known { IfSome (slice_get self.old.tables.names no.0) (IsKnown self.old.plan) }
+        requires taken { IsTaken self.old no }
+        requires known { HasKnownCode self.old no.0 code.now }
         ensures turns { IfOk result (GoesTo self.new) }
         ensures nearer { IfOk result (Nearer (rest self.old + 2000004) self.new) }
         ensures spends { OnOk result (SpendsOne self.old self.new runs.old runs.new) }
@@ -151,9 +137,7 @@ impl<'a> Core<'a> {
 
     // A task that was taken isn't one of the pipeline: it fails without having run.
     fn lose(&mut self, no: TaskNo) -> Result<Turn, OutOfMemory>
-        requires site { IsSite self.old }
-        requires free { self.old.hand ≡ None }
-        requires holds { Holds no self.old.frames }
+        requires taken { IsTaken self.old no }
         requires none { IfSome (slice_get self.old.tables.names no.0) (λ t. IsCodeFor self.old.plan.typed.now self.old.plan.code.now t None) }
         ensures turns { IfOk result (GoesTo self.new) }
         ensures nearer { IfOk result (Nearer (rest self.old + 1) self.new) }

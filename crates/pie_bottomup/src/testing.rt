@@ -1,14 +1,11 @@
 //! The first step: old records are held against what changed.
-ghost use Rattle.std.specs.Prelude.{◌≡◌, ◌⊎◌, ℕ, ◌<◌, ◌≤◌, ◌+◌, false, true, length, None, slice_index_or, IfOk, OnOk};
+ghost use Rattle.std.specs.Prelude.{◌≡◌, ℕ, ◌<◌, false, true, length, slice_index_or, IfOk, OnOk};
 ghost use Rattle.pie_bottomup.specs.declared.state.First.TheVariants.{Tests};
 ghost use Rattle.pie_bottomup.specs.declared.state.Turn.TheVariants.{Went};
 ghost use Rattle.pie_files.specs.Reading.{ReadsOnly};
-ghost use Rattle.pie_bottomup.specs.inner.States.{StartsOne, IsAtRest, IsDue, IsTested, IsUntested, Keeps, TurnsTo, Nearer, Spends, rest, room};
-ghost use Rattle.pie_bottomup.specs.inner.Many.{StartsNoneForMany, StopsForMany};
-ghost use Rattle.pie_bottomup.specs.inner.Tested.{AreHeld, HasTested, HoldsBy, IsHeld, Learns, OnlySchedules, TaskWasHeld};
-ghost use Rattle.pie_bottomup.specs.inner.Loaded.{TestsExact};
-ghost use Rattle.pie_bottomup.specs.inner.Going.{StepsWhole, TestsWhole};
-ghost use Rattle.pie_bottomup.specs.inner.Ran.{StepsFor};
+ghost use Rattle.pie_bottomup.specs.inner.States.{IsDue, IsTested, IsUntested, Keeps, rest};
+ghost use Rattle.pie_bottomup.specs.inner.Stepping.{IsUnoccupied, LeavesWhole, StartsFew, StartsRight, StepsTo, TestsAll};
+ghost use Rattle.pie_bottomup.specs.inner.Tested.{AreHeld, HasTested, HoldsBy, IsHeld, Learns, LearnsOnly, TaskWasHeld};
 ghost use Rattle.pie_bottomup.specs.inner.Asked.{IsTestedPath};
 ghost use Rattle.pie_named.specs.Asking.{AsksFor, IsNamedOrAbove};
 
@@ -31,18 +28,12 @@ impl<'a> Core<'a> {
         files: &mut F,
         runs: &mut Runs,
     ) -> Result<Turn, FilesError>
-        requires state { IsUntested self.old ⊎ IsAtRest self.old }
-        requires free { self.old.hand ≡ None }
-        ensures turns { IfOk result (TurnsTo self.new) }
-        ensures nearer { IfOk result (Nearer (rest self.old) self.new) }
-        ensures starts { StartsOne runs.old runs.new }
-        ensures spends { OnOk result (Spends self.old self.new runs.old runs.new) }
-        ensures few { length runs.new ≤ length runs.old + room self.old }
+        requires { IsUnoccupied self.old }
+        ensures steps { IfOk result (StepsTo (rest self.old) self.new) }
+        ensures few { StartsFew self.old runs.old runs.new }
+        ensures starts { OnOk result (StartsRight (F.holds files.old) self.old self.new runs.old runs.new) }
         ensures tested { self.old.first ≡ Tests → OnOk result (HasTested (F.holds files.old) self.old self.new) }
-        ensures many { IfOk result (StopsForMany self.old) }
-        ensures none { OnOk result (StartsNoneForMany self.old runs.old runs.new) }
-        ensures whole { IfOk result (StepsWhole (F.holds files.old) self.old self.new) }
-        ensures reasons { OnOk result (StepsFor (F.holds files.old) self.old self.new runs.old runs.new) }
+        ensures whole { IfOk result (LeavesWhole (F.holds files.old) self.old self.new) }
         ensures asks { AsksFor (IsTestedPath self.old) (F.asked files.old) (F.asked files.new) }
         ensures reads { ReadsOnly F.holds F.moment F.left_since F.images F.faults files.old files.new result }
     {
@@ -62,14 +53,9 @@ impl<'a> Core<'a> {
     fn begin_tested<F: Files>(&mut self, files: &mut F) -> Result<Turn, FilesError>
         requires untested { IsUntested self.old }
         requires first { self.old.first ≡ Tests }
-        ensures turns { IfOk result (TurnsTo self.new) }
-        ensures nearer { IfOk result (Nearer (rest self.old) self.new) }
+        ensures steps { IfOk result (StepsTo (rest self.old) self.new) }
         ensures kept { OnOk result (Keeps self.old self.new) }
-        ensures learns { OnOk result (Learns self.old self.new) }
-        ensures only { OnOk result (OnlySchedules self.old self.new) }
-        ensures tested { OnOk result (HasTested (F.holds files.old) self.old self.new) }
-        ensures exact { OnOk result (TestsExact (F.holds files.old) self.old self.new) }
-        ensures whole { OnOk result (TestsWhole (F.holds files.old) self.old self.new) }
+        ensures tests { OnOk result (TestsAll (F.holds files.old) self.old self.new) }
         ensures went { IfOk result (λ turn. turn ≡ Went) }
         ensures asks { AsksFor (IsNamedOrAbove self.old.named) (F.asked files.old) (F.asked files.new) }
         ensures reads { ReadsOnly F.holds F.moment F.left_since F.images F.faults files.old files.new result }
@@ -85,8 +71,7 @@ impl<'a> Core<'a> {
         requires untested { IsUntested self.old }
         ensures tested { OnOk result (IsTested self.old self.new) }
         ensures due { OnOk result ((n : ℕ) → n < length self.old.frames.walk.rows → IsDue self.new n) }
-        ensures learns { OnOk result (Learns self.old self.new) }
-        ensures only { OnOk result (OnlySchedules self.old self.new) }
+        ensures learns { OnOk result (LearnsOnly self.old self.new) }
         ensures held { OnOk result (HoldsBy (F.holds files.old) self.old self.new (λ d. AreHeld d self.new (length self.old.frames.walk.rows))) }
         ensures asks { AsksFor (IsNamedOrAbove self.old.named) (F.asked files.old) (F.asked files.new) }
         ensures reads { ReadsOnly F.holds F.moment F.left_since F.images F.faults files.old files.new result }
@@ -105,8 +90,7 @@ impl<'a> Core<'a> {
         requires number { no.0 < length self.old.frames.walk.rows }
         ensures tested { OnOk result (IsTested self.old self.new) }
         ensures due { OnOk result (IsDue self.new no.0) }
-        ensures learns { OnOk result (Learns self.old self.new) }
-        ensures only { OnOk result (OnlySchedules self.old self.new) }
+        ensures learns { OnOk result (LearnsOnly self.old self.new) }
         ensures held { OnOk result (HoldsBy (F.holds files.old) self.old self.new (λ d. IsHeld d self.new no.0)) }
         ensures asks { AsksFor (IsNamedOrAbove self.old.named) (F.asked files.old) (F.asked files.new) }
         ensures reads { ReadsOnly F.holds F.moment F.left_since F.images F.faults files.old files.new result }

@@ -1,8 +1,10 @@
 -- What holds of a build by what changed between two steps, and by what it falls.
-use Rattle.std.specs.Prelude.{List, [], ◌∷◌, ◌++◌, ◌≡◌, ◌⊎◌, ℕ, ◌<◌, ◌≤◌, ◌+◌, ◌-◌, ◌*◌, Bool, true, false, take, length, All, Option, None, Some, IsSome, slice_get, slice_index_or}
+use Rattle.std.specs.Prelude.{List, [], ◌∷◌, ◌++◌, ◌≡◌, ◌⊎◌, ℕ, ◌<◌, ◌≤◌, ◌+◌, ◌-◌, ◌*◌, Bool, true, false, take, length, All, Option, None, Some, IfSome}
+use Rattle.std.specs.Prelude.{IsSome, slice_get, slice_index_or}
 use Rattle.std.specs.List.{Contains}
 use Rattle.pie_value.specs.declared.task.Task.{Task}
 use Rattle.pie_value.specs.Canonical.{IsEncodableTask}
+use Rattle.pie_code.specs.declared.code.Code.{Code}
 use Rattle.pie_graph.specs.declared.edges.TaskNo.{TaskNo}
 use Rattle.pie_graph.specs.Numbers.{IsMarked}
 use Rattle.pie_graph.specs.Rows.{Row, row_at, Calls}
@@ -14,19 +16,21 @@ use Rattle.pie_record.specs.declared.task_record.TaskRecord.{TaskRecord}
 use Rattle.pie_record.specs.inner.Records.{record_of}
 use Rattle.pie_store.specs.Canonical.{names_of}
 use Rattle.pie_tables.specs.declared.tables.Tables.{Tables}
-use Rattle.pie_tables.specs.Tabled.{IsTables, HasFailed}
+use Rattle.pie_tables.specs.Tabled.{IsTables, HasFailed, IsKept}
 use Rattle.pie_old.specs.declared.old.Old.{Old}
 use Rattle.pie_old.specs.inner.Rows.{IsRowOf}
 use Rattle.pie_walk.specs.declared.marks.Mark.TheVariants.{New}
 use Rattle.pie_walk.specs.Counts.{begins}
-use Rattle.pie_walk.specs.Marks.{mark_of, IsIdle}
+use Rattle.pie_walk.specs.Marks.{mark_of, IsIdle, IsSettled}
 use Rattle.pie_walk.specs.declared.stack.Entry.{Entry}
 use Rattle.pie_walk.specs.States.{NeedsAreEarlier, base_of}
 use Rattle.pie_running.specs.declared.frame.Told.{Told}
+use Rattle.pie_running.specs.declared.frame.Waiting.{Waiting}
 use Rattle.pie_running.specs.declared.frame.Told.TheVariants.{Goes, Fails}
 use Rattle.pie_running.specs.inner.Noted.{Noted, IsSound}
-use Rattle.pie_running.specs.inner.Frames.{IsReady}
-use Rattle.pie_frames.specs.inner.Standing.{Rests, Holds, HasFrom}
+use Rattle.pie_running.specs.inner.Frames.{IsReady, IsWaiting}
+use Rattle.pie_frames.specs.declared.parked.Parked.{Parked}
+use Rattle.pie_frames.specs.inner.Standing.{Rests, Holds, HasFrom, IsParked, number_of}
 use Rattle.pie_frames.specs.inner.Weights.{weight}
 use Rattle.pie_results.specs.inner.Failures.{is_done, refusal_by}
 use Rattle.pie_bottomup.specs.declared.plan.Plan.{Plan}
@@ -37,7 +41,7 @@ use Rattle.pie_bottomup.specs.declared.state.InHand.{InHand}
 use Rattle.pie_bottomup.specs.declared.state.Turn.{Turn}
 use Rattle.pie_bottomup.specs.declared.state.Turn.TheVariants.{Went, Settled, StartAfresh}
 use Rattle.pie_bottomup.specs.inner.Recorded.{AreRecorded, HasOutput, OutputsAreValues}
-use Rattle.pie_bottomup.specs.inner.Running.{IsNoted, Agree}
+use Rattle.pie_bottomup.specs.inner.Running.{IsKnown, IsNoted, IsCaller, Agree, EndsSo}
 
 -- a plan of these functions, digests and roots
 pub record IsPlanOf (fs : List FunctionTree) (funcs : List (List ℕ × List ℕ)) (ts : List Task) (p : Plan) : Type 0 where
@@ -121,6 +125,21 @@ IsCore c = IsUntested c ⊎ IsGoing c
 pub record IsAtRest (c : Core) : Type 0 where
   pub site : IsSite c
   pub rests : Rests c.frames
+
+-- and the place for one is empty
+pub record IsFree (c : Core) : Type 0 where
+  pub rests : IsAtRest c
+  pub free : c.hand ≡ None
+
+-- a task has no number yet, and has canonical bytes
+pub record IsNewTask (names : List Task) (t : Task) : Type 0 where
+  pub encodable : IsEncodableTask t
+  pub absent : Contains names t → ⊥
+
+-- this root is the next one
+pub record IsNextToBegin (c : Core) (root : Task) : Type 0 where
+  pub at : c.at < length c.plan.roots.items
+  pub next : (d : Task) → slice_index_or c.plan.roots.items c.at d ≡ root
 
 -- the next root has this number
 pub record IsNextRoot (c : Core) (n : ℕ) : Type 0 where
@@ -217,10 +236,45 @@ pub record SpendsOne (old new : Core) (runs_old runs_new : List Task) : Type 0 w
 
 -- ---- the task in hand
 
+-- a task was taken: the build stands, the frames hold it, and no other is in hand
+pub record IsTaken (c : Core) (no : TaskNo) : Type 0 where
+  pub site : IsSite c
+  pub free : c.hand ≡ None
+  pub holds : Holds no c.frames
+
 -- the row of a task that was taken is that of its record, if that has an output
 abbrev pub IsAsRecorded : Core → ℕ → Type 0
 IsAsRecorded c n =
     (r : TaskRecord) → record_of c.tables.records n ≡ Some r → is_done r.outcome ≡ true → IsRowOf c.tables.names r (row_at c.frames.walk.rows n)
+
+-- a task was just taken by the walk, and its row is still that of its record
+pub record IsJustTaken (c : Core) (no : TaskNo) : Type 0 where
+  pub taken : IsTaken c no
+  pub recorded : IsAsRecorded c no.0
+
+-- the task with a number is a known one, and this is the code of its function: it takes as many arguments as the task has
+pub record HasKnownCode (c : Core) (n : ℕ) (code : Code) : Type 0 where
+  pub takes : IfSome (slice_get c.tables.names n) (λ (t : Task). length t.args ≡ code.params)
+  pub known : IfSome (slice_get c.tables.names n) (IsKnown c.plan)
+
+-- this task was in hand, and is treated: the build stands, and no other is in hand
+pub record IsTreated (c : Core) (h : InHand) : Type 0 where
+  pub site : IsSite c
+  pub free : c.hand ≡ None
+  pub hand : IsInHand c h
+
+-- a task was taken, and waits for what it asked; these are its notes
+pub record Awaits (c : Core) (no : TaskNo) (from : ℕ) (w : Waiting) : Type 0 where
+  pub taken : IsTaken c no
+  pub waits : IsWaiting w
+  pub own : IsOwn c no from w.notes
+
+-- what a task waited for is settled: it can be answered
+pub record MayAnswer (c : Core) (no : TaskNo) (p : Parked) : Type 0 where
+  pub parked : IsParked c.frames.walk.rows p
+  pub number : number_of p ≡ no.0
+  pub caller : IsCaller c.plan c.tables.names c.tables.records c.frames.walk.marks p
+  pub settled : IsSettled c.frames.walk.marks p.callee.0
 
 -- a task that was told something can go on
 abbrev pub MayGo : Core → TaskNo → ℕ → Told → Type 0
@@ -242,6 +296,12 @@ pub record IsFull (c : Core) (no : TaskNo) (from : ℕ) (n : Noted) (o : Outcome
 -- a task may end so: it failed, or what was noted and its output can be stored, which is a value of the program
 abbrev pub MayEnd : Core → TaskNo → ℕ → Noted → Outcome → Type 0
 MayEnd c task from n o = HasFailed o ⊎ IsFull c task from n o
+
+-- a task may end with this record: it is the task's own, can be stored unless the task failed, and says what was required
+pub record MayEndWith (c : Core) (n from : ℕ) (r : TaskRecord) : Type 0 where
+  pub named : slice_get c.tables.names n ≡ Some r.task
+  pub kept : IsKept r
+  pub ends : EndsSo c.plan c.tables.names c.tables.records c.frames.walk n from r
 
 -- the task in hand ends without an output that it had before: then all that require it and may be scheduled are
 abbrev pub AreCalled : Core → ℕ → TaskRecord → Type 0

@@ -60,3 +60,8 @@ pub record Learns (old new : Core) : Type 0 where
   pub scheduled : (n : ℕ) → IsMarked old.frames.walk.scheduled n → IsMarked new.frames.walk.scheduled n
   pub names : SameNames old.named new.named
   pub stays : StaysKnown old.named new.named
+
+-- so it does, of the walk the flags of scheduled tasks alone may be others, and nothing is staged or taken away
+pub record LearnsOnly (old new : Core) : Type 0 where
+  pub learns : Learns old new
+  pub only : OnlySchedules old new

@@ -7,13 +7,14 @@ use Rattle.pie_bottomup.proofs.state.Core.begin.Goals as goal
 
 pub returns-clause-turns : goal.returns-clause-turns
 returns-clause-turns c = record {
-  site = site_begun c.args.self.now c.begin.new.self c.args.no c.requires.rests.site c.requires.rests.rests c.requires.at c.requires.root
+  site = site_begun c.args.self.now c.begin.new.self c.args.no c.requires.free.rests.site c.requires.free.rests.rests c.requires.at c.requires.root
       c.in_ok-begin.ensures.began c.begin.ensures.parked;
-  state = subst (RunsOrRests (record c.args.self.now { frames = c.begin.new.self; at = c.args.self.now.at + 1 })) (sym c.requires.free) c.in_ok-begin.ensures.rests;
+  state = subst (RunsOrRests (record c.args.self.now { frames = c.begin.new.self; at = c.args.self.now.at + 1 })) (sym c.requires.free.free)
+      c.in_ok-begin.ensures.rests;
 }
 
 pub returns-clause-whole : goal.returns-clause-whole
 returns-clause-whole c = λ u now e may.
-    begun_whole u c.args.self.now c.begin.new.self c.args.no e c.requires.rests.rests c.in_ok-begin.ensures.rests
-    (omega (arith, slice_get_within c.args.self.now.tables.names c.args.no.0 c.requires.root.root c.requires.root.named, c.requires.rests.site.sized))
-    c.in_ok-begin.ensures.began c.begin.ensures.parked c.requires.free may
+    begun_whole u c.args.self.now c.begin.new.self c.args.no e c.requires.free.rests.rests c.in_ok-begin.ensures.rests
+    (omega (arith, slice_get_within c.args.self.now.tables.names c.args.no.0 c.requires.root.root c.requires.root.named, c.requires.free.rests.site.sized))
+    c.in_ok-begin.ensures.began c.begin.ensures.parked c.requires.free.free may

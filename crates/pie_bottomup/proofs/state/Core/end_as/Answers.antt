@@ -1,6 +1,8 @@
 use Rattle.std.proofs.Common.{◌∙◌, Some, sym, ap, subst}
 use Rattle.pie_running.specs.inner.Noted.{Noted}
+use Rattle.pie_record.specs.declared.task_record.TaskRecord.{TaskRecord}
 use Rattle.pie_bottomup.specs.inner.States.{MayEnd}
+use Rattle.pie_bottomup.proofs.Parts.{ended_kept, named_encodable}
 use Rattle.pie_bottomup.proofs.Owning.{ends_so}
 use Rattle.std.proofs.Common.{refl}
 use Rattle.pie_bottomup.proofs.GoingEvents.{notes_goes}
@@ -8,10 +10,15 @@ use Rattle.pie_bottomup.proofs.state.Core.end_as.Goals as goal
 
 pub end_with-requires-clause-ends : goal.end_with-requires-clause-ends
 end_with-requires-clause-ends c =
-    ends_so c.args.self.now c.args.no c.args.from c.args.notes.left c.into_parts-deps.result
-    (record { task = c.in_ok-copy.field-0; deps = c.new.result; writes = c.new-2.result; outcome = c.args.outcome })
-    (subst (λ (n : Noted). MayEnd c.args.self.now c.args.no c.args.from n c.args.outcome) c.into_parts-deps.ensures c.requires.ends)
-    (c.task.ensures ∙ ap Some (sym c.in_ok-copy.ensures)) c.new.ensures
+    let rec : TaskRecord = record { task = c.in_ok-copy.field-0; deps = c.new.result; writes = c.new-2.result; outcome = c.args.outcome } in
+    let named = c.task.ensures ∙ ap Some (sym c.in_ok-copy.ensures) in
+    let ends = subst (λ (n : Noted). MayEnd c.args.self.now c.args.no c.args.from n c.args.outcome) c.into_parts-deps.ensures c.requires.ends in
+    record {
+      named = named;
+      kept = ended_kept c.args.self.now c.args.no c.args.from c.into_parts-deps.result c.args.notes.left c.args.outcome rec ends
+          (named_encodable c.args.self.now.tables.names c.args.no.0 rec.task c.as_slice-names.ensures.canonical named) c.new.ensures c.new-2.ensures refl;
+      ends = ends_so c.args.self.now c.args.no c.args.from c.args.notes.left c.into_parts-deps.result rec ends named c.new.ensures;
+    }
 
 pub returns-clause-whole : goal.returns-clause-whole
 returns-clause-whole c =

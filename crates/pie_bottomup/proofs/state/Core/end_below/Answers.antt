@@ -1,8 +1,15 @@
-use Rattle.std.proofs.Common.{◌∙◌, ◌++◌, ◌∷◌, [], List, Some, ap, sym, refl}
+use Rattle.std.proofs.Common.{◌∙◌, ◌++◌, ◌∷◌, [], List, Some, ap, sym, refl, inl, inr}
 use Rattle.pie_record.specs.declared.dep.Dep.{Dep}
 use Rattle.pie_running.specs.inner.Noted.{Noted}
 use Rattle.pie_bottomup.proofs.GoingAnswers.{callers_goes}
 use Rattle.pie_bottomup.proofs.state.Core.end_below.Goals as goal
+
+pub end_with-requires-clause-ends : goal.end_with-requires-clause-ends
+end_with-requires-clause-ends c = record {
+  named = c.task.ensures ∙ ap Some (sym c.in_ok-copy.ensures);
+  kept = inr c.requires.failed;
+  ends = inl c.requires.failed;
+}
 
 pub returns-clause-whole : goal.returns-clause-whole
 returns-clause-whole c =

@@ -1,8 +1,19 @@
-use Rattle.std.proofs.Common.{Ok, refl}
+use Rattle.std.proofs.Common.{Ok, refl, subst}
+use Rattle.pie_running.specs.inner.Steps.{Comes}
+use Rattle.pie_bottomup.proofs.Owning.{same_own}
 use Rattle.pie_bottomup.proofs.GoingEvents.{asks_goes, hand_done, hand_fails}
 use Rattle.pie_bottomup.proofs.Asking.{hand_asks}
 use Rattle.pie_named.proofs.Calls.{no_calls}
 use Rattle.pie_bottomup.proofs.state.Core.event.Goals as goal
+
+pub treat-requires : goal.treat-requires
+treat-requires g c =
+    let comes = subst (Comes c.args.hand.task.notes) c.in-Asks.is c.in_ok-waiting.ensures.comes in
+    record {
+      taken = record { site = c.requires.site; free = c.requires.free; holds = c.requires.hand.holds };
+      waits = comes.0;
+      own = same_own c.args.self.now c.args.hand.no c.args.hand.from c.args.hand.task.notes c.in-Asks.waiting.notes comes.1 c.requires.hand.own;
+    }
 
 pub returns-in-Asks-clause-whole : goal.returns-in-Asks-clause-whole
 returns-in-Asks-clause-whole g c =

@@ -18,7 +18,7 @@ told-requires-clause-goes g c =
 pub exists-requires-clause-knows : goal.exists-requires-clause-knows
 exists-requires-clause-knows g c =
     task_at c.args.self.now c.args.no c.args.from c.args.waiting.notes c.sight.result.rows.now c.sight.result.no c.sight.result.from c.sight.ensures.rows
-    c.sight.ensures.task c.sight.ensures.from c.requires.holds c.requires.own
+    c.sight.ensures.task c.sight.ensures.from c.requires.taken.holds c.requires.own
 
 pub returns-clause-whole : goal.returns-clause-whole
 returns-clause-whole g c =
@@ -26,7 +26,7 @@ returns-clause-whole g c =
     let stage = c.sight.result.stage.now in
     let n = c.args.waiting.notes in
     exists_goes {E = Unit {0}} (g.F.Files.holds c.args.files.now) c.args.self.now c.told.new.self c.args.no c.args.from c.args.waiting c.args.path
-    (λ o. ShowsOut rows stage n.number n.needs c.args.path o) c.in_ok-told.told (Ok c.in_ok-told-2.field-0) c.requires.holds c.requires.waits.left
+    (λ o. ShowsOut rows stage n.number n.needs c.args.path o) c.in_ok-told.told (Ok c.in_ok-told-2.field-0) c.requires.taken.holds c.requires.waits.left
     c.requires.own (λ o. shown_here c.args.self.now rows stage n c.args.path o c.sight.ensures.rows c.sight.ensures.stage) (λ d held. c.in_ok-told.ensures.tells d held) c.in_ok-told-2.ensures.whole
 
 pub returns-in_err-told-clause-asks : goal.returns-in_err-told-clause-asks

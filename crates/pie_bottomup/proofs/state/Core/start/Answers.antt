@@ -27,14 +27,15 @@ returns-clause-turns c =
     c.callees-from.ensures.callees ∙ ap (λ (rows : List Row). (row_at rows c.args.no.0).needs) (c.rows.ensures ∙ ap (λ w. w.rows) c.walk.ensures) in
     let hand : InHand = record { no = c.args.no; from = length c.callees-from.result.now; task = c.in_ok-task.task } in
     record {
-      site = site_tables self c.runs.new.self c.requires.site c.runs.ensures.tables c.runs.ensures.names c.runs.ensures.records
+      site = site_tables self c.runs.new.self c.requires.taken.site c.runs.ensures.tables c.runs.ensures.names c.runs.ensures.records
           (Some hand);
       state = record {
-        holds = c.requires.holds;
+        holds = c.requires.taken.holds;
         ready = c.in_ok-task.ensures.started.ready;
         own = own_tables self c.runs.new.self c.args.no (length c.callees-from.result.now) c.in_ok-task.task.notes c.runs.ensures.names c.runs.ensures.records
             (Some hand) (started_own self c.args.no (length c.callees-from.result.now) c.task.result.now c.in_ok-task.task.notes c.task.ensures
-            (subst (λ o. IfSome o (IsKnown self.plan)) c.task.ensures c.requires.known) (sym (length-map c.callees-from.result.now (λ (t : TaskNo). t.0)) ∙ ap length needs)
+            (subst (λ o. IfSome o (IsKnown self.plan)) c.task.ensures c.requires.known.known)
+            (sym (length-map c.callees-from.result.now (λ (t : TaskNo). t.0)) ∙ ap length needs)
             c.in_ok-task.ensures.started.notes);
       };
     }
@@ -48,7 +49,7 @@ returns-clause-spends c = record {
   room = omega arith;
   one = omega (arith, ap length c.in_ok-task.ensures.runs, length_push c.args.runs.now c.task.result.now);
   tasks = tasks_run c.args.self.now.tables c.runs.new.self c.args.no.0 c.runs.ensures.names c.runs.ensures.records c.runs.ensures.ran
-      (omega (arith, slice_get_within c.args.self.now.tables.names c.args.no.0 c.task.result.now c.task.ensures, c.requires.site.tables.flags));
+      (omega (arith, slice_get_within c.args.self.now.tables.names c.args.no.0 c.task.result.now c.task.ensures, c.requires.taken.site.tables.flags));
 }
 
 pub returns-clause-started : goal.returns-clause-started
@@ -56,7 +57,7 @@ returns-clause-started c = record {
   task = c.task.result.now;
   named = c.task.ensures;
   ran = run_marked c.args.self.now.tables c.runs.new.self c.args.no.0 c.runs.ensures.ran
-      (omega (arith, slice_get_within c.args.self.now.tables.names c.args.no.0 c.task.result.now c.task.ensures, c.requires.site.tables.flags));
+      (omega (arith, slice_get_within c.args.self.now.tables.names c.args.no.0 c.task.result.now c.task.ensures, c.requires.taken.site.tables.flags));
   added = c.in_ok-task.ensures.runs;
   alone = ran_alone c.args.self.now.tables c.runs.new.self c.args.no.0 c.runs.ensures.ran;
 }
@@ -70,8 +71,8 @@ returns-clause-whole c = λ code_is u before now from.
     let needs : numbers c.callees-from.result.now ≡ (row_at self.frames.walk.rows c.args.no.0).needs =
     c.callees-from.ensures.callees ∙ ap (λ (rows : List Row). (row_at rows c.args.no.0).needs) (c.rows.ensures ∙ ap (λ w. w.rows) c.walk.ensures) in
     let hand : InHand = record { no = c.args.no; from = length c.callees-from.result.now; task = task } in
-    started_whole u self c.runs.new.self c.args.no hand before from c.requires.holds c.runs.ensures.names c.runs.ensures.records c.runs.ensures.ran
-    (omega (arith, slice_get_within self.tables.names c.args.no.0 from.task from.takes.named, c.requires.site.tables.flags)) refl
+    started_whole u self c.runs.new.self c.args.no hand before from c.requires.taken.holds c.runs.ensures.names c.runs.ensures.records c.runs.ensures.ran
+    (omega (arith, slice_get_within self.tables.names c.args.no.0 from.task from.takes.named, c.requires.taken.site.tables.flags)) refl
     (sym (length-map c.callees-from.result.now (λ (t : TaskNo). t.0)) ∙ ap length needs)
     (subst (HasFunction u.functions self.plan.code.now from.task) (sym started.coded)
     (subst (λ (fs : List FunctionTree). HasFunction fs self.plan.code.now from.task c.args.code.now) now.plan.functions (code_is from.task from.takes.named)))

@@ -16,10 +16,10 @@ loop-n-preserved g c =
       more.reads.counted.steady ∙ before.4,
       both_before g.F.Files.holds g.F.Files.moment g.F.Files.left_since g.F.Files.images c.args.files.now c.loop-n.files c.test.new.files before.3 before.5
           c.test.ensures.reads.crash,
-      learns_on c.args.self.now c.loop-n.self c.test.new.self before.6 more.learns,
+      learns_on c.args.self.now c.loop-n.self c.test.new.self before.6 more.learns.learns,
       held_more (g.F.Files.holds c.args.files.now) (g.F.Files.holds c.loop-n.files) c.args.self.now c.loop-n.self c.test.new.self c.loop-n.n before.3
-          more.learns before.7 more.held,
-      only_on c.args.self.now c.loop-n.self c.test.new.self before.8 more.only,
+          more.learns.learns before.7 more.held,
+      only_on c.args.self.now c.loop-n.self c.test.new.self before.8 more.learns.only,
       tests_more c.args.self.now.named c.loop-n.self.named (g.F.Files.asked c.args.files.now) (g.F.Files.asked c.loop-n.files)
           (g.F.Files.asked c.test.new.files) before.6.names before.9 c.test.ensures.asks,
     )

@@ -7,35 +7,41 @@ use Rattle.pie_bottomup.proofs.Keeping.{none_starts}
 use Rattle.pie_bottomup.proofs.Reasoning.{walks_for}
 use Rattle.pie_bottomup.proofs.state.Core.walk_on.Goals as goal
 
-pub take-requires-clause-site : goal.take-requires-clause-site
-take-requires-clause-site c =
+pub take-requires : goal.take-requires
+take-requires c =
     let has : HasTaken c.args.self.now.frames c.next.new.self c.in-Takes.no = rw c.in-Takes.is at c.in_ok-no.ensures in
-    site_taken c.args.self.now c.next.new.self c.in-Takes.no c.requires.rests.site has
+    record {
+      taken = record {
+        site = site_taken c.args.self.now c.next.new.self c.in-Takes.no c.requires.rests.site has;
+        free = c.requires.free;
+        holds = has.holds;
+      };
+      recorded = taken_recorded c.args.self.now c.next.new.self c.in-Takes.no c.requires.rests.site c.requires.rests.rests.stands.holds has;
+    }
 
-pub take-requires-clause-recorded : goal.take-requires-clause-recorded
-take-requires-clause-recorded c =
-    let has : HasTaken c.args.self.now.frames c.next.new.self c.in-Takes.no = rw c.in-Takes.is at c.in_ok-no.ensures in
-    taken_recorded c.args.self.now c.next.new.self c.in-Takes.no c.requires.rests.site c.requires.rests.rests.stands.holds has
-
-pub answer-requires-clause-site : goal.answer-requires-clause-site
-answer-requires-clause-site c =
+pub answer-requires-clause-taken : goal.answer-requires-clause-taken
+answer-requires-clause-taken c =
     let has : HasAnswered c.args.self.now.frames c.next.new.self c.in-Answers.no c.in-Answers.parked = rw c.in-Answers.is at c.in_ok-no.ensures in
-    (site_answered c.args.self.now c.next.new.self c.in-Answers.no c.in-Answers.parked c.requires.rests.site has).0
+    record {
+      site = (site_answered c.args.self.now c.next.new.self c.in-Answers.no c.in-Answers.parked c.requires.rests.site has).0;
+      free = c.requires.free;
+      holds = has.holds;
+    }
 
-pub answer-requires-clause-caller : goal.answer-requires-clause-caller
-answer-requires-clause-caller c =
+pub answer-requires-clause-answers : goal.answer-requires-clause-answers
+answer-requires-clause-answers c =
     let has : HasAnswered c.args.self.now.frames c.next.new.self c.in-Answers.no c.in-Answers.parked = rw c.in-Answers.is at c.in_ok-no.ensures in
-    (site_answered c.args.self.now c.next.new.self c.in-Answers.no c.in-Answers.parked c.requires.rests.site has).1
+    record {
+      parked = has.is_parked;
+      number = has.number;
+      caller = (site_answered c.args.self.now c.next.new.self c.in-Answers.no c.in-Answers.parked c.requires.rests.site has).1;
+      settled = callee_settled c.args.self.now.frames c.next.new.self c.in-Answers.no c.in-Answers.parked has;
+    }
 
-pub answer-requires-clause-settled : goal.answer-requires-clause-settled
-answer-requires-clause-settled c =
-    let has : HasAnswered c.args.self.now.frames c.next.new.self c.in-Answers.no c.in-Answers.parked = rw c.in-Answers.is at c.in_ok-no.ensures in
-    callee_settled c.args.self.now.frames c.next.new.self c.in-Answers.no c.in-Answers.parked has
-
-pub next_root-requires-clause-rests : goal.next_root-requires-clause-rests
-next_root-requires-clause-rests c =
+pub next_root-requires-clause-free : goal.next_root-requires-clause-free
+next_root-requires-clause-free c =
     let over : IsOver c.args.self.now.frames c.next.new.self = rw c.in-Idle.is at c.in_ok-no.ensures in
-    rests_over c.args.self.now c.next.new.self c.requires.rests.site over
+    record { rests = rests_over c.args.self.now c.next.new.self c.requires.rests.site over; free = c.requires.free }
 
 pub returns-in-Takes-clause-whole : goal.returns-in-Takes-clause-whole
 returns-in-Takes-clause-whole c =
