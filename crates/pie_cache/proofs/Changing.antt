@@ -15,7 +15,7 @@ use Rattle.pie_files.specs.Calls.{MayHaveWritten, MayHaveRemoved}
 use Rattle.pie_files.proofs.HeldLemmas.{antisymmetric}
 use Rattle.pie_files.proofs.Reading.{starts, one_call, in_turn, weaker, if_always, if_each}
 use Rattle.pie_cache.specs.inner.Places.{is_in_cache}
-use Rattle.pie_cache.specs.inner.Changes.{AlikeOutside, KeepsOutside, IsAlikeOneOf, LeavesAlike}
+use Rattle.pie_cache.specs.inner.Changes.{AlikeOutside, ChangesCacheOnly, KeepsOutside, IsAlikeOneOf, LeavesAlike}
 
 -- a path outside the cache is none inside
 apart : (q path : List ℕ) → is_in_cache q ≡ false → is_in_cache path ≡ true → eq_by_cmp (slice_cmp nat_cmp) q path ≡ false
@@ -127,6 +127,23 @@ module _ {S : Type 0} (holds : S → Option Directory) (moment : S → ℕ) (lef
           in_turn moment left_since images (IsAlikeOneOf (images old)) old mid new a
           (weaker moment left_since images (IsAlikeOneOf (images mid)) (IsAlikeOneOf (images old)) mid new
           (λ c from. let earlier = a.now from.0 from.1 in (earlier.0, earlier.1, alike_both earlier.0 from.0 c earlier.2 from.2)) b)
+
+  -- no call
+  pub outside_none : (old : S) → ChangesCacheOnly holds moment left_since images old old
+  outside_none old = record { kept = keeps_same (holds old) (holds old) refl; crash = none_leaves old }
+
+  -- a look
+  pub outside_look : (old new : S) → holds new ≡ holds old → MayLeave holds moment left_since images Stays old new
+      → ChangesCacheOnly holds moment left_since images old new
+  outside_look old new same may = record { kept = keeps_same (holds old) (holds new) same; crash = stays_leaves old new may }
+
+  -- some calls and then others
+  pub outside_both : (old mid new : S) → ChangesCacheOnly holds moment left_since images old mid → ChangesCacheOnly holds moment left_since images mid new
+      → ChangesCacheOnly holds moment left_since images old new
+  outside_both old mid new first second = record {
+    kept = keeps_both (holds old) (holds mid) (holds new) first.kept second.kept;
+    crash = both_leave old mid new first.kept first.crash second.crash;
+  }
 
 -- what the search takes for a function whose calls change files of the cache alone
 pub ruleset changes = (keeps_same, keeps_both, none_leaves, stays_leaves, read_leaves, both_leave)

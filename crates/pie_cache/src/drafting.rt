@@ -9,7 +9,7 @@ ghost use Rattle.pie_files.specs.Reading.{ReadsOnly};
 ghost use Rattle.pie_cache.specs.inner.Contents.{IsNews, IsNewsIn, IsDraft, IsKeptOffer};
 ghost use Rattle.pie_cache.specs.inner.Keeping.{fitting, held_for, is_at, kept, last_for, text_in_front, AddsAt, IsDone};
 ghost use Rattle.pie_cache.specs.inner.Places.{IsCachePath};
-ghost use Rattle.pie_cache.specs.inner.Steps.{Changes, HaveOwnPaths};
+ghost use Rattle.pie_cache.specs.inner.Steps.{AreDrafts, Changes, HaveOwnPaths};
 ghost use Rattle.pie_cache.specs.inner.Texts.{enc_cache, IsKept};
 ghost use Rattle.pie_store.specs.inner.Offers.{offered};
 
@@ -83,13 +83,11 @@ fn add_all<F: Files>(
     drafts: &mut Vec<(Path, Vec<u8>)>,
 ) -> Result<(), FilesError>
     requires news { All IsNewsIn latest.entries }
-    requires drafts { All IsDraft drafts.old.items }
-    requires own { HaveOwnPaths drafts.old.items }
+    requires drafts { AreDrafts drafts.old.items }
     requires done { All (IsDone latest) drafts.old.items }
     ensures made { IfSome (F.holds files.old) (λ d. OnOk result ((q : List ℕ) → written drafts.new.items q
         ≡ later (kept (held_for latest q) (file_at d q)) (written drafts.old.items q))) }
-    ensures drafts { OnOk result (All IsDraft drafts.new.items) }
-    ensures own { OnOk result (HaveOwnPaths drafts.new.items) }
+    ensures drafts { OnOk result (AreDrafts drafts.new.items) }
     ensures looks { OnOk result (Changes [] (F.asked files.old) (F.asked files.new)) }
     ensures reads { ReadsOnly F.holds F.moment F.left_since F.images F.faults files.old files.new result }
 {

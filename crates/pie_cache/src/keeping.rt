@@ -6,7 +6,7 @@ ghost use Rattle.pie_commit.specs.inner.Steps.{Makes, Writes, Syncs, writing};
 ghost use Rattle.pie_files.specs.Images.{MayLeave, MayWrite};
 ghost use Rattle.pie_files.specs.Streams.{Counted};
 ghost use Rattle.pie_cache.specs.inner.Places.{gate as specs_gate, is_in_cache};
-ghost use Rattle.pie_cache.specs.inner.Changes.{EndsAtRest, KeepsOutside, LeavesAlike, StaysAtRest};
+ghost use Rattle.pie_cache.specs.inner.Changes.{ChangesCacheOnly, EndsAtRest, KeepsOutside, LeavesAlike, StaysAtRest};
 ghost use Rattle.pie_cache.specs.inner.Contents.{IsNews, IsDraft};
 ghost use Rattle.pie_cache.specs.inner.Gated.{AllGated, IsBegun, IsWhole, KeepsGate, KeepsWhole};
 ghost use Rattle.pie_cache.specs.inner.Keeping.{HasKept};
@@ -51,7 +51,6 @@ impl Cache {
 }
 
 // Writes these files while the gate stands.
-#[tactic(auto, using(crate::proofs::Changing::changes))]
 fn put_drafts<F: Files>(
     files: &mut F,
     gate: &Path,
@@ -63,8 +62,7 @@ fn put_drafts<F: Files>(
     ensures makes { Makes F.asked (putting drafts.now) files.old files.new result }
     ensures whole { LeavesFromRest F.holds F.moment F.left_since F.images (IsWhole (written drafts.now)) files.old files.new }
     ensures durable { OnOk result (EndsAtRest F.holds F.images files.old files.new) }
-    ensures kept { KeepsOutside (F.holds files.old) (F.holds files.new) }
-    ensures crash { LeavesAlike F.holds F.moment F.left_since F.images files.old files.new }
+    ensures outside { ChangesCacheOnly F.holds F.moment F.left_since F.images files.old files.new }
     ensures counted { Counted F.faults FilesError.Failed files.old files.new result }
 {
     set(files, gate)?;

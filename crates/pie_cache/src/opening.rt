@@ -7,8 +7,8 @@ ghost use Rattle.pie_commit.specs.inner.Steps.{Makes, Removes, Syncs, removing};
 ghost use Rattle.pie_files.specs.Directory.{files_under};
 ghost use Rattle.pie_files.specs.Images.{MayLeave, MayRemove, Only, Stays};
 ghost use Rattle.pie_files.specs.Streams.{Counted};
-ghost use Rattle.pie_cache.specs.inner.Places.{gate as specs_gate, is_in_cache};
-ghost use Rattle.pie_cache.specs.inner.Changes.{EndsAtRest, KeepsOutside, LeavesAlike, StaysAtRest};
+ghost use Rattle.pie_cache.specs.inner.Places.{gate as specs_gate, is_in_cache, AreItsPaths};
+ghost use Rattle.pie_cache.specs.inner.Changes.{ChangesCacheOnly, EndsAtRest, KeepsOutside, LeavesAlike, StaysAtRest};
 ghost use Rattle.pie_cache.specs.inner.Clearing.{HasCleared, IsApart, IsOpened, IsInside, is_other};
 ghost use Rattle.pie_cache.specs.inner.Gated.{HasGate, KeepsGate, OpensWhole};
 ghost use Rattle.pie_cache.specs.inner.Steps.{clearing, closing, opening, Changes};
@@ -59,14 +59,12 @@ fn clear_if_gated<F: Files>(
     gate: &Path,
     dir: &Path,
 ) -> Result<(), FilesError>
-    requires gate { gate.now ≡ specs_gate }
-    requires dir { dir.now ≡ codes ".pie/cache" }
+    requires { AreItsPaths gate.now dir.now }
     ensures cleared { OnOk result (IfSome (F.holds files.old) (λ d. IsOpened d (F.holds files.new))) }
     ensures changes { OnOk result (IfSome (F.holds files.old) (λ d. Changes (opening d) (F.asked files.old) (F.asked files.new))) }
     ensures whole { LeavesFromRest F.holds F.moment F.left_since F.images OpensWhole files.old files.new }
     ensures durable { OnOk result (StaysAtRest F.holds F.images files.old files.new) }
-    ensures kept { KeepsOutside (F.holds files.old) (F.holds files.new) }
-    ensures crash { LeavesAlike F.holds F.moment F.left_since F.images files.old files.new }
+    ensures outside { ChangesCacheOnly F.holds F.moment F.left_since F.images files.old files.new }
     ensures counted { Counted F.faults FilesError.Failed files.old files.new result }
 {
     if files.exists(gate)? {
@@ -76,17 +74,14 @@ fn clear_if_gated<F: Files>(
 }
 
 // Removes all files below the directory, the gate last.
-#[tactic(auto, using(crate::proofs::Changing::changes))]
 fn clear<F: Files>(alloc: Global, files: &mut F, gate: &Path, dir: &Path) -> Result<(), FilesError>
-    requires gate { gate.now ≡ specs_gate }
-    requires dir { dir.now ≡ codes ".pie/cache" }
+    requires paths { AreItsPaths gate.now dir.now }
     requires stands { IfSome (F.holds files.old) HasGate }
     ensures cleared { OnOk result (IfSome (F.holds files.old) (λ d. HasCleared (F.holds files.new))) }
     ensures changes { OnOk result (IfSome (F.holds files.old) (λ d. Changes (clearing (filter is_other (files_under d (codes ".pie/cache")))) (F.asked files.old) (F.asked files.new))) }
     ensures whole { LeavesFromRest F.holds F.moment F.left_since F.images OpensWhole files.old files.new }
     ensures durable { OnOk result (EndsAtRest F.holds F.images files.old files.new) }
-    ensures kept { KeepsOutside (F.holds files.old) (F.holds files.new) }
-    ensures crash { LeavesAlike F.holds F.moment F.left_since F.images files.old files.new }
+    ensures outside { ChangesCacheOnly F.holds F.moment F.left_since F.images files.old files.new }
     ensures counted { Counted F.faults FilesError.Failed files.old files.new result }
 {
     let paths = files.all_under(dir)?;

@@ -29,3 +29,9 @@ StaysAtRest holds images old new = IfSome (holds old) (λ d. Only d (images old)
 -- nothing is pending
 abbrev pub EndsAtRest : {S : Type 0} → (S → Option Directory) → (S → Directory → Type 0) → S → S → Type 0
 EndsAtRest holds images old new = IfSome (holds old) (λ d. IsAtRest (holds new) (images new))
+
+-- whatever was answered, calls changed files of the cache alone, at their end and at each moment
+pub record ChangesCacheOnly {S : Type 0} (holds : S → Option Directory) (moment : S → ℕ) (left_since : S → ℕ → Directory → Type 0)
+    (images : S → Directory → Type 0) (old new : S) : Type 0 where
+  pub kept : KeepsOutside (holds old) (holds new)
+  pub crash : LeavesAlike holds moment left_since images old new

@@ -25,3 +25,8 @@ gate = codes ".pie/cache/open"
 -- the path of a cache file: that of some name of 32 bytes
 abbrev pub IsCachePath : List ℕ → Type 0
 IsCachePath path = (hash : List ℕ) × (length hash ≡ 32) × (path ≡ path_of_hash hash)
+
+-- these paths are those of the gate and of the directory of the cache
+pub record AreItsPaths (at dir : List ℕ) : Type 0 where
+  pub is_gate : at ≡ gate
+  pub is_dir : dir ≡ codes ".pie/cache"

@@ -1,5 +1,5 @@
 -- The calls that change the cache, in their order.
-use Rattle.std.specs.Prelude.{◌≡◌, ◌≢◌, ℕ, Bool, true, false, cond, List, [], ◌∷◌, ◌++◌, Option, Some, IfSome, Vec, codes, is_some}
+use Rattle.std.specs.Prelude.{◌≡◌, ◌≢◌, ℕ, Bool, true, false, cond, List, [], ◌∷◌, ◌++◌, Option, Some, IfSome, All, Vec, codes, is_some}
 use Rattle.std.specs.Global.{Global}
 use Rattle.std.specs.List.{filter, AllPairs}
 use Rattle.pie_commit.specs.inner.Plans.{written}
@@ -9,6 +9,7 @@ use Rattle.pie_files.specs.declared.files.Call.TheVariants as calls
 use Rattle.pie_files.specs.Directory.{Directory, file_at, files_under}
 use Rattle.pie_store.specs.declared.offers.Offer.{Offer}
 use Rattle.pie_cache.specs.inner.Clearing.{is_other}
+use Rattle.pie_cache.specs.inner.Contents.{IsDraft}
 use Rattle.pie_cache.specs.inner.Keeping.{kept, last_for}
 use Rattle.pie_cache.specs.inner.Places.{gate}
 
@@ -44,6 +45,11 @@ opening d = cond (is_some (file_at d gate)) (clearing (filter is_other (files_un
 -- no two of these files are at one path
 abbrev pub HaveOwnPaths : List (List ℕ × Vec ℕ Global) → Type 0
 HaveOwnPaths drafts = AllPairs (λ (a b : List ℕ × Vec ℕ Global). a.0 ≢ b.0) drafts
+
+-- files that may be written: each is at the path of a cache file, and no two are at one path
+pub record AreDrafts (drafts : List (List ℕ × Vec ℕ Global)) : Type 0 where
+  pub each : All IsDraft drafts
+  pub own : HaveOwnPaths drafts
 
 -- in each file for which there are offers the last one is put, and only there, each once
 abbrev pub ChangesFor : List (List ℕ × Offer) → Directory → Option (List Call) → Option (List Call) → Type 0

@@ -64,16 +64,19 @@ returns-in-None-clause-made g c =
     (λ q. later (kept (held_for c.args.latest q) (file_at d q)) (written c.args.drafts.now.items q)) (emptied c.files.latest.entries (λ some. false≢true (c.in-None.ensures.variant.1 some)))
     so_far) c.files.invariant.6
 
+pub returns-in-None-clause-drafts : goal.returns-in-None-clause-drafts
+returns-in-None-clause-drafts g c = record { each = c.files.invariant.1; own = c.files.invariant.7 }
+
 pub files-init : goal.files-init
 files-init g c = (
   c.requires.news,
-  c.requires.drafts,
+  c.requires.drafts.each,
   refl,
   none_before g.F.Files.holds g.F.Files.moment g.F.Files.left_since g.F.Files.images c.args.files.now,
   refl,
   changes_none (g.F.Files.asked c.args.files.now) (g.F.Files.asked c.args.files.now) refl,
   all_so_far (g.F.Files.holds c.args.files.now)
       (λ d q. later (kept (held_for c.args.latest q) (file_at d q)) (written c.args.drafts.now.items q)),
-  c.requires.own,
+  c.requires.drafts.own,
   c.requires.done,
 )

@@ -6,7 +6,7 @@ use Rattle.pie_commit.proofs.Bringing.{brought_as, brought_both, brought_still, 
 use Rattle.pie_commit.proofs.Stepping.{makes_stops, makes_then}
 use Rattle.pie_cache.specs.inner.Places.{gate}
 use Rattle.pie_cache.specs.inner.Steps.{closing, putting}
-use Rattle.pie_cache.proofs.Changing.{keeps_both}
+use Rattle.pie_cache.proofs.Changing.{keeps_both, outside_both}
 use Rattle.pie_cache.proofs.Kept.{gate_gone}
 use Rattle.std.proofs.Common.{Ok}
 use Rattle.pie_commit.proofs.Standing.{rests, told_both}
@@ -15,24 +15,30 @@ use Rattle.pie_commit.specs.Outcomes.{IsAtRest}
 use Rattle.pie_cache.proofs.Resting.{rests_from}
 use Rattle.pie_cache.proofs.keeping.put_drafts.Goals as goal
 
-pub returns-in_err-write_all-clause-kept : goal.returns-in_err-write_all-clause-kept
-returns-in_err-write_all-clause-kept g c =
-    keeps_both (g.F.Files.holds c.args.files.now) (g.F.Files.holds c.set.new.files) (g.F.Files.holds c.write_all.new.files) c.in_ok-set.ensures.kept
-    c.write_all.ensures.kept
+pub returns-in_err-set-clause-outside : goal.returns-in_err-set-clause-outside
+returns-in_err-set-clause-outside g c = record { kept = c.set.ensures.kept; crash = c.set.ensures.crash }
 
-pub returns-in_err-make_last-clause-kept : goal.returns-in_err-make_last-clause-kept
-returns-in_err-make_last-clause-kept g c =
-    keeps_both (g.F.Files.holds c.args.files.now) (g.F.Files.holds c.set.new.files) (g.F.Files.holds c.make_last.new.files) c.in_ok-set.ensures.kept
-    (keeps_both (g.F.Files.holds c.set.new.files) (g.F.Files.holds c.write_all.new.files) (g.F.Files.holds c.make_last.new.files)
-    c.in_ok-write_all.ensures.kept c.make_last.ensures.kept)
+pub returns-in_err-write_all-clause-outside : goal.returns-in_err-write_all-clause-outside
+returns-in_err-write_all-clause-outside g c =
+    outside_both g.F.Files.holds g.F.Files.moment g.F.Files.left_since g.F.Files.images c.args.files.now c.set.new.files c.write_all.new.files
+    (record { kept = c.set.ensures.kept; crash = c.set.ensures.crash }) (record { kept = c.write_all.ensures.kept; crash = c.write_all.ensures.crash })
 
-pub returns-clause-kept : goal.returns-clause-kept
-returns-clause-kept g c =
-    keeps_both (g.F.Files.holds c.args.files.now) (g.F.Files.holds c.set.new.files) (g.F.Files.holds c.close.new.files) c.in_ok-set.ensures.kept
-    (keeps_both (g.F.Files.holds c.set.new.files) (g.F.Files.holds c.write_all.new.files) (g.F.Files.holds c.close.new.files)
-    c.in_ok-write_all.ensures.kept
-    (keeps_both (g.F.Files.holds c.write_all.new.files) (g.F.Files.holds c.make_last.new.files) (g.F.Files.holds c.close.new.files)
-    c.in_ok-make_last.ensures.kept c.close.ensures.kept))
+pub returns-in_err-make_last-clause-outside : goal.returns-in_err-make_last-clause-outside
+returns-in_err-make_last-clause-outside g c =
+    outside_both g.F.Files.holds g.F.Files.moment g.F.Files.left_since g.F.Files.images c.args.files.now c.set.new.files c.make_last.new.files
+    (record { kept = c.set.ensures.kept; crash = c.set.ensures.crash })
+    (outside_both g.F.Files.holds g.F.Files.moment g.F.Files.left_since g.F.Files.images c.set.new.files c.write_all.new.files c.make_last.new.files
+    (record { kept = c.write_all.ensures.kept; crash = c.write_all.ensures.crash })
+    (record { kept = c.make_last.ensures.kept; crash = c.make_last.ensures.crash }))
+
+pub returns-clause-outside : goal.returns-clause-outside
+returns-clause-outside g c =
+    outside_both g.F.Files.holds g.F.Files.moment g.F.Files.left_since g.F.Files.images c.args.files.now c.set.new.files c.close.new.files
+    (record { kept = c.set.ensures.kept; crash = c.set.ensures.crash })
+    (outside_both g.F.Files.holds g.F.Files.moment g.F.Files.left_since g.F.Files.images c.set.new.files c.write_all.new.files c.close.new.files
+    (record { kept = c.write_all.ensures.kept; crash = c.write_all.ensures.crash })
+    (outside_both g.F.Files.holds g.F.Files.moment g.F.Files.left_since g.F.Files.images c.write_all.new.files c.make_last.new.files c.close.new.files
+    (record { kept = c.make_last.ensures.kept; crash = c.make_last.ensures.crash }) (record { kept = c.close.ensures.kept; crash = c.close.ensures.crash })))
 
 pub returns-in_err-set-clause-makes : goal.returns-in_err-set-clause-makes
 returns-in_err-set-clause-makes g c =

@@ -8,7 +8,7 @@ use Rattle.pie_files.proofs.Reading.{if_each}
 use Rattle.pie_files.specs.Directory.{files_under}
 use Rattle.pie_cache.specs.inner.Clearing.{is_other}
 use Rattle.pie_cache.specs.inner.Places.{gate}
-use Rattle.pie_cache.proofs.Changing.{keeps_same, keeps_both, stays_leaves, both_leave}
+use Rattle.pie_cache.proofs.Changing.{keeps_same, keeps_both, outside_both, outside_look}
 use Rattle.pie_cache.proofs.Clearing.{cleared}
 use Rattle.pie_commit.specs.inner.Steps.{Makes, Syncs, removing}
 use Rattle.pie_cache.specs.inner.Steps.{clearing, closing}
@@ -19,29 +19,47 @@ use Rattle.pie_cache.proofs.Gating.{both_gated, sync_gated, told_of}
 use Rattle.pie_cache.proofs.Resting.{rests_from}
 use Rattle.pie_cache.proofs.opening.clear.Goals as goal
 
-pub returns-clause-kept : goal.returns-clause-kept
-returns-clause-kept g c =
-    let before = g.F.Files.holds c.args.files.now in
-    let listed = g.F.Files.holds c.all_under.new.self in
-    let removed = g.F.Files.holds c.remove_all.new.files in
-    let last = g.F.Files.holds c.make_last.new.files in
-    let after = g.F.Files.holds c.close.new.files in
-    keeps_both before listed after (keeps_same before listed c.in_ok-paths.ensures.same)
-    (keeps_both listed removed after c.in_ok-remove_all.ensures.kept
-    (keeps_both removed last after c.in_ok-make_last.ensures.kept c.close.ensures.kept))
+pub returns-in_err-paths-clause-outside : goal.returns-in_err-paths-clause-outside
+returns-in_err-paths-clause-outside g c =
+    outside_look g.F.Files.holds g.F.Files.moment g.F.Files.left_since g.F.Files.images c.args.files.now c.all_under.new.self c.all_under.ensures.same
+    c.all_under.ensures.crash
 
-pub returns-clause-crash : goal.returns-clause-crash
-returns-clause-crash g c =
+pub returns-in_err-others-clause-outside : goal.returns-in_err-others-clause-outside
+returns-in_err-others-clause-outside g c =
+    outside_look g.F.Files.holds g.F.Files.moment g.F.Files.left_since g.F.Files.images c.args.files.now c.all_under.new.self c.all_under.ensures.same
+    c.all_under.ensures.crash
+
+pub returns-in_err-remove_all-clause-outside : goal.returns-in_err-remove_all-clause-outside
+returns-in_err-remove_all-clause-outside g c =
     let F = g.F.Files in
     let before = c.args.files.now in
     let listed = c.all_under.new.self in
-    let removed = c.remove_all.new.files in
-    let last = c.make_last.new.files in
-    let after = c.close.new.files in
-    both_leave F.holds F.moment F.left_since F.images before listed after (keeps_same (F.holds before) (F.holds listed) c.in_ok-paths.ensures.same)
-    (stays_leaves F.holds F.moment F.left_since F.images before listed c.in_ok-paths.ensures.crash)
-    (both_leave F.holds F.moment F.left_since F.images listed removed after c.in_ok-remove_all.ensures.kept c.in_ok-remove_all.ensures.crash
-    (both_leave F.holds F.moment F.left_since F.images removed last after c.in_ok-make_last.ensures.kept c.in_ok-make_last.ensures.crash c.close.ensures.crash))
+    outside_both F.holds F.moment F.left_since F.images before listed c.remove_all.new.files
+    (outside_look F.holds F.moment F.left_since F.images before listed c.all_under.ensures.same c.all_under.ensures.crash)
+    (record { kept = c.remove_all.ensures.kept; crash = c.remove_all.ensures.crash })
+
+pub returns-in_err-make_last-clause-outside : goal.returns-in_err-make_last-clause-outside
+returns-in_err-make_last-clause-outside g c =
+    let F = g.F.Files in
+    let before = c.args.files.now in
+    let listed = c.all_under.new.self in
+    outside_both F.holds F.moment F.left_since F.images before listed c.make_last.new.files
+    (outside_look F.holds F.moment F.left_since F.images before listed c.all_under.ensures.same c.all_under.ensures.crash)
+    (outside_both F.holds F.moment F.left_since F.images listed c.remove_all.new.files c.make_last.new.files
+    (record { kept = c.remove_all.ensures.kept; crash = c.remove_all.ensures.crash })
+    (record { kept = c.make_last.ensures.kept; crash = c.make_last.ensures.crash }))
+
+pub returns-clause-outside : goal.returns-clause-outside
+returns-clause-outside g c =
+    let F = g.F.Files in
+    let before = c.args.files.now in
+    let listed = c.all_under.new.self in
+    outside_both F.holds F.moment F.left_since F.images before listed c.close.new.files
+    (outside_look F.holds F.moment F.left_since F.images before listed c.all_under.ensures.same c.all_under.ensures.crash)
+    (outside_both F.holds F.moment F.left_since F.images listed c.remove_all.new.files c.close.new.files
+    (record { kept = c.remove_all.ensures.kept; crash = c.remove_all.ensures.crash })
+    (outside_both F.holds F.moment F.left_since F.images c.remove_all.new.files c.make_last.new.files c.close.new.files
+    (record { kept = c.make_last.ensures.kept; crash = c.make_last.ensures.crash }) (record { kept = c.close.ensures.kept; crash = c.close.ensures.crash })))
 
 pub returns-clause-cleared : goal.returns-clause-cleared
 returns-clause-cleared g c =
@@ -55,7 +73,7 @@ returns-clause-cleared g c =
     subst (λ (l : List (List ℕ)). HasBrought (removed l) listed gone) c.as_slice.ensures.value c.in_ok-remove_all.ensures.done in
     let there : IfSome before (λ d. paths ≡ filter is_other (files_under d (codes ".pie/cache"))) =
     if_each (λ d. c.in_ok-paths.paths.items ≡ files_under d c.args.dir.now) (λ d. paths ≡ filter is_other (files_under d (codes ".pie/cache"))) before
-    (λ d is. c.in_ok-others.ensures.others ∙ ap (filter is_other) (is ∙ ap (files_under d) c.requires.dir)) c.in_ok-paths.ensures.listed in
+    (λ d is. c.in_ok-others.ensures.others ∙ ap (filter is_other) (is ∙ ap (files_under d) c.requires.paths.is_dir)) c.in_ok-paths.ensures.listed in
     on_ok c.close.result
     (λ closed. cleared paths before after there
     (subst (λ o. HasBrought (λ q. later (at gate Gone q) (removed paths q)) o after) c.in_ok-paths.ensures.same
@@ -69,7 +87,7 @@ returns-clause-changes g c =
     let before = g.F.Files.holds c.args.files.now in
     let there : IfSome before (λ d. paths ≡ filter is_other (files_under d (codes ".pie/cache"))) =
     if_each (λ d. c.in_ok-paths.paths.items ≡ files_under d c.args.dir.now) (λ d. paths ≡ filter is_other (files_under d (codes ".pie/cache"))) before
-    (λ d is. c.in_ok-others.ensures.others ∙ ap (filter is_other) (is ∙ ap (files_under d) c.requires.dir)) c.in_ok-paths.ensures.listed in
+    (λ d is. c.in_ok-others.ensures.others ∙ ap (filter is_other) (is ∙ ap (files_under d) c.requires.paths.is_dir)) c.in_ok-paths.ensures.listed in
     let gone : Makes A (removing paths) c.all_under.new.self c.remove_all.new.files (Ok c.in_ok-remove_all.field-0) =
     subst (λ (l : List (List ℕ)). Makes {T = Unit {0}} A (removing l) c.all_under.new.self c.remove_all.new.files (Ok c.in_ok-remove_all.field-0)) c.as_slice.ensures.value
     c.in_ok-remove_all.ensures.makes in
@@ -127,7 +145,7 @@ returns-clause-whole g c =
     let after = c.close.new.files in
     let there : IfSome (F.holds before) (λ d. paths ≡ filter is_other (files_under d (codes ".pie/cache"))) =
     if_each (λ d. c.in_ok-paths.paths.items ≡ files_under d c.args.dir.now) (λ d. paths ≡ filter is_other (files_under d (codes ".pie/cache"))) (F.holds before)
-    (λ d is. c.in_ok-others.ensures.others ∙ ap (filter is_other) (is ∙ ap (files_under d) c.requires.dir)) c.in_ok-paths.ensures.listed in
+    (λ d is. c.in_ok-others.ensures.others ∙ ap (filter is_other) (is ∙ ap (files_under d) c.requires.paths.is_dir)) c.in_ok-paths.ensures.listed in
     let done : HasBrought (removed paths) (F.holds listed) (F.holds gone) =
     subst (λ (l : List (List ℕ)). HasBrought (removed l) (F.holds listed) (F.holds gone)) c.as_slice.ensures.value c.in_ok-remove_all.ensures.done in
     let brought : HasBrought (removed paths) (F.holds before) (F.holds last) =
