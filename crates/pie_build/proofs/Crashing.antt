@@ -20,7 +20,7 @@ use Rattle.pie_report.specs.declared.report.Report.{Report}
 use Rattle.pie_value.specs.declared.verdict.Verdict.TheVariants.{Accepted}
 use Rattle.pie_build.specs.Crashes.{IsUnderWay, IsDone, IsOfThree, LeavesMarked, StaysAtRest, Withstands}
 use Rattle.pie_build.specs.Left.{may_change, KeepsRest, Puts}
-use Rattle.pie_build.specs.inner.Plans.{IsPlanOf}
+use Rattle.pie_build.specs.inner.Plans.{IsCommitted, IsPlanOf}
 use Rattle.pie_build.proofs.InPlace.{Fits, has_store, in_place, none_wanted, wanted_marker}
 use Rattle.pie_build.proofs.OwnPaths.{none_own, or_left, or_right, places}
 
@@ -196,10 +196,9 @@ module _ (gone : List (List ℕ)) (contents : List (List ℕ × Vec ℕ Global))
       → IfSome (holds old) (λ d. Fits d gone contents pending) → r.verdict ≡ Accepted → r.wrote.items ≡ map (λ f. f.0) contents → r.removed.items ≡ gone
       → LeavesFromRest holds moment left_since images (commits.IsOfThree p) old new
       → OnErr result (IfSome (holds old) (λ d. Only d (images old) → commits.LeavesMarked p d (images new)))
-      → (is_empty p ≡ false → OnOk result (HasBrought (wanted_by p) (holds old) (holds new)))
-      → (is_empty p ≡ false → OnOk result (IfSome (holds old) (λ d. IsAtRest (holds new) (images new))))
+      → (is_empty p ≡ false → OnOk result (IsCommitted holds images p old new))
       → Withstands holds moment left_since images P old new
-  withstands_commit {T = T} holds moment left_since images P r old new result f fits v w g crash failed done durable = record {
+  withstands_commit {T = T} holds moment left_since images P r old new result f fits v w g crash failed done = record {
     crash = if_two
         (λ d. Fits d gone contents pending)
         (λ d. Only d (images old) → Leaves moment left_since images (commits.IsOfThree p d) old new)
@@ -211,21 +210,26 @@ module _ (gone : List (List ℕ)) (contents : List (List ℕ × Vec ℕ Global))
         (λ d. Only d (images old) → commits.LeavesMarked p d (images new))
         (λ d. Only d (images old) → LeavesMarked P d (images new)) (holds old)
         (λ d fit b only. marked_of P r d (f d) fit v w g (images new) (b only)) fits
-        (either result failed (done (has_store gone contents pending store p plan)) (durable (has_store gone contents pending store p plan)));
+        (either result failed (done (has_store gone contents pending store p plan)));
   }
     where
       either : (result : Result T FilesError) → OnErr result (IfSome (holds old) (λ d. Only d (images old) → commits.LeavesMarked p d (images new)))
-          → OnOk result (HasBrought (wanted_by p) (holds old) (holds new))
-          → OnOk result (IfSome (holds old) (λ d. IsAtRest (holds new) (images new)))
-          → IfSome (holds old) (λ d. Only d (images old) → commits.LeavesMarked p d (images new))
-      either (Ok value) e brought rest = if_each (λ d. commits.LeavesMarked p d (images new))
+          → OnOk result (IsCommitted holds images p old new) → IfSome (holds old) (λ d. Only d (images old) → commits.LeavesMarked p d (images new))
+      either (Ok value) e is = if_each (λ d. commits.LeavesMarked p d (images new))
           (λ d. Only d (images old) → commits.LeavesMarked p d (images new)) (holds old) (λ d x only. x)
-          (all_done (holds old) (holds new) (images new) brought rest)
-      either (Err error) e brought rest = e
+          (all_done (holds old) (holds new) (images new) is.brought is.rest)
+      either (Err error) e is = e
 
   -- after a commit of it nothing is pending
   pub rests_commit : {S T : Type 0} (holds : S → Option Directory) (images : S → Directory → Type 0) (old new : S) (result : Result T FilesError)
-      → (is_empty p ≡ false → OnOk result (IfSome (holds old) (λ d. IsAtRest (holds new) (images new)))) → OnOk result (StaysAtRest holds images old new)
-  rests_commit holds images old new (Ok value) durable = if_each (λ d. IsAtRest (holds new) (images new))
-      (λ d. Only d (images old) → IsAtRest (holds new) (images new)) (holds old) (λ d x only. x) (durable (has_store gone contents pending store p plan))
-  rests_commit holds images old new (Err e) durable = tt
+      → (is_empty p ≡ false → OnOk result (IsCommitted holds images p old new)) → OnOk result (StaysAtRest holds images old new)
+  rests_commit holds images old new (Ok value) done = if_each (λ d. IsAtRest (holds new) (images new))
+      (λ d. Only d (images old) → IsAtRest (holds new) (images new)) (holds old) (λ d x only. x) (done (has_store gone contents pending store p plan)).rest
+  rests_commit holds images old new (Err e) done = tt
+
+  -- after a commit of it, what it wants is brought about
+  pub brought_commit : {S T : Type 0} (holds : S → Option Directory) (images : S → Directory → Type 0) (old new : S) (result : Result T FilesError)
+      → (is_empty p ≡ false → OnOk result (IsCommitted holds images p old new))
+      → is_empty p ≡ false → OnOk result (HasBrought (wanted_by p) (holds old) (holds new))
+  brought_commit holds images old new (Ok value) done some = (done some).brought
+  brought_commit holds images old new (Err e) done some = tt

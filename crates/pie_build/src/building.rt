@@ -2,8 +2,7 @@
 ghost use Rattle.std.specs.Prelude.{◌≡◌, ◌≤◌, ◌+◌, ◌++◌, All, IfSome, IfOk, OnOk, drop, length};
 ghost use Rattle.pie_files.specs.Streams.{Counted};
 ghost use Rattle.pie_value.specs.Canonical.{IsEncodableTask};
-ghost use Rattle.pie_digest.specs.Digests.{HasNames};
-ghost use Rattle.pie_files.specs.Reading.{LeavesAsBefore};
+ghost use Rattle.pie_files.specs.Reading.{ReadsOnly};
 ghost use Rattle.pie_fresh.specs.inner.Builds.{Gains, IsKept, StoredWhere};
 ghost use Rattle.pie_fresh.specs.inner.Asked.{AsksForSeen};
 ghost use Rattle.pie_fresh.specs.Cleans.{IsCleanOf};
@@ -12,10 +11,9 @@ ghost use Rattle.pie_build.specs.Asked.{AsksEntered};
 ghost use Rattle.pie_build.specs.Crashes.{StaysAtRest, Withstands};
 ghost use Rattle.pie_build.specs.Left.{ChangesIfAccepted, KeepsRest, Leaves};
 ghost use Rattle.pie_build.specs.inner.Asked.{AsksBuilt, AsksClean, MakesOwn};
-ghost use Rattle.pie_build.specs.inner.Projects.{ChangesFor, IsCleanBy, IsReady, LeavesFor};
+ghost use Rattle.pie_build.specs.inner.Projects.{CanBePlaced, IsBuildable, IsCleanBy, IsReady, LeavesFor, Rebuilds, ReportsStarted};
 ghost use Rattle.pie_build.specs.inner.Rebuilt.{RebuildSays, RebuildsOnly, IsReport, IsRefusal, Tells};
 ghost use Rattle.pie_build.specs.Stored.{MayStand, IsStoreOf};
-ghost use Rattle.pie_store.specs.Canonical.{AreFuncs};
 
 use crate::outcome::refused;
 use crate::place::{Made, put_into_place};
@@ -72,18 +70,12 @@ fn with_project<F: Files>(
     project: Project,
     runs: &mut Runs,
 ) -> Result<Report, BuildError>
-    requires ready { IfSome (F.holds files.old) (λ d. IsReady project.typed project.roots.items) }
-    requires names { HasNames project.typed project.digests.items }
-    requires funcs { AreFuncs project.digests.items }
+    requires { IsBuildable (F.holds files.old) project }
     ensures says { Says (λ r. r) IsReport result }
-    ensures left { IfSome (F.holds files.old) (λ d. IfOk result (λ r. LeavesFor project d r (F.holds files.new))) }
-    ensures changed { IfSome (F.holds files.old) (λ d. ChangesFor project d (F.holds files.new)) }
-    ensures rest { KeepsRest (F.holds files.old) (F.holds files.new) }
+    ensures rebuilds { Rebuilds project (F.holds files.old) (F.holds files.new) result }
     ensures crash { Withstands F.holds F.moment F.left_since F.images (LeavesFor project) files.old files.new }
     ensures durable { IsVerdict result → StaysAtRest F.holds F.images files.old files.new }
-    ensures ran { IfOk result (λ r. runs.new ≡ runs.old ++ r.ran.items) }
-    ensures few { length runs.new ≤ length runs.old + 50000 }
-    ensures encodable { IfOk result (λ r. All IsEncodableTask r.ran.items) }
+    ensures started { ReportsStarted runs.old runs.new result }
     ensures told { Tells F.faults files.old files.new result }
     ensures asks { IfSome (F.holds files.old) (λ d. AsksBuilt project.typed d runs.old runs.new (F.asked files.old) (F.asked files.new)) }
 {
@@ -94,24 +86,17 @@ fn with_project<F: Files>(
     }
 }
 
-#[tactic(auto, using(crate::proofs::Crashing::withstands_still, crate::proofs::Crashing::withstands_then, crate::proofs::Crashing::rests_ok, crate::proofs::Ran::few))]
 fn build<F: Files>(
     alloc: Global,
     files: &mut F,
     project: Project,
     runs: &mut Runs,
 ) -> Result<Report, FilesError>
-    requires ready { IfSome (F.holds files.old) (λ d. IsReady project.typed project.roots.items) }
-    requires names { HasNames project.typed project.digests.items }
-    requires funcs { AreFuncs project.digests.items }
-    ensures left { IfSome (F.holds files.old) (λ d. IfOk result (λ r. LeavesFor project d r (F.holds files.new))) }
-    ensures changed { IfSome (F.holds files.old) (λ d. ChangesFor project d (F.holds files.new)) }
-    ensures rest { KeepsRest (F.holds files.old) (F.holds files.new) }
+    requires { IsBuildable (F.holds files.old) project }
+    ensures rebuilds { Rebuilds project (F.holds files.old) (F.holds files.new) result }
     ensures crash { Withstands F.holds F.moment F.left_since F.images (LeavesFor project) files.old files.new }
     ensures durable { OnOk result (StaysAtRest F.holds F.images files.old files.new) }
-    ensures ran { IfOk result (λ r. runs.new ≡ runs.old ++ r.ran.items) }
-    ensures few { length runs.new ≤ length runs.old + 50000 }
-    ensures encodable { IfOk result (λ r. All IsEncodableTask r.ran.items) }
+    ensures started { ReportsStarted runs.old runs.new result }
     ensures counted { Counted F.faults FilesError.Failed files.old files.new result }
     ensures asks { IfSome (F.holds files.old) (λ d. AsksBuilt project.typed d runs.old runs.new (F.asked files.old) (F.asked files.new)) }
 {
@@ -135,9 +120,7 @@ fn evaluate<F: Files>(
     ensures clean { IfSome (F.holds files.old) (λ d. IfOk result (IsCleanOf project.now.typed d project.now.roots.items runs.old runs.new)) }
     ensures asks { IfSome (F.holds files.old) (λ d. AsksForSeen project.now.typed d runs.old runs.new (F.asked files.old) (F.asked files.new)) }
     ensures runs { Gains 50000 runs.old runs.new }
-    ensures same { F.holds files.new ≡ F.holds files.old }
-    ensures crash { LeavesAsBefore F.holds F.moment F.left_since F.images files.old files.new }
-    ensures counted { Counted F.faults FilesError.Failed files.old files.new result }
+    ensures reads { ReadsOnly F.holds F.moment F.left_since F.images F.faults files.old files.new result }
 {
     let code = compile(alloc, &project.typed)?;
     let built = fresh(
@@ -169,14 +152,9 @@ fn finish<F: Files>(
     built: Built,
     ran: Vec<Task>,
 ) -> Result<Report, FilesError>
-    requires names { HasNames project.typed project.digests.items }
-    requires funcs { AreFuncs project.digests.items }
-    requires kept { IsKept built }
-    requires stored { StoredWhere built.verdict project.typed project.roots.items built }
+    requires placed { CanBePlaced project built }
     requires clean { IfSome (F.holds files.old) (λ d. IsCleanBy project.typed d project.roots.items ran.items built) }
-    ensures left { IfSome (F.holds files.old) (λ d. IfOk result (λ r. LeavesFor project d r (F.holds files.new))) }
-    ensures changed { IfSome (F.holds files.old) (λ d. ChangesFor project d (F.holds files.new)) }
-    ensures rest { KeepsRest (F.holds files.old) (F.holds files.new) }
+    ensures rebuilds { Rebuilds project (F.holds files.old) (F.holds files.new) result }
     ensures crash { Withstands F.holds F.moment F.left_since F.images (LeavesFor project) files.old files.new }
     ensures durable { OnOk result (StaysAtRest F.holds F.images files.old files.new) }
     ensures ran { IfOk result (λ r. r.ran ≡ ran) }

@@ -8,14 +8,14 @@ ghost use Rattle.pie_files.specs.Streams.{Counted};
 ghost use Rattle.pie_reach.specs.Plan.{IsPlan};
 ghost use Rattle.pie_files.specs.Reading.{LeavesAsBefore};
 ghost use Rattle.pie_named.specs.Asking.{MakesOnly};
-ghost use Rattle.pie_commit.specs.Outcomes.{HasBrought, KeepsOthers, IsAtRest, IsOfThree, LeavesFromRest, LeavesMarked};
-ghost use Rattle.pie_commit.specs.inner.Plans.{is_sound, is_empty, wanted_by};
+ghost use Rattle.pie_commit.specs.Outcomes.{KeepsOthers, IsOfThree, LeavesFromRest, LeavesMarked};
+ghost use Rattle.pie_commit.specs.inner.Plans.{is_sound, is_empty};
 ghost use Rattle.pie_fresh.specs.inner.Builds.{InPathOrder};
 ghost use Rattle.pie_build.specs.Crashes.{StaysAtRest, Withstands};
 ghost use Rattle.pie_build.specs.Left.{KeepsRest, Puts};
 ghost use Rattle.pie_build.specs.inner.Asked.{IsChangeOf, MakesOwn};
 ghost use Rattle.pie_build.specs.inner.Reported.{IsReportOf, PutsMade};
-ghost use Rattle.pie_build.specs.inner.Plans.{IsPlanOf, gone_if};
+ghost use Rattle.pie_build.specs.inner.Plans.{IsCommitted, IsPlanOf, gone_if};
 
 use crate::outcome::accepted;
 use crate::paths::{copies, paths_of, under_out};
@@ -75,11 +75,10 @@ pub(crate) fn put_into_place<F: Files>(
 fn commit_then<F: Files>(files: &mut F, plan: &Plan, report: Report) -> Result<Report, FilesError>
     requires { is_sound plan.now ≡ true }
     ensures report { IfOk result (λ r. r ≡ report) }
-    ensures done { is_empty plan.now ≡ false → OnOk result (HasBrought (wanted_by plan.now) (F.holds files.old) (F.holds files.new)) }
+    ensures done { is_empty plan.now ≡ false → OnOk result (IsCommitted F.holds F.images plan.now files.old files.new) }
     ensures outside { KeepsOthers plan.now (F.holds files.old) (F.holds files.new) }
     ensures crash { LeavesFromRest F.holds F.moment F.left_since F.images (IsOfThree plan.now) files.old files.new }
     ensures failed { OnErr result (IfSome (F.holds files.old) (λ d. Only d (F.images files.old) → LeavesMarked plan.now d (F.images files.new))) }
-    ensures durable { is_empty plan.now ≡ false → OnOk result (IfSome (F.holds files.old) (λ d. IsAtRest (F.holds files.new) (F.images files.new))) }
     ensures counted { Counted F.faults FilesError.Failed files.old files.new result }
     ensures asks { MakesOnly (IsChangeOf plan.now) (F.asked files.old) (F.asked files.new) }
 {

@@ -10,7 +10,7 @@ use Rattle.pie_graph.specs.Numbers.{AllBelow}
 use Rattle.pie_fresh.specs.declared.ledger.Ledger.{Ledger}
 use Rattle.pie_running.specs.declared.frame.Caller.{Caller}
 use Rattle.pie_running.specs.inner.Noted.{Noted, tasks_on}
-use Rattle.pie_fresh.specs.inner.Ledgers.{IsHigh, Rises, IsPlaced, Grows, Enters, Starts}
+use Rattle.pie_fresh.specs.inner.Ledgers.{IsHigh, Rises, IsPlaced, Grows, Enters, Starts, EntersAndStarts}
 use Rattle.pie_fresh.specs.inner.Frames.{IsCaller}
 use Rattle.pie_running.specs.inner.Steps.{Advanced, Given}
 use Rattle.pie_fresh.specs.inner.Builds.{Gains}
@@ -147,3 +147,20 @@ on_answers (Err e) h = tt
 
 pub starts_kept : {A : Type 0} {E : Type 0} (r : Result A E) (ts us rs ss : List Task) → us ≡ ts → ss ≡ rs → IfOk r (λ _. Starts ts us rs ss)
 starts_kept r ts us rs ss names runs = on_answers r (starts_same ts us rs ss names runs)
+
+-- nothing was entered or started, whatever the answer is
+pub started_same : {A : Type 0} {E : Type 0} (r : Result A E) (ts us rs ss : List Task) → us ≡ ts → ss ≡ rs → EntersAndStarts ts us rs ss r
+started_same r ts us rs ss names runs = record { enters = enters_same ts us rs ss names runs; starts = starts_kept r ts us rs ss names runs }
+
+-- some tasks first, and then those before an answer
+starts_before : {A : Type 0} {E : Type 0} (r : Result A E) (ts us vs rs ss qs : List Task) → Starts ts us rs ss → IfOk r (λ _. Starts us vs ss qs)
+    → IfOk r (λ _. Starts ts vs rs qs)
+starts_before (Ok a) ts us vs rs ss qs first then = starts_then ts us vs rs ss qs first then
+starts_before (Err e) ts us vs rs ss qs first then = tt
+
+pub started_then : {A : Type 0} {E : Type 0} (r : Result A E) (ts us vs rs ss qs : List Task) → Enters ts us rs ss → Starts ts us rs ss
+    → EntersAndStarts us vs ss qs r → EntersAndStarts ts vs rs qs r
+started_then r ts us vs rs ss qs entered started after = record {
+  enters = enters_then ts us vs rs ss qs entered after.enters;
+  starts = starts_before r ts us vs rs ss qs started after.starts;
+}

@@ -1,10 +1,9 @@
 //! The one call: from the roots to what a build makes of them.
 ghost use Rattle.std.specs.Prelude.{◌≡◌, List, [], None, IfOk};
-ghost use Rattle.pie_files.specs.Reading.{LeavesAsBefore, ReadsOnly};
-ghost use Rattle.pie_files.specs.Streams.{Counted};
+ghost use Rattle.pie_files.specs.Reading.{ReadsOnly};
 ghost use Rattle.pie_value.specs.declared.task.Task.{Task};
 ghost use Rattle.pie_value.specs.declared.verdict.Verdict.TheVariants.{Refused};
-ghost use Rattle.pie_fresh.specs.inner.Ledgers.{AreOpen, Enters, IsLedger, Starts};
+ghost use Rattle.pie_fresh.specs.inner.Ledgers.{AreOpen, EntersAndStarts, IsLedger};
 ghost use Rattle.pie_fresh.specs.inner.Frames.{AreEntered, IsIdle};
 ghost use Rattle.pie_fresh.specs.inner.Builds.{Gains, IsEmptyWhereRefused, IsKept, IsStoredOf, StoredWhere};
 ghost use Rattle.pie_fresh.specs.Cleans.{CleansAs, EvaluatesAs};
@@ -38,9 +37,7 @@ pub fn fresh<'a, F: Files>(
     ensures kept { IfOk result IsKept }
     ensures stored { IfOk result (λ b. StoredWhere b.verdict typed.now roots.now b) }
     ensures runs { Gains 50000 runs.old runs.new }
-    ensures same { F.holds files.new ≡ F.holds files.old }
-    ensures crash { LeavesAsBefore F.holds F.moment F.left_since F.images files.old files.new }
-    ensures counted { Counted F.faults FilesError.Failed files.old files.new result }
+    ensures reads { ReadsOnly F.holds F.moment F.left_since F.images F.faults files.old files.new result }
     ensures clean { IfOk result (CleansAs (F.holds files.old) typed.now code.now roots.now runs.old runs.new) }
     ensures asks { AsksAs (F.holds files.old) typed.now code.now roots.now runs.old runs.new (F.asked files.old) (F.asked files.new) }
 {
@@ -65,8 +62,7 @@ fn evaluate_all<'a, F: Files>(
     ensures idle { IfOk result (λ why. why ≡ None → IsIdle builder.new) }
     ensures entered { IfOk result (λ why. why ≡ None → AreEntered builder.new.ledger.names roots.now) }
     ensures typed { builder.new.typed ≡ builder.old.typed }
-    ensures enters { Enters builder.old.ledger.names builder.new.ledger.names runs.old runs.new }
-    ensures starts { IfOk result (λ _. Starts builder.old.ledger.names builder.new.ledger.names runs.old runs.new) }
+    ensures started { EntersAndStarts builder.old.ledger.names builder.new.ledger.names runs.old runs.new result }
     ensures reads { ReadsOnly F.holds F.moment F.left_since F.images F.faults files.old files.new result }
     ensures means { IfOk result (λ why. EvaluatesAs (F.holds files.old) builder.old builder.new roots.now why) }
     ensures asks { EvaluatesAsking (F.holds files.old) builder.old roots.now runs.old runs.new (F.asked files.old) (F.asked files.new) }

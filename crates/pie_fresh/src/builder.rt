@@ -1,14 +1,12 @@
 //! The evaluation of a root: one event of the running task after another.
-ghost use Rattle.std.specs.Prelude.{◌≡◌, ◌+◌, ◌<◌, [], None, IfOk};
-ghost use Rattle.std.specs.List.{Contains};
+ghost use Rattle.std.specs.Prelude.{◌≡◌, ◌+◌, [], None, IfOk};
 ghost use Rattle.pie_value.specs.Canonical.{IsEncodableTask};
 ghost use Rattle.pie_files.specs.Reading.{ReadsOnly};
 ghost use Rattle.pie_named.specs.Asking.{AsksFor};
-ghost use Rattle.pie_fresh.specs.inner.Ledgers.{Enters, IsPlaced, Starts};
-ghost use Rattle.pie_running.specs.inner.Frames.{IsWaiting};
+ghost use Rattle.pie_fresh.specs.inner.Ledgers.{EntersAndStarts, IsNew};
 ghost use Rattle.pie_running.specs.inner.Steps.{IsEffect};
-ghost use Rattle.pie_fresh.specs.inner.Frames.{IsIdle, Running, StandsAt};
-ghost use Rattle.pie_fresh.specs.inner.Turns.{GoesOn, Nearer, below_left};
+ghost use Rattle.pie_fresh.specs.inner.Frames.{AwaitsAnswer, HasEvaluated, IsIdle, Running};
+ghost use Rattle.pie_fresh.specs.inner.Turns.{StepsTo, below_left};
 ghost use Rattle.pie_fresh.specs.inner.Means.{TreatsAs, TurnsAs, RunsAs, BeginsAs};
 ghost use Rattle.pie_fresh.specs.inner.Asked.{BeginsAsking, IsAskedBy, RunsAsking, TurnsAsking};
 ghost use Rattle.pie_fresh.specs.Cleans.{NoRootsDone, EvaluatesRoot};
@@ -62,7 +60,7 @@ impl<'a> Builder<'a> {
     }
 
     /// Evaluates a root; why it fails, if it does.
-    #[tactic(auto, using(crate::proofs::Growing::enters_same, crate::proofs::Growing::starts_same, pie_files::proofs::Reading::reads))]
+    #[tactic(auto, using(crate::proofs::Growing::started_same, pie_files::proofs::Reading::reads))]
     pub(crate) fn evaluate<F: Files>(
         &mut self,
         root: &Task,
@@ -70,12 +68,10 @@ impl<'a> Builder<'a> {
         runs: &mut Runs,
     ) -> Result<Option<Refusal>, FilesError>
         requires { IsIdle self.old }
-        ensures idle { IfOk result (λ why. why ≡ None → IsIdle self.new) }
+        ensures done { IfOk result (λ why. why ≡ None → HasEvaluated self.new root.now) }
         ensures small { IfOk result (λ why. why ≡ None → IsEncodableTask root.now) }
-        ensures named { IfOk result (λ why. why ≡ None → Contains self.new.ledger.names root.now) }
         ensures typed { self.new.typed ≡ self.old.typed }
-        ensures enters { Enters self.old.ledger.names self.new.ledger.names runs.old runs.new }
-        ensures starts { IfOk result (λ _. Starts self.old.ledger.names self.new.ledger.names runs.old runs.new) }
+        ensures started { EntersAndStarts self.old.ledger.names self.new.ledger.names runs.old runs.new result }
         ensures reads { ReadsOnly F.holds F.moment F.left_since F.images F.faults files.old files.new result }
         ensures means { IfOk result (λ why. EvaluatesRoot (F.holds files.old) self.old self.new root.now why) }
         ensures asks { BeginsAsking (F.holds files.old) self.old root.now runs.old runs.new (F.asked files.old) (F.asked files.new) }
@@ -90,7 +86,7 @@ impl<'a> Builder<'a> {
     }
 
     // Evaluates a root that wasn't entered.
-    #[tactic(auto, using(crate::proofs::Growing::enters_then, pie_files::proofs::Reading::reads))]
+    #[tactic(auto, using(pie_files::proofs::Reading::reads))]
     fn begin<F: Files>(
         &mut self,
         root: &Task,
@@ -98,13 +94,10 @@ impl<'a> Builder<'a> {
         runs: &mut Runs,
     ) -> Result<Option<Refusal>, FilesError>
         requires idle { IsIdle self.old }
-        requires encodable { IsEncodableTask root.now }
-        requires absent { ¬ (Contains self.old.ledger.names root.now) }
-        ensures idle { IfOk result (λ why. why ≡ None → IsIdle self.new) }
-        ensures named { IfOk result (λ why. why ≡ None → Contains self.new.ledger.names root.now) }
+        requires root { IsNew self.old.ledger.names root.now }
+        ensures done { IfOk result (λ why. why ≡ None → HasEvaluated self.new root.now) }
         ensures typed { self.new.typed ≡ self.old.typed }
-        ensures enters { Enters self.old.ledger.names self.new.ledger.names runs.old runs.new }
-        ensures starts { IfOk result (λ _. Starts self.old.ledger.names self.new.ledger.names runs.old runs.new) }
+        ensures started { EntersAndStarts self.old.ledger.names self.new.ledger.names runs.old runs.new result }
         ensures reads { ReadsOnly F.holds F.moment F.left_since F.images F.faults files.old files.new result }
         ensures means { IfOk result (λ why. BeginsAs (F.holds files.old) self.old self.new root.now why) }
         ensures asks { BeginsAsking (F.holds files.old) self.old root.now runs.old runs.new (F.asked files.old) (F.asked files.new) }
@@ -126,8 +119,7 @@ impl<'a> Builder<'a> {
         requires { Running self.old frame }
         ensures idle { IfOk result (λ why. why ≡ None → IsIdle self.new) }
         ensures typed { self.new.typed ≡ self.old.typed }
-        ensures enters { Enters self.old.ledger.names self.new.ledger.names runs.old runs.new }
-        ensures starts { IfOk result (λ _. Starts self.old.ledger.names self.new.ledger.names runs.old runs.new) }
+        ensures started { EntersAndStarts self.old.ledger.names self.new.ledger.names runs.old runs.new result }
         ensures reads { ReadsOnly F.holds F.moment F.left_since F.images F.faults files.old files.new result }
         ensures means { IfOk result (λ why. RunsAs (F.holds files.old) self.old self.new frame.entry why) }
         ensures asks { RunsAsking (F.holds files.old) self.old frame.entry runs.old runs.new (F.asked files.old) (F.asked files.new) }
@@ -143,7 +135,7 @@ impl<'a> Builder<'a> {
     }
 
     // One event of the running task.
-    #[tactic(auto, using(crate::proofs::Growing::enters_same, pie_files::proofs::Reading::reads))]
+    #[tactic(auto, using(crate::proofs::Growing::started_same, pie_files::proofs::Reading::reads))]
     fn turn<F: Files>(
         &mut self,
         frame: RunningTask<'a>,
@@ -151,11 +143,9 @@ impl<'a> Builder<'a> {
         runs: &mut Runs,
     ) -> Result<Turn<'a>, FilesError>
         requires { Running self.old frame }
-        ensures goes { IfOk result (λ t. GoesOn self.new t) }
+        ensures steps { IfOk result (λ t. StepsTo (below_left self.old + frame.entry.notes.left + 1) self.new t) }
         ensures typed { self.new.typed ≡ self.old.typed }
-        ensures nearer { IfOk result (λ t. Nearer (below_left self.old + frame.entry.notes.left + 1) self.new t) }
-        ensures enters { Enters self.old.ledger.names self.new.ledger.names runs.old runs.new }
-        ensures starts { IfOk result (λ _. Starts self.old.ledger.names self.new.ledger.names runs.old runs.new) }
+        ensures started { EntersAndStarts self.old.ledger.names self.new.ledger.names runs.old runs.new result }
         ensures reads { ReadsOnly F.holds F.moment F.left_since F.images F.faults files.old files.new result }
         ensures means { IfOk result (λ t. TurnsAs (F.holds files.old) self.old self.new frame.entry t) }
         ensures asks { TurnsAsking (F.holds files.old) self.old frame.entry (F.asked files.old) (F.asked files.new) }
@@ -176,15 +166,11 @@ impl<'a> Builder<'a> {
         files: &mut F,
         runs: &mut Runs,
     ) -> Result<Turn<'a>, FilesError>
-        requires stands { StandsAt waiting.notes.number self.old }
-        requires waits { IsWaiting waiting }
-        requires placed { IsPlaced self.old.ledger waiting.notes }
+        requires awaits { AwaitsAnswer self.old waiting }
         requires effect { IsEffect event }
-        ensures goes { IfOk result (λ t. GoesOn self.new t) }
+        ensures steps { IfOk result (λ t. StepsTo (below_left self.old + waiting.entry.notes.left + 1) self.new t) }
         ensures typed { self.new.typed ≡ self.old.typed }
-        ensures nearer { IfOk result (λ t. Nearer (below_left self.old + waiting.entry.notes.left + 1) self.new t) }
-        ensures enters { Enters self.old.ledger.names self.new.ledger.names runs.old runs.new }
-        ensures starts { IfOk result (λ _. Starts self.old.ledger.names self.new.ledger.names runs.old runs.new) }
+        ensures started { EntersAndStarts self.old.ledger.names self.new.ledger.names runs.old runs.new result }
         ensures reads { ReadsOnly F.holds F.moment F.left_since F.images F.faults files.old files.new result }
         ensures means { IfOk result (λ t. TreatsAs (F.holds files.old) self.old self.new waiting.entry event t) }
         ensures asks { AsksFor (IsAskedBy event) (F.asked files.old) (F.asked files.new) }

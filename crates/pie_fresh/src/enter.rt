@@ -1,8 +1,6 @@
 //! Tasks that are entered.
-ghost use Rattle.std.specs.Prelude.{◌≡◌, ◌<◌, IfOk};
-ghost use Rattle.std.specs.List.{Contains};
-ghost use Rattle.pie_value.specs.Canonical.{IsEncodableTask};
-ghost use Rattle.pie_fresh.specs.inner.Ledgers.{Enters, IsLedger, Starts};
+ghost use Rattle.std.specs.Prelude.{◌≡◌, IfOk};
+ghost use Rattle.pie_fresh.specs.inner.Ledgers.{EntersAndStarts, IsLedger, IsNew};
 ghost use Rattle.pie_fresh.specs.inner.Turns.{Begins};
 ghost use Rattle.pie_fresh.specs.inner.Means.{NewAs};
 
@@ -18,13 +16,11 @@ impl<'a> Builder<'a> {
     #[tactic(auto, using(crate::proofs::Walks::enters))]
     pub(crate) fn enter(&mut self, task: &Task, runs: &mut Runs) -> Result<Entered<'a>, OutOfMemory>
         requires ledger { IsLedger self.old.ledger }
-        requires encodable { IsEncodableTask task.now }
-        requires absent { ¬ (Contains self.old.ledger.names task.now) }
+        requires task { IsNew self.old.ledger.names task.now }
         ensures begins { IfOk result (λ e. Begins self.old self.new task.now e) }
         ensures typed { self.new.typed ≡ self.old.typed }
         ensures means { IfOk result (λ e. NewAs self.old self.new task.now e) }
-        ensures enters { Enters self.old.ledger.names self.new.ledger.names runs.old runs.new }
-        ensures starts { IfOk result (λ _. Starts self.old.ledger.names self.new.ledger.names runs.old runs.new) }
+        ensures started { EntersAndStarts self.old.ledger.names self.new.ledger.names runs.old runs.new result }
     {
         if self.ledger.heights.len() >= MAX_TASKS as usize {
             let _bytes = encode_task(self.alloc, task)?;

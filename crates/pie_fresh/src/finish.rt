@@ -5,7 +5,7 @@ ghost use Rattle.pie_value.specs.Values.{tree_of};
 ghost use Rattle.pie_running.specs.inner.Noted.{IsSound};
 ghost use Rattle.pie_fresh.specs.inner.Ledgers.{IsHigh, IsPlaced};
 ghost use Rattle.pie_fresh.specs.inner.Frames.{Stands, StandsAt};
-ghost use Rattle.pie_fresh.specs.inner.Turns.{GoesOn, Nearer, below_left};
+ghost use Rattle.pie_fresh.specs.inner.Turns.{StepsTo, below_left};
 ghost use Rattle.pie_fresh.specs.inner.Means.{FinishesAs, ResumesAs};
 
 use crate::builder::Builder;
@@ -20,9 +20,8 @@ impl<'a> Builder<'a> {
         requires stands { StandsAt notes.number self.old }
         requires sound { IsSound notes }
         requires placed { IsPlaced self.old.ledger notes }
-        ensures goes { IfOk result (λ t. GoesOn self.new t) }
+        ensures steps { IfOk result (λ t. StepsTo (below_left self.old + notes.left + 1) self.new t) }
         ensures typed { self.new.typed ≡ self.old.typed }
-        ensures nearer { IfOk result (λ t. Nearer (below_left self.old + notes.left + 1) self.new t) }
         ensures names { self.new.ledger.names ≡ self.old.ledger.names }
         ensures means { IfOk result (λ t. FinishesAs self.old self.new notes output t) }
     {
@@ -46,9 +45,8 @@ impl<'a> Builder<'a> {
         requires high { IsHigh self.old.ledger done.no.0 done.height }
         requires height { done.height < self.old.ledger.ended }
         requires output { IsEncodable (tree_of done.output) }
-        ensures goes { IfOk result (λ t. GoesOn self.new t) }
+        ensures steps { IfOk result (λ t. StepsTo (below_left self.old + 1) self.new t) }
         ensures typed { self.new.typed ≡ self.old.typed }
-        ensures nearer { IfOk result (λ t. Nearer (below_left self.old + 1) self.new t) }
         ensures names { self.new.ledger.names ≡ self.old.ledger.names }
         ensures means { IfOk result (λ t. ResumesAs self.old self.new done.no.0 done.output t) }
     {

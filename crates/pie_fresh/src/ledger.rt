@@ -1,17 +1,14 @@
 //! The tasks of a build by their numbers: names, rows, records, heights and contents.
-ghost use Rattle.std.specs.Prelude.{◌≡◌, ℕ, ◌+◌, ◌<◌, ◌++◌, ◌∷◌, [], length, None, IfOk, IfSome, OnOk, OnErr, map, slice_set};
-ghost use Rattle.std.specs.List.{Contains};
+ghost use Rattle.std.specs.Prelude.{◌≡◌, ℕ, ◌<◌, [], length, None, IfOk, IfSome, OnOk, OnErr, map, slice_set};
 ghost use Rattle.std.specs.Option.{option_map};
-ghost use Rattle.pie_value.specs.Canonical.{IsEncodable, IsEncodableTask};
+ghost use Rattle.pie_value.specs.Canonical.{IsEncodable};
 ghost use Rattle.pie_value.specs.Values.{tree_of};
 ghost use Rattle.pie_graph.specs.Numbers.{AllBelow, numbers};
-ghost use Rattle.pie_graph.specs.Rows.{no_edges};
-ghost use Rattle.pie_builder_laws.specs.Names.{AreTasks};
-ghost use Rattle.pie_fresh.specs.inner.Kept.{IsKeptAs, ended_with, row_ended, row_with};
+ghost use Rattle.pie_fresh.specs.inner.Kept.{IsKeptAs, row_with};
 ghost use Rattle.pie_running.specs.inner.Noted.{IsSound};
-ghost use Rattle.pie_record.specs.inner.Records.{record_of, Puts};
+ghost use Rattle.pie_record.specs.inner.Records.{record_of};
 ghost use Rattle.pie_fresh.specs.inner.Collected.{output_at};
-ghost use Rattle.pie_fresh.specs.inner.Ledgers.{Grows, IsHigh, IsLedger, IsPlaced};
+ghost use Rattle.pie_fresh.specs.inner.Ledgers.{EndsTask, EntersTask, IsHigh, IsLedger, IsNew, IsPlaced, IsUnfinished, KeepsEnded};
 
 use pie_base::{OutOfMemory, Path};
 use pie_graph::{Edges, IndexedRows, TaskNo, TaskRows};
@@ -56,22 +53,14 @@ impl Ledger {
     }
 
     /// A task is entered, and gets the next number.
-    #[tactic(auto, using(crate::proofs::Rising::entered_grows))]
     pub(crate) fn add(&mut self, task: Task) -> Result<TaskNo, OutOfMemory>
         requires ledger { IsLedger self.old }
-        requires encodable { IsEncodableTask task }
-        requires absent { ¬ (Contains self.old.names task) }
+        requires task { IsNew self.old.names task }
         requires few { length self.old.names < 50000 }
-        ensures ledger { OnOk result (IsLedger self.new) }
-        ensures added { OnOk result (self.new.names ≡ self.old.names ++ task ∷ []) }
-        ensures grows { OnOk result (Grows self.old self.new) }
-        ensures records { self.new.records ≡ self.old.records }
-        ensures unchanged { OnErr result (self.new.names ≡ self.old.names) }
-        ensures ended { self.new.ended ≡ self.old.ended }
+        ensures enters { OnOk result (EntersTask self.old self.new task) }
         ensures number { IfOk result (λ no. no.0 ≡ length self.old.names) }
-        ensures rows { OnOk result (self.new.rows ≡ self.old.rows ++ no_edges ∷ []) }
-        ensures stage { self.new.stage ≡ self.old.stage }
-        ensures tasks { OnOk result (AreTasks self.new.names) }
+        ensures unchanged { OnErr result (self.new.names ≡ self.old.names) }
+        ensures ended { KeepsEnded self.old self.new }
     {
         let _no = self.rows.add()?;
         self.heights.push(0)?;
@@ -110,15 +99,9 @@ impl Ledger {
         requires placed { IsPlaced self.old notes }
         requires sound { IsSound notes }
         requires small { IsEncodable (tree_of output) }
-        requires few { self.old.ended < length self.old.names }
-        requires unfinished { record_of self.old.records notes.number ≡ None }
-        ensures ledger { OnOk result (IsLedger self.new) }
+        requires unfinished { IsUnfinished self.old notes.number }
+        ensures ends { OnOk result (EndsTask self.old self.new notes output) }
         ensures names { self.new.names ≡ self.old.names }
-        ensures grows { OnOk result (Grows self.old self.new) }
-        ensures high { OnOk result (IsHigh self.new notes.number notes.height) }
-        ensures ended { OnOk result (self.new.ended ≡ self.old.ended + 1) }
-        ensures puts { OnOk result (Puts self.old.records self.new.records notes.number (ended_with notes output)) }
-        ensures rows { OnOk result (self.new.rows ≡ slice_set self.old.rows notes.number (row_ended notes)) }
         ensures stage { self.new.stage ≡ self.old.stage }
     {
         let NoteParts {
@@ -154,10 +137,8 @@ impl Ledger {
         ensures rows { OnOk result (length self.new.rows ≡ length self.old.rows) }
         ensures names { self.new.names ≡ self.old.names }
         ensures heights { self.new.heights ≡ self.old.heights }
-        ensures records { self.new.records ≡ self.old.records }
-        ensures ended { self.new.ended ≡ self.old.ended }
+        ensures ended { KeepsEnded self.old self.new }
         ensures set { OnOk result (self.new.rows ≡ slice_set self.old.rows no.0 (row_with (numbers needs.items) writes.now)) }
-        ensures stage { self.new.stage ≡ self.old.stage }
     {
         let edges = Edges {
             needs,

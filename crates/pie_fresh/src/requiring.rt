@@ -2,13 +2,11 @@
 ghost use Rattle.std.specs.Prelude.{◌≡◌, ◌+◌, ◌<◌, [], ◌∷◌, ◌++◌, length, true, Some, slice_get, IfOk, OnOk};
 ghost use Rattle.pie_value.specs.declared.event.Event.TheVariants as events;
 ghost use Rattle.pie_value.specs.Limits.{is_small_task};
-ghost use Rattle.std.specs.List.{Contains};
 ghost use Rattle.pie_value.specs.Canonical.{IsEncodableTask};
 ghost use Rattle.pie_fresh.specs.inner.Means.{GoesAs};
-ghost use Rattle.pie_fresh.specs.inner.Ledgers.{Enters, IsPlaced, Starts};
-ghost use Rattle.pie_running.specs.inner.Frames.{IsWaiting};
-ghost use Rattle.pie_fresh.specs.inner.Frames.{StandsAt};
-ghost use Rattle.pie_fresh.specs.inner.Turns.{GoesOn, Nearer, below_left};
+ghost use Rattle.pie_fresh.specs.inner.Ledgers.{EntersAndStarts, IsNew};
+ghost use Rattle.pie_fresh.specs.inner.Frames.{AwaitsAnswer};
+ghost use Rattle.pie_fresh.specs.inner.Turns.{StepsTo, below_left};
 ghost use Rattle.pie_fresh.specs.inner.Cycles.{tasks_from};
 
 use crate::builder::{Builder, Entered};
@@ -28,13 +26,9 @@ impl<'a> Builder<'a> {
         how: How,
         runs: &mut Runs,
     ) -> Result<Turn<'a>, OutOfMemory>
-        requires stands { StandsAt waiting.notes.number self.old }
-        requires waits { IsWaiting waiting }
-        requires placed { IsPlaced self.old.ledger waiting.notes }
-        ensures goes { IfOk result (λ t. GoesOn self.new t) }
-        ensures nearer { IfOk result (λ t. Nearer (below_left self.old + waiting.entry.notes.left + 1) self.new t) }
-        ensures enters { Enters self.old.ledger.names self.new.ledger.names runs.old runs.new }
-        ensures starts { IfOk result (λ _. Starts self.old.ledger.names self.new.ledger.names runs.old runs.new) }
+        requires { AwaitsAnswer self.old waiting }
+        ensures steps { IfOk result (λ t. StepsTo (below_left self.old + waiting.entry.notes.left + 1) self.new t) }
+        ensures started { EntersAndStarts self.old.ledger.names self.new.ledger.names runs.old runs.new result }
         ensures typed { self.new.typed ≡ self.old.typed }
         ensures means { IfOk result (λ t. GoesAs self.old self.new waiting.entry (events.Require required how) t) }
     {
@@ -48,7 +42,6 @@ impl<'a> Builder<'a> {
     }
 
     // A task that was entered is required. Where it isn't done, it stands on the stack.
-    #[tactic(auto, using(crate::proofs::Growing::given_placed))]
     fn answer(
         &self,
         waiting: Waiting<'a>,
@@ -56,15 +49,12 @@ impl<'a> Builder<'a> {
         required: Task,
         how: How,
     ) -> Result<Turn<'a>, OutOfMemory>
-        requires stands { StandsAt waiting.notes.number self.now }
-        requires waits { IsWaiting waiting }
-        requires placed { IsPlaced self.now.ledger waiting.notes }
+        requires awaits { AwaitsAnswer self.now waiting }
         requires required { IsEncodableTask required }
         requires number { no.0 < length self.now.ledger.names }
         requires named { slice_get self.now.ledger.names no.0 ≡ Some required }
         requires small { is_small_task required ≡ true }
-        ensures goes { IfOk result (λ t. GoesOn self.now t) }
-        ensures nearer { IfOk result (λ t. Nearer (below_left self.now + waiting.entry.notes.left + 1) self.now t) }
+        ensures steps { IfOk result (λ t. StepsTo (below_left self.now + waiting.entry.notes.left + 1) self.now t) }
         ensures means { IfOk result (λ t. GoesAs self.now self.now waiting.entry (events.Require required how) t) }
     {
         match self.ledger.done(no)? {
@@ -80,7 +70,6 @@ impl<'a> Builder<'a> {
     }
 
     // A task that wasn't entered is required: it runs first.
-    #[tactic(auto, using(crate::proofs::Entering::descended, crate::proofs::Entering::descended_nearer))]
     fn descend(
         &mut self,
         waiting: Waiting<'a>,
@@ -88,16 +77,11 @@ impl<'a> Builder<'a> {
         how: How,
         runs: &mut Runs,
     ) -> Result<Turn<'a>, OutOfMemory>
-        requires stands { StandsAt waiting.notes.number self.old }
-        requires waits { IsWaiting waiting }
-        requires placed { IsPlaced self.old.ledger waiting.notes }
-        requires required { IsEncodableTask required }
-        requires absent { ¬ (Contains self.old.ledger.names required) }
+        requires awaits { AwaitsAnswer self.old waiting }
+        requires required { IsNew self.old.ledger.names required }
         requires small { is_small_task required ≡ true }
-        ensures goes { IfOk result (λ t. GoesOn self.new t) }
-        ensures nearer { IfOk result (λ t. Nearer (below_left self.old + waiting.entry.notes.left + 1) self.new t) }
-        ensures enters { Enters self.old.ledger.names self.new.ledger.names runs.old runs.new }
-        ensures starts { IfOk result (λ _. Starts self.old.ledger.names self.new.ledger.names runs.old runs.new) }
+        ensures steps { IfOk result (λ t. StepsTo (below_left self.old + waiting.entry.notes.left + 1) self.new t) }
+        ensures started { EntersAndStarts self.old.ledger.names self.new.ledger.names runs.old runs.new result }
         ensures typed { self.new.typed ≡ self.old.typed }
         ensures means { IfOk result (λ t. GoesAs self.old self.new waiting.entry (events.Require required how) t) }
     {

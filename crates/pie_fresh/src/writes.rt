@@ -1,7 +1,8 @@
 //! What the running task writes.
-ghost use Rattle.std.specs.Prelude.{◌≡◌, IfOk};
+ghost use Rattle.std.specs.Prelude.{IfOk};
 ghost use Rattle.pie_value.specs.declared.event.Event.TheVariants as events;
 ghost use Rattle.pie_running.specs.inner.Frames.{IsWaiting};
+ghost use Rattle.pie_fresh.specs.inner.Frames.{StagesOnly};
 ghost use Rattle.pie_fresh.specs.inner.Turns.{Answered};
 ghost use Rattle.pie_fresh.specs.inner.Means.{GoesAs};
 
@@ -22,13 +23,7 @@ impl<'a> Builder<'a> {
     ) -> Result<Turn<'a>, OutOfMemory>
         requires { IsWaiting waiting }
         ensures answered { IfOk result (λ t. Answered waiting.entry.notes t) }
-        ensures names { self.new.ledger.names ≡ self.old.ledger.names }
-        ensures rows { self.new.ledger.rows ≡ self.old.ledger.rows }
-        ensures heights { self.new.ledger.heights ≡ self.old.ledger.heights }
-        ensures records { self.new.ledger.records ≡ self.old.ledger.records }
-        ensures ended { self.new.ledger.ended ≡ self.old.ledger.ended }
-        ensures stack { self.new.stack ≡ self.old.stack }
-        ensures typed { self.new.typed ≡ self.old.typed }
+        ensures stages { StagesOnly self.old self.new }
         ensures means { IfOk result (λ t. GoesAs self.old self.new waiting.entry (events.Write path bytes) t) }
     {
         let told = waiting.write(self.alloc, &mut self.ledger.stage, path, &bytes)?;

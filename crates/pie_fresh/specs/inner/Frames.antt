@@ -5,6 +5,7 @@ use Rattle.pie_value.specs.Canonical.{IsEncodableTask}
 use Rattle.pie_digest.specs.Digests.{function_names}
 use Rattle.pie_running.specs.declared.frame.RunningTask.{RunningTask}
 use Rattle.pie_running.specs.declared.frame.Caller.{Caller}
+use Rattle.pie_running.specs.declared.frame.Waiting.{Waiting}
 use Rattle.pie_fresh.specs.declared.ledger.Ledger.{Ledger}
 use Rattle.pie_fresh.specs.declared.builder.Builder.{Builder}
 use Rattle.pie_running.specs.inner.Frames.{IsReady, IsWaiting}
@@ -67,3 +68,24 @@ pub record IsTop (l : Ledger) (f : RunningTask) : Type 0 where
 pub record Running (b : Builder) (f : RunningTask) : Type 0 where
   pub stands : StandsAt f.notes.number b
   pub top : IsTop b.ledger f
+
+-- a build with the running task, which waits for an answer
+pub record AwaitsAnswer (b : Builder) (w : Waiting) : Type 0 where
+  pub stands : StandsAt w.notes.number b
+  pub waits : IsWaiting w
+  pub placed : IsPlaced b.ledger w.notes
+
+-- a build between two roots, in which this task was entered
+pub record HasEvaluated (b : Builder) (t : Task) : Type 0 where
+  pub idle : IsIdle b
+  pub named : Contains b.ledger.names t
+
+-- a build is as it was, but for the contents that are staged
+pub record StagesOnly (old new : Builder) : Type 0 where
+  pub names : new.ledger.names ≡ old.ledger.names
+  pub rows : new.ledger.rows ≡ old.ledger.rows
+  pub heights : new.ledger.heights ≡ old.ledger.heights
+  pub records : new.ledger.records ≡ old.ledger.records
+  pub ended : new.ledger.ended ≡ old.ledger.ended
+  pub stack : new.stack ≡ old.stack
+  pub typed : new.typed ≡ old.typed

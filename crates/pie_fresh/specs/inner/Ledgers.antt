@@ -1,15 +1,20 @@
 -- The tasks of a build: their names, rows, records and heights, by their numbers.
-use Rattle.std.specs.Prelude.{◌≡◌, ℕ, ◌+◌, ◌<◌, ◌≤◌, max, List, [], ◌∷◌, ◌++◌, length, Some, None, slice_get, slice_index_or, IfSome, All, Contains}
+use Rattle.std.specs.Prelude.{◌≡◌, ℕ, ◌+◌, ◌<◌, ◌≤◌, max, List, [], ◌∷◌, ◌++◌, length, All, Contains}
+use Rattle.std.specs.Prelude.{Some, None, Result, IfOk, IfSome, slice_get, slice_index_or, slice_set}
 use Rattle.std.specs.List.{AllPairs}
 use Rattle.pie_value.specs.declared.task.Task.{Task}
+use Rattle.pie_value.specs.declared.value.Value.{Value}
 use Rattle.pie_value.specs.Canonical.{IsEncodableTask}
 use Rattle.pie_graph.specs.Numbers.{AllBelow}
+use Rattle.pie_graph.specs.Rows.{no_edges}
+use Rattle.pie_builder_laws.specs.Names.{AreTasks}
 use Rattle.pie_record.specs.declared.task_record.TaskRecord.{TaskRecord}
 use Rattle.pie_record.specs.Canonical.{IsStorable}
-use Rattle.pie_record.specs.inner.Records.{record_of}
+use Rattle.pie_record.specs.inner.Records.{record_of, Puts}
 use Rattle.pie_store.specs.Canonical.{needs}
 use Rattle.pie_fresh.specs.declared.ledger.Ledger.{Ledger}
 use Rattle.pie_running.specs.inner.Noted.{Noted, tasks_on}
+use Rattle.pie_fresh.specs.inner.Kept.{ended_with, row_ended}
 
 -- the task with this number has ended at this height: it has a record
 pub record IsHigh (l : Ledger) (number height : ℕ) : Type 0 where
@@ -78,3 +83,43 @@ pub record Starts (old new runs after : List Task) : Type 0 where
   pub gained : List Task
   pub entered : new ≡ old ++ gained
   pub started : after ≡ runs ++ gained
+
+-- what was entered and started before this answer: as many tasks at most were started as entered, and the same ones if it is Ok
+pub record EntersAndStarts {T E : Type 0} (old new runs after : List Task) (result : Result T E) : Type 0 where
+  pub enters : Enters old new runs after
+  pub starts : IfOk result (λ _. Starts old new runs after)
+
+-- ---- a task that is entered, and its end
+
+-- a task has canonical bytes, and wasn't entered
+pub record IsNew (names : List Task) (t : Task) : Type 0 where
+  pub encodable : IsEncodableTask t
+  pub absent : ¬ (Contains names t)
+
+-- the task with this number hasn't ended: it has no record, and fewer tasks have ended than were entered
+pub record IsUnfinished (l : Ledger) (number : ℕ) : Type 0 where
+  pub few : l.ended < length l.names
+  pub unrecorded : record_of l.records number ≡ None
+
+-- the tasks that have ended are as they were, by their records, their number and the contents that are staged
+pub record KeepsEnded (old new : Ledger) : Type 0 where
+  pub records : new.records ≡ old.records
+  pub ended : new.ended ≡ old.ended
+  pub stage : new.stage ≡ old.stage
+
+-- a task was entered: it is the last one, and its row has no edges yet
+pub record EntersTask (old new : Ledger) (t : Task) : Type 0 where
+  pub ledger : IsLedger new
+  pub names : new.names ≡ old.names ++ t ∷ []
+  pub grows : Grows old new
+  pub rows : new.rows ≡ old.rows ++ no_edges ∷ []
+  pub tasks : AreTasks new.names
+
+-- a running task with these notes has ended with this output: it has its height, its record and its row
+pub record EndsTask (old new : Ledger) (n : Noted) (v : Value) : Type 0 where
+  pub ledger : IsLedger new
+  pub grows : Grows old new
+  pub high : IsHigh new n.number n.height
+  pub ended : new.ended ≡ old.ended + 1
+  pub puts : Puts old.records new.records n.number (ended_with n v)
+  pub rows : new.rows ≡ slice_set old.rows n.number (row_ended n)

@@ -73,3 +73,8 @@ abbrev pub Nearer : ℕ → Builder → Turn → Type 0
 Nearer steps b (Goes f) = below_left b + f.notes.left + 1 < steps
 Nearer steps b Rests = Unit {0}
 Nearer steps b (Stops r) = Unit {0}
+
+-- after a step the build stands, and its end is nearer than so many steps
+pub record StepsTo (steps : ℕ) (b : Builder) (t : Turn) : Type 0 where
+  pub goes : GoesOn b t
+  pub nearer : Nearer steps b t

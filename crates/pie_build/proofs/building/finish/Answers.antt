@@ -1,8 +1,10 @@
-use Rattle.std.proofs.Common.{refl}
+use Rattle.std.proofs.Common.{◌≡◌, refl, rules}
+use Rattle.std.specs.Prelude.{Err}
+use Rattle.pie_files.specs.declared.files.FilesError.TheVariants.{OutOfMemory}
 use Rattle.pie_build.specs.inner.Projects.{LeavesFor}
 use Rattle.pie_build.specs.inner.Reported.{PutsMade}
 use Rattle.pie_build.proofs.Cleaning.{IsMadeOf, made_left, put_left, ran_of, refused_left}
-use Rattle.pie_build.proofs.Changing.{accepted, unchanged}
+use Rattle.pie_build.proofs.Changing.{accepted, failed_rebuilds, unchanged}
 use Rattle.pie_build.proofs.Crashing.{rests_none, withstands_as}
 use Rattle.pie_build.proofs.Storing.{may_stand}
 use Rattle.std.proofs.Common.{arith}
@@ -13,11 +15,11 @@ use Rattle.pie_build.proofs.building.finish.Goals as goal
 
 pub made_of-requires : goal.made_of-requires
 made_of-requires g c =
-    may_stand c.args.project.typed c.args.project.digests.items c.args.project.roots.items c.args.built c.requires.names c.requires.funcs c.requires.kept
-    c.in-Accepted.is c.requires.stored
+    may_stand c.args.project.typed c.args.project.digests.items c.args.project.roots.items c.args.built c.requires.placed.table.names
+    c.requires.placed.table.funcs c.requires.placed.kept c.in-Accepted.is c.requires.placed.stored
 
-pub returns-in_ok-made-in-Accepted-clause-left : goal.returns-in_ok-made-in-Accepted-clause-left
-returns-in_ok-made-in-Accepted-clause-left g c =
+pub returns-in_ok-made-in-Accepted-clause-rebuilds : goal.returns-in_ok-made-in-Accepted-clause-rebuilds
+returns-in_ok-made-in-Accepted-clause-rebuilds g c =
     let p = c.args.project in
     let made = c.in_ok-made-in-Accepted.made in
     let held = g.F.Files.holds c.args.files.now in
@@ -27,8 +29,12 @@ returns-in_ok-made-in-Accepted-clause-left g c =
       live = c.in_ok-made-in-Accepted.ensures.live;
       store = c.in_ok-made-in-Accepted.ensures.store;
     } in
-    put_left held (g.F.Files.holds c.put_into_place.new.files) p made c.args.ran c.put_into_place.result
-    (made_left held p c.args.built made c.args.ran of c.in-Accepted.is c.requires.clean) c.put_into_place.ensures.left c.put_into_place.ensures.report
+    record {
+      left = put_left held (g.F.Files.holds c.put_into_place.new.files) p made c.args.ran c.put_into_place.result
+          (made_left held p c.args.built made c.args.ran of c.in-Accepted.is c.requires.clean) c.put_into_place.ensures.left c.put_into_place.ensures.report;
+      changed = accepted p held (g.F.Files.holds c.put_into_place.new.files) c.args.built c.args.ran.items c.in-Accepted.is c.requires.clean;
+      rest = c.put_into_place.ensures.rest;
+    }
 
 pub returns-in_ok-made-in-Accepted-clause-ran : goal.returns-in_ok-made-in-Accepted-clause-ran
 returns-in_ok-made-in-Accepted-clause-ran g c =
@@ -49,39 +55,28 @@ returns-in_ok-made-in-Accepted-clause-crash g c =
     c.put_into_place.new.files
     (made_left held p c.args.built made c.args.ran of c.in-Accepted.is c.requires.clean) c.put_into_place.ensures.crash
 
-pub returns-in-Refused-clause-left : goal.returns-in-Refused-clause-left
-returns-in-Refused-clause-left g c =
-    refused_left (g.F.Files.holds c.args.files.now) c.args.project c.args.built c.args.ran c.in-Refused.refusal c.refused.result c.in-Refused.is
-    c.refused.ensures.verdict c.refused.ensures.fresh c.refused.ensures.wrote c.refused.ensures.removed c.refused.ensures.outputs c.refused.ensures.live
-    c.refused.ensures.ran
-    c.requires.clean
+pub returns-in-Refused-clause-rebuilds : goal.returns-in-Refused-clause-rebuilds
+returns-in-Refused-clause-rebuilds g c = record {
+  left = refused_left (g.F.Files.holds c.args.files.now) c.args.project c.args.built c.args.ran c.in-Refused.refusal c.refused.result c.in-Refused.is
+      c.refused.ensures.verdict c.refused.ensures.fresh c.refused.ensures.wrote c.refused.ensures.removed c.refused.ensures.outputs
+      c.refused.ensures.live c.refused.ensures.ran c.requires.clean;
+  changed = unchanged c.args.project (g.F.Files.holds c.args.files.now) (g.F.Files.holds c.args.files.now) refl;
+  rest = same_keeps (g.F.Files.holds c.args.files.now) (g.F.Files.holds c.args.files.now) refl;
+}
 
 pub returns-in-Refused-clause-durable : goal.returns-in-Refused-clause-durable
 returns-in-Refused-clause-durable g c = rests_none g.F.Files.holds g.F.Files.moment g.F.Files.left_since g.F.Files.images c.args.files.now
 
-pub returns-in_ok-made-in-Accepted-clause-changed : goal.returns-in_ok-made-in-Accepted-clause-changed
-returns-in_ok-made-in-Accepted-clause-changed g c =
-    accepted c.args.project (g.F.Files.holds c.args.files.now) (g.F.Files.holds c.put_into_place.new.files) c.args.built c.args.ran.items c.in-Accepted.is
-    c.requires.clean
-
-pub returns-in_err-made-in-Accepted-clause-changed : goal.returns-in_err-made-in-Accepted-clause-changed
-returns-in_err-made-in-Accepted-clause-changed g c =
-    unchanged c.args.project (g.F.Files.holds c.args.files.now) (g.F.Files.holds c.args.files.now) refl
-
-pub returns-in-Refused-clause-changed : goal.returns-in-Refused-clause-changed
-returns-in-Refused-clause-changed g c = unchanged c.args.project (g.F.Files.holds c.args.files.now) (g.F.Files.holds c.args.files.now) refl
+pub returns-in_err-made-in-Accepted-clause-rebuilds : goal.returns-in_err-made-in-Accepted-clause-rebuilds
+returns-in_err-made-in-Accepted-clause-rebuilds g c =
+    let failed : Err OutOfMemory ≡ c.from_residual.result = search rules in
+    failed_rebuilds c.args.project (g.F.Files.holds c.args.files.now) (g.F.Files.holds c.args.files.now) c.from_residual.result OutOfMemory failed refl
 
 pub returns-in-Refused-clause-crash : goal.returns-in-Refused-clause-crash
 returns-in-Refused-clause-crash g c = grind (arith, withstands_none)
 
-pub returns-in-Refused-clause-rest : goal.returns-in-Refused-clause-rest
-returns-in-Refused-clause-rest g c = grind (arith, same_keeps)
-
 pub returns-in_err-made-in-Accepted-clause-crash : goal.returns-in_err-made-in-Accepted-clause-crash
 returns-in_err-made-in-Accepted-clause-crash g c = grind (arith, withstands_none)
-
-pub returns-in_err-made-in-Accepted-clause-rest : goal.returns-in_err-made-in-Accepted-clause-rest
-returns-in_err-made-in-Accepted-clause-rest g c = grind (arith, same_keeps)
 
 pub returns-in_err-made-in-Accepted-clause-asks : goal.returns-in_err-made-in-Accepted-clause-asks
 returns-in_err-made-in-Accepted-clause-asks g c =

@@ -7,7 +7,7 @@ use Rattle.pie_build.specs.Left.{KeepsRest}
 use Rattle.pie_build.specs.inner.Plans.{IsPlanOf}
 use Rattle.pie_build.specs.inner.Reported.{PutsMade}
 use Rattle.pie_build.proofs.Cleaning.{report_of}
-use Rattle.pie_build.proofs.Crashing.{rests_commit, rests_ok, withstands_commit, withstands_still, withstands_then}
+use Rattle.pie_build.proofs.Crashing.{brought_commit, rests_commit, rests_ok, withstands_commit, withstands_still, withstands_then}
 use Rattle.pie_files.proofs.Reading.{both_before}
 use Rattle.pie_build.proofs.OwnPaths.{same_keeps, commit_keeps}
 use Rattle.pie_build.proofs.InPlace.{Fits, fits_before, puts_after}
@@ -59,7 +59,9 @@ returns-clause-left g c =
     puts_after before (g.F.Files.holds c.end_of_pending.new.files) (g.F.Files.holds c.commit_then.new.files) gone contents pending store c.in_ok-plan.plan
     c.in_ok-report.report c.commit_then.result (c.in_ok-pending.ensures.same ∙ c.in_ok-removed.ensures.same)
     (fits_before before (g.F.Files.holds c.removals.new.files) gone contents pending c.in_ok-removed.ensures.same c.requires.ascending removals c.in_ok-pending.ensures.gone)
-    plan c.commit_then.ensures.done c.commit_then.ensures.outside c.commit_then.ensures.report c.in_ok-report.ensures.verdict
+    plan
+    (brought_commit gone contents pending store c.in_ok-plan.plan plan g.F.Files.holds g.F.Files.images c.end_of_pending.new.files c.commit_then.new.files
+    c.commit_then.result c.commit_then.ensures.done) c.commit_then.ensures.outside c.commit_then.ensures.report c.in_ok-report.ensures.verdict
     (ap (λ v. v.items) c.in_ok-report.ensures.wrote ∙ wrote) (ap (λ v. v.items) c.in_ok-report.ensures.removed)
 
 pub returns-in_err-report-clause-crash : goal.returns-in_err-report-clause-crash
@@ -103,7 +105,7 @@ returns-clause-crash g c =
     ))
     (subst (λ (m : Option Directory). IfSome m (λ (d : Directory). Fits d gone contents pending)) (sym same) fits)
     c.in_ok-report.ensures.verdict (ap (λ v. v.items) c.in_ok-report.ensures.wrote ∙ wrote) (ap (λ v. v.items) c.in_ok-report.ensures.removed)
-    c.commit_then.ensures.crash c.commit_then.ensures.failed c.commit_then.ensures.done c.commit_then.ensures.durable)
+    c.commit_then.ensures.crash c.commit_then.ensures.failed c.commit_then.ensures.done)
 
 pub returns-clause-durable : goal.returns-clause-durable
 returns-clause-durable g c =
@@ -116,7 +118,7 @@ returns-clause-durable g c =
     (both_before g.F.Files.holds g.F.Files.moment g.F.Files.left_since g.F.Files.images c.args.files.now c.removals.new.files c.end_of_pending.new.files
     c.in_ok-removed.ensures.same c.in_ok-removed.ensures.crash c.in_ok-pending.ensures.crash)
     (rests_commit c.in_ok-removed.removed.items contents c.in_ok-pending.pending store c.in_ok-plan.plan plan g.F.Files.holds g.F.Files.images
-    c.end_of_pending.new.files c.commit_then.new.files c.commit_then.result c.commit_then.ensures.durable)
+    c.end_of_pending.new.files c.commit_then.new.files c.commit_then.result c.commit_then.ensures.done)
 
 pub returns-clause-report : goal.returns-clause-report
 returns-clause-report g c = report_of c.args.made c.args.ran c.in_ok-report.report c.commit_then.result c.commit_then.ensures.report (record {

@@ -1,8 +1,8 @@
-use Rattle.std.proofs.Common.{subst}
+use Rattle.std.proofs.Common.{refl, subst}
 use Rattle.pie_record.specs.inner.Names.{Numbers}
 use Rattle.pie_fresh.proofs.Rooting.{known_rests}
 use Rattle.std.proofs.Common.{arith}
-use Rattle.pie_fresh.proofs.Growing.{enters_same, starts_same}
+use Rattle.pie_fresh.proofs.Growing.{started_same}
 use Rattle.pie_files.proofs.Reading.{reads}
 use Rattle.pie_fresh.proofs.AskingSince.{begin_asks_none}
 use Rattle.pie_fresh.proofs.builder.Builder.evaluate.Goals as goal
@@ -15,32 +15,23 @@ returns-in-Some-clause-means g c = λ _.
 pub returns-in-Some-clause-reads : goal.returns-in-Some-clause-reads
 returns-in-Some-clause-reads g c = grind (arith, reads)
 
-pub returns-in_err-copy-clause-enters : goal.returns-in_err-copy-clause-enters
-returns-in_err-copy-clause-enters g c = grind (arith, enters_same)
+pub returns-in_err-copy-clause-started : goal.returns-in_err-copy-clause-started
+returns-in_err-copy-clause-started g c = started_same _ _ _ _ _ refl refl
 
 pub returns-in_err-copy-clause-reads : goal.returns-in_err-copy-clause-reads
 returns-in_err-copy-clause-reads g c = grind (arith, reads)
 
-pub returns-in_err-copy-clause-starts : goal.returns-in_err-copy-clause-starts
-returns-in_err-copy-clause-starts g c = grind (arith, starts_same)
-
-pub returns-in_err-number-clause-enters : goal.returns-in_err-number-clause-enters
-returns-in_err-number-clause-enters g c = grind (arith, enters_same)
+pub returns-in_err-number-clause-started : goal.returns-in_err-number-clause-started
+returns-in_err-number-clause-started g c = started_same _ _ _ _ _ refl refl
 
 pub returns-in_err-number-clause-reads : goal.returns-in_err-number-clause-reads
 returns-in_err-number-clause-reads g c = grind (arith, reads)
 
-pub returns-in_err-number-clause-starts : goal.returns-in_err-number-clause-starts
-returns-in_err-number-clause-starts g c = grind (arith, starts_same)
-
-pub returns-then-not-is_small-clause-enters : goal.returns-then-not-is_small-clause-enters
-returns-then-not-is_small-clause-enters g c = grind (arith, enters_same)
+pub returns-then-not-is_small-clause-started : goal.returns-then-not-is_small-clause-started
+returns-then-not-is_small-clause-started g c = started_same _ _ _ _ _ refl refl
 
 pub returns-then-not-is_small-clause-reads : goal.returns-then-not-is_small-clause-reads
 returns-then-not-is_small-clause-reads g c = grind (arith, reads)
-
-pub returns-then-not-is_small-clause-starts : goal.returns-then-not-is_small-clause-starts
-returns-then-not-is_small-clause-starts g c = grind (arith, starts_same)
 
 pub returns-in-Some-clause-asks : goal.returns-in-Some-clause-asks
 returns-in-Some-clause-asks g c =

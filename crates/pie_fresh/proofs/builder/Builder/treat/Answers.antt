@@ -1,7 +1,9 @@
-use Rattle.std.proofs.Common.{subst}
+use Rattle.std.proofs.Common.{refl, subst}
 use Rattle.pie_fresh.specs.inner.Means.{IsAsking}
 use Rattle.std.proofs.Common.{arith}
-use Rattle.pie_fresh.proofs.Walks.{treats}
+use Rattle.pie_fresh.proofs.Growing.{started_same, starts_same}
+use Rattle.pie_fresh.proofs.Leaving.{if_ok}
+use Rattle.pie_fresh.proofs.Stepping.{answered_steps, stopped_steps, written_steps}
 use Rattle.pie_files.proofs.Reading.{reads}
 use Rattle.pie_fresh.specs.inner.Asked.{IsAskedBy}
 use Rattle.pie_fresh.proofs.Asking.{asks_none}
@@ -15,137 +17,88 @@ pub returns-in-Require-clause-means : goal.returns-in-Require-clause-means
 returns-in-Require-clause-means g c = λ s held A.
     c.in_ok-require-in-Require.ensures.means s (subst (IsAsking s c.args.self.now c.args.waiting) c.in-Require.is A)
 
-pub returns-clause-enters : goal.returns-clause-enters
-returns-clause-enters g c = grind (arith, treats)
+pub returns-in-Exists-clause-steps : goal.returns-in-Exists-clause-steps
+returns-in-Exists-clause-steps g c =
+    if_ok _ _ c.exists.result (λ t. answered_steps c.args.self.now c.args.waiting t c.requires.awaits) c.exists.ensures.answered
 
-pub returns-clause-goes : goal.returns-clause-goes
-returns-clause-goes g c = grind (arith, treats)
-
-pub returns-clause-nearer : goal.returns-clause-nearer
-returns-clause-nearer g c = grind (arith, treats)
-
-pub returns-clause-reads : goal.returns-clause-reads
-returns-clause-reads g c = grind (arith, reads)
-
-pub returns-clause-starts : goal.returns-clause-starts
-returns-clause-starts g c = grind (arith, treats)
-
-pub returns-in-Digest-clause-enters : goal.returns-in-Digest-clause-enters
-returns-in-Digest-clause-enters g c = grind (arith, treats)
-
-pub returns-in-Digest-clause-goes : goal.returns-in-Digest-clause-goes
-returns-in-Digest-clause-goes g c = grind (arith, treats)
-
-pub returns-in-Digest-clause-nearer : goal.returns-in-Digest-clause-nearer
-returns-in-Digest-clause-nearer g c = grind (arith, treats)
-
-pub returns-in-Digest-clause-reads : goal.returns-in-Digest-clause-reads
-returns-in-Digest-clause-reads g c = grind (arith, reads)
-
-pub returns-in-Digest-clause-starts : goal.returns-in-Digest-clause-starts
-returns-in-Digest-clause-starts g c = grind (arith, treats)
-
-pub returns-in-Exists-clause-enters : goal.returns-in-Exists-clause-enters
-returns-in-Exists-clause-enters g c = grind (arith, treats)
-
-pub returns-in-Exists-clause-goes : goal.returns-in-Exists-clause-goes
-returns-in-Exists-clause-goes g c = grind (arith, treats)
-
-pub returns-in-Exists-clause-nearer : goal.returns-in-Exists-clause-nearer
-returns-in-Exists-clause-nearer g c = grind (arith, treats)
+pub returns-in-Exists-clause-started : goal.returns-in-Exists-clause-started
+returns-in-Exists-clause-started g c = started_same _ _ _ _ _ refl refl
 
 pub returns-in-Exists-clause-reads : goal.returns-in-Exists-clause-reads
 returns-in-Exists-clause-reads g c = grind (arith, reads)
 
-pub returns-in-Exists-clause-starts : goal.returns-in-Exists-clause-starts
-returns-in-Exists-clause-starts g c = grind (arith, treats)
+pub returns-in-Read-clause-steps : goal.returns-in-Read-clause-steps
+returns-in-Read-clause-steps g c =
+    if_ok _ _ c.read.result (λ t. answered_steps c.args.self.now c.args.waiting t c.requires.awaits) c.read.ensures.answered
 
-pub returns-in-List-clause-enters : goal.returns-in-List-clause-enters
-returns-in-List-clause-enters g c = grind (arith, treats)
-
-pub returns-in-List-clause-goes : goal.returns-in-List-clause-goes
-returns-in-List-clause-goes g c = grind (arith, treats)
-
-pub returns-in-List-clause-nearer : goal.returns-in-List-clause-nearer
-returns-in-List-clause-nearer g c = grind (arith, treats)
-
-pub returns-in-List-clause-reads : goal.returns-in-List-clause-reads
-returns-in-List-clause-reads g c = grind (arith, reads)
-
-pub returns-in-List-clause-starts : goal.returns-in-List-clause-starts
-returns-in-List-clause-starts g c = grind (arith, treats)
-
-pub returns-in-Read-clause-enters : goal.returns-in-Read-clause-enters
-returns-in-Read-clause-enters g c = grind (arith, treats)
-
-pub returns-in-Read-clause-goes : goal.returns-in-Read-clause-goes
-returns-in-Read-clause-goes g c = grind (arith, treats)
-
-pub returns-in-Read-clause-nearer : goal.returns-in-Read-clause-nearer
-returns-in-Read-clause-nearer g c = grind (arith, treats)
+pub returns-in-Read-clause-started : goal.returns-in-Read-clause-started
+returns-in-Read-clause-started g c = started_same _ _ _ _ _ refl refl
 
 pub returns-in-Read-clause-reads : goal.returns-in-Read-clause-reads
 returns-in-Read-clause-reads g c = grind (arith, reads)
 
-pub returns-in-Read-clause-starts : goal.returns-in-Read-clause-starts
-returns-in-Read-clause-starts g c = grind (arith, treats)
+pub returns-in-Digest-clause-steps : goal.returns-in-Digest-clause-steps
+returns-in-Digest-clause-steps g c =
+    if_ok _ _ c.digest.result (λ t. answered_steps c.args.self.now c.args.waiting t c.requires.awaits) c.digest.ensures.answered
 
-pub returns-in-Require-clause-enters : goal.returns-in-Require-clause-enters
-returns-in-Require-clause-enters g c = grind (arith, treats)
+pub returns-in-Digest-clause-started : goal.returns-in-Digest-clause-started
+returns-in-Digest-clause-started g c = started_same _ _ _ _ _ refl refl
 
-pub returns-in-Require-clause-goes : goal.returns-in-Require-clause-goes
-returns-in-Require-clause-goes g c = grind (arith, treats)
+pub returns-in-Digest-clause-reads : goal.returns-in-Digest-clause-reads
+returns-in-Digest-clause-reads g c = grind (arith, reads)
 
-pub returns-in-Require-clause-nearer : goal.returns-in-Require-clause-nearer
-returns-in-Require-clause-nearer g c = grind (arith, treats)
+pub returns-in-List-clause-steps : goal.returns-in-List-clause-steps
+returns-in-List-clause-steps g c =
+    if_ok _ _ c.list.result (λ t. answered_steps c.args.self.now c.args.waiting t c.requires.awaits) c.list.ensures.answered
 
-pub returns-in-Require-clause-reads : goal.returns-in-Require-clause-reads
-returns-in-Require-clause-reads g c = grind (arith, reads)
+pub returns-in-List-clause-started : goal.returns-in-List-clause-started
+returns-in-List-clause-started g c = started_same _ _ _ _ _ refl refl
 
-pub returns-in-Require-clause-starts : goal.returns-in-Require-clause-starts
-returns-in-Require-clause-starts g c = grind (arith, treats)
+pub returns-in-List-clause-reads : goal.returns-in-List-clause-reads
+returns-in-List-clause-reads g c = grind (arith, reads)
 
-pub returns-in-Write-clause-enters : goal.returns-in-Write-clause-enters
-returns-in-Write-clause-enters g c = grind (arith, treats)
+pub returns-in-Write-clause-steps : goal.returns-in-Write-clause-steps
+returns-in-Write-clause-steps g c =
+    written_steps c.args.self.now c.write.new.self c.args.waiting _ c.write.ensures.stages c.requires.awaits c.in_ok-write-in-Write.ensures.answered
 
-pub returns-in-Write-clause-goes : goal.returns-in-Write-clause-goes
-returns-in-Write-clause-goes g c = grind (arith, treats)
-
-pub returns-in-Write-clause-nearer : goal.returns-in-Write-clause-nearer
-returns-in-Write-clause-nearer g c = grind (arith, treats)
+pub returns-in-Write-clause-started : goal.returns-in-Write-clause-started
+returns-in-Write-clause-started g c = started_same _ _ _ _ _ c.write.ensures.stages.names refl
 
 pub returns-in-Write-clause-reads : goal.returns-in-Write-clause-reads
 returns-in-Write-clause-reads g c = grind (arith, reads)
 
-pub returns-in_err-require-in-Require-clause-enters : goal.returns-in_err-require-in-Require-clause-enters
-returns-in_err-require-in-Require-clause-enters g c = grind (arith, treats)
-
-pub returns-in_err-require-in-Require-clause-goes : goal.returns-in_err-require-in-Require-clause-goes
-returns-in_err-require-in-Require-clause-goes g c = grind (arith, treats)
-
-pub returns-in_err-require-in-Require-clause-nearer : goal.returns-in_err-require-in-Require-clause-nearer
-returns-in_err-require-in-Require-clause-nearer g c = grind (arith, treats)
-
-pub returns-in_err-require-in-Require-clause-reads : goal.returns-in_err-require-in-Require-clause-reads
-returns-in_err-require-in-Require-clause-reads g c = grind (arith, reads)
-
-pub returns-in_err-require-in-Require-clause-starts : goal.returns-in_err-require-in-Require-clause-starts
-returns-in_err-require-in-Require-clause-starts g c = grind (arith, treats)
-
-pub returns-in_err-write-in-Write-clause-enters : goal.returns-in_err-write-in-Write-clause-enters
-returns-in_err-write-in-Write-clause-enters g c = grind (arith, treats)
-
-pub returns-in_err-write-in-Write-clause-goes : goal.returns-in_err-write-in-Write-clause-goes
-returns-in_err-write-in-Write-clause-goes g c = grind (arith, treats)
-
-pub returns-in_err-write-in-Write-clause-nearer : goal.returns-in_err-write-in-Write-clause-nearer
-returns-in_err-write-in-Write-clause-nearer g c = grind (arith, treats)
+pub returns-in_err-write-in-Write-clause-started : goal.returns-in_err-write-in-Write-clause-started
+returns-in_err-write-in-Write-clause-started g c = started_same _ _ _ _ _ c.write.ensures.stages.names refl
 
 pub returns-in_err-write-in-Write-clause-reads : goal.returns-in_err-write-in-Write-clause-reads
 returns-in_err-write-in-Write-clause-reads g c = grind (arith, reads)
 
-pub returns-in_err-write-in-Write-clause-starts : goal.returns-in_err-write-in-Write-clause-starts
-returns-in_err-write-in-Write-clause-starts g c = grind (arith, treats)
+pub returns-in-Require-clause-steps : goal.returns-in-Require-clause-steps
+returns-in-Require-clause-steps g c = c.in_ok-require-in-Require.ensures.steps
+
+pub returns-in-Require-clause-started : goal.returns-in-Require-clause-started
+returns-in-Require-clause-started g c = record {
+  enters = c.require.ensures.started.enters;
+  starts = c.in_ok-require-in-Require.ensures.started.starts;
+}
+
+pub returns-in-Require-clause-reads : goal.returns-in-Require-clause-reads
+returns-in-Require-clause-reads g c = grind (arith, reads)
+
+pub returns-in_err-require-in-Require-clause-started : goal.returns-in_err-require-in-Require-clause-started
+returns-in_err-require-in-Require-clause-started g c = record { enters = c.require.ensures.started.enters; starts = grind (arith, starts_same) }
+
+pub returns-in_err-require-in-Require-clause-reads : goal.returns-in_err-require-in-Require-clause-reads
+returns-in_err-require-in-Require-clause-reads g c = grind (arith, reads)
+
+pub returns-clause-steps : goal.returns-clause-steps
+returns-clause-steps g c = stopped_steps _ c.args.self.now c.failed.result _ c.failed.ensures
+
+pub returns-clause-started : goal.returns-clause-started
+returns-clause-started g c = started_same _ _ _ _ _ refl refl
+
+pub returns-clause-reads : goal.returns-clause-reads
+returns-clause-reads g c = grind (arith, reads)
 
 pub returns-clause-asks : goal.returns-clause-asks
 returns-clause-asks g c =
