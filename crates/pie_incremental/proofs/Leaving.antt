@@ -13,9 +13,8 @@ use Rattle.pie_commit.specs.Outcomes.{HasFile, IsDone, LeavesFromRest, LeavesMar
 use Rattle.pie_diff.specs.Hashes.{files_paths, held_at, is_new}
 use Rattle.pie_diff.specs.Known.{known_at}
 use Rattle.pie_diff.proofs.Keeping.{order_filter}
-use Rattle.pie_files.proofs.Reading.{if_each, starts}
+use Rattle.pie_files.proofs.Reading.{if_each}
 use Rattle.pie_files.specs.Images.{Only}
-use Rattle.pie_files.specs.Reading.{Leaves}
 use Rattle.pie_files.specs.declared.files.FilesError.{FilesError}
 use Rattle.pie_files.specs.Directory.{Directory, without_file}
 use Rattle.pie_reach.specs.Plan.{path_cmp}
@@ -198,17 +197,6 @@ module _ {S : Type 0} (holds : S → Option Directory) (moment : S → ℕ) (lef
   pub marked_refused : (x : Refusal) → b.verdict ≡ Refused x → EndsMarked holds images (EndsNames names (bytes_of own.pending)) old new
       → EndsMarked holds images (EndsBy b.verdict own held funcs roots b names) old new
   marked_refused x is h = subst (λ (v : Verdict). EndsMarked holds images (EndsBy v own held funcs roots b names) old new) (sym is) h
-
-module _ {S : Type 0} (holds : S → Option Directory) (moment : S → ℕ) (left_since : S → ℕ → Directory → Type 0) (images : S → Directory → Type 0)
-    (own : OwnFiles) (held funcs : List (List ℕ × List ℕ)) (roots : List Task) (rows : List TaskRecord) (contents : List (List ℕ × Vec ℕ Global)) (s : S) where
-  still_by : (o : Option Directory) → IfSome o (λ d. Only d (images s)
-      → Leaves moment left_since images (MayLeave own held funcs roots rows contents d) s s)
-  still_by None = tt
-  still_by (Some d) = λ only. starts moment left_since images (MayLeave own held funcs roots rows contents d) s (λ c is u e. inr (inl (only c is)))
-
-  -- what a crash leaves before the commit
-  pub crash_still : LeavesFromRest holds moment left_since images (MayLeave own held funcs roots rows contents) s s
-  crash_still = still_by (holds s)
 
 -- ---- what is known at the beginning
 

@@ -21,4 +21,5 @@ pub mod Marking
 pub mod Refusing
 pub mod Asking
 pub mod Asked
+pub mod Parts
 mod Beginning

@@ -11,6 +11,7 @@ pub mod Digested
 pub mod Evaluated
 pub mod Joined
 pub mod Marked
+pub mod Parts
 pub mod Plans
 pub mod Ran
 pub mod Updated

@@ -1,23 +1,18 @@
 //! An accepted build by what changed, put into place.
-ghost use Rattle.std.specs.Prelude.{◌≡◌, true, None, IfSome, IfOk, OnOk};
-ghost use Rattle.pie_commit.specs.Outcomes.{LeavesFromRest, LeavesMarked};
+ghost use Rattle.std.specs.Prelude.{◌≡◌, true, None, IfSome, IfOk, IsOk, OnOk};
+ghost use Rattle.pie_commit.specs.Outcomes.{LeavesMarked};
 ghost use Rattle.pie_commit.specs.inner.Plans.{is_sound};
-ghost use Rattle.pie_files.specs.Images.{Only};
-ghost use Rattle.pie_files.specs.Streams.{Counted};
-ghost use Rattle.pie_build.specs.Crashes.{StaysAtRest};
-ghost use Rattle.pie_build.specs.Left.{KeepsRest};
 ghost use Rattle.pie_build.specs.Stored.{MayStand};
 ghost use Rattle.pie_results.specs.inner.Files.{InPathOrder};
 ghost use Rattle.pie_store.specs.Frame.{IsSealed};
 ghost use Rattle.pie_store.specs.Texts.{IsStoreText};
 ghost use Rattle.pie_value.specs.declared.verdict.Verdict.TheVariants as verdicts;
-ghost use Rattle.pie_named.specs.Asking.{MakesOnly};
-ghost use Rattle.pie_incremental.specs.inner.Asked.{IsChange};
-ghost use Rattle.pie_incremental.specs.Crashes.{EndsMarked};
+ghost use Rattle.pie_incremental.specs.Crashes.{MarkedBy};
 ghost use Rattle.pie_incremental.specs.Own.{IsClosed};
 ghost use Rattle.pie_incremental.specs.inner.Joined.{ChangesOut, Clears, IsDrafted, Treats};
 ghost use Rattle.pie_incremental.specs.inner.Cleaned.{HasParts, IsPlanFor, LeavesWhere, MayLeave, TellsPlan};
 ghost use Rattle.pie_incremental.specs.inner.Marked.{EndsAccepted};
+ghost use Rattle.pie_incremental.specs.inner.Parts.{ChangesOnly, Endures, TellsVerdict};
 ghost use Rattle.pie_incremental.specs.inner.Plans.{HasChanged, MayPlace, Places};
 
 use crate::ending::Ending;
@@ -45,7 +40,6 @@ pub(crate) struct Made {
 }
 
 /// Writes and removes what changed, and reports it. The plan and the report are made before the first write.
-#[tactic(auto, using(pie_build::proofs::OwnPaths::same_keeps, crate::proofs::Marking::marked_none))]
 pub(crate) fn accept<F: Files>(
     alloc: Global,
     files: &mut F,
@@ -57,17 +51,11 @@ pub(crate) fn accept<F: Files>(
     requires rows { MayStand project.now.digests.items project.now.roots.items made.rows.items }
     requires contents { InPathOrder made.contents.items }
     requires sealed { IsSealed ending.now.own.store.items }
-    ensures rest { KeepsRest (F.holds files.old) (F.holds files.new) }
+    ensures files { Endures F.holds F.moment F.left_since F.images (MayLeave ending.now.own ending.now.held project.now.digests.items project.now.roots.items made.rows.items made.contents.items) (MarkedBy (EndsAccepted ending.now.own ending.now.held project.now.digests.items project.now.roots.items made.rows.items made.contents.items)) (IsOk result) files.old files.new }
     ensures left { IfSome (F.holds files.old) (λ d. IfOk result (λ r. LeavesWhere ending.now.own ending.now.held project.now.digests.items project.now.roots.items made.rows.items made.contents.items made.outputs.items d r.value (F.holds files.new))) }
-    ensures crash { LeavesFromRest F.holds F.moment F.left_since F.images (MayLeave ending.now.own ending.now.held project.now.digests.items project.now.roots.items made.rows.items made.contents.items) files.old files.new }
-    ensures marked { EndsMarked F.holds F.images (EndsAccepted ending.now.own ending.now.held project.now.digests.items project.now.roots.items made.rows.items made.contents.items) files.old files.new }
-    ensures durable { OnOk result (StaysAtRest F.holds F.images files.old files.new) }
-    ensures verdict { IfOk result (λ r. r.value.verdict ≡ verdicts.Accepted) }
-    ensures fresh { IfOk result (λ r. r.value.fresh ≡ None) }
-    ensures ran { IfOk result (λ r. r.value.ran ≡ ran) }
+    ensures report { TellsVerdict verdicts.Accepted ran result }
     ensures names { IfOk result (λ r. Treats ending.now.own ending.now.names.items r.value.verdict (F.holds files.old) (F.holds files.new)) }
-    ensures asks { MakesOnly IsChange (F.asked files.old) (F.asked files.new) }
-    ensures counted { Counted F.faults FilesError.Failed files.old files.new result }
+    ensures calls { ChangesOnly F.asked F.faults files.old files.new result }
 {
     let Made {
         rows,
@@ -82,7 +70,6 @@ pub(crate) fn accept<F: Files>(
 }
 
 // Commits a plan, and then hands the report on.
-#[tactic(auto, using(crate::proofs::Joining::out_keeps))]
 fn commit_then<F: Files>(
     files: &mut F,
     plan: &Plan,
@@ -90,15 +77,11 @@ fn commit_then<F: Files>(
 ) -> Result<Box<Report>, FilesError>
     requires sound { is_sound plan.now ≡ true }
     requires changes { ChangesOut plan.now }
-    ensures rest { KeepsRest (F.holds files.old) (F.holds files.new) }
+    ensures files { Endures F.holds F.moment F.left_since F.images (MayPlace plan.now) (LeavesMarked plan.now) (IsOk result) files.old files.new }
     ensures done { IfSome (F.holds files.old) (λ d. IsClosed d → OnOk result (HasChanged plan.now d (F.holds files.new))) }
     ensures places { IfSome (F.holds files.old) (λ d. OnOk result (Places plan.now d (F.holds files.new))) }
-    ensures may_place { LeavesFromRest F.holds F.moment F.left_since F.images (MayPlace plan.now) files.old files.new }
-    ensures told { IfSome (F.holds files.old) (λ d. Only d (F.images files.old) → LeavesMarked plan.now d (F.images files.new)) }
-    ensures durable { OnOk result (StaysAtRest F.holds F.images files.old files.new) }
     ensures report { IfOk result (λ r. r ≡ report) }
-    ensures asks { MakesOnly IsChange (F.asked files.old) (F.asked files.new) }
-    ensures counted { Counted F.faults FilesError.Failed files.old files.new result }
+    ensures calls { ChangesOnly F.asked F.faults files.old files.new result }
 {
     match commit_plan(files, plan) {
         Ok(()) => Ok(report),

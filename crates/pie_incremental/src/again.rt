@@ -1,19 +1,18 @@
 //! A build that starts afresh after tasks ran.
-ghost use Rattle.std.specs.Prelude.{◌≡◌, ◌≤◌, ◌+◌, ◌++◌, drop, length, All, List, Some, IfOk, IfSome, OnOk};
+ghost use Rattle.std.specs.Prelude.{◌≡◌, ◌≤◌, drop, length, All, IfOk, IfSome, OnOk};
 ghost use Rattle.pie_build.specs.Crashes.{StaysAtRest};
 ghost use Rattle.pie_build.specs.Left.{KeepsRest};
 ghost use Rattle.pie_commit.specs.Outcomes.{LeavesFromRest};
-ghost use Rattle.pie_incremental.specs.Crashes.{EndsMarked};
+ghost use Rattle.pie_incremental.specs.Crashes.{EndsMarked, MarkedBy};
 ghost use Rattle.pie_incremental.specs.Kept.{IsOfNames};
 ghost use Rattle.pie_incremental.specs.inner.Changes.{bytes_of};
 ghost use Rattle.pie_incremental.specs.inner.Crashed.{MayRestart};
 ghost use Rattle.pie_value.specs.declared.verdict.Verdict.TheVariants as verdicts;
 ghost use Rattle.pie_build.specs.inner.Rebuilt.{IsRefusal, Tells};
 ghost use Rattle.pie_value.specs.Canonical.{IsEncodableTask};
-ghost use Rattle.pie_value.specs.declared.task.Task.{Task as TaskOf};
-ghost use Rattle.pie_incremental.specs.inner.Refused.{RefusesRight};
-ghost use Rattle.pie_incremental.specs.inner.Joined.{IsRetold, KeepsAfter, Treats};
+ghost use Rattle.pie_incremental.specs.inner.Joined.{KeepsAfter, Treats};
 ghost use Rattle.pie_incremental.specs.inner.Marked.{EndsNames, EndsRestart};
+ghost use Rattle.pie_incremental.specs.inner.Parts.{Endures, RefusesUnchanged, Retells, TellsAgain};
 ghost use Rattle.pie_incremental.specs.inner.Updated.{IsAfreshAfter};
 ghost use Rattle.pie_project.specs.Refusals.{IsVerdict};
 
@@ -30,7 +29,7 @@ use pie_vm::Runs;
 use std::alloc::Global;
 
 /// Builds afresh, for the cause of this stop. All tasks that were started after so many others are reported.
-#[tactic(auto, using(crate::proofs::Refusing::rebuilt, crate::proofs::Refusing::never, crate::proofs::Joining::rest_both, crate::proofs::Joining::behind_encodable))]
+#[tactic(auto, using(crate::proofs::Refusing::rebuilt, crate::proofs::Refusing::never))]
 pub(crate) fn again<F: Files>(
     alloc: Global,
     files: &mut F,
@@ -40,19 +39,11 @@ pub(crate) fn again<F: Files>(
 ) -> Result<Report, BuildError>
     requires before { before ≤ length runs.old }
     requires encodable { All IsEncodableTask (drop before runs.old) }
-    ensures rest { KeepsRest (F.holds files.old) (F.holds files.new) }
-    ensures refused { IsRefusal result → F.holds files.new ≡ F.holds files.old }
+    ensures files { Endures F.holds F.moment F.left_since F.images (MayRestart stop.value.ending.value.own stop.value.ending.value.names.items) (MarkedBy (EndsRestart stop.value.ending.value.own stop.value.ending.value.names.items)) (IsVerdict result) files.old files.new }
+    ensures refuses { RefusesUnchanged (F.holds files.old) (F.holds files.new) result }
     ensures names { IfOk result (λ r. Treats stop.value.ending.value.own stop.value.ending.value.names.items r.verdict (F.holds files.old) (F.holds files.new)) }
     ensures afresh { IfSome (F.holds files.old) (λ d. IfOk result (λ r. IsAfreshAfter d r (F.holds files.new) (drop before runs.old))) }
-    ensures crash { LeavesFromRest F.holds F.moment F.left_since F.images (MayRestart stop.value.ending.value.own stop.value.ending.value.names.items) files.old files.new }
-    ensures marked { EndsMarked F.holds F.images (EndsRestart stop.value.ending.value.own stop.value.ending.value.names.items) files.old files.new }
-    ensures durable { IsVerdict result → StaysAtRest F.holds F.images files.old files.new }
-    ensures fresh { IfOk result (λ r. r.fresh ≡ Some stop.value.cause) }
-    ensures ran { IfOk result (λ r. r.ran.items ≡ drop before runs.new) }
-    ensures grows { IfOk result (λ r. (more : List TaskOf) × (runs.new ≡ runs.old ++ more)) }
-    ensures few { length runs.new ≤ length runs.old + 50000 }
-    ensures encodable { IfOk result (λ r. All IsEncodableTask r.ran.items) }
-    ensures says { IfSome (F.holds files.old) (λ d. RefusesRight d result) }
+    ensures runs { TellsAgain stop.value.cause before runs.old runs.new result }
     ensures told { Tells F.faults files.old files.new result }
 {
     match rebuild(alloc, files, runs) {
@@ -71,17 +62,12 @@ fn retell<F: Files>(
     runs: &Runs,
 ) -> Result<Report, BuildError>
     requires before { before ≤ length runs.now }
-    ensures rest { KeepsRest (F.holds files.old) (F.holds files.new) }
+    ensures files { Endures F.holds F.moment F.left_since F.images (IsOfNames stop.value.ending.value.names.items (bytes_of stop.value.ending.value.own.pending)) (MarkedBy (EndsNames stop.value.ending.value.names.items (bytes_of stop.value.ending.value.own.pending))) (IsVerdict result) files.old files.new }
     ensures never { ¬ (IsRefusal result) }
     ensures names { IfOk result (λ r. KeepsAfter report.verdict stop.value.ending.value.own stop.value.ending.value.names.items (F.holds files.old) (F.holds files.new)) }
     ensures quiet { report.verdict ≡ verdicts.Accepted → files.new ≡ files.old }
-    ensures crash { LeavesFromRest F.holds F.moment F.left_since F.images (IsOfNames stop.value.ending.value.names.items (bytes_of stop.value.ending.value.own.pending)) files.old files.new }
-    ensures marked { EndsMarked F.holds F.images (EndsNames stop.value.ending.value.names.items (bytes_of stop.value.ending.value.own.pending)) files.old files.new }
-    ensures durable { IsVerdict result → StaysAtRest F.holds F.images files.old files.new }
     ensures verdict { IfOk result (λ r. r.verdict ≡ report.verdict) }
-    ensures retold { IfOk result (IsRetold report) }
-    ensures fresh { IfOk result (λ r. r.fresh ≡ Some stop.value.cause) }
-    ensures ran { IfOk result (λ r. r.ran.items ≡ drop before runs.now) }
+    ensures retold { Retells stop.value.cause (drop before runs.now) report result (λ r. r) }
     ensures told { Tells F.faults files.old files.new result }
 {
     match complete(alloc, files, stop, &mut report, before, runs) {
@@ -91,7 +77,6 @@ fn retell<F: Files>(
 }
 
 // The report gets all tasks that were started, and the cause. A refused build keeps the names.
-#[tactic(auto, using(pie_build::proofs::OwnPaths::same_keeps, crate::proofs::Crashing::names_still, crate::proofs::Marking::marked_none, pie_build::proofs::Crashing::rests_none))]
 fn complete<F: Files>(
     alloc: Global,
     files: &mut F,
@@ -101,17 +86,12 @@ fn complete<F: Files>(
     runs: &Runs,
 ) -> Result<(), BuildError>
     requires before { before ≤ length runs.now }
-    ensures rest { KeepsRest (F.holds files.old) (F.holds files.new) }
+    ensures files { Endures F.holds F.moment F.left_since F.images (IsOfNames stop.value.ending.value.names.items (bytes_of stop.value.ending.value.own.pending)) (MarkedBy (EndsNames stop.value.ending.value.names.items (bytes_of stop.value.ending.value.own.pending))) (IsVerdict result) files.old files.new }
     ensures never { ¬ (IsRefusal result) }
     ensures names { OnOk result (KeepsAfter report.old.verdict stop.value.ending.value.own stop.value.ending.value.names.items (F.holds files.old) (F.holds files.new)) }
     ensures quiet { report.old.verdict ≡ verdicts.Accepted → files.new ≡ files.old }
-    ensures crash { LeavesFromRest F.holds F.moment F.left_since F.images (IsOfNames stop.value.ending.value.names.items (bytes_of stop.value.ending.value.own.pending)) files.old files.new }
-    ensures marked { EndsMarked F.holds F.images (EndsNames stop.value.ending.value.names.items (bytes_of stop.value.ending.value.own.pending)) files.old files.new }
-    ensures durable { IsVerdict result → StaysAtRest F.holds F.images files.old files.new }
     ensures verdict { report.new.verdict ≡ report.old.verdict }
-    ensures retold { OnOk result (IsRetold report.old report.new) }
-    ensures fresh { OnOk result (report.new.fresh ≡ Some stop.value.cause) }
-    ensures ran { OnOk result (report.new.ran.items ≡ drop before runs.now) }
+    ensures retold { Retells stop.value.cause (drop before runs.now) report.old result (λ done. report.new) }
     ensures told { Tells F.faults files.old files.new result }
 {
     match put_ran(alloc, report, before, runs) {

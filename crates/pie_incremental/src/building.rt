@@ -1,27 +1,24 @@
 //! A build by what changed.
-ghost use Rattle.std.specs.Prelude.{◌≡◌, ◌≤◌, ◌+◌, ◌++◌, [], true, false, None, Some, length, All, IfOk, IfSome, IsTrue, Ok};
+ghost use Rattle.std.specs.Prelude.{◌≡◌, ◌≤◌, ◌+◌, ◌++◌, [], true, false, Some, length, All, IfOk, IfSome, IsTrue, Ok};
 ghost use Rattle.pie_build.specs.Left.{KeepsRest, Leaves};
-ghost use Rattle.pie_build.specs.inner.Projects.{IsReady};
 ghost use Rattle.pie_build.specs.Crashes.{IsDone, IsOfThree, StaysAtRest};
 ghost use Rattle.pie_commit.specs.Outcomes.{LeavesFromRest};
 ghost use Rattle.pie_incremental.specs.Asked.{AsksRight};
-ghost use Rattle.pie_incremental.specs.Crashes.{MayStop, EndsMarked, MayEnd};
-ghost use Rattle.pie_incremental.specs.inner.Asked.{AsksUnlessAfresh, FromAsking};
+ghost use Rattle.pie_incremental.specs.Crashes.{MayStop, EndsMarked, MarkedBy, MayEnd};
 ghost use Rattle.pie_incremental.specs.inner.Crashed.{MayBuild, MayFrom};
 ghost use Rattle.pie_incremental.specs.inner.Marked.{EndsBuild, EndsFrom};
 ghost use Rattle.pie_project.specs.Refusals.{IsVerdict};
 ghost use Rattle.pie_build.specs.inner.Rebuilt.{IsRefusal, Tells, RebuildSays};
-ghost use Rattle.pie_digest.specs.Digests.{HasNames};
 ghost use Rattle.pie_value.specs.Canonical.{IsEncodableTask};
 ghost use Rattle.pie_value.specs.Limits.{is_small_task};
-ghost use Rattle.pie_store.specs.Canonical.{AreFuncs};
 ghost use Rattle.pie_store.specs.Pending.{in_order};
 ghost use Rattle.pie_incremental.specs.Clean.{BuildsClean};
 ghost use Rattle.pie_incremental.specs.inner.Refused.{RefusesRight};
 ghost use Rattle.pie_incremental.specs.Runs.{TellsFew};
 ghost use Rattle.pie_incremental.specs.Treated.{AfreshBy, TreatsNames};
 ghost use Rattle.pie_incremental.specs.inner.Joined.{IsBase, Treats};
-ghost use Rattle.pie_incremental.specs.inner.Updated.{FromClean, IsAfreshAfter, RunsCleanOnce};
+ghost use Rattle.pie_incremental.specs.inner.Parts.{BuildsFor, BuildsFrom, BuildsProject, Endures, IsProjectIn, RefusesUnchanged, TellsRuns, TellsRunsOnce};
+ghost use Rattle.pie_incremental.specs.inner.Updated.{IsAfreshAfter};
 
 use crate::again::again;
 use crate::cause::put_cause;
@@ -82,20 +79,13 @@ fn afresh<F: Files>(
     cause: Cause,
     runs: &mut Runs,
 ) -> Result<Report, BuildError>
-    ensures rest { KeepsRest (F.holds files.old) (F.holds files.new) }
-    ensures refused { IsRefusal result → F.holds files.new ≡ F.holds files.old }
+    ensures files { Endures F.holds F.moment F.left_since F.images (IsOfThree Leaves) (MarkedBy (IsDone Leaves)) (IsVerdict result) files.old files.new }
+    ensures refuses { RefusesUnchanged (F.holds files.old) (F.holds files.new) result }
     ensures names { IfSome (F.holds files.old) (λ d. IfOk result (λ r. AfreshBy r.verdict d (F.holds files.new))) }
     ensures afresh { IfSome (F.holds files.old) (λ d. IfOk result (λ r. IsAfreshAfter d r (F.holds files.new) [])) }
-    ensures crash { LeavesFromRest F.holds F.moment F.left_since F.images (IsOfThree Leaves) files.old files.new }
-    ensures marked { EndsMarked F.holds F.images (IsDone Leaves) files.old files.new }
-    ensures durable { IsVerdict result → StaysAtRest F.holds F.images files.old files.new }
     ensures fresh { IfOk result (λ r. r.fresh ≡ Some cause) }
-    ensures ran { IfOk result (λ r. runs.new ≡ runs.old ++ r.ran.items) }
-    ensures few { length runs.new ≤ length runs.old + 50000 }
-    ensures encodable { IfOk result (λ r. All IsEncodableTask r.ran.items) }
-    ensures says { IfSome (F.holds files.old) (λ d. RefusesRight d result) }
-    ensures idle { IfSome (F.holds files.old) (λ d. IsRefusal result → runs.new ≡ runs.old) }
-    ensures project { IfSome (F.holds files.old) (λ d. IfOk result (λ r. RebuildSays d (Ok r))) }
+    ensures runs { TellsRuns 50000 runs.old runs.new result }
+    ensures project { BuildsProject (F.holds files.old) runs.old runs.new result }
     ensures told { Tells F.faults files.old files.new result }
 {
     match rebuild(alloc, files, runs) {
@@ -108,7 +98,7 @@ fn afresh<F: Files>(
 }
 
 // Builds from what the build before left.
-#[tactic(auto, using(crate::proofs::Refusing::read, crate::proofs::Refusing::after, pie_build::proofs::OwnPaths::same_keeps, crate::proofs::Joining::rest_then))]
+#[tactic(auto, using(crate::proofs::Refusing::read, crate::proofs::Refusing::after))]
 fn from<F: Files>(
     alloc: Global,
     files: &mut F,
@@ -117,21 +107,12 @@ fn from<F: Files>(
     runs: &mut Runs,
 ) -> Result<Report, BuildError>
     requires { IsBase base.value }
-    ensures rest { KeepsRest (F.holds files.old) (F.holds files.new) }
-    ensures refused { IsRefusal result → F.holds files.new ≡ F.holds files.old }
-    ensures clean { IfOk result (FromClean base.value changes.now (F.holds files.old) (F.holds files.new)) }
-    ensures asks { IfOk result (FromAsking base.value changes.now (F.holds files.old) (F.asked files.old) (F.asked files.new)) }
-    ensures crash { LeavesFromRest F.holds F.moment F.left_since F.images (MayFrom base.value changes.now) files.old files.new }
-    ensures marked { EndsMarked F.holds F.images (EndsFrom base.value changes.now) files.old files.new }
-    ensures durable { IsVerdict result → StaysAtRest F.holds F.images files.old files.new }
+    ensures files { Endures F.holds F.moment F.left_since F.images (MayFrom base.value changes.now) (MarkedBy (EndsFrom base.value changes.now)) (IsVerdict result) files.old files.new }
+    ensures refuses { RefusesUnchanged (F.holds files.old) (F.holds files.new) result }
+    ensures updates { BuildsFrom base.value changes.now (F.holds files.old) (F.holds files.new) (F.asked files.old) (F.asked files.new) result }
     ensures names { IfOk result (λ r. Treats base.value.own (in_order (changes.now ++ base.value.names.items)) r.verdict (F.holds files.old) (F.holds files.new)) }
-    ensures ran { IfOk result (λ r. runs.new ≡ runs.old ++ r.ran.items) }
-    ensures few { length runs.new ≤ length runs.old + 100000 }
-    ensures once { IfOk result (λ r. r.fresh ≡ None → length runs.new ≤ length runs.old + 50000) }
-    ensures encodable { IfOk result (λ r. All IsEncodableTask r.ran.items) }
-    ensures says { IfSome (F.holds files.old) (λ d. RefusesRight d result) }
-    ensures idle { IfSome (F.holds files.old) (λ d. IsRefusal result → runs.new ≡ runs.old) }
-    ensures project { IfSome (F.holds files.old) (λ d. IfOk result (λ r. RebuildSays d (Ok r))) }
+    ensures runs { TellsRunsOnce runs.old runs.new result }
+    ensures project { BuildsProject (F.holds files.old) runs.old runs.new result }
     ensures told { Tells F.faults files.old files.new result }
 {
     match read_project(alloc, files) {
@@ -141,7 +122,7 @@ fn from<F: Files>(
 }
 
 // Builds a project from what the build before left. Roots beyond the limits of values are left to the clean build, which refuses them.
-#[tactic(auto, using(crate::proofs::Refusing::rebuilt, crate::proofs::Refusing::after, crate::proofs::Refusing::never, pie_build::proofs::OwnPaths::same_keeps, crate::proofs::Joining::rest_then, crate::proofs::Joining::rest_both, crate::proofs::Joining::few))]
+#[tactic(auto, using(crate::proofs::Refusing::rebuilt, crate::proofs::Refusing::after, crate::proofs::Refusing::never))]
 fn with_project<F: Files>(
     alloc: Global,
     files: &mut F,
@@ -150,23 +131,13 @@ fn with_project<F: Files>(
     changes: &[Path],
     runs: &mut Runs,
 ) -> Result<Report, BuildError>
-    requires ready { IfSome (F.holds files.old) (λ d. IsReady project.now.typed project.now.roots.items) }
+    requires project { IsProjectIn (F.holds files.old) project.now }
     requires base { IsBase base.value }
-    requires names { HasNames project.now.typed project.now.digests.items }
-    requires funcs { AreFuncs project.now.digests.items }
-    ensures rest { KeepsRest (F.holds files.old) (F.holds files.new) }
-    ensures refused { IsRefusal result → F.holds files.new ≡ F.holds files.old }
-    ensures clean { IfOk result (RunsCleanOnce base.value project.now changes.now (F.holds files.old) (F.holds files.new)) }
-    ensures asks { IfOk result (AsksUnlessAfresh base.value project.now changes.now (F.holds files.old) (F.asked files.old) (F.asked files.new)) }
-    ensures crash { LeavesFromRest F.holds F.moment F.left_since F.images (MayBuild base.value project.now changes.now) files.old files.new }
-    ensures marked { EndsMarked F.holds F.images (EndsBuild base.value project.now changes.now) files.old files.new }
-    ensures durable { IsVerdict result → StaysAtRest F.holds F.images files.old files.new }
+    ensures files { Endures F.holds F.moment F.left_since F.images (MayBuild base.value project.now changes.now) (MarkedBy (EndsBuild base.value project.now changes.now)) (IsVerdict result) files.old files.new }
+    ensures refuses { RefusesUnchanged (F.holds files.old) (F.holds files.new) result }
+    ensures updates { BuildsFor base.value project.now changes.now (F.holds files.old) (F.holds files.new) (F.asked files.old) (F.asked files.new) result }
     ensures names { IfOk result (λ r. Treats base.value.own (in_order (changes.now ++ base.value.names.items)) r.verdict (F.holds files.old) (F.holds files.new)) }
-    ensures ran { IfOk result (λ r. runs.new ≡ runs.old ++ r.ran.items) }
-    ensures few { length runs.new ≤ length runs.old + 100000 }
-    ensures once { IfOk result (λ r. r.fresh ≡ None → length runs.new ≤ length runs.old + 50000) }
-    ensures encodable { IfOk result (λ r. All IsEncodableTask r.ran.items) }
-    ensures says { IfSome (F.holds files.old) (λ d. RefusesRight d result) }
+    ensures runs { TellsRunsOnce runs.old runs.new result }
     ensures told { Tells F.faults files.old files.new result }
 {
     if !are_small(project.roots.as_slice()) {

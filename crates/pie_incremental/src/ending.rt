@@ -1,5 +1,5 @@
 //! How a build by what changed ends.
-ghost use Rattle.std.specs.Prelude.{◌≡◌, None, IfSome, IfOk, OnOk};
+ghost use Rattle.std.specs.Prelude.{◌≡◌, None, IfSome, IfOk, IsOk, OnOk};
 ghost use Rattle.std.specs.Option.{option_copied};
 ghost use Rattle.pie_files.specs.Streams.{Counted};
 ghost use Rattle.pie_build.specs.Crashes.{StaysAtRest};
@@ -9,12 +9,13 @@ ghost use Rattle.pie_store.specs.Frame.{IsSealed};
 ghost use Rattle.pie_value.specs.declared.verdict.Verdict.TheVariants as verdicts;
 ghost use Rattle.pie_named.specs.Asking.{MakesOnly};
 ghost use Rattle.pie_incremental.specs.inner.Asked.{IsChange};
-ghost use Rattle.pie_incremental.specs.Crashes.{EndsMarked};
+ghost use Rattle.pie_incremental.specs.Crashes.{EndsMarked, MarkedBy};
 ghost use Rattle.pie_incremental.specs.Kept.{IsOfNames, KeepsNames};
 ghost use Rattle.pie_incremental.specs.inner.Changes.{bytes_of};
 ghost use Rattle.pie_incremental.specs.inner.Cleaned.{LeavesBy, MayLeaveBy};
 ghost use Rattle.pie_incremental.specs.inner.Joined.{HasOwn, IsMade, Treats};
 ghost use Rattle.pie_incremental.specs.inner.Marked.{EndsBy, EndsNames};
+ghost use Rattle.pie_incremental.specs.inner.Parts.{ChangesOnly, Endures, TellsVerdict};
 
 use crate::accepting::{Made, accept};
 use crate::{OwnFiles, keep_names};
@@ -74,17 +75,11 @@ pub(crate) fn finish<F: Files>(
 ) -> Result<Box<Report>, FilesError>
     requires made { IsMade project.now.digests.items project.now.roots.items built.value }
     requires sealed { IsSealed ending.now.own.store.items }
+    ensures files { Endures F.holds F.moment F.left_since F.images (MayLeaveBy built.value.verdict ending.now.own ending.now.held project.now.digests.items project.now.roots.items built.value ending.now.names.items) (MarkedBy (EndsBy built.value.verdict ending.now.own ending.now.held project.now.digests.items project.now.roots.items built.value ending.now.names.items)) (IsOk result) files.old files.new }
     ensures left { IfSome (F.holds files.old) (λ d. IfOk result (λ r. LeavesBy built.value.verdict ending.now.own ending.now.held project.now.digests.items project.now.roots.items built.value d r.value (F.holds files.new))) }
-    ensures crash { LeavesFromRest F.holds F.moment F.left_since F.images (MayLeaveBy built.value.verdict ending.now.own ending.now.held project.now.digests.items project.now.roots.items built.value ending.now.names.items) files.old files.new }
-    ensures marked { EndsMarked F.holds F.images (EndsBy built.value.verdict ending.now.own ending.now.held project.now.digests.items project.now.roots.items built.value ending.now.names.items) files.old files.new }
-    ensures durable { OnOk result (StaysAtRest F.holds F.images files.old files.new) }
-    ensures verdict { IfOk result (λ r. r.value.verdict ≡ built.value.verdict) }
-    ensures fresh { IfOk result (λ r. r.value.fresh ≡ None) }
-    ensures rest { KeepsRest (F.holds files.old) (F.holds files.new) }
-    ensures ran { IfOk result (λ r. r.value.ran ≡ ran) }
+    ensures report { TellsVerdict built.value.verdict ran result }
     ensures names { IfOk result (λ r. Treats ending.now.own ending.now.names.items r.value.verdict (F.holds files.old) (F.holds files.new)) }
-    ensures asks { MakesOnly IsChange (F.asked files.old) (F.asked files.new) }
-    ensures counted { Counted F.faults FilesError.Failed files.old files.new result }
+    ensures calls { ChangesOnly F.asked F.faults files.old files.new result }
 {
     let Built {
         verdict,
@@ -110,7 +105,6 @@ pub(crate) fn finish<F: Files>(
 }
 
 // Reports a refused build, which keeps the names for the next one. The report is made before the first write.
-#[tactic(auto, using(pie_build::proofs::OwnPaths::same_keeps, crate::proofs::Marking::marked_none))]
 fn refuse<F: Files>(
     alloc: Global,
     files: &mut F,
@@ -118,16 +112,10 @@ fn refuse<F: Files>(
     refusal: Refusal,
     ran: Vec<Task>,
 ) -> Result<Box<Report>, FilesError>
-    ensures rest { KeepsRest (F.holds files.old) (F.holds files.new) }
-    ensures crash { LeavesFromRest F.holds F.moment F.left_since F.images (IsOfNames ending.now.names.items (bytes_of ending.now.own.pending)) files.old files.new }
-    ensures marked { EndsMarked F.holds F.images (EndsNames ending.now.names.items (bytes_of ending.now.own.pending)) files.old files.new }
-    ensures durable { OnOk result (StaysAtRest F.holds F.images files.old files.new) }
-    ensures verdict { IfOk result (λ r. r.value.verdict ≡ verdicts.Refused refusal) }
-    ensures fresh { IfOk result (λ r. r.value.fresh ≡ None) }
-    ensures ran { IfOk result (λ r. r.value.ran ≡ ran) }
+    ensures files { Endures F.holds F.moment F.left_since F.images (IsOfNames ending.now.names.items (bytes_of ending.now.own.pending)) (MarkedBy (EndsNames ending.now.names.items (bytes_of ending.now.own.pending))) (IsOk result) files.old files.new }
+    ensures report { TellsVerdict (verdicts.Refused refusal) ran result }
     ensures names { IfOk result (λ r. Treats ending.now.own ending.now.names.items r.value.verdict (F.holds files.old) (F.holds files.new)) }
-    ensures asks { MakesOnly IsChange (F.asked files.old) (F.asked files.new) }
-    ensures counted { Counted F.faults FilesError.Failed files.old files.new result }
+    ensures calls { ChangesOnly F.asked F.faults files.old files.new result }
 {
     let report = report_of(alloc, refusal, ran)?;
     match ending.keep(alloc, files) {

@@ -1,5 +1,5 @@
 //! The evaluation of the roots by what changed.
-ghost use Rattle.std.specs.Prelude.{◌≡◌, ◌≤◌, ◌+◌, length, All, IfOk, OnOk};
+ghost use Rattle.std.specs.Prelude.{◌≡◌, ◌≤◌, All, IfOk, OnOk};
 ghost use Rattle.pie_digest.specs.Digests.{HasNames};
 ghost use Rattle.pie_files.specs.Reading.{ReadsOnly};
 ghost use Rattle.pie_store.specs.Canonical.{AreFuncs};
@@ -9,7 +9,8 @@ ghost use Rattle.pie_bottomup.specs.inner.Ran.{BeginsKnowing};
 ghost use Rattle.pie_bottomup.specs.inner.States.{HasSettled, IsCore, IsPlanOf, Spends, room};
 ghost use Rattle.pie_incremental.specs.inner.Asked.{AsksWhere, SettledAsking};
 ghost use Rattle.pie_incremental.specs.inner.Evaluated.{BeginsNow, EvaluatesExact, ResultsExact, SettlesExact};
-ghost use Rattle.pie_incremental.specs.inner.Joined.{IsImage, IsEnded, IsMade, Settles, Started};
+ghost use Rattle.pie_incremental.specs.inner.Joined.{IsImage, IsEnded, IsMade, Settles};
+ghost use Rattle.pie_incremental.specs.inner.Parts.{IsBuildable, StartsFew};
 ghost use Rattle.pie_incremental.specs.inner.Ran.{RunsWhere, SettlesRuns};
 
 use pie_base::{MAX_TASKS, OutOfMemory, Path};
@@ -32,7 +33,7 @@ pub(crate) enum Ended {
 }
 
 /// Evaluates the roots of a project by what changed.
-#[tactic(auto, using(pie_files::proofs::Reading::reads, crate::proofs::Joining::started_none, crate::proofs::Joining::few, crate::proofs::Storing::plan_kept))]
+#[tactic(auto, using(pie_files::proofs::Reading::reads, crate::proofs::Parts::starts, crate::proofs::Storing::plan_kept))]
 pub(crate) fn evaluate<F: Files>(
     alloc: Global,
     files: &mut F,
@@ -42,15 +43,12 @@ pub(crate) fn evaluate<F: Files>(
     runs: &mut Runs,
 ) -> Result<Ended, FilesError>
     requires image { IsImage image.value }
-    requires names { HasNames project.now.typed project.now.digests.items }
-    requires funcs { AreFuncs project.now.digests.items }
-    requires roots { All IsEncodableTask project.now.roots.items }
+    requires project { IsBuildable project.now }
     ensures exact { IfOk result (EvaluatesExact (F.holds files.old) project.now.typed project.now.digests.items project.now.roots.items image.value names.now) }
     ensures ran { IfOk result (RunsWhere (F.holds files.old) project.now.typed project.now.digests.items project.now.roots.items image.value names.now runs.old runs.new) }
     ensures asks { IfOk result (AsksWhere (F.holds files.old) project.now.typed project.now.digests.items project.now.roots.items image.value names.now runs.old runs.new (F.asked files.old) (F.asked files.new)) }
     ensures ended { IfOk result (IsEnded project.now.digests.items project.now.roots.items) }
-    ensures started { Started runs.old runs.new }
-    ensures few { length runs.new ≤ length runs.old + 50000 }
+    ensures runs { StartsFew 50000 runs.old runs.new }
     ensures reads { ReadsOnly F.holds F.moment F.left_since F.images F.faults files.old files.new result }
 {
     let code = compile(alloc, &project.typed)?;
@@ -107,8 +105,7 @@ fn settle<'a, F: Files>(
     ensures exact { IfOk result (SettlesExact (F.holds files.old) core.old core.new) }
     ensures ran { IfOk result (SettlesRuns (F.holds files.old) core.old runs.old runs.new) }
     ensures asks { IfOk result (SettledAsking (F.holds files.old) core.old runs.old runs.new (F.asked files.old) (F.asked files.new)) }
-    ensures started { Started runs.old runs.new }
-    ensures few { length runs.new ≤ length runs.old + room core.old }
+    ensures runs { StartsFew (room core.old) runs.old runs.new }
     ensures reads { ReadsOnly F.holds F.moment F.left_since F.images F.faults files.old files.new result }
 {
     'steps: loop {

@@ -1,20 +1,12 @@
 //! A build by what changed, from what the build before left to its report.
-ghost use Rattle.std.specs.Prelude.{◌≡◌, ◌≤◌, ◌+◌, ◌++◌, drop, length, All, IfOk, OnOk};
-ghost use Rattle.pie_digest.specs.Digests.{HasNames};
+ghost use Rattle.std.specs.Prelude.{◌≡◌, ◌≤◌, ◌++◌, drop, length, IfOk, IsOk};
 ghost use Rattle.pie_files.specs.Streams.{Counted};
-ghost use Rattle.pie_build.specs.Crashes.{StaysAtRest};
-ghost use Rattle.pie_build.specs.Left.{KeepsRest};
-ghost use Rattle.pie_store.specs.Canonical.{AreFuncs};
-ghost use Rattle.pie_store.specs.Frame.{IsSealed};
-ghost use Rattle.pie_value.specs.Canonical.{IsEncodableTask};
 ghost use Rattle.pie_store.specs.Pending.{in_order};
-ghost use Rattle.pie_commit.specs.Outcomes.{LeavesFromRest};
-ghost use Rattle.pie_incremental.specs.inner.Asked.{GoesAsking, RunsAsking};
-ghost use Rattle.pie_incremental.specs.Crashes.{EndsMarked};
-ghost use Rattle.pie_incremental.specs.inner.Crashed.{MayGo, MayRun, StaysBefore};
-ghost use Rattle.pie_incremental.specs.inner.Joined.{IsAsBefore, IsBase, IsImage, Reports, TreatsIn};
+ghost use Rattle.pie_incremental.specs.Crashes.{MarkedBy};
+ghost use Rattle.pie_incremental.specs.inner.Crashed.{MayGo, MayRun};
+ghost use Rattle.pie_incremental.specs.inner.Joined.{IsBase, TreatsIn};
 ghost use Rattle.pie_incremental.specs.inner.Marked.{EndsGo, EndsRun};
-ghost use Rattle.pie_incremental.specs.inner.Updated.{BeginsOn, BeginsOrRuns, GoesOn, RunsOrStops};
+ghost use Rattle.pie_incremental.specs.inner.Parts.{CanGoOn, Endures, GoesFor, IsBuildable, ReportsFew, RunsFor, StopsAsBefore};
 
 use crate::Base;
 use crate::begun::{Begun, begin};
@@ -46,7 +38,7 @@ pub(crate) struct Stop {
 }
 
 /// Builds a project from what the build before left, unless it has to start afresh.
-#[tactic(auto, using(pie_build::proofs::OwnPaths::same_keeps, crate::proofs::Joining::rest_then, crate::proofs::Treating::treats_begun, crate::proofs::Joining::few))]
+#[tactic(auto, using(crate::proofs::Treating::treats_begun))]
 pub(crate) fn run<F: Files>(
     alloc: Global,
     files: &mut F,
@@ -56,21 +48,12 @@ pub(crate) fn run<F: Files>(
     runs: &mut Runs,
 ) -> Result<Done, FilesError>
     requires base { IsBase base.value }
-    requires names { HasNames project.now.typed project.now.digests.items }
-    requires funcs { AreFuncs project.now.digests.items }
-    requires roots { All IsEncodableTask project.now.roots.items }
-    ensures rest { KeepsRest (F.holds files.old) (F.holds files.new) }
-    ensures stopped { IfOk result (IsAsBefore (F.holds files.old) (F.holds files.new)) }
-    ensures still { IfOk result (StaysBefore F.holds F.moment F.left_since F.images files.old files.new) }
-    ensures clean { IfOk result (RunsOrStops base.value project.now changes.now (F.holds files.old) (F.holds files.new)) }
-    ensures asks { IfOk result (RunsAsking base.value project.now changes.now (F.holds files.old) (F.asked files.old) (F.asked files.new)) }
-    ensures before { IfOk result (BeginsOrRuns base.value project.now changes.now (F.holds files.old) runs.old runs.new) }
-    ensures crash { LeavesFromRest F.holds F.moment F.left_since F.images (MayRun base.value project.now changes.now) files.old files.new }
-    ensures marked { EndsMarked F.holds F.images (EndsRun base.value project.now changes.now) files.old files.new }
-    ensures durable { OnOk result (StaysAtRest F.holds F.images files.old files.new) }
+    requires project { IsBuildable project.now }
+    ensures files { Endures F.holds F.moment F.left_since F.images (MayRun base.value project.now changes.now) (MarkedBy (EndsRun base.value project.now changes.now)) (IsOk result) files.old files.new }
+    ensures stops { StopsAsBefore F.holds F.moment F.left_since F.images files.old files.new result }
+    ensures updates { RunsFor base.value project.now changes.now (F.holds files.old) (F.holds files.new) (F.asked files.old) (F.asked files.new) runs.old runs.new result }
     ensures names { IfOk result (TreatsIn base.value.own (in_order (changes.now ++ base.value.names.items)) (F.holds files.old) (F.holds files.new)) }
-    ensures ran { IfOk result (Reports runs.old runs.new) }
-    ensures few { length runs.new ≤ length runs.old + 50000 }
+    ensures runs { ReportsFew 50000 runs.old runs.new result }
     ensures counted { Counted F.faults FilesError.Failed files.old files.new result }
 {
     let begun = begin(alloc, files, base, project, changes)?;
@@ -78,7 +61,7 @@ pub(crate) fn run<F: Files>(
 }
 
 // Evaluates the roots, and puts into place what was made.
-#[tactic(auto, using(pie_build::proofs::OwnPaths::same_keeps, crate::proofs::Joining::rest_then, crate::proofs::Joining::told_report, crate::proofs::Treating::treats_then, crate::proofs::Joining::few))]
+#[tactic(auto, using(crate::proofs::Treating::treats_then))]
 fn go_on<F: Files>(
     alloc: Global,
     files: &mut F,
@@ -86,23 +69,13 @@ fn go_on<F: Files>(
     project: &Project,
     runs: &mut Runs,
 ) -> Result<Done, FilesError>
-    requires image { IsImage begun.image.value }
-    requires sealed { IsSealed begun.ending.value.own.store.items }
-    requires names { HasNames project.now.typed project.now.digests.items }
-    requires funcs { AreFuncs project.now.digests.items }
-    requires roots { All IsEncodableTask project.now.roots.items }
-    ensures rest { KeepsRest (F.holds files.old) (F.holds files.new) }
-    ensures stopped { IfOk result (IsAsBefore (F.holds files.old) (F.holds files.new)) }
-    ensures still { IfOk result (StaysBefore F.holds F.moment F.left_since F.images files.old files.new) }
-    ensures clean { IfOk result (GoesOn begun.image.value begun.ending.value project.now (F.holds files.old) (F.holds files.new)) }
-    ensures asks { IfOk result (GoesAsking begun.image.value begun.ending.value project.now (F.holds files.old) (F.asked files.old) (F.asked files.new)) }
-    ensures before { IfOk result (BeginsOn begun.image.value begun.ending.value project.now (F.holds files.old) runs.old runs.new) }
-    ensures crash { LeavesFromRest F.holds F.moment F.left_since F.images (MayGo begun.image.value begun.ending.value project.now) files.old files.new }
-    ensures marked { EndsMarked F.holds F.images (EndsGo begun.image.value begun.ending.value project.now) files.old files.new }
-    ensures durable { OnOk result (StaysAtRest F.holds F.images files.old files.new) }
+    requires begun { CanGoOn begun.image.value begun.ending.value }
+    requires project { IsBuildable project.now }
+    ensures files { Endures F.holds F.moment F.left_since F.images (MayGo begun.image.value begun.ending.value project.now) (MarkedBy (EndsGo begun.image.value begun.ending.value project.now)) (IsOk result) files.old files.new }
+    ensures stops { StopsAsBefore F.holds F.moment F.left_since F.images files.old files.new result }
+    ensures updates { GoesFor begun.image.value begun.ending.value project.now (F.holds files.old) (F.holds files.new) (F.asked files.old) (F.asked files.new) runs.old runs.new result }
     ensures names { IfOk result (TreatsIn begun.ending.value.own begun.ending.value.names.items (F.holds files.old) (F.holds files.new)) }
-    ensures ran { IfOk result (Reports runs.old runs.new) }
-    ensures few { length runs.new ≤ length runs.old + 50000 }
+    ensures runs { ReportsFew 50000 runs.old runs.new result }
     ensures counted { Counted F.faults FilesError.Failed files.old files.new result }
 {
     let Begun { image, ending } = begun;

@@ -24,8 +24,8 @@ returns-in-Ok-Afresh-clause-names g c =
 
 pub returns-in-Ok-Afresh-clause-most : goal.returns-in-Ok-Afresh-clause-most
 returns-in-Ok-Afresh-clause-most g c =
-    few_told c.args.runs.now c.afresh.new.runs c.afresh.result c.afresh.ensures.ran (omega (arith, c.afresh.ensures.few))
-    (few_once c.args.runs.now c.afresh.new.runs c.afresh.result c.afresh.ensures.few)
+    few_told c.args.runs.now c.afresh.new.runs c.afresh.result c.afresh.ensures.runs.ran (omega (arith, c.afresh.ensures.runs.few))
+    (few_once c.args.runs.now c.afresh.new.runs c.afresh.result c.afresh.ensures.runs.few)
 
 pub returns-in-Ok-From-clause-names : goal.returns-in-Ok-From-clause-names
 returns-in-Ok-From-clause-names g c =
@@ -35,7 +35,7 @@ returns-in-Ok-From-clause-names g c =
 
 pub returns-in-Ok-From-clause-most : goal.returns-in-Ok-From-clause-most
 returns-in-Ok-From-clause-most g c =
-    few_told c.args.runs.now c.from.new.runs c.from.result c.from.ensures.ran c.from.ensures.few c.from.ensures.once
+    few_told c.args.runs.now c.from.new.runs c.from.result c.from.ensures.runs.ran c.from.ensures.runs.few c.from.ensures.runs.once
 
 pub returns-in-Ok-Afresh-clause-clean : goal.returns-in-Ok-Afresh-clause-clean
 returns-in-Ok-Afresh-clause-clean g c =
@@ -47,19 +47,19 @@ pub returns-in-Ok-From-clause-clean : goal.returns-in-Ok-From-clause-clean
 returns-in-Ok-From-clause-clean g c =
     let e = c.in-Ok-From in
     from_cleans c.args.changes.now e.field-0 e.base (g.F.Files.holds c.args.files.now) (g.F.Files.holds c.find_start.new.files)
-    (g.F.Files.holds c.from.new.files) c.from.result e.field-0-is e.ensures.starts e.ensures.reads.same c.from.ensures.clean
+    (g.F.Files.holds c.from.new.files) c.from.result e.field-0-is e.ensures.starts e.ensures.reads.same c.from.ensures.updates.clean
 
 pub returns-in-Ok-Afresh-clause-crash : goal.returns-in-Ok-Afresh-clause-crash
 returns-in-Ok-Afresh-clause-crash g c =
     let e = c.in-Ok-Afresh in
     crash_afresh g.F.Files.holds g.F.Files.moment g.F.Files.left_since g.F.Files.images c.args.changes.now c.args.files.now c.find_start.new.files
-    c.afresh.new.files e.ensures.reads.same e.ensures.reads.crash c.afresh.ensures.crash
+    c.afresh.new.files e.ensures.reads.same e.ensures.reads.crash c.afresh.ensures.files.crash
 
 pub returns-in-Ok-From-clause-crash : goal.returns-in-Ok-From-clause-crash
 returns-in-Ok-From-clause-crash g c =
     let e = c.in-Ok-From in
     crash_based g.F.Files.holds g.F.Files.moment g.F.Files.left_since g.F.Files.images c.args.changes.now e.field-0 e.base c.args.files.now
-    c.find_start.new.files c.from.new.files e.field-0-is e.ensures.starts e.ensures.reads.same e.ensures.reads.crash c.from.ensures.crash
+    c.find_start.new.files c.from.new.files e.field-0-is e.ensures.starts e.ensures.reads.same e.ensures.reads.crash c.from.ensures.files.crash
 
 pub returns-in-Err-Failed-clause-crash : goal.returns-in-Err-Failed-clause-crash
 returns-in-Err-Failed-clause-crash g c =
@@ -87,19 +87,19 @@ returns-in-Ok-From-clause-asks g c =
     let e = c.in-Ok-From in
     asks_from c.args.changes.now e.field-0 e.base (g.F.Files.holds c.args.files.now) (g.F.Files.holds c.find_start.new.files)
     (g.F.Files.asked c.args.files.now) (g.F.Files.asked c.find_start.new.files) (g.F.Files.asked c.from.new.files) c.from.result e.field-0-is e.ensures.starts
-    e.ensures.reads.same e.ensures.asks c.from.ensures.asks
+    e.ensures.reads.same e.ensures.asks c.from.ensures.updates.asks
 
 pub returns-in-Ok-Afresh-clause-marked : goal.returns-in-Ok-Afresh-clause-marked
 returns-in-Ok-Afresh-clause-marked g c =
     let e = c.in-Ok-Afresh in
     marked_afresh g.F.Files.holds g.F.Files.moment g.F.Files.left_since g.F.Files.images c.args.changes.now c.args.files.now c.find_start.new.files
-    c.afresh.new.files e.ensures.reads.same e.ensures.reads.crash c.afresh.ensures.marked
+    c.afresh.new.files e.ensures.reads.same e.ensures.reads.crash c.afresh.ensures.files.marked
 
 pub returns-in-Ok-From-clause-marked : goal.returns-in-Ok-From-clause-marked
 returns-in-Ok-From-clause-marked g c =
     let e = c.in-Ok-From in
     marked_based g.F.Files.holds g.F.Files.moment g.F.Files.left_since g.F.Files.images c.args.changes.now e.field-0 e.base c.args.files.now c.find_start.new.files
-    c.from.new.files e.field-0-is e.ensures.starts e.ensures.reads.same e.ensures.reads.crash c.from.ensures.marked
+    c.from.new.files e.field-0-is e.ensures.starts e.ensures.reads.same e.ensures.reads.crash c.from.ensures.files.marked
 
 pub returns-in-Err-Failed-clause-marked : goal.returns-in-Err-Failed-clause-marked
 returns-in-Err-Failed-clause-marked g c =
@@ -113,29 +113,29 @@ pub returns-in-Ok-Afresh-clause-durable : goal.returns-in-Ok-Afresh-clause-durab
 returns-in-Ok-Afresh-clause-durable g c =
     λ says.
     rests_then g.F.Files.holds g.F.Files.moment g.F.Files.left_since g.F.Files.images c.args.files.now c.find_start.new.files c.afresh.new.files
-    c.in-Ok-Afresh.ensures.reads.same c.in-Ok-Afresh.ensures.reads.crash (c.afresh.ensures.durable says)
+    c.in-Ok-Afresh.ensures.reads.same c.in-Ok-Afresh.ensures.reads.crash (c.afresh.ensures.files.durable says)
 
 pub returns-in-Ok-From-clause-durable : goal.returns-in-Ok-From-clause-durable
 returns-in-Ok-From-clause-durable g c =
     λ says.
     rests_then g.F.Files.holds g.F.Files.moment g.F.Files.left_since g.F.Files.images c.args.files.now c.find_start.new.files c.from.new.files
-    c.in-Ok-From.ensures.reads.same c.in-Ok-From.ensures.reads.crash (c.from.ensures.durable says)
+    c.in-Ok-From.ensures.reads.same c.in-Ok-From.ensures.reads.crash (c.from.ensures.files.durable says)
 
 pub returns-in-Ok-Afresh-clause-idle : goal.returns-in-Ok-Afresh-clause-idle
 returns-in-Ok-Afresh-clause-idle g c = idle_after (g.F.Files.holds c.args.files.now) (g.F.Files.holds c.find_start.new.files) _ c.afresh.result
-    c.in-Ok-Afresh.ensures.reads.same c.afresh.ensures.idle
+    c.in-Ok-Afresh.ensures.reads.same c.afresh.ensures.project.idle
 
 pub returns-in-Ok-Afresh-clause-project : goal.returns-in-Ok-Afresh-clause-project
 returns-in-Ok-Afresh-clause-project g c = project_after (g.F.Files.holds c.args.files.now) (g.F.Files.holds c.find_start.new.files) c.afresh.result
-    c.in-Ok-Afresh.ensures.reads.same c.afresh.ensures.project
+    c.in-Ok-Afresh.ensures.reads.same c.afresh.ensures.project.project
 
 pub returns-in-Ok-From-clause-idle : goal.returns-in-Ok-From-clause-idle
 returns-in-Ok-From-clause-idle g c = idle_after (g.F.Files.holds c.args.files.now) (g.F.Files.holds c.find_start.new.files) _ c.from.result
-    c.in-Ok-From.ensures.reads.same c.from.ensures.idle
+    c.in-Ok-From.ensures.reads.same c.from.ensures.project.idle
 
 pub returns-in-Ok-From-clause-project : goal.returns-in-Ok-From-clause-project
 returns-in-Ok-From-clause-project g c = project_after (g.F.Files.holds c.args.files.now) (g.F.Files.holds c.find_start.new.files) c.from.result
-    c.in-Ok-From.ensures.reads.same c.from.ensures.project
+    c.in-Ok-From.ensures.reads.same c.from.ensures.project.project
 
 pub returns-in-Err-Failed-clause-idle : goal.returns-in-Err-Failed-clause-idle
 returns-in-Err-Failed-clause-idle g c = if_always (g.F.Files.holds c.args.files.now) (λ h. absurd h)

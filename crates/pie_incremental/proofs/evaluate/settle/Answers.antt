@@ -3,7 +3,7 @@ use Rattle.pie_bottomup.specs.inner.States.{TurnsTo}
 use Rattle.pie_files.proofs.Reading.{both_before}
 use Rattle.pie_incremental.proofs.Asking.{settles_more}
 use Rattle.pie_incremental.proofs.Evaluating.{stands_end, stands_on, stops_for}
-use Rattle.pie_incremental.proofs.Joining.{spends_more, started_more}
+use Rattle.pie_incremental.proofs.Joining.{few_more, spends_more, started_more}
 use Rattle.pie_incremental.proofs.Running.{many_on, none_on, runs_on, settles_runs, stops_runs}
 use Rattle.pie_incremental.proofs.evaluate.settle.Goals as goal
 
@@ -52,17 +52,29 @@ returns-in-StartAfresh-clause-ran g c =
     stops_runs (g.F.Files.holds c.args.files.now) (g.F.Files.holds c.steps.files) c.args.core.now c.steps.core c.step.new.self c.in_ok-step.field-0
     c.args.runs.now c.steps.runs c.step.new.runs i.3 i.2.plan s.spends.plan s.spends.tasks i.5 i.7 s.whole s.reasons c.in-StartAfresh.cause c.in-StartAfresh.is i.8 s.many i.9 s.none
 
-pub returns-in_err-step-clause-started : goal.returns-in_err-step-clause-started
-returns-in_err-step-clause-started g c =
-    started_more c.args.runs.now c.steps.runs c.step.new.runs c.steps.invariant.1 c.in_err-step.ensures.starts
+pub returns-in_err-step-clause-runs : goal.returns-in_err-step-clause-runs
+returns-in_err-step-clause-runs g c =
+    let i = c.steps.invariant in
+    record {
+      started = started_more c.args.runs.now c.steps.runs c.step.new.runs i.1 c.in_err-step.ensures.starts;
+      few = few_more c.args.core.now c.steps.core c.args.runs.now c.steps.runs c.step.new.runs i.2 c.in_err-step.ensures.few;
+    }
 
-pub returns-in-Settled-clause-started : goal.returns-in-Settled-clause-started
-returns-in-Settled-clause-started g c =
-    started_more c.args.runs.now c.steps.runs c.step.new.runs c.steps.invariant.1 c.in_ok-step.ensures.starts
+pub returns-in-Settled-clause-runs : goal.returns-in-Settled-clause-runs
+returns-in-Settled-clause-runs g c =
+    let i = c.steps.invariant in
+    record {
+      started = started_more c.args.runs.now c.steps.runs c.step.new.runs i.1 c.in_ok-step.ensures.starts;
+      few = few_more c.args.core.now c.steps.core c.args.runs.now c.steps.runs c.step.new.runs i.2 c.in_ok-step.ensures.few;
+    }
 
-pub returns-in-StartAfresh-clause-started : goal.returns-in-StartAfresh-clause-started
-returns-in-StartAfresh-clause-started g c =
-    started_more c.args.runs.now c.steps.runs c.step.new.runs c.steps.invariant.1 c.in_ok-step.ensures.starts
+pub returns-in-StartAfresh-clause-runs : goal.returns-in-StartAfresh-clause-runs
+returns-in-StartAfresh-clause-runs g c =
+    let i = c.steps.invariant in
+    record {
+      started = started_more c.args.runs.now c.steps.runs c.step.new.runs i.1 c.in_ok-step.ensures.starts;
+      few = few_more c.args.core.now c.steps.core c.args.runs.now c.steps.runs c.step.new.runs i.2 c.in_ok-step.ensures.few;
+    }
 
 pub returns-in-Settled-clause-asks : goal.returns-in-Settled-clause-asks
 returns-in-Settled-clause-asks g c =
