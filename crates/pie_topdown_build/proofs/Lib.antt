@@ -20,6 +20,7 @@ pub mod Reasons
 pub mod Refusing
 pub mod Replacing
 pub mod Running
+pub mod Saying
 pub mod Sorting
 pub mod Starting
 pub mod Storing

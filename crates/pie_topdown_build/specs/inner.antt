@@ -11,4 +11,5 @@ pub mod Offered
 pub mod Ran
 pub mod Records
 pub mod Reused
+pub mod Said
 pub mod Stored

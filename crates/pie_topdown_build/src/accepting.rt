@@ -1,5 +1,5 @@
 //! An accepted build put into place.
-ghost use Rattle.std.specs.Prelude.{◌≡◌, [], true, false, None, is_some, All, IfNone, IfOk, IfSome, OnOk, IsOk};
+ghost use Rattle.std.specs.Prelude.{◌≡◌, [], true, false, None, is_some, IfNone, IfOk, IfSome, OnOk, IsOk};
 ghost use Rattle.pie_build.specs.Left.{KeepsRest};
 ghost use Rattle.pie_build.specs.Stored.{MayStand};
 ghost use Rattle.pie_commit.specs.Outcomes.{HasBrought, IsDone};
@@ -12,12 +12,13 @@ ghost use Rattle.pie_incremental.specs.inner.Joined.{ChangesOut, IsDrafted};
 ghost use Rattle.pie_incremental.specs.inner.Plans.{HasChanged};
 ghost use Rattle.pie_results.specs.inner.Files.{InPathOrder};
 ghost use Rattle.pie_store.specs.Frame.{IsSealed};
-ghost use Rattle.pie_store.specs.Texts.{IsRow, IsStoreText};
+ghost use Rattle.pie_store.specs.Texts.{IsStoreText};
 ghost use Rattle.pie_value.specs.declared.verdict.Verdict.TheVariants as verdicts;
 ghost use Rattle.pie_topdown_build.specs.inner.Bases.{IsSealedIf};
 ghost use Rattle.pie_topdown_build.specs.inner.Cleaned.{HoldsBy, IsOwnOf, LeavesWhere, PutsAnew, PutsWhere};
 ghost use Rattle.pie_topdown_build.specs.inner.Crashes.{Endures, EndsPut, EndsWhere};
-ghost use Rattle.pie_topdown_build.specs.inner.Stored.{IsBegunFrom, IsStoreOrNone, LeavesRows};
+ghost use Rattle.pie_topdown_build.specs.inner.Said.{CanPut, Stays, Stores, TellsVerdict};
+ghost use Rattle.pie_topdown_build.specs.inner.Stored.{IsBegunFrom, IsStoreOrNone};
 
 use crate::held::{held_beside, held_under_out, is_pending};
 use pie_base::{OutOfMemory, Path, Text};
@@ -46,7 +47,6 @@ pub(crate) struct Made {
 
 /// Writes and removes what isn't as it was made, and reports it. Where there was no store to build from, it writes all. The plan and the report are made
 /// before the first write.
-#[tactic(auto, using(pie_build::proofs::OwnPaths::same_keeps, pie_incremental::proofs::Joining::rest_then))]
 pub(crate) fn accept<F: Files>(
     alloc: Global,
     files: &mut F,
@@ -55,17 +55,12 @@ pub(crate) fn accept<F: Files>(
     made: Made,
     ran: Vec<Task>,
 ) -> Result<Box<Report>, FilesError>
-    requires rows { MayStand project.now.digests.items project.now.roots.items made.rows.items }
-    requires contents { InPathOrder made.contents.items }
+    requires made { CanPut project.now made }
     requires sealed { IsSealedIf store }
-    ensures rest { KeepsRest (F.holds files.old) (F.holds files.new) }
+    ensures stays { Stays F.holds F.moment F.left_since F.images (EndsWhere store project.now.digests.items project.now.roots.items made.rows.items made.contents.items) (IsOk result) files.old files.new }
     ensures left { IfSome (F.holds files.old) (λ d. IfOk result (λ r. LeavesWhere store project.now.digests.items project.now.roots.items made.rows.items made.contents.items made.outputs.items d r.value (F.holds files.new))) }
-    ensures stored { IfSome (F.holds files.old) (λ d. IsBegunFrom store d → OnOk result (LeavesRows project.now.digests.items made.rows.items (F.holds files.new))) }
-    ensures rows { OnOk result (All IsRow made.rows.items) }
-    ensures crash { Endures F.holds F.moment F.left_since F.images (EndsWhere store project.now.digests.items project.now.roots.items made.rows.items made.contents.items) (IsOk result) files.old files.new }
-    ensures verdict { IfOk result (λ r. r.value.verdict ≡ verdicts.Accepted) }
-    ensures fresh { IfOk result (λ r. r.value.fresh ≡ None) }
-    ensures ran { IfOk result (λ r. r.value.ran ≡ ran) }
+    ensures stores { Stores verdicts.Accepted (IsBegunFrom store) project.now.digests.items made.rows.items (F.holds files.old) (F.holds files.new) result }
+    ensures report { TellsVerdict verdicts.Accepted ran result }
     ensures counted { Counted F.faults FilesError.Failed files.old files.new result }
 {
     let held = held_now(alloc, files, &store, made.contents.as_slice())?;
@@ -121,7 +116,6 @@ fn own_with(alloc: Global, store: Option<Vec<u8>>, pending: bool) -> OwnFiles
 }
 
 // The same with what is held.
-#[tactic(auto, using(pie_build::proofs::OwnPaths::same_keeps))]
 fn put_into_place<F: Files>(
     alloc: Global,
     files: &mut F,
@@ -131,18 +125,13 @@ fn put_into_place<F: Files>(
     made: Made,
     ran: Vec<Task>,
 ) -> Result<Box<Report>, FilesError>
-    requires rows { MayStand project.now.digests.items project.now.roots.items made.rows.items }
-    requires contents { InPathOrder made.contents.items }
+    requires made { CanPut project.now made }
     requires sealed { IsSealed own.now.store.items }
-    ensures rest { KeepsRest (F.holds files.old) (F.holds files.new) }
+    ensures stays { Stays F.holds F.moment F.left_since F.images (EndsPut own.now held.now project.now.digests.items project.now.roots.items made.rows.items made.contents.items) (IsOk result) files.old files.new }
     ensures anew { IfSome (F.holds files.old) (λ d. IfOk result (λ r. PutsAnew own.now held.now project.now.digests.items project.now.roots.items made.rows.items made.contents.items made.outputs.items d r.value (F.holds files.new))) }
     ensures left { IfSome (F.holds files.old) (λ d. IfOk result (λ r. PutsWhere own.now held.now project.now.digests.items project.now.roots.items made.rows.items made.contents.items made.outputs.items d r.value (F.holds files.new))) }
-    ensures stored { IfSome (F.holds files.old) (λ d. IsStoreOrNone own.now.store.items d → OnOk result (LeavesRows project.now.digests.items made.rows.items (F.holds files.new))) }
-    ensures rows { OnOk result (All IsRow made.rows.items) }
-    ensures crash { Endures F.holds F.moment F.left_since F.images (EndsPut own.now held.now project.now.digests.items project.now.roots.items made.rows.items made.contents.items) (IsOk result) files.old files.new }
-    ensures verdict { IfOk result (λ r. r.value.verdict ≡ verdicts.Accepted) }
-    ensures fresh { IfOk result (λ r. r.value.fresh ≡ None) }
-    ensures ran { IfOk result (λ r. r.value.ran ≡ ran) }
+    ensures stores { Stores verdicts.Accepted (IsStoreOrNone own.now.store.items) project.now.digests.items made.rows.items (F.holds files.old) (F.holds files.new) result }
+    ensures report { TellsVerdict verdicts.Accepted ran result }
     ensures counted { Counted F.faults FilesError.Failed files.old files.new result }
 {
     let Made {

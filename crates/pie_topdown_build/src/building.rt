@@ -1,5 +1,5 @@
 //! A build that needs no list of changes.
-ghost use Rattle.std.specs.Prelude.{◌≡◌, ◌≤◌, ◌+◌, ◌++◌, List, [], Some, length, map, All, IfOk, IfSome};
+ghost use Rattle.std.specs.Prelude.{◌≡◌, ◌≤◌, ◌+◌, ◌++◌, List, [], length, map, All, IfOk, IfSome};
 ghost use Rattle.pie_build.specs.Left.{KeepsRest, Leaves};
 ghost use Rattle.pie_build.specs.Crashes.{IsDone, StaysAtRest};
 ghost use Rattle.pie_build.specs.inner.Rebuilt.{IsRefusal, Tells};
@@ -20,9 +20,10 @@ ghost use Rattle.pie_topdown_build.specs.inner.Stored.{IsBegunFrom};
 ghost use Rattle.pie_topdown_build.specs.Ran.{RunsForReasons};
 ghost use Rattle.pie_topdown_build.specs.inner.Anew.{AnewAsClean, IsNoBase};
 ghost use Rattle.pie_topdown_build.specs.inner.Clean.{FromAsClean, OffersClean};
-ghost use Rattle.pie_topdown_build.specs.inner.Crashes.{Endures, EndsAnew, EndsFrom, EndsOffered};
+ghost use Rattle.pie_topdown_build.specs.inner.Crashes.{EndsAnew, EndsFrom, EndsOffered};
 ghost use Rattle.pie_topdown_build.specs.inner.Ran.{FromRuns, OffersRun, RunsAnew};
 ghost use Rattle.pie_topdown_build.specs.inner.Records.{OffersOf, TellsAnew};
+ghost use Rattle.pie_topdown_build.specs.inner.Said.{RefusesUnchanged, Stays, TellsOffersOf, TellsRuns, TellsRunsFor};
 ghost use Rattle.pie_topdown_build.specs.Refusals.{KeepsRefused};
 
 use crate::base::{Base, Start, find_base, no_base};
@@ -106,7 +107,6 @@ pub fn build_offered<F: Files, O: Offers>(
 }
 
 // Builds from what the build before left.
-#[tactic(auto, using(crate::proofs::Refusing::reported, crate::proofs::Refusing::told))]
 fn from_store<F: Files>(
     alloc: Global,
     files: &mut F,
@@ -114,16 +114,11 @@ fn from_store<F: Files>(
     runs: &mut Runs,
 ) -> Result<Report, BuildError>
     requires { IsBase base.value }
-    ensures rest { KeepsRest (F.holds files.old) (F.holds files.new) }
-    ensures refused { IsRefusal result → F.holds files.new ≡ F.holds files.old }
-    ensures kept { IfSome (F.holds files.old) (λ d. IfOk result (λ r. KeepsRefused r.verdict d (F.holds files.new))) }
+    ensures stays { Stays F.holds F.moment F.left_since F.images (EndsFrom base.value (λ d t digest. [])) (IsVerdict result) files.old files.new }
+    ensures refuses { RefusesUnchanged (F.holds files.old) (F.holds files.new) result (λ r. r) }
     ensures clean { IfOk result (FromAsClean base.value (λ d t digest. []) (F.holds files.old) (F.holds files.new)) }
-    ensures crash { Endures F.holds F.moment F.left_since F.images (EndsFrom base.value (λ d t digest. [])) (IsVerdict result) files.old files.new }
     ensures runs { IfOk result (λ r. (reused : List TaskValue) × FromRuns base.value (λ d t digest. []) (F.holds files.old) r reused) }
-    ensures ran { IfOk result (λ r. runs.new ≡ runs.old ++ r.ran.items) }
-    ensures few { length runs.new ≤ length runs.old + 50000 }
-    ensures encodable { IfOk result (λ r. All IsEncodableTask r.ran.items) }
-    ensures says { IfSome (F.holds files.old) (λ d. RefusesRight d result) }
+    ensures ran { TellsRuns runs.old runs.new result (λ r. r) }
     ensures told { Tells F.faults files.old files.new result }
 {
     match from(alloc, files, base, &mut NoOffers, false, runs) {
@@ -133,23 +128,16 @@ fn from_store<F: Files>(
 }
 
 // Builds afresh, for this cause.
-#[tactic(auto, using(crate::proofs::Refusing::rebuilt, crate::proofs::Refusing::reported))]
 fn afresh<F: Files>(
     alloc: Global,
     files: &mut F,
     cause: Cause,
     runs: &mut Runs,
 ) -> Result<Report, BuildError>
-    ensures rest { KeepsRest (F.holds files.old) (F.holds files.new) }
-    ensures refused { IsRefusal result → F.holds files.new ≡ F.holds files.old }
-    ensures kept { IfSome (F.holds files.old) (λ d. IfOk result (λ r. KeepsRefused r.verdict d (F.holds files.new))) }
+    ensures stays { Stays F.holds F.moment F.left_since F.images (IsDone Leaves) (IsVerdict result) files.old files.new }
+    ensures refuses { RefusesUnchanged (F.holds files.old) (F.holds files.new) result (λ r. r) }
     ensures clean { IfSome (F.holds files.old) (λ d. IfOk result (λ r. IsAfreshAfter d r (F.holds files.new) [])) }
-    ensures crash { Endures F.holds F.moment F.left_since F.images (IsDone Leaves) (IsVerdict result) files.old files.new }
-    ensures fresh { IfOk result (λ r. r.fresh ≡ Some cause) }
-    ensures ran { IfOk result (λ r. runs.new ≡ runs.old ++ r.ran.items) }
-    ensures few { length runs.new ≤ length runs.old + 50000 }
-    ensures encodable { IfOk result (λ r. All IsEncodableTask r.ran.items) }
-    ensures says { IfSome (F.holds files.old) (λ d. RefusesRight d result) }
+    ensures ran { TellsRunsFor cause runs.old runs.new result (λ r. r) }
     ensures told { Tells F.faults files.old files.new result }
 {
     match rebuild(alloc, files, runs) {
@@ -162,7 +150,6 @@ fn afresh<F: Files>(
 }
 
 // Builds from an empty store with offers, for this cause.
-#[tactic(auto, using(crate::proofs::Refusing::offered, crate::proofs::Refusing::faulty_offered, pie_build::proofs::OwnPaths::same_keeps, pie_incremental::proofs::Joining::rest_then))]
 fn anew<F: Files, O: Offers>(
     alloc: Global,
     files: &mut F,
@@ -170,21 +157,12 @@ fn anew<F: Files, O: Offers>(
     cause: Cause,
     runs: &mut Runs,
 ) -> Result<Offered, BuildError>
-    ensures rest { KeepsRest (F.holds files.old) (F.holds files.new) }
-    ensures refused { IsRefusal result → F.holds files.new ≡ F.holds files.old }
-    ensures kept { IfSome (F.holds files.old) (λ d. IfOk result (λ o. KeepsRefused o.report.value.verdict d (F.holds files.new))) }
+    ensures stays { Stays F.holds F.moment F.left_since F.images (EndsAnew (O.told offers.old)) (IsVerdict result) files.old files.new }
+    ensures refuses { RefusesUnchanged (F.holds files.old) (F.holds files.new) result (λ o. o.report.value) }
     ensures clean { IfSome (F.holds files.old) (λ d. IfOk result (λ o. AnewAsClean (O.told offers.old) d o.report.value (F.holds files.new))) }
     ensures runs { IfSome (F.holds files.old) (λ d. IfOk result (λ o. RunsAnew (O.told offers.old) d o.report.value o.reused.items)) }
-    ensures crash { Endures F.holds F.moment F.left_since F.images (EndsAnew (O.told offers.old)) (IsVerdict result) files.old files.new }
-    ensures fresh { IfOk result (λ o. o.report.value.fresh ≡ Some cause) }
-    ensures ran { IfOk result (λ o. runs.new ≡ runs.old ++ o.report.value.ran.items) }
-    ensures few { length runs.new ≤ length runs.old + 50000 }
-    ensures encodable { IfOk result (λ o. All IsEncodableTask o.report.value.ran.items) }
-    ensures reused { IfOk result (λ o. All IsEncodableTask o.reused.items) }
-    ensures new { IfOk result (λ o. All IsNew o.new.items) }
-    ensures news { IfOk result (λ o. AreNewsOf IsClosed (F.holds files.old) (F.holds files.new) o) }
-    ensures honest { IfSome (F.holds files.old) (λ d. IfOk result (λ o. TellsAnew (O.told offers.old) d o.report.value.verdict o.report.value.ran.items (map as_told o.new.items))) }
-    ensures says { IfSome (F.holds files.old) (λ d. RefusesRight d result) }
+    ensures ran { TellsRunsFor cause runs.old runs.new result (λ o. o.report.value) }
+    ensures offers { TellsOffersOf (F.holds files.old) result (AreNewsOf IsClosed (F.holds files.old) (F.holds files.new)) (λ d o. TellsAnew (O.told offers.old) d o.report.value.verdict o.report.value.ran.items (map as_told o.new.items)) }
     ensures told { Tells F.faults files.old files.new result }
 {
     match no_base(alloc) {
@@ -194,7 +172,6 @@ fn anew<F: Files, O: Offers>(
 }
 
 // The same with the empty store.
-#[tactic(auto, using(crate::proofs::Refusing::offered, crate::proofs::Refusing::faulty_offered, pie_build::proofs::OwnPaths::same_keeps, pie_incremental::proofs::Joining::rest_then))]
 fn anew_from<F: Files, O: Offers>(
     alloc: Global,
     files: &mut F,
@@ -204,21 +181,12 @@ fn anew_from<F: Files, O: Offers>(
     runs: &mut Runs,
 ) -> Result<Offered, BuildError>
     requires { IsBase base.value }
-    ensures rest { KeepsRest (F.holds files.old) (F.holds files.new) }
-    ensures refused { IsRefusal result → F.holds files.new ≡ F.holds files.old }
-    ensures kept { IfSome (F.holds files.old) (λ d. IfOk result (λ o. KeepsRefused o.report.value.verdict d (F.holds files.new))) }
+    ensures stays { Stays F.holds F.moment F.left_since F.images (EndsFrom base.value (O.told offers.old)) (IsVerdict result) files.old files.new }
+    ensures refuses { RefusesUnchanged (F.holds files.old) (F.holds files.new) result (λ o. o.report.value) }
     ensures clean { IfSome (F.holds files.old) (λ d. IfOk result (λ o. IsNoBase base.value → AnewAsClean (O.told offers.old) d o.report.value (F.holds files.new))) }
     ensures runs { IfSome (F.holds files.old) (λ d. IfOk result (λ o. IsNoBase base.value → RunsAnew (O.told offers.old) d o.report.value o.reused.items)) }
-    ensures crash { Endures F.holds F.moment F.left_since F.images (EndsFrom base.value (O.told offers.old)) (IsVerdict result) files.old files.new }
-    ensures fresh { IfOk result (λ o. o.report.value.fresh ≡ Some cause) }
-    ensures ran { IfOk result (λ o. runs.new ≡ runs.old ++ o.report.value.ran.items) }
-    ensures few { length runs.new ≤ length runs.old + 50000 }
-    ensures encodable { IfOk result (λ o. All IsEncodableTask o.report.value.ran.items) }
-    ensures reused { IfOk result (λ o. All IsEncodableTask o.reused.items) }
-    ensures new { IfOk result (λ o. All IsNew o.new.items) }
-    ensures news { IfOk result (λ o. AreNewsOf (IsBegunFrom base.value.store) (F.holds files.old) (F.holds files.new) o) }
-    ensures honest { IfSome (F.holds files.old) (λ d. IfOk result (λ o. IsNoBase base.value → TellsAnew (O.told offers.old) d o.report.value.verdict o.report.value.ran.items (map as_told o.new.items))) }
-    ensures says { IfSome (F.holds files.old) (λ d. RefusesRight d result) }
+    ensures ran { TellsRunsFor cause runs.old runs.new result (λ o. o.report.value) }
+    ensures offers { TellsOffersOf (F.holds files.old) result (AreNewsOf (IsBegunFrom base.value.store) (F.holds files.old) (F.holds files.new)) (λ d o. IsNoBase base.value → TellsAnew (O.told offers.old) d o.report.value.verdict o.report.value.ran.items (map as_told o.new.items)) }
     ensures told { Tells F.faults files.old files.new result }
 {
     match from(alloc, files, base, offers, true, runs) {

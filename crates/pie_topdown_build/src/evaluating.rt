@@ -1,19 +1,16 @@
 //! The evaluation of the roots from the records of the build before.
-ghost use Rattle.std.specs.Prelude.{◌≡◌, ◌≤◌, ◌+◌, [], length, All, IfOk};
-ghost use Rattle.pie_digest.specs.Digests.{HasNames};
+ghost use Rattle.std.specs.Prelude.{[], All, IfOk};
 ghost use Rattle.pie_files.specs.Reading.{ReadsOnly};
-ghost use Rattle.pie_incremental.specs.inner.Joined.{IsImage, IsMade};
-ghost use Rattle.pie_store.specs.Canonical.{AreFuncs};
+ghost use Rattle.pie_incremental.specs.inner.Joined.{IsMade};
 ghost use Rattle.pie_topdown.specs.inner.Filed.{MakesFilesOf};
 ghost use Rattle.pie_topdown.specs.inner.Ran.{RunsForReasons};
 ghost use Rattle.pie_topdown.specs.inner.Rooted.{IsProgram};
-ghost use Rattle.pie_topdown.specs.inner.Roots.{Started};
-ghost use Rattle.pie_topdown.specs.inner.Unoffered.{OffersNothing};
 ghost use Rattle.pie_topdown_result_laws.specs.Builds.{MakesClean};
 ghost use Rattle.pie_value.specs.Canonical.{IsEncodableTask};
 ghost use Rattle.pie_topdown_build.specs.inner.Clean.{MakesFrom};
 ghost use Rattle.pie_topdown_build.specs.inner.Filed.{FilesFrom};
 ghost use Rattle.pie_topdown_build.specs.inner.Ran.{RunsFrom};
+ghost use Rattle.pie_topdown_build.specs.inner.Said.{CanSettle, ReusesOffered, StartsFew};
 
 use pie_base::OutOfMemory;
 use pie_checks::Built;
@@ -36,7 +33,7 @@ pub(crate) struct Evaluated {
 }
 
 /// Settles the roots of a project from the records of a store, and from offers. One of version 1 gets the digests of the functions where it is of this pipeline.
-#[tactic(auto, using(pie_files::proofs::Reading::reads, crate::proofs::Making::image_kept))]
+#[tactic(auto, using(pie_files::proofs::Reading::reads, crate::proofs::Saying::starts_none))]
 pub(crate) fn evaluate<F: Files, O: Offers>(
     alloc: Global,
     files: &mut F,
@@ -45,17 +42,13 @@ pub(crate) fn evaluate<F: Files, O: Offers>(
     offers: &mut O,
     runs: &mut Runs,
 ) -> Result<Evaluated, FilesError>
-    requires image { IsImage image }
-    requires names { HasNames project.now.typed project.now.digests.items }
-    requires funcs { AreFuncs project.now.digests.items }
-    requires roots { All IsEncodableTask project.now.roots.items }
+    requires { CanSettle image project.now }
     ensures made { IfOk result (λ e. IsMade project.now.digests.items project.now.roots.items e.built.value) }
     ensures clean { IfOk result (λ e. MakesFrom (F.holds files.old) project.now image (O.told offers.old) e.built.value) }
     ensures runs { IfOk result (λ e. RunsFrom (F.holds files.old) project.now image (O.told offers.old) runs.old runs.new e.reused.items e.built.value.verdict) }
     ensures files { IfOk result (λ e. FilesFrom (F.holds files.old) project.now image (O.told offers.old) runs.old runs.new e.reused.items e.built.value) }
     ensures reused { IfOk result (λ e. All IsEncodableTask e.reused.items) }
-    ensures started { Started runs.old runs.new }
-    ensures few { length runs.new ≤ length runs.old + 50000 }
+    ensures starts { StartsFew runs.old runs.new }
     ensures reads { ReadsOnly F.holds F.moment F.left_since F.images F.faults files.old files.new result }
 {
     let mut image = Box::new(alloc, image)?;
@@ -75,10 +68,7 @@ fn settled<F: Files, O: Offers>(
     offers: &mut O,
     runs: &mut Runs,
 ) -> Result<Evaluated, FilesError>
-    requires image { IsImage image.value }
-    requires names { HasNames project.now.typed project.now.digests.items }
-    requires funcs { AreFuncs project.now.digests.items }
-    requires roots { All IsEncodableTask project.now.roots.items }
+    requires { CanSettle image.value project.now }
     ensures made { IfOk result (λ e. IsMade project.now.digests.items project.now.roots.items e.built.value) }
     ensures clean { IsProgram project.now.typed code.now image.value.rows
         → IfOk result (λ e. MakesClean (F.holds files.old) project.now.typed image.value.funcs project.now.digests.items image.value.rows (O.told offers.old) project.now.roots.items e.built.value) }
@@ -88,10 +78,8 @@ fn settled<F: Files, O: Offers>(
     ensures files { IsProgram project.now.typed code.now image.value.rows
         → IfOk result (λ e. MakesFilesOf (F.holds files.old) project.now.typed image.value.funcs project.now.digests.items image.value.rows (O.told offers.old)
         project.now.roots.items runs.old runs.new [] e.reused.items e.built.value) }
-    ensures none { OffersNothing (F.holds files.old) (O.told offers.old) → IfOk result (λ e. e.reused.items ≡ []) }
-    ensures reused { IfOk result (λ e. All IsEncodableTask e.reused.items) }
-    ensures started { Started runs.old runs.new }
-    ensures few { length runs.new ≤ length runs.old + 50000 }
+    ensures reuses { ReusesOffered (F.holds files.old) (O.told offers.old) result }
+    ensures starts { StartsFew runs.old runs.new }
     ensures reads { ReadsOnly F.holds F.moment F.left_since F.images F.faults files.old files.new result }
 {
     let mut reused = Vec::new(alloc);

@@ -1,6 +1,5 @@
 //! The end of a build: what it made is put into place and reported.
-ghost use Rattle.std.specs.Prelude.{◌≡◌, ◌≤◌, true, false, length, drop, All, None, IfOk, IfSome, IsOk, IsTrue, OnOk};
-ghost use Rattle.pie_build.specs.Left.{KeepsRest};
+ghost use Rattle.std.specs.Prelude.{◌≡◌, ◌≤◌, true, false, length, drop, All, None, IfOk, IfSome, IsOk, IsTrue};
 ghost use Rattle.pie_files.specs.Streams.{Counted};
 ghost use Rattle.pie_incremental.specs.inner.Joined.{IsMade};
 ghost use Rattle.pie_value.specs.Canonical.{IsEncodableTask};
@@ -8,8 +7,9 @@ ghost use Rattle.pie_value.specs.Limits.{is_small_task};
 ghost use Rattle.pie_value.specs.declared.verdict.Verdict.TheVariants as verdicts;
 ghost use Rattle.pie_topdown_build.specs.inner.Bases.{IsSealedIf, Quiet};
 ghost use Rattle.pie_topdown_build.specs.inner.Cleaned.{LeavesBy};
-ghost use Rattle.pie_topdown_build.specs.inner.Stored.{AreRowsIf, IsBegunFrom, LeavesRowsIf};
-ghost use Rattle.pie_topdown_build.specs.inner.Crashes.{Endures, EndsBy};
+ghost use Rattle.pie_topdown_build.specs.inner.Crashes.{EndsBy};
+ghost use Rattle.pie_topdown_build.specs.inner.Said.{Stays, Stores, TellsVerdict};
+ghost use Rattle.pie_topdown_build.specs.inner.Stored.{IsBegunFrom};
 
 use crate::accepting::{Made, accept};
 use pie_base::OutOfMemory;
@@ -23,7 +23,7 @@ use pie_vm::Runs;
 use std::alloc::Global;
 
 /// Puts an accepted build into place, and reports it.
-#[tactic(auto, using(pie_build::proofs::OwnPaths::same_keeps))]
+#[tactic(auto, using(pie_build::proofs::OwnPaths::same_keeps, crate::proofs::Saying::stays_none, crate::proofs::Saying::stores_refused, crate::proofs::Saying::stores_fault))]
 pub(crate) fn finish<F: Files>(
     alloc: Global,
     files: &mut F,
@@ -34,15 +34,11 @@ pub(crate) fn finish<F: Files>(
 ) -> Result<Box<Report>, FilesError>
     requires made { IsMade project.now.digests.items project.now.roots.items built.value }
     requires sealed { IsSealedIf store }
-    ensures rest { KeepsRest (F.holds files.old) (F.holds files.new) }
+    ensures stays { Stays F.holds F.moment F.left_since F.images (EndsBy built.value.verdict store project.now.digests.items project.now.roots.items built.value) (IsOk result) files.old files.new }
     ensures quiet { IfOk result (λ r. Quiet r.value.verdict (F.holds files.old) (F.holds files.new)) }
     ensures left { IfSome (F.holds files.old) (λ d. IfOk result (λ r. LeavesBy built.value.verdict store project.now.digests.items project.now.roots.items built.value d r.value (F.holds files.new))) }
-    ensures stored { IfSome (F.holds files.old) (λ d. IsBegunFrom store d → OnOk result (LeavesRowsIf built.value.verdict project.now.digests.items built.value.rows.items (F.holds files.new))) }
-    ensures rows { OnOk result (AreRowsIf built.value.verdict built.value.rows.items) }
-    ensures crash { Endures F.holds F.moment F.left_since F.images (EndsBy built.value.verdict store project.now.digests.items project.now.roots.items built.value) (IsOk result) files.old files.new }
-    ensures verdict { IfOk result (λ r. r.value.verdict ≡ built.value.verdict) }
-    ensures fresh { IfOk result (λ r. r.value.fresh ≡ None) }
-    ensures ran { IfOk result (λ r. r.value.ran ≡ ran) }
+    ensures stores { Stores built.value.verdict (IsBegunFrom store) project.now.digests.items built.value.rows.items (F.holds files.old) (F.holds files.new) result }
+    ensures report { TellsVerdict built.value.verdict ran result }
     ensures counted { Counted F.faults FilesError.Failed files.old files.new result }
 {
     let Built {

@@ -1,25 +1,22 @@
 //! A build from a base, from its project to its report.
-ghost use Rattle.std.specs.Prelude.{◌≡◌, ◌≤◌, ◌+◌, ◌++◌, [], true, length, map, All, IfOk, IfSome, IsOk};
+ghost use Rattle.std.specs.Prelude.{◌≡◌, true, map, All, IfOk, IsOk};
 ghost use Rattle.pie_build.specs.Crashes.{IsDone};
-ghost use Rattle.pie_build.specs.Left.{KeepsRest, Leaves};
-ghost use Rattle.pie_build.specs.inner.Rebuilt.{IsRefusal, Tells};
-ghost use Rattle.pie_digest.specs.Digests.{HasNames};
+ghost use Rattle.pie_build.specs.Left.{Leaves};
+ghost use Rattle.pie_build.specs.inner.Rebuilt.{Tells};
 ghost use Rattle.pie_files.specs.Streams.{Counted};
-ghost use Rattle.pie_incremental.specs.inner.Refused.{RefusesRight};
 ghost use Rattle.pie_project.specs.Refusals.{IsVerdict};
 ghost use Rattle.pie_record.specs.Canonical.{IsStorable};
 ghost use Rattle.pie_results.specs.inner.Files.{contents_in};
-ghost use Rattle.pie_store.specs.Canonical.{AreFuncs};
 ghost use Rattle.pie_value.specs.Canonical.{IsEncodableTask};
 ghost use Rattle.pie_topdown_build.specs.inner.News.{as_told, news_in, AreNewsOf, IsReadyFrom, TellsNewsOf};
 ghost use Rattle.pie_topdown_build.specs.inner.Offered.{IsNew};
-ghost use Rattle.pie_topdown_build.specs.Refusals.{KeepsRefused};
 ghost use Rattle.pie_topdown_build.specs.inner.Bases.{IsBase, Quiet};
 ghost use Rattle.pie_topdown_build.specs.inner.Stored.{IsBegunFrom};
 ghost use Rattle.pie_topdown_build.specs.inner.Clean.{FromAsClean, RunsAsClean, RunsIfTold};
-ghost use Rattle.pie_topdown_build.specs.inner.Crashes.{Endures, EndsFrom, EndsReady, EndsRun};
+ghost use Rattle.pie_topdown_build.specs.inner.Crashes.{EndsFrom, EndsReady, EndsRun};
 ghost use Rattle.pie_topdown_build.specs.inner.Ran.{FromRuns, RunsBy, RunsByIfTold};
 ghost use Rattle.pie_topdown_build.specs.inner.Records.{TellsFrom, TellsOf, TellsOfIfReady};
+ghost use Rattle.pie_topdown_build.specs.inner.Said.{CanBuild, CanRun, OffersNone, RefusesUnchanged, Stays, TellsOffers, TellsRuns};
 
 use crate::base::Base;
 use crate::evaluating::{Evaluated, evaluate};
@@ -38,7 +35,6 @@ use pie_vm::Runs;
 use std::alloc::Global;
 
 /// Builds from what the build before left. What ran is told as new offers where it is asked for.
-#[tactic(auto, using(crate::proofs::Refusing::read, crate::proofs::Refusing::after_offered, pie_build::proofs::OwnPaths::same_keeps, pie_incremental::proofs::Joining::rest_then))]
 pub(crate) fn from<F: Files, O: Offers>(
     alloc: Global,
     files: &mut F,
@@ -48,20 +44,12 @@ pub(crate) fn from<F: Files, O: Offers>(
     runs: &mut Runs,
 ) -> Result<Offered, BuildError>
     requires { IsBase base.value }
-    ensures rest { KeepsRest (F.holds files.old) (F.holds files.new) }
-    ensures refused { IsRefusal result → F.holds files.new ≡ F.holds files.old }
-    ensures kept { IfSome (F.holds files.old) (λ d. IfOk result (λ o. KeepsRefused o.report.value.verdict d (F.holds files.new))) }
+    ensures stays { Stays F.holds F.moment F.left_since F.images (EndsFrom base.value (O.told offers.old)) (IsVerdict result) files.old files.new }
+    ensures refuses { RefusesUnchanged (F.holds files.old) (F.holds files.new) result (λ o. o.report.value) }
     ensures clean { IfOk result (λ o. FromAsClean base.value (O.told offers.old) (F.holds files.old) (F.holds files.new) o.report.value) }
     ensures runs { IfOk result (λ o. FromRuns base.value (O.told offers.old) (F.holds files.old) o.report.value o.reused.items) }
-    ensures crash { Endures F.holds F.moment F.left_since F.images (EndsFrom base.value (O.told offers.old)) (IsVerdict result) files.old files.new }
-    ensures ran { IfOk result (λ o. runs.new ≡ runs.old ++ o.report.value.ran.items) }
-    ensures few { length runs.new ≤ length runs.old + 50000 }
-    ensures encodable { IfOk result (λ o. All IsEncodableTask o.report.value.ran.items) }
-    ensures reused { IfOk result (λ o. All IsEncodableTask o.reused.items) }
-    ensures new { IfOk result (λ o. All IsNew o.new.items) }
-    ensures news { tells ≡ true → IfOk result (λ o. AreNewsOf (IsBegunFrom base.value.store) (F.holds files.old) (F.holds files.new) o) }
-    ensures honest { tells ≡ true → IfOk result (λ o. TellsFrom base.value (O.told offers.old) (F.holds files.old) o.report.value.verdict o.report.value.ran.items (map as_told o.new.items)) }
-    ensures says { IfSome (F.holds files.old) (λ d. RefusesRight d result) }
+    ensures ran { TellsRuns runs.old runs.new result (λ o. o.report.value) }
+    ensures offers { TellsOffers (tells ≡ true) result (AreNewsOf (IsBegunFrom base.value.store) (F.holds files.old) (F.holds files.new)) (λ o. TellsFrom base.value (O.told offers.old) (F.holds files.old) o.report.value.verdict o.report.value.ran.items (map as_told o.new.items)) }
     ensures told { Tells F.faults files.old files.new result }
 {
     match read_project(alloc, files) {
@@ -71,7 +59,6 @@ pub(crate) fn from<F: Files, O: Offers>(
 }
 
 // Builds a project from what the build before left. Roots beyond the limits of values are left to the clean build, which refuses them.
-#[tactic(auto, using(crate::proofs::Refusing::offered, crate::proofs::Refusing::faulty_offered, crate::proofs::Refusing::after_offered, pie_build::proofs::OwnPaths::same_keeps, pie_incremental::proofs::Joining::rest_then))]
 fn with_project<F: Files, O: Offers>(
     alloc: Global,
     files: &mut F,
@@ -81,23 +68,13 @@ fn with_project<F: Files, O: Offers>(
     tells: bool,
     runs: &mut Runs,
 ) -> Result<Offered, BuildError>
-    requires base { IsBase base.value }
-    requires names { HasNames project.now.typed project.now.digests.items }
-    requires funcs { AreFuncs project.now.digests.items }
-    ensures rest { KeepsRest (F.holds files.old) (F.holds files.new) }
-    ensures refused { IsRefusal result → F.holds files.new ≡ F.holds files.old }
-    ensures kept { IfSome (F.holds files.old) (λ d. IfOk result (λ o. KeepsRefused o.report.value.verdict d (F.holds files.new))) }
+    requires { CanBuild base.value project.now }
+    ensures stays { Stays F.holds F.moment F.left_since F.images (EndsReady base.value project.now (O.told offers.old)) (IsVerdict result) files.old files.new }
+    ensures refuses { RefusesUnchanged (F.holds files.old) (F.holds files.new) result (λ o. o.report.value) }
     ensures clean { IfOk result (λ o. RunsIfTold base.value project.now (O.told offers.old) (F.holds files.old) (F.holds files.new) o.report.value) }
     ensures runs { IfOk result (λ o. RunsByIfTold base.value project.now (O.told offers.old) (F.holds files.old) o.report.value o.reused.items) }
-    ensures crash { Endures F.holds F.moment F.left_since F.images (EndsReady base.value project.now (O.told offers.old)) (IsVerdict result) files.old files.new }
-    ensures ran { IfOk result (λ o. runs.new ≡ runs.old ++ o.report.value.ran.items) }
-    ensures few { length runs.new ≤ length runs.old + 50000 }
-    ensures encodable { IfOk result (λ o. All IsEncodableTask o.report.value.ran.items) }
-    ensures reused { IfOk result (λ o. All IsEncodableTask o.reused.items) }
-    ensures new { IfOk result (λ o. All IsNew o.new.items) }
-    ensures news { tells ≡ true → IfOk result (λ o. TellsNewsOf (IsReadyFrom project.now base.value.store) project.now.digests.items (F.holds files.old) (F.holds files.new) o) }
-    ensures honest { tells ≡ true → IfOk result (λ o. TellsOfIfReady (F.holds files.old) project.now base.value.image (O.told offers.old) o.report.value.verdict o.report.value.ran.items (map as_told o.new.items)) }
-    ensures says { IfSome (F.holds files.old) (λ d. RefusesRight d result) }
+    ensures ran { TellsRuns runs.old runs.new result (λ o. o.report.value) }
+    ensures offers { TellsOffers (tells ≡ true) result (TellsNewsOf (IsReadyFrom project.now base.value.store) project.now.digests.items (F.holds files.old) (F.holds files.new)) (λ o. TellsOfIfReady (F.holds files.old) project.now base.value.image (O.told offers.old) o.report.value.verdict o.report.value.ran.items (map as_told o.new.items)) }
     ensures told { Tells F.faults files.old files.new result }
 {
     if !are_small(project.roots.as_slice()) {
@@ -111,19 +88,12 @@ fn with_project<F: Files, O: Offers>(
 }
 
 // A clean build, which is offered nothing.
-#[tactic(auto, using(crate::proofs::Refusing::rebuilt_offered, crate::proofs::Refusing::offered, crate::proofs::Refusing::faulty_offered))]
+#[tactic(auto, using(crate::proofs::Refusing::offered, crate::proofs::Saying::kept_left))]
 fn rebuilt<F: Files>(alloc: Global, files: &mut F, runs: &mut Runs) -> Result<Offered, BuildError>
-    ensures rest { KeepsRest (F.holds files.old) (F.holds files.new) }
-    ensures refused { IsRefusal result → F.holds files.new ≡ F.holds files.old }
-    ensures kept { IfSome (F.holds files.old) (λ d. IfOk result (λ o. KeepsRefused o.report.value.verdict d (F.holds files.new))) }
-    ensures crash { Endures F.holds F.moment F.left_since F.images (IsDone Leaves) (IsVerdict result) files.old files.new }
-    ensures ran { IfOk result (λ o. runs.new ≡ runs.old ++ o.report.value.ran.items) }
-    ensures few { length runs.new ≤ length runs.old + 50000 }
-    ensures encodable { IfOk result (λ o. All IsEncodableTask o.report.value.ran.items) }
-    ensures reused { IfOk result (λ o. All IsEncodableTask o.reused.items) }
-    ensures new { IfOk result (λ o. All IsNew o.new.items) }
-    ensures none { IfOk result (λ o. o.new.items ≡ []) }
-    ensures says { IfSome (F.holds files.old) (λ d. RefusesRight d result) }
+    ensures stays { Stays F.holds F.moment F.left_since F.images (IsDone Leaves) (IsVerdict result) files.old files.new }
+    ensures refuses { RefusesUnchanged (F.holds files.old) (F.holds files.new) result (λ o. o.report.value) }
+    ensures ran { TellsRuns runs.old runs.new result (λ o. o.report.value) }
+    ensures none { OffersNone result }
     ensures told { Tells F.faults files.old files.new result }
 {
     match rebuild(alloc, files, runs) {
@@ -140,7 +110,7 @@ fn rebuilt<F: Files>(alloc: Global, files: &mut F, runs: &mut Runs) -> Result<Of
 }
 
 // Settles the roots, and puts into place what was made.
-#[tactic(auto, using(pie_build::proofs::OwnPaths::same_keeps, pie_incremental::proofs::Joining::rest_then, pie_incremental::proofs::Joining::still_there, pie_incremental::proofs::Joining::told_all, pie_incremental::proofs::Joining::told_encodable, crate::proofs::Making::quiet_then))]
+#[tactic(auto, using(crate::proofs::Making::quiet_then))]
 fn run<F: Files, O: Offers>(
     alloc: Global,
     files: &mut F,
@@ -150,22 +120,13 @@ fn run<F: Files, O: Offers>(
     tells: bool,
     runs: &mut Runs,
 ) -> Result<Offered, FilesError>
-    requires base { IsBase base.value }
-    requires names { HasNames project.now.typed project.now.digests.items }
-    requires funcs { AreFuncs project.now.digests.items }
-    requires roots { All IsEncodableTask project.now.roots.items }
-    ensures rest { KeepsRest (F.holds files.old) (F.holds files.new) }
+    requires { CanRun base.value project.now }
+    ensures stays { Stays F.holds F.moment F.left_since F.images (EndsRun base.value project.now (O.told offers.old)) (IsOk result) files.old files.new }
     ensures quiet { IfOk result (λ o. Quiet o.report.value.verdict (F.holds files.old) (F.holds files.new)) }
     ensures clean { IfOk result (λ o. RunsAsClean base.value project.now (O.told offers.old) (F.holds files.old) (F.holds files.new) o.report.value) }
     ensures runs { IfOk result (λ o. RunsBy base.value project.now (O.told offers.old) (F.holds files.old) o.report.value o.reused.items) }
-    ensures crash { Endures F.holds F.moment F.left_since F.images (EndsRun base.value project.now (O.told offers.old)) (IsOk result) files.old files.new }
-    ensures ran { IfOk result (λ o. runs.new ≡ runs.old ++ o.report.value.ran.items) }
-    ensures few { length runs.new ≤ length runs.old + 50000 }
-    ensures encodable { IfOk result (λ o. All IsEncodableTask o.report.value.ran.items) }
-    ensures reused { IfOk result (λ o. All IsEncodableTask o.reused.items) }
-    ensures new { IfOk result (λ o. All IsNew o.new.items) }
-    ensures news { tells ≡ true → IfOk result (λ o. TellsNewsOf (IsBegunFrom base.value.store) project.now.digests.items (F.holds files.old) (F.holds files.new) o) }
-    ensures honest { tells ≡ true → IfOk result (λ o. TellsOf (F.holds files.old) project.now base.value.image (O.told offers.old) o.report.value.verdict o.report.value.ran.items (map as_told o.new.items)) }
+    ensures ran { TellsRuns runs.old runs.new result (λ o. o.report.value) }
+    ensures offers { TellsOffers (tells ≡ true) result (TellsNewsOf (IsBegunFrom base.value.store) project.now.digests.items (F.holds files.old) (F.holds files.new)) (λ o. TellsOf (F.holds files.old) project.now base.value.image (O.told offers.old) o.report.value.verdict o.report.value.ran.items (map as_told o.new.items)) }
     ensures counted { Counted F.faults FilesError.Failed files.old files.new result }
 {
     let Base { image, store } = Box::into_inner(base);
