@@ -3,6 +3,7 @@ ghost use Rattle.std.specs.Prelude.{◌≡◌, true, false, IfSome, OnOk, OnErr}
 ghost use Rattle.pie_files.specs.Images.{Only};
 ghost use Rattle.pie_files.specs.Streams.{Counted};
 ghost use Rattle.pie_commit.specs.inner.Steps.{Makes, changing, steps_of};
+ghost use Rattle.pie_commit.specs.inner.Ends.{EndsKnown};
 ghost use Rattle.pie_commit.specs.inner.Plans.{is_sound, is_empty, wanted_by, changes};
 ghost use Rattle.pie_commit.specs.Outcomes.{HasBrought, KeepsOthers, KeepsMarked, LeavesFromRest, IsAtRest, IsOfThree, LeavesMarked};
 
@@ -18,8 +19,7 @@ pub fn commit<F: Files>(files: &mut F, plan: &Plan) -> Result<(), FilesError>
     ensures empty { is_empty plan.now ≡ true → files.new ≡ files.old }
     ensures outside { KeepsOthers plan.now (F.holds files.old) (F.holds files.new) }
     ensures crash { LeavesFromRest F.holds F.moment F.left_since F.images (IsOfThree plan.now) files.old files.new }
-    ensures failed { OnErr result (IfSome (F.holds files.old) (λ d. Only d (F.images files.old) → LeavesMarked plan.now d (F.images files.new))) }
-    ensures durable { is_empty plan.now ≡ false → OnOk result (IfSome (F.holds files.old) (λ d. IsAtRest (F.holds files.new) (F.images files.new))) }
+    ensures ends { EndsKnown F.holds F.images plan.now files.old files.new result }
     ensures makes { is_empty plan.now ≡ false → Makes F.asked (steps_of plan.now) files.old files.new result }
     ensures counted { Counted F.faults FilesError.Failed files.old files.new result }
 {

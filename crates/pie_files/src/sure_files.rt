@@ -184,8 +184,7 @@ impl SureFiles {
         ensures began { began_by self.new ≡ began_by self.old }
         ensures noted { OnOk result (story_by self.new ≡ story_by self.old ++ logged ∷ []) }
         ensures asked { OnOk result (asked_by self.new ≡ asked_by self.old ++ asked_of (logged ∷ [])) }
-        ensures unchanged { OnErr result ((held_by self.new ≡ held_by self.old) × (asked_by self.new ≡ asked_by self.old)) }
-        ensures story { OnErr result (story_by self.new ≡ story_by self.old) }
+        ensures unchanged { OnErr result ((held_by self.new ≡ held_by self.old) × (asked_by self.new ≡ asked_by self.old) × (story_by self.new ≡ story_by self.old)) }
     {
         let found = Found {
             bytes: bytes.to_vec(self.alloc)?,

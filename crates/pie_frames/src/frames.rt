@@ -5,7 +5,7 @@ ghost use Rattle.pie_walk.specs.Counts.{begins};
 ghost use Rattle.pie_walk.specs.States.{met, with_one_more};
 ghost use Rattle.pie_walk.specs.Standing.{Stands};
 ghost use Rattle.pie_frames.specs.inner.Standing.{Rests, Holds};
-ghost use Rattle.pie_frames.specs.inner.Weights.{weight};
+ghost use Rattle.pie_frames.specs.inner.Weights.{weight, TakesNoRoom};
 
 use crate::parked::Parked;
 use pie_base::{MAX_TASKS, OutOfMemory};
@@ -55,8 +55,7 @@ impl<'a> Frames<'a> {
         ensures parked { self.new.parked ≡ self.old.parked }
         ensures rests { Rests self.old → OnOk result (Rests self.new) }
         ensures holds { (task : TaskNo) → Holds task self.old → OnOk result (Holds task self.new) }
-        ensures weight { OnOk result (weight self.new ≤ weight self.old) }
-        ensures room { OnOk result (begins self.new.walk ≤ begins self.old.walk) }
+        ensures room { OnOk result (TakesNoRoom self.old self.new) }
     {
         let no = self.walk.add()?;
         Ok(no)

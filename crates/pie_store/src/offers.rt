@@ -43,9 +43,8 @@ pub trait Offers {
         requires { IsEncodableTask task.now }
         ensures offers { IfSome (F.holds files.old) (λ d. IfOk result (λ offers. map offered offers.items ≡ told self.old d task.now digest.now)) }
         ensures rows { IfOk result (λ offers. All IsOffer offers.items) }
-        ensures told { told self.new ≡ told self.old }
         ensures looks { LooksAtOnly (looks self.old task.now digest.now) (F.asked files.old) (F.asked files.new) }
-        ensures keeps { looks self.new ≡ looks self.old }
+        ensures keeps { (told self.new ≡ told self.old) × (looks self.new ≡ looks self.old) }
         ensures same { F.holds files.new ≡ F.holds files.old }
         ensures crash { MayLeave F.holds F.moment F.left_since F.images Stays files.old files.new }
         ensures counted { Counted F.faults FilesError.Failed files.old files.new result };

@@ -1,5 +1,5 @@
 -- The tables of a build by what changed.
-use Rattle.std.specs.Prelude.{◌≡◌, ◌⊎◌, ℕ, ◌≤◌, List, length, Some, slice_get, IfSome}
+use Rattle.std.specs.Prelude.{◌≡◌, ◌⊎◌, ℕ, ◌≤◌, ◌++◌, List, [], ◌∷◌, false, length, Some, slice_get, IfSome}
 use Rattle.pie_value.specs.declared.task.Task.{Task}
 use Rattle.pie_value.specs.Values.{tree_of}
 use Rattle.pie_value.specs.Canonical.{IsEncodable}
@@ -36,3 +36,8 @@ pub record IsTables (t : Tables) : Type 0 where
   pub flags : length t.ran.items ≡ length t.names
   pub few : length t.names ≤ 50000
   pub records : (n : ℕ) → IfSome (record_of t.records n) (IsRecordAt t.names n)
+
+-- a task got the next number, and hasn't run
+pub record HasOneMore (old : Tables) (task : Task) (new : Tables) : Type 0 where
+  pub names : new.names ≡ old.names ++ task ∷ []
+  pub ran : new.ran.items ≡ old.ran.items ++ false ∷ []

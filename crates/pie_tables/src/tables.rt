@@ -4,7 +4,7 @@ ghost use Rattle.std.specs.List.{Contains};
 ghost use Rattle.std.specs.Option.{option_copied, option_map};
 ghost use Rattle.pie_value.specs.Canonical.{IsEncodableTask};
 ghost use Rattle.pie_record.specs.inner.Records.{record_of, Puts};
-ghost use Rattle.pie_tables.specs.Tabled.{IsTables, IsRecordAt, IsKept, IsGiven};
+ghost use Rattle.pie_tables.specs.Tabled.{HasOneMore, IsTables, IsRecordAt, IsKept, IsGiven};
 
 use pie_base::{MAX_TASKS, OutOfMemory};
 use pie_graph::TaskNo;
@@ -50,10 +50,9 @@ impl Tables {
         requires absent { ¬ (Contains self.old.names task) }
         requires few { length self.old.names < MAX_TASKS }
         ensures tables { OnOk result (IsTables self.new) }
-        ensures added { OnOk result (self.new.names ≡ self.old.names ++ task ∷ []) }
+        ensures added { OnOk result (HasOneMore self.old task self.new) }
         ensures number { IfOk result (λ no. no.0 ≡ length self.old.names) }
         ensures records { self.new.records ≡ self.old.records }
-        ensures ran { OnOk result (self.new.ran.items ≡ self.old.ran.items ++ false ∷ []) }
     {
         self.ran.push(false)?;
         let no = self.names.add(task)?;

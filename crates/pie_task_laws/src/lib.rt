@@ -13,4 +13,4 @@ pub use beginning::tasks_begin;
 pub use coming::tasks_pause;
 pub use steps::{builds_step, running_tasks_stay};
 pub use telling::running_tasks_are_told;
-pub use whole::tasks_go_on;
+pub use whole::{tasks_end, tasks_go_on};

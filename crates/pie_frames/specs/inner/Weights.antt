@@ -1,5 +1,5 @@
 -- What a build can still do, so that a loop over its steps can be proved to end.
-use Rattle.std.specs.Prelude.{ℕ, ◌+◌, ◌*◌, List}
+use Rattle.std.specs.Prelude.{ℕ, ◌+◌, ◌*◌, ◌≤◌, List}
 use Rattle.std.specs.List.{sum_by}
 use Rattle.pie_walk.specs.States.{WalkState}
 use Rattle.pie_walk.specs.Counts.{begins}
@@ -16,3 +16,8 @@ weight_of walk parked = begins walk * 4000008 + sum_by left_of parked
 
 abbrev pub weight : Frames → ℕ
 weight f = weight_of f.walk f.parked.items
+
+-- there is no more to do, and no more tasks can begin, than before
+pub record TakesNoRoom (old new : Frames) : Type 0 where
+  pub weight : weight new ≤ weight old
+  pub room : begins new.walk ≤ begins old.walk

@@ -1,5 +1,4 @@
-use Rattle.pie_task_laws.proofs.Together.{moves_rest, roots_rest, requirers_rest, new_requirers_rest, taken_work, kept_rest, lost_rest}
-use Rattle.pie_task_laws.proofs.Together.{ended_rest, callers_rest, answered_work}
+use Rattle.pie_task_laws.proofs.Together.{moves_rest, roots_rest, requirers_rest, new_requirers_rest, taken_work}
 use Rattle.pie_task_laws.proofs.whole.tasks_go_on.Goals as goal
 
 pub returns-clause-moves : goal.returns-clause-moves
@@ -16,18 +15,3 @@ returns-clause-waits_for_new c = λ x b cs w t how comes none few left a small. 
 
 pub returns-clause-taken : goal.returns-clause-taken
 returns-clause-taken c = λ x b after k t cs f takes r function started. taken_work x b after k t cs f takes r function started
-
-pub returns-clause-kept : goal.returns-clause-kept
-returns-clause-kept c = λ x b after k t rec cs takes r kept stays. kept_rest x b after k t rec cs takes r kept stays
-
-pub returns-clause-lost : goal.returns-clause-lost
-returns-clause-lost c = λ x b after last changed k t cs takes r ends. lost_rest x b after last changed k t cs takes r ends
-
-pub returns-clause-ended : goal.returns-clause-ended
-returns-clause-ended c = λ x b cs f changed after w ends. ended_rest x b cs f changed after w ends
-
-pub returns-clause-callers : goal.returns-clause-callers
-returns-clause-callers c = λ x b d cs changed after none w ends. callers_rest x b d cs changed after none w ends
-
-pub returns-clause-answered : goal.returns-clause-answered
-returns-clause-answered c = λ x b d cs k rec v height f none h given t. answered_work x b d cs k rec v height f none h given t
