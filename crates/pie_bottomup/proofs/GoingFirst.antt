@@ -14,7 +14,6 @@ use Rattle.pie_task_laws.specs.Going.{Wait}
 use Rattle.pie_task_laws.specs.Whole.{IsNew, AreAtRest}
 use Rattle.pie_bottomup.specs.declared.state.Core.{Core}
 use Rattle.pie_bottomup.specs.declared.state.First.TheVariants.{Tests, Done}
-use Rattle.pie_bottomup.specs.declared.state.InHand.{InHand}
 use Rattle.pie_bottomup.specs.declared.state.Turn.{Turn}
 use Rattle.pie_bottomup.specs.declared.state.Turn.TheVariants.{Went}
 use Rattle.pie_bottomup.specs.inner.Exact.{IsLoadedCore, IsExactCore}
@@ -83,7 +82,3 @@ module _ {E : Type 0} (held : Option Directory) (old new : Core) (r : Result Tur
       by : (t : Turn) (u : Update) → IsBuildNow u old.plan → WalksWhole old new t → StandsWhole u old → TurnIsWhole u new t
       by t u now walks (inl loaded) = absurd (loaded.0 done)
       by t u now walks (inr whole) = walks u now whole.exact (subst (Goes u old) free whole.going)
-
-  -- no task was in hand
-  pub free_whole : old.hand ≡ None → IfOk r (StepsWhole held (record old { hand = None }) new) → IfOk r (StepsWhole held old new)
-  free_whole free = subst (λ (h : Option InHand). IfOk r (StepsWhole held (record old { hand = h }) new)) (sym free)

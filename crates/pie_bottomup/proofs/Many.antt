@@ -1,5 +1,5 @@
 -- A build of too many old tasks starts afresh.
-use Rattle.std.proofs.Common.{◌≡◌, List, Some, None, Result, Ok, Err, refl, sym, ◌∙◌, inl, inr}
+use Rattle.std.proofs.Common.{◌≡◌, List, Some, None, Result, Ok, Err, sym, ◌∙◌, inl, inr}
 use Rattle.std.specs.Prelude.{IfOk, OnOk}
 use Rattle.pie_value.specs.declared.task.Task.{Task}
 use Rattle.pie_bottomup.specs.declared.state.Core.{Core}
@@ -34,12 +34,7 @@ hand_many c h result (inr going) some = done_many c result going.site.tested
 
 -- ---- the tasks that were started
 
--- none where none are
-pub same_none : {E : Type 0} (c : Core) (runs : List Task) (result : Result Turn E) → OnOk result (StartsNoneForMany c runs runs)
-same_none c runs (Ok turn) = λ task many. refl
-same_none c runs (Err e) = tt
-
--- nor is anything said where there aren't too many
+-- nothing is said of them where there aren't too many
 pub done_none : {E : Type 0} (c : Core) (before after : List Task) (result : Result Turn E) → c.first ≡ Done → OnOk result (StartsNoneForMany c before after)
 done_none c before after (Ok turn) is = λ task many. absurd (apart task (sym is ∙ many))
   where

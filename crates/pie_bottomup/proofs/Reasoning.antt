@@ -36,7 +36,6 @@ use Rattle.pie_core_laws.proofs.Fallen.{fallen_reasons}
 use Rattle.pie_core_laws.proofs.Joined.{other_codes}
 use Rattle.pie_bottomup.specs.declared.state.Core.{Core}
 use Rattle.pie_bottomup.specs.declared.state.First.TheVariants.{Done}
-use Rattle.pie_bottomup.specs.declared.state.InHand.{InHand}
 use Rattle.pie_bottomup.specs.declared.state.Turn.{Turn}
 use Rattle.pie_bottomup.specs.inner.Exact.{IsTakenExact}
 use Rattle.pie_bottomup.specs.inner.Going.{Goes, IsBuildNow, StandsWhole}
@@ -181,8 +180,3 @@ module _ (held : Option Directory) (old new : Core) (before after : List Task) w
       by : StandsWhole u old → RunsFor u funcs digests old.tables new.tables before after
       by (inl loaded) = absurd (loaded.0 done)
       by (inr whole) = walks u funcs digests now whole.exact (subst (Goes u old) free whole.going) knows
-
-  -- no task was in hand
-  pub free_for : {E : Type 0} (r : Result Turn E) → old.hand ≡ None → OnOk r (StepsFor held (record old { hand = None }) new before after)
-      → OnOk r (StepsFor held old new before after)
-  free_for r free = subst (λ (h : Option InHand). OnOk r (StepsFor held (record old { hand = h }) new before after)) (sym free)

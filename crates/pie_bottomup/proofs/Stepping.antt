@@ -1,5 +1,5 @@
--- Steps where no task is in hand.
-use Rattle.std.proofs.Common.{◌≡◌, ℕ, ◌<◌, ◌≤◌, List, Option, None, Some, Result, Ok, Err, refl, sym, ap, ◌∙◌, subst, inl, inr, arith}
+-- What steps leave.
+use Rattle.std.proofs.Common.{◌≡◌, ℕ, ◌<◌, ◌≤◌, ◌+◌, ◌*◌, List, Option, None, Some, Result, Ok, Err, refl, sym, ap, ◌∙◌, subst, inl, inr, arith}
 use Rattle.std.specs.Prelude.{IfOk, OnOk}
 use Rattle.pie_value.specs.declared.task.Task.{Task}
 use Rattle.pie_files.specs.Directory.{Directory}
@@ -17,8 +17,9 @@ use Rattle.pie_bottomup.specs.inner.Going.{StepsWhole}
 use Rattle.pie_bottomup.specs.inner.Many.{StopsForMany}
 use Rattle.pie_bottomup.specs.inner.States.{Awaits, IsCore, IsFree, IsInHand, IsSite, IsTaken, IsTreated, IsUntested}
 use Rattle.pie_bottomup.specs.inner.States.{GoesTo, Keeps, Nearer, RunsOrRests, TurnsTo, in_hand, mass, rest, untested}
-use Rattle.pie_bottomup.specs.inner.Stepping.{IsUnoccupied, LeavesWhole, StartsRight, StepsTo}
+use Rattle.pie_bottomup.specs.inner.Stepping.{IsUnoccupied, LeavesWhole, StartsRight, StepsOn, StepsTo}
 use Rattle.pie_bottomup.specs.inner.Tested.{LearnsOnly}
+use Rattle.pie_bottomup.proofs.Due.{goes_all, turns_all}
 use Rattle.pie_bottomup.proofs.Keeping.{tasks_stay}
 
 -- ---- results
@@ -159,9 +160,29 @@ nearer_more less more c Went l near = omega (arith, l, near)
 nearer_more less more c Settled l near = tt
 nearer_more less more c (StartAfresh cause) l near = tt
 
-pub steps_nearer : {E : Type 0} (less more : ℕ) (c : Core) (r : Result Turn E) → less ≤ more → IfOk r (StepsTo less c) → IfOk r (Nearer more c)
-steps_nearer less more c (Ok turn) l is = nearer_more less more c turn l is.nearer
-steps_nearer less more c (Err e) l is = tt
+-- so each does, with a task in hand or without one
+pub hand_goes : {E : Type 0} (old new : Core) (h : InHand) (r : Result Turn E) → old.hand ≡ Some h → IfOk r (GoesTo new)
+    → IfOk r (Nearer (rest old + 2 * h.task.notes.left + 1) new) → IfOk r (StepsOn old new)
+hand_goes old new h (Ok turn) is goes near =
+    let held : in_hand old.hand ≡ 2 * h.task.notes.left + 1 = ap in_hand is in
+    record {
+      turns = goes_turns new turn goes;
+      nearer = nearer_more (rest old + 2 * h.task.notes.left + 1) (mass old) new turn (omega (arith, held)) near;
+      all = goes_all {E = Unit {0}} new (Ok turn) goes;
+    }
+hand_goes old new h (Err e) is goes near = tt
+
+pub free_goes : {E : Type 0} (old new : Core) (r : Result Turn E) → IfOk r (StepsTo (rest old) new) → IfOk r (StepsOn old new)
+free_goes old new (Ok turn) is = record {
+  turns = is.turns;
+  nearer = nearer_more (rest old) (mass old) new turn (omega arith) is.nearer;
+  all = turns_all {E = Unit {0}} new (Ok turn) is.turns;
+}
+free_goes old new (Err e) is = tt
+
+-- what holds of a build without the place for a task in hand holds of it where that is empty
+pub free_as : (P : Core → Type 0) (old : Core) (h : Option InHand) → old.hand ≡ None → h ≡ None → P (record old { hand = h }) → P old
+free_as P old h free none = subst (λ (x : Option InHand). P (record old { hand = x })) (none ∙ sym free)
 
 -- there were too many old tasks
 pub many_stops : (c : Core) (task told : Task) → c.first ≡ TooMany task → told ≡ task → StopsForMany c (StartAfresh (UnionMany 50000 0 told))
@@ -184,6 +205,13 @@ pub keeps_starts : {E : Type 0} (held : Option Directory) (old new : Core) (befo
     → OnOk r (StartsRight held old new before before)
 keeps_starts held old new before (Ok turn) keeps = keeps_start held old new before keeps
 keeps_starts held old new before (Err e) keeps = tt
+
+-- nor where a task was in hand
+pub hand_starts : {E : Type 0} (held : Option Directory) (old new : Core) (h : Option InHand) (before : List Task) (r : Result Turn E)
+    → OnOk r (Keeps (record old { hand = h }) new) → OnOk r (StartsRight held old new before before)
+hand_starts held old new h before (Ok turn) keeps =
+    keeps_start held old new before (record { plan = keeps.plan; room = keeps.room; tasks = keeps.tasks; ran = keeps.ran })
+hand_starts held old new h before (Err e) keeps = tt
 
 -- nor where nothing is done
 pub starts_none : (held : Option Directory) (c : Core) (before : List Task) → StartsRight held c c before before

@@ -1,6 +1,7 @@
 -- Definitions that no clause of `pie_cli::run` rests on: invariants, and what functions say to each other.
 pub mod Added
 pub mod Asked
+pub mod Begun
 pub mod Causes
 pub mod Ended
 pub mod Exact

@@ -8,9 +8,9 @@ ghost use Rattle.pie_named.specs.inner.Known.{IsTrueOf};
 ghost use Rattle.pie_old.specs.inner.Loaded.{IsOld};
 ghost use Rattle.pie_core_laws.specs.Joins.{HasNames};
 ghost use Rattle.pie_bottomup.specs.declared.state.First.TheVariants.{Tests, Done};
-ghost use Rattle.pie_bottomup.specs.inner.States.{IsCore, IsPlanOf, MayBegin, room};
-ghost use Rattle.pie_bottomup.specs.inner.Loaded.{BeginsExact, BeginsMany, IsPastLimit};
-ghost use Rattle.pie_bottomup.specs.inner.Ran.{BeginsKnowing};
+ghost use Rattle.pie_bottomup.specs.inner.States.{IsCore, MayBegin, room};
+ghost use Rattle.pie_bottomup.specs.inner.Begun.{BeginsRight, HasPlan};
+ghost use Rattle.pie_bottomup.specs.inner.Loaded.{IsPastLimit};
 
 use crate::plan::Plan;
 use crate::state::{Core, First};
@@ -46,14 +46,9 @@ impl<'a> Core<'a> {
         requires order { AreInOrder image.rows }
         requires roots { All IsEncodableTask roots.now }
         ensures core { IfOk result IsCore }
-        ensures plan { IfOk result (λ c. IsPlanOf typed.now digests.now roots.now c.plan) }
+        ensures plan { IfOk result (HasPlan typed.now code.now digests.now roots.now) }
         ensures room { IfOk result (λ c. room c ≤ MAX_TASKS) }
-        ensures first { IfOk result (λ c. c.first ≡ Done → ⊥) }
-        ensures code { IfOk result (λ c. c.plan.code.now ≡ code.now) }
-        ensures exact { IfOk result (BeginsExact image.funcs digests.now image.rows changes.now) }
-        ensures many { IfOk result (λ c. IsPastLimit image.rows c.first) }
-        ensures past { IfOk result (BeginsMany image.funcs digests.now image.rows changes.now) }
-        ensures knows { IfOk result (BeginsKnowing image.funcs digests.now image.rows changes.now) }
+        ensures begins { IfOk result (BeginsRight image.funcs digests.now image.rows changes.now) }
     {
         let named = names_of(alloc, changes)?;
         let roots = copies(alloc, roots)?;

@@ -1,13 +1,11 @@
 //! The state of a build by what changed, and its steps.
-ghost use Rattle.std.specs.Prelude.{◌≡◌, ◌≤◌, ◌+◌, length, IfOk, OnOk};
+ghost use Rattle.std.specs.Prelude.{◌≡◌, IfOk, OnOk};
 ghost use Rattle.pie_files.specs.Reading.{ReadsOnly};
 ghost use Rattle.pie_results.specs.inner.Made.{IsEmptyWhereRefused, IsKept};
-ghost use Rattle.pie_bottomup.specs.inner.States.{StartsOne, IsCore, HasSettled, TurnsTo, Nearer, Spends, mass, room};
-ghost use Rattle.pie_bottomup.specs.inner.Many.{StartsNoneForMany, StopsForMany};
+ghost use Rattle.pie_bottomup.specs.inner.States.{IsCore, HasSettled};
+ghost use Rattle.pie_bottomup.specs.inner.Stepping.{LeavesWhole, StartsFew, StartsRight, StepsOn};
 ghost use Rattle.pie_bottomup.specs.inner.Ended.{StoredIf};
 ghost use Rattle.pie_bottomup.specs.inner.Tested.{HasTested};
-ghost use Rattle.pie_bottomup.specs.inner.Going.{StepsWhole};
-ghost use Rattle.pie_bottomup.specs.inner.Ran.{SettlesFor, StepsFor};
 ghost use Rattle.pie_bottomup.specs.inner.Asked.{StepsAsking};
 ghost use Rattle.pie_bottomup.specs.inner.Made.{MadeExact};
 ghost use Rattle.pie_bottomup.specs.declared.state.First.TheVariants.{Tests};
@@ -84,18 +82,12 @@ impl<'a> Core<'a> {
     #[tactic(auto, using(pie_files::proofs::Reading::reads, crate::proofs::Holding::tests_free))]
     pub fn step<F: Files>(&mut self, files: &mut F, runs: &mut Runs) -> Result<Turn, FilesError>
         requires { IsCore self.old }
-        ensures turns { IfOk result (TurnsTo self.new) }
-        ensures nearer { IfOk result (Nearer (mass self.old) self.new) }
-        ensures starts { StartsOne runs.old runs.new }
-        ensures spends { OnOk result (Spends self.old self.new runs.old runs.new) }
-        ensures few { length runs.new ≤ length runs.old + room self.old }
+        ensures steps { IfOk result (StepsOn self.old self.new) }
+        ensures few { StartsFew self.old runs.old runs.new }
+        ensures starts { OnOk result (StartsRight (F.holds files.old) self.old self.new runs.old runs.new) }
         ensures tested { self.old.first ≡ Tests → OnOk result (HasTested (F.holds files.old) self.old self.new) }
-        ensures many { IfOk result (StopsForMany self.old) }
-        ensures none { OnOk result (StartsNoneForMany self.old runs.old runs.new) }
-        ensures whole { IfOk result (StepsWhole (F.holds files.old) self.old self.new) }
-        ensures reasons { OnOk result (StepsFor (F.holds files.old) self.old self.new runs.old runs.new) }
+        ensures whole { IfOk result (LeavesWhole (F.holds files.old) self.old self.new) }
         ensures asks { StepsAsking self.old (F.asked files.old) (F.asked files.new) }
-        ensures all { IfOk result (SettlesFor self.new) }
         ensures reads { ReadsOnly F.holds F.moment F.left_since F.images F.faults files.old files.new result }
     {
         match self.hand.take() {

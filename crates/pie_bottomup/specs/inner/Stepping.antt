@@ -1,4 +1,4 @@
--- What a step where no task is in hand leaves.
+-- What a step leaves, and one where no task is in hand.
 use Rattle.std.specs.Prelude.{◌≡◌, ◌⊎◌, ℕ, ◌≤◌, ◌+◌, List, length, None, Option}
 use Rattle.pie_value.specs.declared.task.Task.{Task}
 use Rattle.pie_files.specs.Directory.{Directory}
@@ -7,8 +7,8 @@ use Rattle.pie_bottomup.specs.declared.state.Turn.{Turn}
 use Rattle.pie_bottomup.specs.inner.Going.{StepsWhole, TestsWhole}
 use Rattle.pie_bottomup.specs.inner.Loaded.{TestsExact}
 use Rattle.pie_bottomup.specs.inner.Many.{StartsNoneForMany, StopsForMany}
-use Rattle.pie_bottomup.specs.inner.Ran.{StepsFor}
-use Rattle.pie_bottomup.specs.inner.States.{IsAtRest, IsUntested, Nearer, Spends, StartsOne, TurnsTo, room}
+use Rattle.pie_bottomup.specs.inner.Ran.{SettlesFor, StepsFor}
+use Rattle.pie_bottomup.specs.inner.States.{IsAtRest, IsUntested, Nearer, Spends, StartsOne, TurnsTo, mass, room}
 use Rattle.pie_bottomup.specs.inner.Tested.{HasTested, LearnsOnly}
 
 -- no task is in hand, before the first step or after it
@@ -20,6 +20,12 @@ pub record IsUnoccupied (c : Core) : Type 0 where
 pub record StepsTo (bound : ℕ) (c : Core) (t : Turn) : Type 0 where
   pub turns : TurnsTo c t
   pub nearer : Nearer bound c t
+
+-- a step turns so, leaves less to do than before where more is left to do, and where the roots are settled, each task with a reason to run has run
+pub record StepsOn (old new : Core) (t : Turn) : Type 0 where
+  pub turns : TurnsTo new t
+  pub nearer : Nearer (mass old) new t
+  pub all : SettlesFor new t
 
 -- the old records were held against what is there, which leaves a build exact and whole; more is known then, and nothing else is another
 pub record TestsAll (held : Option Directory) (old new : Core) : Type 0 where

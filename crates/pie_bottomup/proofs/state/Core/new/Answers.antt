@@ -11,6 +11,7 @@ use Rattle.pie_bottomup.specs.declared.plan.Plan.{Plan}
 use Rattle.pie_bottomup.specs.declared.state.Core.{Core}
 use Rattle.pie_bottomup.proofs.ExactBeginning.{loaded_core}
 use Rattle.pie_bottomup.proofs.Overflowing.{begins_many}
+use Rattle.pie_bottomup.specs.inner.Loaded.{BeginsExact}
 use Rattle.pie_bottomup.specs.inner.Recorded.{AreRecorded}
 use Rattle.pie_bottomup.proofs.Beginning.{start_fresh, start_recorded, have_digests_of}
 use Rattle.pie_bottomup.proofs.Reasoning.{begins_knowing}
@@ -40,11 +41,16 @@ returns-clause-core c =
       };
     })
 
-pub returns-clause-exact : goal.returns-clause-exact
-returns-clause-exact c =
+pub returns-clause-plan : goal.returns-clause-plan
+returns-clause-plan c = record { plan = record { typed = refl; digests = refl; roots = c.in_ok-roots.ensures }; code = refl }
+
+pub returns-clause-begins : goal.returns-clause-begins
+returns-clause-begins c =
     let old = c.in_ok-old.old in
+    let funcs = c.args.image.funcs in
     let kept = c.args.image.rows in
     let digests = c.args.digests.now in
+    let changes = c.args.changes.now in
     let walk : c.new-2.result.walk ≡ at_start old.rows old.looks_out.items = c.new-2.ensures.walk ∙ c.in_ok-walk.ensures.start in
     let core : Core = record {
       alloc = c.args.alloc;
@@ -58,7 +64,12 @@ returns-clause-exact c =
       hand = None;
       first = c.in_ok-old.first;
     } in
-    loaded_core c.args.image.funcs digests kept c.args.changes.now core c.requires.storable c.requires.parts
+    let same : c.in_ok-same.same.items ≡ map (λ (t : Task). is_same_code funcs digests t.func) old.tables.names =
+    c.in_ok-same.ensures
+    ∙ ap (map (λ (t : Task). is_same_code c.as_slice-2.result.now digests t.func)) c.as_slice.ensures.tasks
+    ∙ ap (λ fs. map (λ (t : Task). is_same_code fs digests t.func) old.tables.names) c.as_slice-2.ensures in
+    let exact : BeginsExact funcs digests kept changes core =
+    loaded_core funcs digests kept changes core c.requires.storable c.requires.parts
     (λ first.
     let is = c.in_ok-old.ensures.loaded first in
     record {
@@ -72,49 +83,11 @@ returns-clause-exact c =
       unmet = λ n. ap (λ (s : WalkState). mark_of s.marks n) walk ∙ start_fresh (length old.rows) n;
       stage = c.new-3.ensures;
     })
-    (record {
-      names = c.in_ok-named.ensures.names;
-      known = c.in_ok-named.ensures.known;
-      same = c.in_ok-same.ensures
-          ∙ ap (map (λ (t : Task). is_same_code c.as_slice-2.result.now digests t.func)) c.as_slice.ensures.tasks
-          ∙ ap (λ fs. map (λ (t : Task). is_same_code fs digests t.func) old.tables.names) c.as_slice-2.ensures;
-    })
-
-pub returns-clause-knows : goal.returns-clause-knows
-returns-clause-knows c =
-    let old = c.in_ok-old.old in
-    let digests = c.args.digests.now in
-    let core : Core = record {
-      alloc = c.args.alloc;
-      plan = record { typed = c.args.typed; code = c.args.code; digests = c.args.digests; roots = c.in_ok-roots.roots; same = c.in_ok-same.same };
-      tables = old.tables;
-      earlier = c.count-earlier.result;
-      frames = c.new-2.result;
-      stage = c.new-3.result;
-      named = c.in_ok-named.named;
-      at = 0;
-      hand = None;
-      first = c.in_ok-old.first;
-    } in
-    begins_knowing c.args.image.funcs digests c.args.image.rows c.args.changes.now core (returns-clause-exact c)
-    (c.in_ok-same.ensures
-    ∙ ap (map (λ (t : Task). is_same_code c.as_slice-2.result.now digests t.func)) c.as_slice.ensures.tasks
-    ∙ ap (λ fs. map (λ (t : Task). is_same_code fs digests t.func) old.tables.names) c.as_slice-2.ensures)
-
-pub returns-clause-past : goal.returns-clause-past
-returns-clause-past c =
-    let old = c.in_ok-old.old in
-    let core : Core = record {
-      alloc = c.args.alloc;
-      plan = record { typed = c.args.typed; code = c.args.code; digests = c.args.digests; roots = c.in_ok-roots.roots; same = c.in_ok-same.same };
-      tables = old.tables;
-      earlier = c.count-earlier.result;
-      frames = c.new-2.result;
-      stage = c.new-3.result;
-      named = c.in_ok-named.named;
-      at = 0;
-      hand = None;
-      first = c.in_ok-old.first;
-    } in
-    begins_many c.args.image.funcs c.args.digests.now c.args.image.rows c.args.changes.now core c.requires.order c.in_ok-old.ensures.many
-    c.in_ok-old.ensures.begins.rested
+    (record { names = c.in_ok-named.ensures.names; known = c.in_ok-named.ensures.known; same = same }) in
+    record {
+      first = c.in_ok-old.ensures.first;
+      exact = exact;
+      knows = begins_knowing funcs digests kept changes core exact same;
+      many = c.in_ok-old.ensures.many;
+      past = begins_many funcs digests kept changes core c.requires.order c.in_ok-old.ensures.many c.in_ok-old.ensures.begins.rested;
+    }
