@@ -8,8 +8,8 @@ use Rattle.pie_value.specs.Canonical.{IsEncodableTask}
 use Rattle.pie_topdown.specs.declared.ledger.Ledger.{Ledger}
 use Rattle.pie_topdown.specs.declared.builder.Builder.{Builder}
 use Rattle.pie_topdown.specs.inner.Ledgers.{Grows}
-use Rattle.pie_topdown.specs.inner.Roots.{AreSettled, Continues, IsSettledRoot, Started}
-use Rattle.pie_topdown.specs.inner.Turns.{Keeps, StartsOne}
+use Rattle.pie_topdown.specs.inner.Roots.{AreSettled, Continues, IsSettledRoot, Started, StartsAndReuses}
+use Rattle.pie_topdown.specs.inner.Turns.{Keeps, StartsOne, room}
 use Rattle.pie_topdown.proofs.Keeping.{named_more, same_grows}
 
 -- ---- the ledger
@@ -59,6 +59,20 @@ starts_one old new t is small = inr (t, is, small)
 pub one_longer : (old new : List Task) → StartsOne old new → length new ≤ length old + 1
 one_longer old new (inl same) = let l = ap length same in omega (arith, l)
 one_longer old new (inr one) = let l = ap length one.1 ∙ length-append old (one.0 ∷ []) in omega (arith, l)
+
+pub starts_none_reuses_none : (runs reused : List Task) → StartsAndReuses runs runs reused reused
+starts_none_reuses_none runs reused = record { started = started_none runs; few = omega arith; reused = started_none reused }
+
+-- as many may be started as a build has room for
+pub starts_and_reuses : (b c : Builder) (before after old new : List Task) → b ≡ c → room c ≤ 50000 → Started before after
+    → length after ≤ length before + room b → Started old new → StartsAndReuses before after old new
+starts_and_reuses b c before after old new same few started within reused = record {
+  started = started;
+  few =
+      let places : room b ≤ 50000 = subst (λ (x : Builder). room x ≤ 50000) (sym same) few in
+      omega (arith, places, within);
+  reused = reused;
+}
 
 -- ---- roots
 

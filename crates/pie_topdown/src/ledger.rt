@@ -49,7 +49,6 @@ impl Ledger {
     }
 
     /// A task is entered, and gets the next number.
-    #[tactic(auto, using(crate::proofs::Keeping::added_grows))]
     pub(crate) fn add(&mut self, task: Task) -> Result<TaskNo, OutOfMemory>
         requires ledger { IsLedger self.old }
         requires task { IsNew self.old task }

@@ -1,5 +1,5 @@
 //! The one call: from the roots and the records of the build before to what a build makes.
-ghost use Rattle.std.specs.Prelude.{◌≡◌, ◌≤◌, ◌+◌, length, All, IfOk, OnOk};
+ghost use Rattle.std.specs.Prelude.{◌≡◌, ◌≤◌, All, IfOk, OnOk};
 ghost use Rattle.pie_checks.specs.declared.built.Built.{Built};
 ghost use Rattle.pie_files.specs.Reading.{ReadsOnly};
 ghost use Rattle.pie_graph.specs.Numbers.{numbers};
@@ -10,12 +10,13 @@ ghost use Rattle.pie_tables.specs.Tabled.{IsTables};
 ghost use Rattle.pie_value.specs.Canonical.{IsEncodableTask};
 ghost use Rattle.pie_value.specs.declared.verdict.Verdict.TheVariants.{Refused};
 ghost use Rattle.pie_topdown_result_laws.specs.Builds.{MakesClean};
-ghost use Rattle.pie_topdown.specs.inner.Ended.{StoredIf};
+ghost use Rattle.pie_topdown.specs.inner.Ended.{IsMadeFor, StoredIf};
 ghost use Rattle.pie_topdown.specs.inner.Filed.{MakesFiles, MakesFilesOf};
 ghost use Rattle.pie_topdown.specs.inner.Frames.{IsSite};
 ghost use Rattle.pie_topdown.specs.inner.Ran.{AddsNamed, AddsOne, RunsForReasons};
 ghost use Rattle.pie_topdown.specs.inner.Rooted.{AreOldTables, IsPlanOf, IsProgram, IsUnbegun, MakesSettled};
-ghost use Rattle.pie_topdown.specs.inner.Roots.{AreSettled, Started};
+ghost use Rattle.pie_topdown.specs.inner.Roots.{AreSettled, Started, StartsAndReuses};
+ghost use Rattle.pie_topdown.specs.inner.Settled.{CanSettleFrom};
 ghost use Rattle.pie_topdown.specs.inner.Turns.{room, StartsOne};
 ghost use Rattle.pie_topdown.specs.inner.Unoffered.{OffersNothing};
 
@@ -58,15 +59,9 @@ pub fn topdown<F: Files, O: Offers>(
     runs: &mut Runs,
     reused: &mut Vec<Task>,
 ) -> Result<Built, FilesError>
-    requires storable { All IsStorable image.rows }
-    requires order { AreInOrder image.rows }
-    requires roots { All IsEncodableTask roots.now }
-    ensures refused_empty { IfOk result IsEmptyWhereRefused }
-    ensures kept { IfOk result IsKept }
-    ensures stored { IfOk result (λ b. StoredIf b.verdict typed.now roots.now b) }
-    ensures started { Started runs.old runs.new }
-    ensures few { length runs.new ≤ length runs.old + 50000 }
-    ensures reused { Started reused.old.items reused.new.items }
+    requires { CanSettleFrom image.rows roots.now }
+    ensures made { IfOk result (IsMadeFor typed.now roots.now) }
+    ensures tasks { StartsAndReuses runs.old runs.new reused.old.items reused.new.items }
     ensures reads { ReadsOnly F.holds F.moment F.left_since F.images F.faults files.old files.new result }
     ensures clean { IsProgram typed.now code.now image.rows
         → IfOk result (MakesClean (F.holds files.old) typed.now image.funcs digests.now image.rows (O.told offers.old) roots.now) }

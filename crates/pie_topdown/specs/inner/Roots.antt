@@ -22,6 +22,12 @@ pub record Started (old new : List Task) : Type 0 where
   pub is : new ≡ old ++ gained
   pub encodable : All IsEncodableTask gained
 
+-- at most 50,000 tasks were added to the list of those that were started, and tasks to that of those that were reused, each of which has canonical bytes
+pub record StartsAndReuses (before after old new : List Task) : Type 0 where
+  pub started : Started before after
+  pub few : length after ≤ length before + 50000
+  pub reused : Started old new
+
 -- a build goes on: tasks were entered or have ended, and each that was started takes of those that may be
 pub record Continues (old new : Builder) (runs after : List Task) : Type 0 where
   pub plan : new.plan ≡ old.plan

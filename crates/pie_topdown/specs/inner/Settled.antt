@@ -6,6 +6,9 @@ use Rattle.pie_value.specs.declared.verdict.Refusal.{Refusal}
 use Rattle.pie_value.specs.Canonical.{IsEncodableTask}
 use Rattle.pie_code.specs.declared.code.Code.{Code}
 use Rattle.pie_files.specs.Directory.{Directory}
+use Rattle.pie_record.specs.Canonical.{IsStorable}
+use Rattle.pie_record.specs.declared.task_record.TaskRecord.{TaskRecord}
+use Rattle.pie_store.specs.Canonical.{AreInOrder}
 use Rattle.pie_store.specs.inner.Offers.{Offered}
 use Rattle.pie_topdown.specs.declared.builder.Builder.{Builder}
 use Rattle.pie_topdown.specs.declared.hand.Hand.{Hand}
@@ -17,6 +20,12 @@ use Rattle.pie_topdown.specs.inner.Roots.{IsSettledRoot, Continues}
 use Rattle.pie_topdown.specs.inner.Unoffered.{EndsOwn, RunsOwn}
 
 -- ---- what is handed
+
+-- the records of a store can be stored and stand in order, and these roots have canonical bytes
+pub record CanSettleFrom (rows : List TaskRecord) (ts : List Task) : Type 0 where
+  pub storable : All IsStorable rows
+  pub order : AreInOrder rows
+  pub roots : All IsEncodableTask ts
 
 -- a build stands, and these roots have canonical bytes
 pub record StandsBefore (b : Builder) (ts : List Task) : Type 0 where

@@ -16,6 +16,12 @@ pub returns-in_default-clause-right : goal.returns-in_default-clause-right
 returns-in_default-clause-right g c =
     none_offered (g.F.Files.holds c.args.files.now) (g.O.Offers.told c.args.offers.now) c.args.self.now c.args.no.0 c.new.result.items c.new.ensures.items
 
+pub returns-clause-told : goal.returns-clause-told
+returns-clause-told g c = c.in_ok-found.ensures.keeps.0
+
+pub returns-in_err-found-clause-told : goal.returns-in_err-found-clause-told
+returns-in_err-found-clause-told g c = c.in_err-found.ensures.keeps.0
+
 pub returns-clause-none : goal.returns-clause-none
 returns-clause-none g c =
     none_cut (g.F.Files.holds c.args.files.now) (g.O.Offers.told c.args.offers.now) c.task-task.result.now _ 4 c.in_ok-found.found.items
