@@ -1,18 +1,16 @@
 //! A clean build of a directory.
-ghost use Rattle.std.specs.Prelude.{◌≡◌, ◌≤◌, ◌+◌, ◌++◌, All, IfSome, IfOk, OnOk, drop, length};
+ghost use Rattle.std.specs.Prelude.{◌≡◌, ◌≤◌, IfSome, IfOk, OnOk, drop, length};
 ghost use Rattle.pie_files.specs.Streams.{Counted};
-ghost use Rattle.pie_value.specs.Canonical.{IsEncodableTask};
 ghost use Rattle.pie_files.specs.Reading.{ReadsOnly};
 ghost use Rattle.pie_fresh.specs.inner.Builds.{Gains, IsKept, StoredWhere};
 ghost use Rattle.pie_fresh.specs.inner.Asked.{AsksForSeen};
 ghost use Rattle.pie_fresh.specs.Cleans.{IsCleanOf};
 ghost use Rattle.pie_project.specs.Refusals.{IsVerdict, Says};
-ghost use Rattle.pie_build.specs.Asked.{AsksEntered};
 ghost use Rattle.pie_build.specs.Crashes.{StaysAtRest, Withstands};
-ghost use Rattle.pie_build.specs.Left.{ChangesIfAccepted, KeepsRest, Leaves};
-ghost use Rattle.pie_build.specs.inner.Asked.{AsksBuilt, AsksClean, MakesOwn};
+ghost use Rattle.pie_build.specs.Left.{Leaves};
+ghost use Rattle.pie_build.specs.inner.Asked.{AsksBuilt, AsksOfProject, MakesOwn};
 ghost use Rattle.pie_build.specs.inner.Projects.{CanBePlaced, IsBuildable, IsCleanBy, IsReady, LeavesFor, Rebuilds, ReportsStarted};
-ghost use Rattle.pie_build.specs.inner.Rebuilt.{RebuildSays, RebuildsOnly, IsReport, IsRefusal, Tells};
+ghost use Rattle.pie_build.specs.inner.Rebuilt.{IsReport, LeavesOfProject, RefusesIdle, SaysAlone, Tells};
 ghost use Rattle.pie_build.specs.Stored.{MayStand, IsStoreOf};
 
 use crate::outcome::refused;
@@ -41,21 +39,14 @@ pub fn rebuild<F: Files>(
     files: &mut F,
     runs: &mut Runs,
 ) -> Result<Report, BuildError>
-    ensures says { IfSome (F.holds files.old) (λ d. Says (λ r. r) (RebuildSays d) result) }
-    ensures only { IfSome (F.holds files.old) (λ d. Says (λ r. r) (RebuildsOnly d) result) }
-    ensures left { IfSome (F.holds files.old) (λ d. IfOk result (λ r. Leaves d r (F.holds files.new))) }
-    ensures refused { IsRefusal result → F.holds files.new ≡ F.holds files.old }
-    ensures idle { IsRefusal result → runs.new ≡ runs.old }
-    ensures changed { IfSome (F.holds files.old) (λ d. ChangesIfAccepted d (F.holds files.new)) }
-    ensures rest { KeepsRest (F.holds files.old) (F.holds files.new) }
+    ensures says { SaysAlone (F.holds files.old) result }
+    ensures files { LeavesOfProject (F.holds files.old) (F.holds files.new) result }
+    ensures refuses { RefusesIdle (F.holds files.old) (F.holds files.new) runs.old runs.new result }
     ensures crash { Withstands F.holds F.moment F.left_since F.images Leaves files.old files.new }
     ensures durable { IsVerdict result → StaysAtRest F.holds F.images files.old files.new }
-    ensures ran { IfOk result (λ r. runs.new ≡ runs.old ++ r.ran.items) }
-    ensures few { length runs.new ≤ length runs.old + 50000 }
-    ensures encodable { IfOk result (λ r. All IsEncodableTask r.ran.items) }
+    ensures started { ReportsStarted runs.old runs.new result }
     ensures told { Tells F.faults files.old files.new result }
-    ensures asks { IfSome (F.holds files.old) (λ d. AsksClean d runs.old runs.new (F.asked files.old) (F.asked files.new)) }
-    ensures entered { IfSome (F.holds files.old) (λ d. IsVerdict result → AsksEntered d (F.asked files.old) (F.asked files.new)) }
+    ensures asks { AsksOfProject (F.holds files.old) runs.old runs.new (F.asked files.old) (F.asked files.new) result }
 {
     match read_project(alloc, files) {
         Ok(project) => with_project(alloc, files, project, runs),

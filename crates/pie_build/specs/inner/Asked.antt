@@ -1,5 +1,5 @@
 -- Which paths the parts of a clean build ask for, and which they change.
-use Rattle.std.specs.Prelude.{◌≡◌, ℕ, true, List, ◌++◌, Option, Ok}
+use Rattle.std.specs.Prelude.{◌≡◌, ℕ, true, List, ◌++◌, Option, Result, Ok, IfSome}
 use Rattle.pie_value.specs.declared.task.Task.{Task}
 use Rattle.pie_files.specs.Directory.{Directory}
 use Rattle.pie_files.specs.declared.files.Call.{Call}
@@ -8,9 +8,12 @@ use Rattle.pie_named.specs.Asking.{MakesOnly}
 use Rattle.pie_commit.specs.declared.plan.Plan.{Plan}
 use Rattle.pie_commit.specs.inner.Plans.{is_own}
 use Rattle.pie_parser.specs.FunctionTrees.{FunctionTree}
+use Rattle.pie_project.specs.declared.fault.BuildError.{BuildError}
 use Rattle.pie_project.specs.Fronts.{ProjectSays}
+use Rattle.pie_project.specs.Refusals.{IsVerdict}
+use Rattle.pie_report.specs.declared.report.Report.{Report}
 use Rattle.pie_fresh.specs.inner.Asked.{IsObservedBy}
-use Rattle.pie_build.specs.Asked.{IsCleanCall}
+use Rattle.pie_build.specs.Asked.{AsksEntered, IsCleanCall}
 
 -- a call that no task of a clean build makes
 abbrev pub IsOwnCall : Call → Type 0
@@ -47,3 +50,10 @@ pub record AsksClean (d : Directory) (before after : List Task) (asked asked_now
   pub started : List Task
   pub gained : after ≡ before ++ started
   pub asks : MakesOnly (IsCleanCall (IsObservedIn d started)) asked asked_now
+
+-- over observable files each call that came is that of a clean build, with the tasks that were started, and after an answer or a refusal with those that the
+-- clean build of the model enters
+pub record AsksOfProject (held : Option Directory) (before after : List Task) (asked asked_now : Option (List Call)) (result : Result Report BuildError)
+    : Type 0 where
+  pub asks : IfSome held (λ d. AsksClean d before after asked asked_now)
+  pub entered : IfSome held (λ d. IsVerdict result → AsksEntered d asked asked_now)
