@@ -7,6 +7,7 @@ use Rattle.pie_build.proofs.Crashing.{rests_still, rests_then}
 use Rattle.pie_build.proofs.OwnPaths.{same_keeps}
 use Rattle.pie_build.specs.Crashes.{IsDone, IsOfThree, StaysAtRest, Withstands}
 use Rattle.pie_build.specs.Left.{KeepsRest, Leaves}
+use Rattle.pie_build.specs.inner.Projects.{ReportsStarted}
 use Rattle.pie_checks.specs.declared.built.Built.{Built}
 use Rattle.pie_commit.proofs.Reading.{before_rest}
 use Rattle.pie_digest.specs.Digests.{HasNames as HasFunctionNames}
@@ -22,6 +23,7 @@ use Rattle.pie_project.specs.inner.Projects.{front_of}
 use Rattle.pie_report.specs.declared.report.Report.{Report}
 use Rattle.pie_store.specs.Canonical.{AreFuncs}
 use Rattle.pie_store.specs.Pending.{in_order}
+use Rattle.pie_store.specs.declared.cause.Cause.{Cause}
 use Rattle.pie_store.specs.declared.image.StoreImage.{StoreImage}
 use Rattle.pie_value.specs.Canonical.{IsEncodableTask}
 use Rattle.pie_value.specs.declared.task.Task.{Task}
@@ -43,7 +45,7 @@ use Rattle.pie_incremental.specs.inner.Digested.{digested}
 use Rattle.pie_incremental.specs.inner.Evaluated.{MakesExact}
 use Rattle.pie_incremental.specs.inner.Joined.{IsAsBefore, IsEndingOf, Reports, Started, TreatsIn}
 use Rattle.pie_incremental.specs.inner.Marked.{EndsAccepted, EndsBuild, EndsBy, EndsFrom, EndsGo, EndsNames, EndsRestart, EndsRun}
-use Rattle.pie_incremental.specs.inner.Parts.{Endures, StartsFew, StopsAsBefore, TellsAgain, TellsRunsOnce, TellsVerdict}
+use Rattle.pie_incremental.specs.inner.Parts.{Endures, StartsFew, StopsAsBefore, TellsAgain, TellsRuns, TellsRunsOnce, TellsVerdict}
 use Rattle.pie_incremental.proofs.Crashing.{crash_again, crash_begun, crash_end, crash_failed, crash_from, crash_large, crash_run, crash_stopped, still_ok}
 use Rattle.pie_incremental.proofs.Joining.{few_again, few_both, few_twice, rest_both, rest_then, started_none}
 use Rattle.pie_incremental.proofs.Leaving.{crash_accepted, crash_refused, marked_accepted, marked_refused}
@@ -228,6 +230,15 @@ starts_room n most old new h l = record { started = h.started; few = omega (arit
 
 -- what the search takes for an evaluation
 pub ruleset starts = (starts_none, starts_room)
+
+-- of a clean build, whatever its report tells as the cause
+pub tells_afresh : (old new : List Task) (r q : Report) (cause : Option Cause) → q ≡ record r { fresh = cause }
+    → ReportsStarted {E = BuildError} old new (Ok r) → TellsRuns 50000 old new (Ok q)
+tells_afresh old new r q cause is h = record {
+  ran = subst (λ (x : Report). new ≡ old ++ x.ran.items) (sym is) h.ran;
+  few = h.few;
+  encodable = subst (λ (x : Report). All IsEncodableTask x.ran.items) (sym is) h.encodable;
+}
 
 -- what a report tells of them
 pub reported_once : (old new : List Task) (done : Done) (report : Box Report Global) (r : Report) → done ≡ Reported report → r ≡ report.value

@@ -29,7 +29,7 @@ use pie_vm::Runs;
 use std::alloc::Global;
 
 /// Builds afresh, for the cause of this stop. All tasks that were started after so many others are reported.
-#[tactic(auto, using(crate::proofs::Refusing::rebuilt, crate::proofs::Refusing::never))]
+#[tactic(auto, using(crate::proofs::Refusing::never))]
 pub(crate) fn again<F: Files>(
     alloc: Global,
     files: &mut F,

@@ -1,23 +1,20 @@
 //! A build by what changed.
-ghost use Rattle.std.specs.Prelude.{◌≡◌, ◌≤◌, ◌+◌, ◌++◌, [], true, false, Some, length, All, IfOk, IfSome, IsTrue, Ok};
-ghost use Rattle.pie_build.specs.Left.{KeepsRest, Leaves};
-ghost use Rattle.pie_build.specs.Crashes.{IsDone, IsOfThree, StaysAtRest};
-ghost use Rattle.pie_commit.specs.Outcomes.{LeavesFromRest};
+ghost use Rattle.std.specs.Prelude.{◌≡◌, ◌++◌, [], true, false, Some, All, IfOk, IfSome, IsTrue};
+ghost use Rattle.pie_build.specs.Left.{Leaves};
+ghost use Rattle.pie_build.specs.Crashes.{IsDone, IsOfThree};
 ghost use Rattle.pie_incremental.specs.Asked.{AsksRight};
-ghost use Rattle.pie_incremental.specs.Crashes.{MayStop, EndsMarked, MarkedBy, MayEnd};
+ghost use Rattle.pie_incremental.specs.Crashes.{MayStop, MarkedBy, MayEnd};
 ghost use Rattle.pie_incremental.specs.inner.Crashed.{MayBuild, MayFrom};
 ghost use Rattle.pie_incremental.specs.inner.Marked.{EndsBuild, EndsFrom};
 ghost use Rattle.pie_project.specs.Refusals.{IsVerdict};
-ghost use Rattle.pie_build.specs.inner.Rebuilt.{IsRefusal, Tells, RebuildSays};
+ghost use Rattle.pie_build.specs.inner.Rebuilt.{Tells};
 ghost use Rattle.pie_value.specs.Canonical.{IsEncodableTask};
 ghost use Rattle.pie_value.specs.Limits.{is_small_task};
 ghost use Rattle.pie_store.specs.Pending.{in_order};
 ghost use Rattle.pie_incremental.specs.Clean.{BuildsClean};
-ghost use Rattle.pie_incremental.specs.inner.Refused.{RefusesRight};
-ghost use Rattle.pie_incremental.specs.Runs.{TellsFew};
 ghost use Rattle.pie_incremental.specs.Treated.{AfreshBy, TreatsNames};
 ghost use Rattle.pie_incremental.specs.inner.Joined.{IsBase, Treats};
-ghost use Rattle.pie_incremental.specs.inner.Parts.{BuildsFor, BuildsFrom, BuildsProject, Endures, IsProjectIn, RefusesUnchanged, TellsRuns, TellsRunsOnce};
+ghost use Rattle.pie_incremental.specs.inner.Parts.{BuildsFor, BuildsFrom, BuildsProject, Endures, IsProjectIn, RefusesUnchanged, TellsRuns, TellsRunsFew, TellsRunsOnce};
 ghost use Rattle.pie_incremental.specs.inner.Updated.{IsAfreshAfter};
 
 use crate::again::again;
@@ -39,28 +36,19 @@ use std::alloc::Global;
 /// An accepted build leaves what a clean build would; a refused one keeps the names for the next one. The whole plan and the report are made before
 /// the first write. The tasks that are started are added to the runs, and reported.
 /// Rule: docs/BUILDING.md, "A build by what changed".
-#[tactic(auto, using(crate::proofs::Refusing::after, crate::proofs::Refusing::never, pie_build::proofs::OwnPaths::same_keeps, crate::proofs::Joining::rest_then, crate::proofs::Joining::few))]
 pub fn build<F: Files>(
     alloc: Global,
     files: &mut F,
     changes: &[Path],
     runs: &mut Runs,
 ) -> Result<Report, BuildError>
-    ensures rest { KeepsRest (F.holds files.old) (F.holds files.new) }
-    ensures refused { IsRefusal result → F.holds files.new ≡ F.holds files.old }
+    ensures files { Endures F.holds F.moment F.left_since F.images (MayStop changes.now) (MarkedBy (MayEnd changes.now)) (IsVerdict result) files.old files.new }
+    ensures refuses { RefusesUnchanged (F.holds files.old) (F.holds files.new) result }
     ensures names { IfSome (F.holds files.old) (λ d. IfOk result (λ r. TreatsNames changes.now d r (F.holds files.new))) }
     ensures clean { IfSome (F.holds files.old) (λ d. IfOk result (λ r. BuildsClean changes.now d r (F.holds files.new))) }
     ensures asks { IfSome (F.holds files.old) (λ d. IfOk result (λ r. AsksRight changes.now d r (F.asked files.old) (F.asked files.new))) }
-    ensures crash { LeavesFromRest F.holds F.moment F.left_since F.images (MayStop changes.now) files.old files.new }
-    ensures marked { EndsMarked F.holds F.images (MayEnd changes.now) files.old files.new }
-    ensures durable { IsVerdict result → StaysAtRest F.holds F.images files.old files.new }
-    ensures ran { IfOk result (λ r. runs.new ≡ runs.old ++ r.ran.items) }
-    ensures few { length runs.new ≤ length runs.old + 100000 }
-    ensures most { IfOk result TellsFew }
-    ensures encodable { IfOk result (λ r. All IsEncodableTask r.ran.items) }
-    ensures says { IfSome (F.holds files.old) (λ d. RefusesRight d result) }
-    ensures idle { IfSome (F.holds files.old) (λ d. IsRefusal result → runs.new ≡ runs.old) }
-    ensures project { IfSome (F.holds files.old) (λ d. IfOk result (λ r. RebuildSays d (Ok r))) }
+    ensures runs { TellsRunsFew runs.old runs.new result }
+    ensures project { BuildsProject (F.holds files.old) runs.old runs.new result }
     ensures told { Tells F.faults files.old files.new result }
 {
     match find_start(alloc, files) {
@@ -72,7 +60,6 @@ pub fn build<F: Files>(
 }
 
 // Builds afresh, for this cause.
-#[tactic(auto, using(crate::proofs::Refusing::rebuilt))]
 fn afresh<F: Files>(
     alloc: Global,
     files: &mut F,
@@ -122,7 +109,7 @@ fn from<F: Files>(
 }
 
 // Builds a project from what the build before left. Roots beyond the limits of values are left to the clean build, which refuses them.
-#[tactic(auto, using(crate::proofs::Refusing::rebuilt, crate::proofs::Refusing::after, crate::proofs::Refusing::never))]
+#[tactic(auto, using(crate::proofs::Refusing::after, crate::proofs::Refusing::never))]
 fn with_project<F: Files>(
     alloc: Global,
     files: &mut F,

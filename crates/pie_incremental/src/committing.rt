@@ -2,12 +2,12 @@
 ghost use Rattle.std.specs.Prelude.{◌≡◌, true, IfSome, OnOk};
 ghost use Rattle.pie_files.specs.Images.{Only};
 ghost use Rattle.pie_files.specs.Streams.{Counted};
-ghost use Rattle.pie_commit.specs.Outcomes.{IsAtRest, IsOfThree, KeepsOthers, LeavesFromRest, LeavesMarked};
+ghost use Rattle.pie_commit.specs.Outcomes.{IsAtRest, LeavesMarked};
 ghost use Rattle.pie_commit.specs.inner.Plans.{is_sound};
 ghost use Rattle.pie_named.specs.Asking.{MakesOnly};
 ghost use Rattle.pie_incremental.specs.inner.Asked.{IsChange};
-ghost use Rattle.pie_incremental.specs.Own.{IsClosed};
-ghost use Rattle.pie_incremental.specs.inner.Plans.{HasChanged, Marks, MayPlace, MayPut, Places, Puts};
+ghost use Rattle.pie_incremental.specs.inner.Parts.{Commits, StopsCommitting};
+ghost use Rattle.pie_incremental.specs.inner.Plans.{Marks};
 
 use pie_commit::{Plan, commit};
 use pie_files::{Files, FilesError};
@@ -15,13 +15,8 @@ use pie_files::{Files, FilesError};
 /// Commits a plan of a build that began without a marker.
 pub fn commit_plan<F: Files>(files: &mut F, plan: &Plan) -> Result<(), FilesError>
     requires { is_sound plan.now ≡ true }
-    ensures done { IfSome (F.holds files.old) (λ d. IsClosed d → OnOk result (HasChanged plan.now d (F.holds files.new))) }
-    ensures puts { IfSome (F.holds files.old) (λ d. OnOk result (Puts plan.now d (F.holds files.new))) }
-    ensures places { IfSome (F.holds files.old) (λ d. OnOk result (Places plan.now d (F.holds files.new))) }
-    ensures outside { KeepsOthers plan.now (F.holds files.old) (F.holds files.new) }
-    ensures crash { LeavesFromRest F.holds F.moment F.left_since F.images (IsOfThree plan.now) files.old files.new }
-    ensures may_put { LeavesFromRest F.holds F.moment F.left_since F.images (MayPut plan.now) files.old files.new }
-    ensures may_place { LeavesFromRest F.holds F.moment F.left_since F.images (MayPlace plan.now) files.old files.new }
+    ensures changes { Commits plan.now (F.holds files.old) (F.holds files.new) result }
+    ensures crash { StopsCommitting F.holds F.moment F.left_since F.images plan.now files.old files.new }
     ensures marks { IfSome (F.holds files.old) (λ d. Only d (F.images files.old) → Marks plan.now d (F.images files.new)) }
     ensures told { IfSome (F.holds files.old) (λ d. Only d (F.images files.old) → LeavesMarked plan.now d (F.images files.new)) }
     ensures durable { OnOk result (IfSome (F.holds files.old) (λ d. Only d (F.images files.old) → IsAtRest (F.holds files.new) (F.images files.new))) }

@@ -1,5 +1,5 @@
 -- What a part of a build by what changed is handed, and what it says, each as one record.
-use Rattle.std.specs.Prelude.{◌≡◌, ◌≤◌, ℕ, ◌+◌, List, ◌++◌, drop, length, Box, Option, None, Some, Result, Ok, IfOk, IfSome}
+use Rattle.std.specs.Prelude.{◌≡◌, ◌≤◌, ℕ, ◌+◌, List, ◌++◌, drop, length, Box, Option, None, Some, Result, Ok, IfOk, IfSome, OnOk}
 use Rattle.std.specs.List.{All}
 use Rattle.std.specs.declared.alloc.Global.{Global}
 use Rattle.std.proofs.Common.{Vec}
@@ -7,7 +7,8 @@ use Rattle.pie_build.specs.Crashes.{StaysAtRest}
 use Rattle.pie_build.specs.Left.{KeepsRest}
 use Rattle.pie_build.specs.inner.Projects.{IsReady}
 use Rattle.pie_build.specs.inner.Rebuilt.{IsRefusal, RebuildSays}
-use Rattle.pie_commit.specs.Outcomes.{LeavesFromRest}
+use Rattle.pie_commit.specs.Outcomes.{IsOfThree, KeepsOthers, LeavesFromRest}
+use Rattle.pie_commit.specs.declared.plan.Plan.{Plan}
 use Rattle.pie_digest.specs.Digests.{HasNames}
 use Rattle.pie_files.specs.Directory.{Directory}
 use Rattle.pie_files.specs.Images.{Only}
@@ -29,9 +30,12 @@ use Rattle.pie_value.specs.declared.verdict.Verdict.{Verdict}
 use Rattle.pie_incremental.specs.declared.base.Base.{Base}
 use Rattle.pie_incremental.specs.declared.ending.Ending.{Ending}
 use Rattle.pie_incremental.specs.declared.run.Done.{Done}
+use Rattle.pie_incremental.specs.Own.{IsClosed}
+use Rattle.pie_incremental.specs.Runs.{TellsFew}
 use Rattle.pie_incremental.specs.inner.Asked.{AsksUnlessAfresh, FromAsking, GoesAsking, IsChange, RunsAsking}
 use Rattle.pie_incremental.specs.inner.Crashed.{StaysBefore}
 use Rattle.pie_incremental.specs.inner.Joined.{IsAsBefore, IsImage, IsRetold, Reports, Started}
+use Rattle.pie_incremental.specs.inner.Plans.{HasChanged, MayPlace, MayPut, Places, Puts}
 use Rattle.pie_incremental.specs.inner.Refused.{RefusesRight}
 use Rattle.pie_incremental.specs.inner.Updated.{BeginsOn, BeginsOrRuns, FromClean, GoesOn, RunsCleanOnce, RunsOrStops}
 
@@ -72,6 +76,22 @@ pub record StopsAsBefore {S : Type 0} (holds : S → Option Directory) (moment :
   pub stopped : IfOk result (IsAsBefore (holds old) (holds new))
   pub still : IfOk result (StaysBefore holds moment left_since images old new)
 
+-- a plan that was committed left each path as it wants it and no marker, where none stood, and that of an accepted build left what its parts say, with the
+-- content of each file; whatever was answered, no other path changed
+pub record Commits {A : Type 0} (p : Plan) (before after : Option Directory) (result : Result A FilesError) : Type 0 where
+  pub done : IfSome before (λ d. IsClosed d → OnOk result (HasChanged p d after))
+  pub puts : IfSome before (λ d. OnOk result (Puts p d after))
+  pub places : IfSome before (λ d. OnOk result (Places p d after))
+  pub outside : KeepsOthers p before after
+
+-- where nothing was pending, at each moment of the commit of a plan a crash leaves one of three, and of that of an accepted build what its parts say, with the
+-- content of each file
+pub record StopsCommitting {S : Type 0} (holds : S → Option Directory) (moment : S → ℕ) (left_since : S → ℕ → Directory → Type 0)
+    (images : S → Directory → Type 0) (p : Plan) (old new : S) : Type 0 where
+  pub crash : LeavesFromRest holds moment left_since images (IsOfThree p) old new
+  pub may_put : LeavesFromRest holds moment left_since images (MayPut p) old new
+  pub may_place : LeavesFromRest holds moment left_since images (MayPlace p) old new
+
 -- calls that look at nothing: each changes the files or makes changes last, and the count of faults tells exactly whether one failed
 pub record ChangesOnly {S T : Type 0} (asked : S → Option (List Call)) (faults : S → ℕ) (old new : S) (result : Result T FilesError) : Type 0 where
   pub asks : MakesOnly IsChange (asked old) (asked new)
@@ -100,6 +120,13 @@ pub record TellsRunsOnce (old new : List Task) (result : Result Report BuildErro
   pub ran : IfOk result (λ r. new ≡ old ++ r.ran.items)
   pub few : length new ≤ length old + 100000
   pub once : IfOk result (λ r. r.fresh ≡ None → length new ≤ length old + 50000)
+  pub encodable : IfOk result (λ r. All IsEncodableTask r.ran.items)
+
+-- so it is with 100,000 tasks, and the report tells so many at the most, and 50,000 where it tells no cause to start afresh
+pub record TellsRunsFew (old new : List Task) (result : Result Report BuildError) : Type 0 where
+  pub ran : IfOk result (λ r. new ≡ old ++ r.ran.items)
+  pub few : length new ≤ length old + 100000
+  pub most : IfOk result TellsFew
   pub encodable : IfOk result (λ r. All IsEncodableTask r.ran.items)
 
 -- at most 50,000 more tasks were started; a report tells this cause to start afresh, and all tasks that were started after so many, each with canonical bytes

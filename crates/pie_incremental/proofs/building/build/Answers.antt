@@ -1,20 +1,98 @@
-use Rattle.std.proofs.Common.{arith}
-use Rattle.pie_incremental.proofs.Cleanly.{afresh_cleans, from_cleans}
-use Rattle.pie_incremental.proofs.Joining.{few_told, few_once}
-use Rattle.pie_incremental.proofs.Treating.{afresh_names, from_names}
-use Rattle.pie_commit.proofs.Reading.{before_rest}
-use Rattle.pie_incremental.specs.Crashes.{MayStop}
-use Rattle.pie_incremental.proofs.Crashing.{crash_afresh, crash_based, stop_first}
-use Rattle.std.proofs.Common.{subst}
-use Rattle.pie_incremental.specs.Starts.{IsWhole}
-use Rattle.pie_incremental.proofs.Storing.{base_of_text}
-use Rattle.pie_incremental.proofs.Asked.{asks_afresh, asks_from}
+use Rattle.std.proofs.Common.{Err, subst, ◌∙◌, arith}
 use Rattle.pie_build.proofs.Crashing.{rests_then}
-use Rattle.pie_incremental.specs.Crashes.{MayEnd}
-use Rattle.pie_incremental.proofs.Marking.{marked_afresh, marked_based, marked_still}
 use Rattle.pie_files.proofs.Reading.{if_always}
-use Rattle.pie_incremental.proofs.Refusing.{idle_after, project_after}
+use Rattle.pie_project.specs.declared.fault.BuildError.TheVariants as errors
+use Rattle.pie_incremental.specs.Crashes.{MayEnd, MayStop}
+use Rattle.pie_incremental.specs.Starts.{IsWhole}
+use Rattle.pie_incremental.proofs.Asked.{asks_afresh, asks_from}
+use Rattle.pie_incremental.proofs.Cleanly.{afresh_cleans, from_cleans}
+use Rattle.pie_incremental.proofs.Crashing.{crash_afresh, crash_based, stop_first}
+use Rattle.pie_incremental.proofs.Joining.{few_once, few_told, few_twice, rest_then}
+use Rattle.pie_incremental.proofs.Marking.{marked_afresh, marked_based}
+use Rattle.pie_incremental.proofs.Parts.{endures_still}
+use Rattle.pie_incremental.proofs.Refusing.{after, idle_after, never, project_after}
+use Rattle.pie_incremental.proofs.Storing.{base_of_text}
+use Rattle.pie_incremental.proofs.Treating.{afresh_names, from_names}
 use Rattle.pie_incremental.proofs.building.build.Goals as goal
+
+pub from-requires : goal.from-requires
+from-requires g c =
+    let e = c.in-Ok-From in
+    let b = e.base.value in
+    base_of_text b (subst IsWhole e.field-0-is e.ensures.whole).text
+
+pub returns-in-Ok-Afresh-clause-files : goal.returns-in-Ok-Afresh-clause-files
+returns-in-Ok-Afresh-clause-files g c =
+    let list = c.args.changes.now in
+    let old = c.args.files.now in
+    let mid = c.find_start.new.files in
+    let new = c.afresh.new.files in
+    let reads = c.in-Ok-Afresh.ensures.reads in
+    let files = c.afresh.ensures.files in
+    record {
+      rest = rest_then (g.F.Files.holds old) (g.F.Files.holds mid) (g.F.Files.holds new) reads.same files.rest;
+      crash = crash_afresh g.F.Files.holds g.F.Files.moment g.F.Files.left_since g.F.Files.images list old mid new reads.same reads.crash files.crash;
+      marked = marked_afresh g.F.Files.holds g.F.Files.moment g.F.Files.left_since g.F.Files.images list old mid new reads.same reads.crash files.marked;
+      durable = λ says. rests_then g.F.Files.holds g.F.Files.moment g.F.Files.left_since g.F.Files.images old mid new reads.same reads.crash
+          (files.durable says);
+    }
+
+pub returns-in-Ok-From-clause-files : goal.returns-in-Ok-From-clause-files
+returns-in-Ok-From-clause-files g c =
+    let e = c.in-Ok-From in
+    let list = c.args.changes.now in
+    let old = c.args.files.now in
+    let mid = c.find_start.new.files in
+    let new = c.from.new.files in
+    let reads = e.ensures.reads in
+    let files = c.from.ensures.files in
+    record {
+      rest = rest_then (g.F.Files.holds old) (g.F.Files.holds mid) (g.F.Files.holds new) reads.same files.rest;
+      crash = crash_based g.F.Files.holds g.F.Files.moment g.F.Files.left_since g.F.Files.images list e.field-0 e.base old mid new e.field-0-is
+          e.ensures.starts reads.same reads.crash files.crash;
+      marked = marked_based g.F.Files.holds g.F.Files.moment g.F.Files.left_since g.F.Files.images list e.field-0 e.base old mid new e.field-0-is
+          e.ensures.starts reads.same reads.crash files.marked;
+      durable = λ says. rests_then g.F.Files.holds g.F.Files.moment g.F.Files.left_since g.F.Files.images old mid new reads.same reads.crash
+          (files.durable says);
+    }
+
+pub returns-in-Err-Failed-clause-files : goal.returns-in-Err-Failed-clause-files
+returns-in-Err-Failed-clause-files g c =
+    let list = c.args.changes.now in
+    let reads = c.in-Err-Failed.ensures.reads in
+    endures_still g.F.Files.holds g.F.Files.moment g.F.Files.left_since g.F.Files.images (MayStop list) (MayEnd list) _ (stop_first list) c.args.files.now
+    c.find_start.new.files reads.same reads.crash
+
+pub returns-in-Err-OutOfMemory-clause-files : goal.returns-in-Err-OutOfMemory-clause-files
+returns-in-Err-OutOfMemory-clause-files g c =
+    let list = c.args.changes.now in
+    let reads = c.in-Err-OutOfMemory.ensures.reads in
+    endures_still g.F.Files.holds g.F.Files.moment g.F.Files.left_since g.F.Files.images (MayStop list) (MayEnd list) _ (stop_first list) c.args.files.now
+    c.find_start.new.files reads.same reads.crash
+
+pub returns-in-Ok-Afresh-clause-refuses : goal.returns-in-Ok-Afresh-clause-refuses
+returns-in-Ok-Afresh-clause-refuses g c =
+    let same = c.in-Ok-Afresh.ensures.reads.same in
+    record {
+      refused = λ h. c.afresh.ensures.refuses.refused h ∙ same;
+      says = after (g.F.Files.holds c.args.files.now) (g.F.Files.holds c.find_start.new.files) c.afresh.result same c.afresh.ensures.refuses.says;
+    }
+
+pub returns-in-Ok-From-clause-refuses : goal.returns-in-Ok-From-clause-refuses
+returns-in-Ok-From-clause-refuses g c =
+    let same = c.in-Ok-From.ensures.reads.same in
+    record {
+      refused = λ h. c.from.ensures.refuses.refused h ∙ same;
+      says = after (g.F.Files.holds c.args.files.now) (g.F.Files.holds c.find_start.new.files) c.from.result same c.from.ensures.refuses.says;
+    }
+
+pub returns-in-Err-Failed-clause-refuses : goal.returns-in-Err-Failed-clause-refuses
+returns-in-Err-Failed-clause-refuses g c =
+    record { refused = λ h. absurd h; says = never (g.F.Files.holds c.args.files.now) (Err errors.Files) (λ h. h) }
+
+pub returns-in-Err-OutOfMemory-clause-refuses : goal.returns-in-Err-OutOfMemory-clause-refuses
+returns-in-Err-OutOfMemory-clause-refuses g c =
+    record { refused = λ h. absurd h; says = never (g.F.Files.holds c.args.files.now) (Err errors.OutOfMemory) (λ h. h) }
 
 pub returns-in-Ok-Afresh-clause-names : goal.returns-in-Ok-Afresh-clause-names
 returns-in-Ok-Afresh-clause-names g c =
@@ -22,20 +100,11 @@ returns-in-Ok-Afresh-clause-names g c =
     afresh_names c.args.changes.now e.field-0 e.cause (g.F.Files.holds c.args.files.now) (g.F.Files.holds c.find_start.new.files)
     (g.F.Files.holds c.afresh.new.files) c.afresh.result e.field-0-is e.ensures.starts e.ensures.reads.same c.afresh.ensures.names c.afresh.ensures.fresh
 
-pub returns-in-Ok-Afresh-clause-most : goal.returns-in-Ok-Afresh-clause-most
-returns-in-Ok-Afresh-clause-most g c =
-    few_told c.args.runs.now c.afresh.new.runs c.afresh.result c.afresh.ensures.runs.ran (omega (arith, c.afresh.ensures.runs.few))
-    (few_once c.args.runs.now c.afresh.new.runs c.afresh.result c.afresh.ensures.runs.few)
-
 pub returns-in-Ok-From-clause-names : goal.returns-in-Ok-From-clause-names
 returns-in-Ok-From-clause-names g c =
     let e = c.in-Ok-From in
     from_names c.args.changes.now e.field-0 e.base (g.F.Files.holds c.args.files.now) (g.F.Files.holds c.find_start.new.files)
     (g.F.Files.holds c.from.new.files) c.from.result e.field-0-is e.ensures.starts e.ensures.reads.same c.from.ensures.names
-
-pub returns-in-Ok-From-clause-most : goal.returns-in-Ok-From-clause-most
-returns-in-Ok-From-clause-most g c =
-    few_told c.args.runs.now c.from.new.runs c.from.result c.from.ensures.runs.ran c.from.ensures.runs.few c.from.ensures.runs.once
 
 pub returns-in-Ok-Afresh-clause-clean : goal.returns-in-Ok-Afresh-clause-clean
 returns-in-Ok-Afresh-clause-clean g c =
@@ -49,34 +118,6 @@ returns-in-Ok-From-clause-clean g c =
     from_cleans c.args.changes.now e.field-0 e.base (g.F.Files.holds c.args.files.now) (g.F.Files.holds c.find_start.new.files)
     (g.F.Files.holds c.from.new.files) c.from.result e.field-0-is e.ensures.starts e.ensures.reads.same c.from.ensures.updates.clean
 
-pub returns-in-Ok-Afresh-clause-crash : goal.returns-in-Ok-Afresh-clause-crash
-returns-in-Ok-Afresh-clause-crash g c =
-    let e = c.in-Ok-Afresh in
-    crash_afresh g.F.Files.holds g.F.Files.moment g.F.Files.left_since g.F.Files.images c.args.changes.now c.args.files.now c.find_start.new.files
-    c.afresh.new.files e.ensures.reads.same e.ensures.reads.crash c.afresh.ensures.files.crash
-
-pub returns-in-Ok-From-clause-crash : goal.returns-in-Ok-From-clause-crash
-returns-in-Ok-From-clause-crash g c =
-    let e = c.in-Ok-From in
-    crash_based g.F.Files.holds g.F.Files.moment g.F.Files.left_since g.F.Files.images c.args.changes.now e.field-0 e.base c.args.files.now
-    c.find_start.new.files c.from.new.files e.field-0-is e.ensures.starts e.ensures.reads.same e.ensures.reads.crash c.from.ensures.files.crash
-
-pub returns-in-Err-Failed-clause-crash : goal.returns-in-Err-Failed-clause-crash
-returns-in-Err-Failed-clause-crash g c =
-    before_rest g.F.Files.holds g.F.Files.moment g.F.Files.left_since g.F.Files.images (MayStop c.args.changes.now) (stop_first c.args.changes.now)
-    c.args.files.now c.find_start.new.files c.in-Err-Failed.ensures.reads.crash
-
-pub returns-in-Err-OutOfMemory-clause-crash : goal.returns-in-Err-OutOfMemory-clause-crash
-returns-in-Err-OutOfMemory-clause-crash g c =
-    before_rest g.F.Files.holds g.F.Files.moment g.F.Files.left_since g.F.Files.images (MayStop c.args.changes.now) (stop_first c.args.changes.now)
-    c.args.files.now c.find_start.new.files c.in-Err-OutOfMemory.ensures.reads.crash
-
-pub from-requires : goal.from-requires
-from-requires g c =
-    let e = c.in-Ok-From in
-    let b = e.base.value in
-    base_of_text b (subst IsWhole e.field-0-is e.ensures.whole).text
-
 pub returns-in-Ok-Afresh-clause-asks : goal.returns-in-Ok-Afresh-clause-asks
 returns-in-Ok-Afresh-clause-asks g c =
     asks_afresh c.args.changes.now (g.F.Files.holds c.args.files.now) (g.F.Files.asked c.args.files.now) (g.F.Files.asked c.afresh.new.files) c.afresh.result
@@ -89,62 +130,60 @@ returns-in-Ok-From-clause-asks g c =
     (g.F.Files.asked c.args.files.now) (g.F.Files.asked c.find_start.new.files) (g.F.Files.asked c.from.new.files) c.from.result e.field-0-is e.ensures.starts
     e.ensures.reads.same e.ensures.asks c.from.ensures.updates.asks
 
-pub returns-in-Ok-Afresh-clause-marked : goal.returns-in-Ok-Afresh-clause-marked
-returns-in-Ok-Afresh-clause-marked g c =
-    let e = c.in-Ok-Afresh in
-    marked_afresh g.F.Files.holds g.F.Files.moment g.F.Files.left_since g.F.Files.images c.args.changes.now c.args.files.now c.find_start.new.files
-    c.afresh.new.files e.ensures.reads.same e.ensures.reads.crash c.afresh.ensures.files.marked
+pub returns-in-Ok-Afresh-clause-runs : goal.returns-in-Ok-Afresh-clause-runs
+returns-in-Ok-Afresh-clause-runs g c =
+    let old = c.args.runs.now in
+    let new = c.afresh.new.runs in
+    let r = c.afresh.ensures.runs in
+    record {
+      ran = r.ran;
+      few = few_twice old new r.few;
+      most = few_told old new c.afresh.result r.ran (few_twice old new r.few) (few_once old new c.afresh.result r.few);
+      encodable = r.encodable;
+    }
 
-pub returns-in-Ok-From-clause-marked : goal.returns-in-Ok-From-clause-marked
-returns-in-Ok-From-clause-marked g c =
-    let e = c.in-Ok-From in
-    marked_based g.F.Files.holds g.F.Files.moment g.F.Files.left_since g.F.Files.images c.args.changes.now e.field-0 e.base c.args.files.now c.find_start.new.files
-    c.from.new.files e.field-0-is e.ensures.starts e.ensures.reads.same e.ensures.reads.crash c.from.ensures.files.marked
+pub returns-in-Ok-From-clause-runs : goal.returns-in-Ok-From-clause-runs
+returns-in-Ok-From-clause-runs g c =
+    let r = c.from.ensures.runs in
+    record {
+      ran = r.ran;
+      few = r.few;
+      most = few_told c.args.runs.now c.from.new.runs c.from.result r.ran r.few r.once;
+      encodable = r.encodable;
+    }
 
-pub returns-in-Err-Failed-clause-marked : goal.returns-in-Err-Failed-clause-marked
-returns-in-Err-Failed-clause-marked g c =
-    marked_still g.F.Files.holds g.F.Files.moment g.F.Files.left_since g.F.Files.images (MayEnd c.args.changes.now) c.args.files.now c.find_start.new.files c.in-Err-Failed.ensures.reads.crash
+pub returns-in-Err-Failed-clause-runs : goal.returns-in-Err-Failed-clause-runs
+returns-in-Err-Failed-clause-runs g c = record { ran = tt; few = omega arith; most = tt; encodable = tt }
 
-pub returns-in-Err-OutOfMemory-clause-marked : goal.returns-in-Err-OutOfMemory-clause-marked
-returns-in-Err-OutOfMemory-clause-marked g c =
-    marked_still g.F.Files.holds g.F.Files.moment g.F.Files.left_since g.F.Files.images (MayEnd c.args.changes.now) c.args.files.now c.find_start.new.files c.in-Err-OutOfMemory.ensures.reads.crash
-
-pub returns-in-Ok-Afresh-clause-durable : goal.returns-in-Ok-Afresh-clause-durable
-returns-in-Ok-Afresh-clause-durable g c =
-    λ says.
-    rests_then g.F.Files.holds g.F.Files.moment g.F.Files.left_since g.F.Files.images c.args.files.now c.find_start.new.files c.afresh.new.files
-    c.in-Ok-Afresh.ensures.reads.same c.in-Ok-Afresh.ensures.reads.crash (c.afresh.ensures.files.durable says)
-
-pub returns-in-Ok-From-clause-durable : goal.returns-in-Ok-From-clause-durable
-returns-in-Ok-From-clause-durable g c =
-    λ says.
-    rests_then g.F.Files.holds g.F.Files.moment g.F.Files.left_since g.F.Files.images c.args.files.now c.find_start.new.files c.from.new.files
-    c.in-Ok-From.ensures.reads.same c.in-Ok-From.ensures.reads.crash (c.from.ensures.files.durable says)
-
-pub returns-in-Ok-Afresh-clause-idle : goal.returns-in-Ok-Afresh-clause-idle
-returns-in-Ok-Afresh-clause-idle g c = idle_after (g.F.Files.holds c.args.files.now) (g.F.Files.holds c.find_start.new.files) _ c.afresh.result
-    c.in-Ok-Afresh.ensures.reads.same c.afresh.ensures.project.idle
+pub returns-in-Err-OutOfMemory-clause-runs : goal.returns-in-Err-OutOfMemory-clause-runs
+returns-in-Err-OutOfMemory-clause-runs g c = record { ran = tt; few = omega arith; most = tt; encodable = tt }
 
 pub returns-in-Ok-Afresh-clause-project : goal.returns-in-Ok-Afresh-clause-project
-returns-in-Ok-Afresh-clause-project g c = project_after (g.F.Files.holds c.args.files.now) (g.F.Files.holds c.find_start.new.files) c.afresh.result
-    c.in-Ok-Afresh.ensures.reads.same c.afresh.ensures.project.project
-
-pub returns-in-Ok-From-clause-idle : goal.returns-in-Ok-From-clause-idle
-returns-in-Ok-From-clause-idle g c = idle_after (g.F.Files.holds c.args.files.now) (g.F.Files.holds c.find_start.new.files) _ c.from.result
-    c.in-Ok-From.ensures.reads.same c.from.ensures.project.idle
+returns-in-Ok-Afresh-clause-project g c =
+    let before = g.F.Files.holds c.args.files.now in
+    let mid = g.F.Files.holds c.find_start.new.files in
+    let same = c.in-Ok-Afresh.ensures.reads.same in
+    record {
+      idle = idle_after before mid _ c.afresh.result same c.afresh.ensures.project.idle;
+      project = project_after before mid c.afresh.result same c.afresh.ensures.project.project;
+    }
 
 pub returns-in-Ok-From-clause-project : goal.returns-in-Ok-From-clause-project
-returns-in-Ok-From-clause-project g c = project_after (g.F.Files.holds c.args.files.now) (g.F.Files.holds c.find_start.new.files) c.from.result
-    c.in-Ok-From.ensures.reads.same c.from.ensures.project.project
-
-pub returns-in-Err-Failed-clause-idle : goal.returns-in-Err-Failed-clause-idle
-returns-in-Err-Failed-clause-idle g c = if_always (g.F.Files.holds c.args.files.now) (λ h. absurd h)
+returns-in-Ok-From-clause-project g c =
+    let before = g.F.Files.holds c.args.files.now in
+    let mid = g.F.Files.holds c.find_start.new.files in
+    let same = c.in-Ok-From.ensures.reads.same in
+    record {
+      idle = idle_after before mid _ c.from.result same c.from.ensures.project.idle;
+      project = project_after before mid c.from.result same c.from.ensures.project.project;
+    }
 
 pub returns-in-Err-Failed-clause-project : goal.returns-in-Err-Failed-clause-project
-returns-in-Err-Failed-clause-project g c = if_always (g.F.Files.holds c.args.files.now) tt
-
-pub returns-in-Err-OutOfMemory-clause-idle : goal.returns-in-Err-OutOfMemory-clause-idle
-returns-in-Err-OutOfMemory-clause-idle g c = if_always (g.F.Files.holds c.args.files.now) (λ h. absurd h)
+returns-in-Err-Failed-clause-project g c =
+    let before = g.F.Files.holds c.args.files.now in
+    record { idle = if_always before (λ h. absurd h); project = if_always before tt }
 
 pub returns-in-Err-OutOfMemory-clause-project : goal.returns-in-Err-OutOfMemory-clause-project
-returns-in-Err-OutOfMemory-clause-project g c = if_always (g.F.Files.holds c.args.files.now) tt
+returns-in-Err-OutOfMemory-clause-project g c =
+    let before = g.F.Files.holds c.args.files.now in
+    record { idle = if_always before (λ h. absurd h); project = if_always before tt }

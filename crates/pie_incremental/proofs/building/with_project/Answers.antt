@@ -8,6 +8,7 @@ use Rattle.pie_value.specs.declared.task.Task.{Task}
 use Rattle.pie_incremental.proofs.Asked.{afresh_asking, large_asking, reported_asking}
 use Rattle.pie_incremental.proofs.Joining.{few_once, few_twice}
 use Rattle.pie_incremental.proofs.Parts.{again_once, endures_large, endures_run, endures_stopped, reported_once}
+use Rattle.pie_incremental.proofs.Refusing.{rebuilt}
 use Rattle.pie_incremental.proofs.Treating.{large_treats, treats_again, treats_reported}
 use Rattle.pie_incremental.proofs.Updating.{again_runs, as_before, large_runs, reported_runs}
 use Rattle.pie_incremental.proofs.building.with_project.Goals as goal
@@ -37,7 +38,7 @@ pub returns-then-not-are_small-clause-files : goal.returns-then-not-are_small-cl
 returns-then-not-are_small-clause-files g c =
     let r = c.rebuild.ensures in
     endures_large g.F.Files.holds g.F.Files.moment g.F.Files.left_since g.F.Files.images c.args.base.value c.args.project.now c.args.changes.now
-    (IsVerdict c.rebuild.result) c.args.files.now c.rebuild.new.files r.rest r.crash r.durable
+    (IsVerdict c.rebuild.result) c.args.files.now c.rebuild.new.files r.files.rest r.crash r.durable
 
 pub returns-in-Ok-Reported-clause-files : goal.returns-in-Ok-Reported-clause-files
 returns-in-Ok-Reported-clause-files g c =
@@ -108,7 +109,7 @@ returns-in-Ok-Stopped-clause-updates g c =
 
 pub returns-then-not-are_small-clause-runs : goal.returns-then-not-are_small-clause-runs
 returns-then-not-are_small-clause-runs g c =
-    let r = c.rebuild.ensures in
+    let r = c.rebuild.ensures.started in
     record {
       ran = r.ran;
       few = few_twice c.args.runs.now c.rebuild.new.runs r.few;
@@ -127,3 +128,9 @@ returns-in-Ok-Stopped-clause-runs g c =
     let e = c.in-Ok-Stopped in
     again_once c.count-before.result c.args.runs.now c.run.new.runs c.again.new.runs e.field-0 e.stop c.again.result c.count-before.ensures e.field-0-is
     e.ensures.runs.ran e.ensures.runs.few c.again.ensures.runs
+
+pub returns-then-not-are_small-clause-refuses : goal.returns-then-not-are_small-clause-refuses
+returns-then-not-are_small-clause-refuses g c = record {
+  refused = c.rebuild.ensures.refuses.refused;
+  says = rebuilt (g.F.Files.holds c.args.files.now) c.rebuild.result c.rebuild.ensures.says.says;
+}

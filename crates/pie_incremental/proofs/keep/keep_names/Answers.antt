@@ -13,31 +13,31 @@ returns-in_err-plan-clause-rest g c = keeps_same (g.F.Files.holds c.args.files.n
 pub returns-clause-kept : goal.returns-clause-kept
 returns-clause-kept g c =
     kept_of c.args.names.now (option_copied c.args.before) c.in_ok-plan.plan c.in_ok-plan.ensures.plan (g.F.Files.holds c.args.files.now)
-    (g.F.Files.holds c.commit_plan.new.files) c.in_ok-commit_plan.ensures.done
+    (g.F.Files.holds c.commit_plan.new.files) c.in_ok-commit_plan.ensures.changes.done
 
 pub returns-clause-rest : goal.returns-clause-rest
 returns-clause-rest g c =
     keeps_of c.args.names.now (option_copied c.args.before) c.in_ok-plan.plan c.in_ok-plan.ensures.plan (g.F.Files.holds c.args.files.now)
-    (g.F.Files.holds c.commit_plan.new.files) c.in_ok-commit_plan.ensures.outside
+    (g.F.Files.holds c.commit_plan.new.files) c.in_ok-commit_plan.ensures.changes.outside
 
 pub returns-clause-crash : goal.returns-clause-crash
 returns-clause-crash g c =
     leaves_as g.F.Files.holds g.F.Files.moment g.F.Files.left_since g.F.Files.images (IsOfThree c.in_ok-plan.plan)
     (IsOfNames c.args.names.now (option_copied c.args.before))
     (names_crash c.args.names.now (option_copied c.args.before) c.in_ok-plan.plan c.in_ok-plan.ensures.plan) c.args.files.now c.commit_plan.new.files
-    c.in_ok-commit_plan.ensures.crash
+    c.in_ok-commit_plan.ensures.crash.crash
 
 pub returns-in_err-commit_plan-clause-rest : goal.returns-in_err-commit_plan-clause-rest
 returns-in_err-commit_plan-clause-rest g c =
     keeps_of c.args.names.now (option_copied c.args.before) c.in_ok-plan.plan c.in_ok-plan.ensures.plan (g.F.Files.holds c.args.files.now)
-    (g.F.Files.holds c.commit_plan.new.files) c.in_err-commit_plan.ensures.outside
+    (g.F.Files.holds c.commit_plan.new.files) c.in_err-commit_plan.ensures.changes.outside
 
 pub returns-in_err-commit_plan-clause-crash : goal.returns-in_err-commit_plan-clause-crash
 returns-in_err-commit_plan-clause-crash g c =
     leaves_as g.F.Files.holds g.F.Files.moment g.F.Files.left_since g.F.Files.images (IsOfThree c.in_ok-plan.plan)
     (IsOfNames c.args.names.now (option_copied c.args.before))
     (names_crash c.args.names.now (option_copied c.args.before) c.in_ok-plan.plan c.in_ok-plan.ensures.plan) c.args.files.now c.commit_plan.new.files
-    c.in_err-commit_plan.ensures.crash
+    c.in_err-commit_plan.ensures.crash.crash
 
 pub returns-clause-marked : goal.returns-clause-marked
 returns-clause-marked g c =
@@ -51,4 +51,5 @@ returns-in_err-commit_plan-clause-marked g c =
 
 pub returns-in_err-plan-clause-marked : goal.returns-in_err-plan-clause-marked
 returns-in_err-plan-clause-marked g c =
-    marked_none g.F.Files.holds g.F.Files.moment g.F.Files.left_since g.F.Files.images (EndsNames c.args.names.now (option_copied c.args.before)) c.args.files.now
+    marked_none g.F.Files.holds g.F.Files.moment g.F.Files.left_since g.F.Files.images (EndsNames c.args.names.now (option_copied c.args.before))
+    c.args.files.now
