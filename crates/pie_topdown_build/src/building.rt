@@ -1,20 +1,15 @@
 //! A build that needs no list of changes.
-ghost use Rattle.std.specs.Prelude.{◌≡◌, ◌≤◌, ◌+◌, ◌++◌, List, [], length, map, All, IfOk, IfSome};
-ghost use Rattle.pie_build.specs.Left.{KeepsRest, Leaves};
-ghost use Rattle.pie_build.specs.Crashes.{IsDone, StaysAtRest};
-ghost use Rattle.pie_build.specs.inner.Rebuilt.{IsRefusal, Tells};
-ghost use Rattle.pie_commit.specs.Outcomes.{LeavesFromRest};
-ghost use Rattle.pie_incremental.specs.Crashes.{EndsMarked};
+ghost use Rattle.std.specs.Prelude.{List, [], map, IfOk, IfSome};
+ghost use Rattle.pie_build.specs.Left.{Leaves};
+ghost use Rattle.pie_build.specs.Crashes.{IsDone};
+ghost use Rattle.pie_build.specs.inner.Rebuilt.{Tells};
 ghost use Rattle.pie_incremental.specs.Own.{IsClosed};
-ghost use Rattle.pie_incremental.specs.inner.Refused.{RefusesRight};
 ghost use Rattle.pie_incremental.specs.inner.Updated.{IsAfreshAfter};
 ghost use Rattle.pie_project.specs.Refusals.{IsVerdict};
 ghost use Rattle.pie_value.specs.declared.task.Task.{Task as TaskValue};
-ghost use Rattle.pie_value.specs.Canonical.{IsEncodableTask};
 ghost use Rattle.pie_topdown_build.specs.inner.News.{as_told, AreNewsOf};
-ghost use Rattle.pie_topdown_build.specs.inner.Offered.{IsNew};
 ghost use Rattle.pie_topdown_build.specs.Clean.{BuildsAsClean};
-ghost use Rattle.pie_topdown_build.specs.Crashes.{HasEnded, MayStop, StopsWith};
+ghost use Rattle.pie_topdown_build.specs.Crashes.{HasEnded};
 ghost use Rattle.pie_topdown_build.specs.inner.Bases.{IsBase};
 ghost use Rattle.pie_topdown_build.specs.inner.Stored.{IsBegunFrom};
 ghost use Rattle.pie_topdown_build.specs.Ran.{RunsForReasons};
@@ -24,7 +19,6 @@ ghost use Rattle.pie_topdown_build.specs.inner.Crashes.{EndsAnew, EndsFrom, Ends
 ghost use Rattle.pie_topdown_build.specs.inner.Ran.{FromRuns, OffersRun, RunsAnew};
 ghost use Rattle.pie_topdown_build.specs.inner.Records.{OffersOf, TellsAnew};
 ghost use Rattle.pie_topdown_build.specs.inner.Said.{RefusesUnchanged, Stays, TellsOffersOf, TellsRuns, TellsRunsFor};
-ghost use Rattle.pie_topdown_build.specs.Refusals.{KeepsRefused};
 
 use crate::base::{Base, Start, find_base, no_base};
 use crate::joining::from;
@@ -42,24 +36,16 @@ use std::alloc::Global;
 /// clean build would, and no pending names; a refused one changes no file. The whole plan and the report are made before the first write. The tasks
 /// that are started are added to the runs, and reported.
 /// Rule: docs/BUILDING.md, "A build without a list".
-#[tactic(auto, using(crate::proofs::Refusing::after, crate::proofs::Refusing::faulty, pie_build::proofs::OwnPaths::same_keeps, pie_incremental::proofs::Joining::rest_then))]
 pub fn build_topdown<F: Files>(
     alloc: Global,
     files: &mut F,
     runs: &mut Runs,
 ) -> Result<Report, BuildError>
-    ensures rest { KeepsRest (F.holds files.old) (F.holds files.new) }
-    ensures refused { IsRefusal result → F.holds files.new ≡ F.holds files.old }
-    ensures kept { IfSome (F.holds files.old) (λ d. IfOk result (λ r. KeepsRefused r.verdict d (F.holds files.new))) }
+    ensures stays { Stays F.holds F.moment F.left_since F.images HasEnded (IsVerdict result) files.old files.new }
+    ensures refuses { RefusesUnchanged (F.holds files.old) (F.holds files.new) result (λ r. r) }
     ensures clean { IfSome (F.holds files.old) (λ d. IfOk result (λ r. BuildsAsClean d r (F.holds files.new))) }
-    ensures crash { LeavesFromRest F.holds F.moment F.left_since F.images MayStop files.old files.new }
-    ensures marked { EndsMarked F.holds F.images HasEnded files.old files.new }
-    ensures durable { IsVerdict result → StaysAtRest F.holds F.images files.old files.new }
     ensures runs { IfSome (F.holds files.old) (λ d. IfOk result (RunsForReasons d)) }
-    ensures ran { IfOk result (λ r. runs.new ≡ runs.old ++ r.ran.items) }
-    ensures few { length runs.new ≤ length runs.old + 50000 }
-    ensures encodable { IfOk result (λ r. All IsEncodableTask r.ran.items) }
-    ensures says { IfSome (F.holds files.old) (λ d. RefusesRight d result) }
+    ensures ran { TellsRuns runs.old runs.new result (λ r. r) }
     ensures told { Tells F.faults files.old files.new result }
 {
     match find_base(alloc, files) {
@@ -73,29 +59,18 @@ pub fn build_topdown<F: Files>(
 /// The same build with offers: a task whose own record doesn't stand may have another one, which is kept where it stands. They serve also where there is
 /// nothing to build from: then it builds from an empty store, and the report tells the cause. Of an accepted build, what the live tasks that ran recorded
 /// and wrote is told, as later builds may be offered it.
-#[tactic(auto, using(crate::proofs::Refusing::after_offered, crate::proofs::Refusing::faulty_offered, pie_build::proofs::OwnPaths::same_keeps, pie_incremental::proofs::Joining::rest_then))]
 pub fn build_offered<F: Files, O: Offers>(
     alloc: Global,
     files: &mut F,
     offers: &mut O,
     runs: &mut Runs,
 ) -> Result<Offered, BuildError>
-    ensures rest { KeepsRest (F.holds files.old) (F.holds files.new) }
-    ensures refused { IsRefusal result → F.holds files.new ≡ F.holds files.old }
-    ensures kept { IfSome (F.holds files.old) (λ d. IfOk result (λ o. KeepsRefused o.report.value.verdict d (F.holds files.new))) }
+    ensures stays { Stays F.holds F.moment F.left_since F.images (EndsOffered (O.told offers.old)) (IsVerdict result) files.old files.new }
+    ensures refuses { RefusesUnchanged (F.holds files.old) (F.holds files.new) result (λ o. o.report.value) }
     ensures clean { IfSome (F.holds files.old) (λ d. IfOk result (λ o. OffersClean (O.told offers.old) d o.report.value (F.holds files.new))) }
     ensures runs { IfSome (F.holds files.old) (λ d. IfOk result (λ o. OffersRun (O.told offers.old) d o.report.value o.reused.items)) }
-    ensures crash { LeavesFromRest F.holds F.moment F.left_since F.images (StopsWith (EndsOffered (O.told offers.old))) files.old files.new }
-    ensures marked { EndsMarked F.holds F.images (EndsOffered (O.told offers.old)) files.old files.new }
-    ensures durable { IsVerdict result → StaysAtRest F.holds F.images files.old files.new }
-    ensures ran { IfOk result (λ o. runs.new ≡ runs.old ++ o.report.value.ran.items) }
-    ensures few { length runs.new ≤ length runs.old + 50000 }
-    ensures encodable { IfOk result (λ o. All IsEncodableTask o.report.value.ran.items) }
-    ensures reused { IfOk result (λ o. All IsEncodableTask o.reused.items) }
-    ensures new { IfOk result (λ o. All IsNew o.new.items) }
-    ensures news { IfOk result (λ o. AreNewsOf IsClosed (F.holds files.old) (F.holds files.new) o) }
-    ensures honest { IfSome (F.holds files.old) (λ d. IfOk result (λ o. OffersOf (O.told offers.old) d o.report.value (map as_told o.new.items))) }
-    ensures says { IfSome (F.holds files.old) (λ d. RefusesRight d result) }
+    ensures ran { TellsRuns runs.old runs.new result (λ o. o.report.value) }
+    ensures tells { TellsOffersOf (F.holds files.old) result (AreNewsOf IsClosed (F.holds files.old) (F.holds files.new)) (λ d o. OffersOf (O.told offers.old) d o.report.value (map as_told o.new.items)) }
     ensures told { Tells F.faults files.old files.new result }
 {
     match find_base(alloc, files) {

@@ -88,7 +88,6 @@ fn with_project<F: Files, O: Offers>(
 }
 
 // A clean build, which is offered nothing.
-#[tactic(auto, using(crate::proofs::Refusing::offered, crate::proofs::Saying::kept_left))]
 fn rebuilt<F: Files>(alloc: Global, files: &mut F, runs: &mut Runs) -> Result<Offered, BuildError>
     ensures stays { Stays F.holds F.moment F.left_since F.images (IsDone Leaves) (IsVerdict result) files.old files.new }
     ensures refuses { RefusesUnchanged (F.holds files.old) (F.holds files.new) result (λ o. o.report.value) }

@@ -24,9 +24,9 @@ returns-in-Ok-clause-crash g c =
     endures_commit c.args.plan.now c.requires.changes g.F.Files.holds g.F.Files.moment g.F.Files.left_since g.F.Files.images _ c.args.files.now c.commit.new.files
     c.commit.ensures.crash
     (ends_told g.F.Files.holds g.F.Files.images c.args.plan.now c.args.files.now c.commit.new.files c.commit.result c.commit.ensures.done
-    c.commit.ensures.durable c.commit.ensures.empty c.commit.ensures.failed)
+    c.commit.ensures.ends.durable c.commit.ensures.empty c.commit.ensures.ends.failed)
     (λ settled.
-    commit_rests g.F.Files.holds g.F.Files.images c.args.plan.now c.args.files.now c.commit.new.files {A = Unit {0}} (Ok tt) c.in-Ok.ensures.durable
+    commit_rests g.F.Files.holds g.F.Files.images c.args.plan.now c.args.files.now c.commit.new.files {A = Unit {0}} (Ok tt) c.in-Ok.ensures.ends.durable
     c.commit.ensures.empty)
 
 pub returns-in-Err-clause-crash : goal.returns-in-Err-clause-crash
@@ -34,5 +34,5 @@ returns-in-Err-clause-crash g c =
     endures_commit c.args.plan.now c.requires.changes g.F.Files.holds g.F.Files.moment g.F.Files.left_since g.F.Files.images _ c.args.files.now c.commit.new.files
     c.commit.ensures.crash
     (ends_told g.F.Files.holds g.F.Files.images c.args.plan.now c.args.files.now c.commit.new.files c.commit.result c.commit.ensures.done
-    c.commit.ensures.durable c.commit.ensures.empty c.commit.ensures.failed)
+    c.commit.ensures.ends.durable c.commit.ensures.empty c.commit.ensures.ends.failed)
     (λ settled. absurd (false≢true settled))
