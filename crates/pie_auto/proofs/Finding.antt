@@ -1,6 +1,6 @@
 -- A build by what was found, and the manifest after it.
 use Rattle.std.proofs.Common.{◌≡◌, ℕ, Bool, true, false, List, refl, sym, ap, subst, ◌∙◌}
-use Rattle.std.specs.Prelude.{◌||◌, ◌&&◌, not, Option, None, Some, IfSome, Result, Ok, Err, IfOk, OnOk, Vec}
+use Rattle.std.specs.Prelude.{◌≤◌, ◌+◌, ◌++◌, ◌||◌, ◌&&◌, length, not, All, Option, None, Some, IfSome, Result, Ok, Err, IfOk, OnOk, Vec}
 use Rattle.std.specs.declared.alloc.Global.{Global}
 use Rattle.std.proofs.lemmas.Bool.{false≢true}
 use Rattle.pie_base.specs.Path.{is_kept, is_out, is_source, same_text}
@@ -16,10 +16,12 @@ use Rattle.pie_listing.proofs.Joining.{still_sources}
 use Rattle.pie_scan.specs.Scanned.{AreScanned}
 use Rattle.pie_scan.specs.declared.entry.Entry.{Entry}
 use Rattle.pie_report.specs.declared.report.Report.{Report}
+use Rattle.pie_value.specs.Canonical.{IsEncodableTask}
+use Rattle.pie_value.specs.declared.task.Task.{Task}
 use Rattle.pie_value.specs.declared.verdict.Verdict.TheVariants.{Accepted}
 use Rattle.pie_auto.specs.declared.automatic.Automatic.{Automatic}
 use Rattle.pie_auto.specs.Found.{BuildsBy, Follows, KeepsOutside, may_find}
-use Rattle.pie_auto.specs.inner.Parts.{IsFollowed}
+use Rattle.pie_auto.specs.inner.Parts.{IsFollowed, TellsRuns}
 use Rattle.pie_auto.specs.Kept.{KeepsAllButManifest, Wrote}
 use Rattle.pie_auto.specs.inner.Drafts.{AreSeen, AreSeenIn}
 use Rattle.pie_auto.proofs.Keeping.{apart}
@@ -119,3 +121,15 @@ module _ {E : Type 0} (mid after : Option Directory) (tops : List (List ℕ)) (s
       → IfOk result (λ f. f.report ≡ report) → IfSome o (λ d. HasSeen d tops s → IfOk result (λ f. IsFollowed tops d f.listing f.report after))
   followed_if None result built keeps follows listing told = tt
   followed_if (Some d) result built keeps follows listing told = followed_by d result built keeps follows listing told
+
+-- ---- the tasks that were started
+
+-- the answer has the report of the build
+pub tells_report : {E : Type 0} (old new : List Task) (report : Report) (result : Result Automatic E) → new ≡ old ++ report.ran.items
+    → length new ≤ length old + 100000 → All IsEncodableTask report.ran.items → IfOk result (λ f. f.report ≡ report) → TellsRuns old new result (λ f. f.report)
+tells_report old new report (Ok f) ran few encodable told = record {
+  ran = subst (λ (r : Report). new ≡ old ++ r.ran.items) (sym told) ran;
+  few = few;
+  encodable = subst (λ (r : Report). All IsEncodableTask r.ran.items) (sym told) encodable;
+}
+tells_report old new report (Err e) ran few encodable told = record { ran = tt; few = few; encodable = tt }

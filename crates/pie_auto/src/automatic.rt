@@ -9,7 +9,7 @@ ghost use Rattle.pie_value.specs.declared.verdict.Verdict.TheVariants.{Accepted}
 ghost use Rattle.pie_auto.specs.Found.{BuildsBy, Follows, HasFound, KeepsOutside};
 ghost use Rattle.pie_auto.specs.Kept.{KeepsAllButManifest};
 ghost use Rattle.pie_auto.specs.inner.Drafts.{AreSeenIn};
-ghost use Rattle.pie_auto.specs.inner.Parts.{IsFollowed};
+ghost use Rattle.pie_auto.specs.inner.Parts.{IsFollowed, TellsRuns};
 ghost use Rattle.pie_listing.specs.inner.Steps.{AreOrdered, HasSeen};
 
 use crate::keep_manifest;
@@ -74,9 +74,7 @@ fn with_scan<F: Files>(
     ensures followed { IfSome (F.holds files.old) (λ d. HasSeen d tops.now scan → IfOk result (λ found. IsFollowed tops.now d found.listing found.report (F.holds files.new))) }
     ensures rest { KeepsOutside (F.holds files.old) (F.holds files.new) }
     ensures refused { IsRefusal result → F.holds files.new ≡ F.holds files.old }
-    ensures ran { IfOk result (λ found. runs.new ≡ runs.old ++ found.report.ran.items) }
-    ensures few { length runs.new ≤ length runs.old + 100000 }
-    ensures encodable { IfOk result (λ found. All IsEncodableTask found.report.ran.items) }
+    ensures ran { TellsRuns runs.old runs.new result (λ found. found.report) }
     ensures says { IfSome (F.holds files.old) (λ d. RefusesRight d result) }
     ensures told { Tells F.faults files.old files.new result }
 {

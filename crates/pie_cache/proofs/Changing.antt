@@ -137,6 +137,11 @@ module _ {S : Type 0} (holds : S → Option Directory) (moment : S → ℕ) (lef
       → ChangesCacheOnly holds moment left_since images old new
   outside_look old new same may = record { kept = keeps_same (holds old) (holds new) same; crash = stays_leaves old new may }
 
+  -- calls that only read
+  pub outside_read : (old new : S) → holds new ≡ holds old → LeavesAsBefore holds moment left_since images old new
+      → ChangesCacheOnly holds moment left_since images old new
+  outside_read old new same leaves = record { kept = keeps_same (holds old) (holds new) same; crash = read_leaves old new leaves }
+
   -- some calls and then others
   pub outside_both : (old mid new : S) → ChangesCacheOnly holds moment left_since images old mid → ChangesCacheOnly holds moment left_since images mid new
       → ChangesCacheOnly holds moment left_since images old new

@@ -37,8 +37,7 @@ impl Cache {
         ensures changes { is_none fresh.items ≡ false → OnOk result (IfSome (F.holds files.old) (λ d. ChangesFor fresh.items d (F.asked files.old) (F.asked files.new))) }
         ensures whole { LeavesFromRest F.holds F.moment F.left_since F.images (KeepsWhole fresh.items) files.old files.new }
         ensures durable { OnOk result (StaysAtRest F.holds F.images files.old files.new) }
-        ensures kept { KeepsOutside (F.holds files.old) (F.holds files.new) }
-        ensures crash { LeavesAlike F.holds F.moment F.left_since F.images files.old files.new }
+        ensures outside { ChangesCacheOnly F.holds F.moment F.left_since F.images files.old files.new }
         ensures counted { Counted F.faults FilesError.Failed files.old files.new result }
     {
         if fresh.is_empty() {

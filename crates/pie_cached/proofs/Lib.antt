@@ -8,6 +8,7 @@ pub mod Keeping
 pub mod Others
 pub mod Ran
 pub mod Refusing
+pub mod Saying
 pub mod Separately
 pub mod Staying
 pub mod Stopping

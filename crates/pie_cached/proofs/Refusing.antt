@@ -64,8 +64,3 @@ never A (Some d) (Err (errors.Pipeline f)) not = absurd (not tt)
 never A (Some d) (Err (errors.Roots r)) not = absurd (not tt)
 never A (Some d) (Err errors.Files) not = tt
 never A (Some d) (Err errors.OutOfMemory) not = tt
-
--- and where nothing is said of a project
-pub without : (o : Option Directory) → IfSome o (λ (d : Directory). Unit {0})
-without None = tt
-without (Some d) = tt

@@ -2,3 +2,4 @@
 pub mod Clean
 pub mod Crashes
 pub mod News
+pub mod Said

@@ -1,5 +1,5 @@
 //! A build with the record cache.
-ghost use Rattle.std.specs.Prelude.{◌≡◌, ◌≤◌, ◌+◌, ◌++◌, ◌∷◌, [], None, length, map, All, IfOk, IfSome, OnOk};
+ghost use Rattle.std.specs.Prelude.{◌≡◌, ◌++◌, ◌∷◌, [], None, map, All, IfOk, IfSome, OnOk};
 ghost use Rattle.pie_build.specs.Crashes.{StaysAtRest};
 ghost use Rattle.pie_build.specs.inner.Rebuilt.{IsRefusal, Tells};
 ghost use Rattle.pie_cache.specs.inner.Changes.{LeavesAlike};
@@ -10,18 +10,17 @@ ghost use Rattle.pie_cache.specs.inner.Texts.{IsKept};
 ghost use Rattle.pie_commit.specs.Outcomes.{LeavesFromRest};
 ghost use Rattle.pie_files.specs.Directory.{file_at};
 ghost use Rattle.pie_files.specs.Streams.{Counted};
-ghost use Rattle.pie_incremental.specs.inner.Refused.{RefusesRight};
 ghost use Rattle.pie_project.specs.Refusals.{IsVerdict};
 ghost use Rattle.pie_store.specs.inner.Offers.{offered as offer_of};
-ghost use Rattle.pie_value.specs.Canonical.{IsEncodableTask};
-ghost use Rattle.pie_cached.specs.Cached.{KeepsAllButCache, KeepsOthers, StaysIfRefused};
-ghost use Rattle.pie_cached.specs.Crashes.{EndsMarkedCached, StopsCached};
+ghost use Rattle.pie_cached.specs.Cached.{KeepsAllButCache};
+ghost use Rattle.pie_cached.specs.Crashes.{MarkedCached, StopsCached};
 ghost use Rattle.pie_cached.specs.Kept.{KeepsCached};
 ghost use Rattle.pie_cached.specs.Ran.{CachesRun};
 ghost use Rattle.pie_cached.specs.inner.News.{kept_of, placed, KeepsTold, LeavesCache, LeavesNews};
 ghost use Rattle.pie_topdown_build.specs.inner.News.{as_told};
 ghost use Rattle.pie_cached.specs.inner.Clean.{CachesCleanBy, OpenedClean};
-ghost use Rattle.pie_cached.specs.inner.Crashes.{EndsMarkedOpened, StopsKeeping, StopsOpened};
+ghost use Rattle.pie_cached.specs.inner.Crashes.{MarkedOpened, StopsKeeping, StopsOpened};
+ghost use Rattle.pie_cached.specs.inner.Said.{Endures, EnduresKeeping, RefusesAlike, TellsTasks};
 ghost use Rattle.pie_topdown_build.specs.inner.Offered.{IsNew};
 ghost use Rattle.pie_topdown_build.specs.inner.Ran.{OffersRun};
 
@@ -40,27 +39,18 @@ use std::alloc::Global;
 /// build the cache keeps what the tasks gave that ran. Answers the report, and the live tasks whose records came from the cache. Where keeping fails, the
 /// build is in place, and its report is lost. The tasks that are started are added to the runs, and reported.
 /// Rule: docs/BUILDING.md, "The record cache".
-#[tactic(auto, using(crate::proofs::Others::others))]
 pub fn build_cached<F: Files>(
     alloc: Global,
     files: &mut F,
     runs: &mut Runs,
 ) -> Result<(Report, Vec<Task>), BuildError>
-    ensures rest { KeepsOthers (F.holds files.old) (F.holds files.new) }
-    ensures refused { IsRefusal result → KeepsAllButCache (F.holds files.old) (F.holds files.new) }
-    ensures kept { IfOk result (λ r. StaysIfRefused r.0.verdict (F.holds files.old) (F.holds files.new)) }
+    ensures stays { Endures F.holds F.moment F.left_since F.images StopsCached MarkedCached (IsVerdict result) files.old files.new }
+    ensures refuses { RefusesAlike (F.holds files.old) (F.holds files.new) result }
     ensures cache { IfSome (F.holds files.old) (λ d. IfOk result (λ r. LeavesCache d r.0 (F.holds files.new))) }
     ensures others { IfOk result (λ r. KeepsCached r.0.verdict r.0.ran.items (F.holds files.old) (F.holds files.new)) }
     ensures clean { IfSome (F.holds files.old) (λ d. IfOk result (λ r. CachesCleanBy d r.0 (F.holds files.new))) }
     ensures runs { IfSome (F.holds files.old) (λ d. IfOk result (λ r. CachesRun d r.0 r.1.items)) }
-    ensures crash { LeavesFromRest F.holds F.moment F.left_since F.images StopsCached files.old files.new }
-    ensures marked { EndsMarkedCached F.holds F.images files.old files.new }
-    ensures durable { IsVerdict result → StaysAtRest F.holds F.images files.old files.new }
-    ensures ran { IfOk result (λ r. runs.new ≡ runs.old ++ r.0.ran.items) }
-    ensures few { length runs.new ≤ length runs.old + 50000 }
-    ensures encodable { IfOk result (λ r. All IsEncodableTask r.0.ran.items) }
-    ensures reused { IfOk result (λ r. All IsEncodableTask r.1.items) }
-    ensures says { IfSome (F.holds files.old) (λ d. RefusesRight d result) }
+    ensures ran { TellsTasks runs.old runs.new result }
     ensures told { Tells F.faults files.old files.new result }
 {
     match Cache::open(alloc, files) {
@@ -71,27 +61,18 @@ pub fn build_cached<F: Files>(
 }
 
 // Builds with a cache that was opened, and keeps what is new.
-#[tactic(auto, using(crate::proofs::Others::others))]
 fn with_cache<F: Files>(
     alloc: Global,
     files: &mut F,
     cache: Cache,
     runs: &mut Runs,
 ) -> Result<(Report, Vec<Task>), BuildError>
-    ensures rest { KeepsOthers (F.holds files.old) (F.holds files.new) }
-    ensures refused { IsRefusal result → KeepsAllButCache (F.holds files.old) (F.holds files.new) }
-    ensures kept { IfOk result (λ r. StaysIfRefused r.0.verdict (F.holds files.old) (F.holds files.new)) }
+    ensures stays { Endures F.holds F.moment F.left_since F.images StopsOpened MarkedOpened (IsVerdict result) files.old files.new }
+    ensures refuses { RefusesAlike (F.holds files.old) (F.holds files.new) result }
     ensures cache { IfSome (F.holds files.old) (λ d. file_at d gate ≡ None → IfOk result (λ r. LeavesNews d (file_at d) r.0 (F.holds files.new))) }
     ensures clean { IfSome (F.holds files.old) (λ d. IfOk result (λ r. OpenedClean d r.0 (F.holds files.new))) }
     ensures runs { IfSome (F.holds files.old) (λ d. IfOk result (λ r. OffersRun offers_in d r.0 r.1.items)) }
-    ensures crash { LeavesFromRest F.holds F.moment F.left_since F.images StopsOpened files.old files.new }
-    ensures marked { EndsMarkedOpened F.holds F.images files.old files.new }
-    ensures durable { IsVerdict result → StaysAtRest F.holds F.images files.old files.new }
-    ensures ran { IfOk result (λ r. runs.new ≡ runs.old ++ r.0.ran.items) }
-    ensures few { length runs.new ≤ length runs.old + 50000 }
-    ensures encodable { IfOk result (λ r. All IsEncodableTask r.0.ran.items) }
-    ensures reused { IfOk result (λ r. All IsEncodableTask r.1.items) }
-    ensures says { IfSome (F.holds files.old) (λ d. RefusesRight d result) }
+    ensures ran { TellsTasks runs.old runs.new result }
     ensures told { Tells F.faults files.old files.new result }
 {
     let mut cache = cache;
@@ -114,9 +95,7 @@ fn finish<F: Files>(
     ensures reused { IfOk result (λ r. r.1 ≡ offered.reused) }
     ensures rest { KeepsAllButCache (F.holds files.old) (F.holds files.new) }
     ensures cache { OnOk result (KeepsTold (kept_of offered.report.value.verdict (map as_told offered.new.items)) (F.holds files.old) (F.holds files.new)) }
-    ensures whole { LeavesFromRest F.holds F.moment F.left_since F.images (StopsKeeping (kept_of offered.report.value.verdict (map as_told offered.new.items))) files.old files.new }
-    ensures alike { LeavesAlike F.holds F.moment F.left_since F.images files.old files.new }
-    ensures durable { IsVerdict result → StaysAtRest F.holds F.images files.old files.new }
+    ensures stays { EnduresKeeping F.holds F.moment F.left_since F.images (kept_of offered.report.value.verdict (map as_told offered.new.items)) (IsVerdict result) files.old files.new }
     ensures accepted { IsRefusal result → ⊥ }
     ensures told { Tells F.faults files.old files.new result }
 {

@@ -12,6 +12,12 @@ returns-clause-cache g c =
     kept_told c.args.new.items c.in_ok-fresh.fresh.items c.in_ok-fresh.ensures.placed c.in_ok-fresh.ensures.news (g.F.Files.holds c.args.files.now)
     (g.F.Files.holds c.keep.new.files) c.keep.result (λ none. ap (λ s. g.F.Files.holds s) (c.keep.ensures.nothing none)) c.keep.ensures.done
 
+pub returns-clause-rest : goal.returns-clause-rest
+returns-clause-rest g c = c.keep.ensures.outside.kept
+
+pub returns-clause-alike : goal.returns-clause-alike
+returns-clause-alike g c = c.keep.ensures.outside.crash
+
 pub returns-clause-whole : goal.returns-clause-whole
 returns-clause-whole g c =
     keeping_told g.F.Files.holds g.F.Files.moment g.F.Files.left_since g.F.Files.images c.args.new.items c.in_ok-fresh.fresh.items c.in_ok-fresh.ensures.placed

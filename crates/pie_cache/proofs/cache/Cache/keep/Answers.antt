@@ -4,7 +4,7 @@ use Rattle.std.specs.Prelude.{OnOk}
 use Rattle.pie_commit.specs.Outcomes.{HasBrought}
 use Rattle.pie_commit.specs.inner.Plans.{Wanted, Gone, at, later, written}
 use Rattle.pie_cache.specs.inner.Places.{gate}
-use Rattle.pie_cache.proofs.Changing.{both_leave, keeps_both, keeps_same, read_leaves}
+use Rattle.pie_cache.proofs.Changing.{outside_both, outside_none, outside_read}
 use Rattle.pie_cache.proofs.Kept.{has_kept}
 use Rattle.pie_commit.specs.inner.Steps.{Makes}
 use Rattle.pie_cache.specs.inner.Steps.{putting, Changes}
@@ -20,17 +20,22 @@ use Rattle.pie_cache.proofs.Gating.{whole_as}
 use Rattle.pie_cache.proofs.Resting.{rests_none, rests_then}
 use Rattle.pie_cache.proofs.cache.Cache.keep.Goals as goal
 
-pub returns-clause-kept : goal.returns-clause-kept
-returns-clause-kept g c =
-    keeps_both (g.F.Files.holds c.args.files.now) (g.F.Files.holds c.drafts.new.files) (g.F.Files.holds c.put_drafts.new.files)
-    (keeps_same (g.F.Files.holds c.args.files.now) (g.F.Files.holds c.drafts.new.files) c.in_ok-drafts.ensures.reads.same) c.put_drafts.ensures.outside.kept
+pub returns-then-is_empty-clause-outside : goal.returns-then-is_empty-clause-outside
+returns-then-is_empty-clause-outside g c = outside_none g.F.Files.holds g.F.Files.moment g.F.Files.left_since g.F.Files.images c.args.files.now
 
-pub returns-clause-crash : goal.returns-clause-crash
-returns-clause-crash g c =
-    both_leave g.F.Files.holds g.F.Files.moment g.F.Files.left_since g.F.Files.images c.args.files.now c.drafts.new.files c.put_drafts.new.files
-    (keeps_same (g.F.Files.holds c.args.files.now) (g.F.Files.holds c.drafts.new.files) c.in_ok-drafts.ensures.reads.same)
-    (read_leaves g.F.Files.holds g.F.Files.moment g.F.Files.left_since g.F.Files.images c.args.files.now c.drafts.new.files c.in_ok-drafts.ensures.reads.crash)
-    c.put_drafts.ensures.outside.crash
+pub returns-in_err-gate-clause-outside : goal.returns-in_err-gate-clause-outside
+returns-in_err-gate-clause-outside g c = outside_none g.F.Files.holds g.F.Files.moment g.F.Files.left_since g.F.Files.images c.args.files.now
+
+pub returns-in_err-drafts-clause-outside : goal.returns-in_err-drafts-clause-outside
+returns-in_err-drafts-clause-outside g c =
+    outside_read g.F.Files.holds g.F.Files.moment g.F.Files.left_since g.F.Files.images c.args.files.now c.drafts.new.files c.drafts.ensures.reads.same
+    c.drafts.ensures.reads.crash
+
+pub returns-clause-outside : goal.returns-clause-outside
+returns-clause-outside g c =
+    outside_both g.F.Files.holds g.F.Files.moment g.F.Files.left_since g.F.Files.images c.args.files.now c.drafts.new.files c.put_drafts.new.files
+    (outside_read g.F.Files.holds g.F.Files.moment g.F.Files.left_since g.F.Files.images c.args.files.now c.drafts.new.files
+    c.in_ok-drafts.ensures.reads.same c.in_ok-drafts.ensures.reads.crash) c.put_drafts.ensures.outside
 
 pub returns-clause-done : goal.returns-clause-done
 returns-clause-done g c =
