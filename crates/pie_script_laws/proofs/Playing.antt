@@ -3,14 +3,13 @@ use Rattle.std.proofs.Common.{ℕ, ◌≡◌, List, [], ◌∷◌, ◌++◌, All
 use Rattle.std.specs.Prelude.{map, IfSome}
 use Rattle.std.proofs.lemmas.List.{map-append}
 use Rattle.std.proofs.lemmas.List.Elements.{All-nil, All-push}
-use Rattle.pie_build.specs.Left.{KeepsRest}
 use Rattle.pie_files.specs.Directory.{Directory, with_file, without_file}
 use Rattle.pie_incremental.specs.Clean.{BuildsClean}
 use Rattle.pie_incremental.specs.Treated.{TreatsNames}
 use Rattle.pie_replay.specs.Trace.{HasBuilt, HasDeleted, HasPut, Trace}
 use Rattle.pie_replay.specs.Trace.Trace.{nothing, put, deleted, named, built}
 use Rattle.pie_report.specs.declared.report.Report.{Report}
-use Rattle.pie_script.specs.Steps.{Plain, PutFile, DelFile, Name, BuildNow}
+use Rattle.pie_script.specs.Steps.{Plain, PutFile, DelFile, BuildNow}
 use Rattle.pie_script_laws.specs.Played.{AreClean, Played, report_of}
 use Rattle.pie_script_laws.specs.Played.Played.{nothing as none_played, put as file_played, deleted as removal_played, named as name_played, built as build_played}
 use Rattle.pie_script_laws.specs.Scripts.{IsBuilt, Step}

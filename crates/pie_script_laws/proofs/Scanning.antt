@@ -24,7 +24,6 @@ use Rattle.pie_model.specs.Changes.{NamesAllChanges}
 use Rattle.pie_report.specs.declared.report.Report.{Report}
 use Rattle.pie_scan_laws.proofs.Covered.{covering}
 use Rattle.pie_value.specs.declared.verdict.Verdict.TheVariants.{Accepted}
-use Rattle.pie_clean_laws.specs.Basing.{IsEdit}
 use Rattle.pie_script_laws.specs.Finding.{FindsCleanBy, GoesOnByScan, IsBaseByScan, IsCleanFind}
 use Rattle.pie_clean_laws.proofs.Cleaning.{clean_base_later, its_store}
 use Rattle.pie_clean_laws.proofs.Going.{edits_go_on}

@@ -1,6 +1,6 @@
 use Rattle.pie_build.proofs.OwnPaths.{same_keeps}
 use Rattle.pie_replay.proofs.Building.{fails_then, goes_then, tells_then}
-use Rattle.pie_replay.proofs.Leaving.{ends_at_rest, from_rest, not_synced}
+use Rattle.pie_replay.proofs.Leaving.{from_rest, not_synced}
 use Rattle.pie_replay.proofs.step.build_from_rest.Goals as goal
 
 pub returns-in-Ok-clause-goes : goal.returns-in-Ok-clause-goes
