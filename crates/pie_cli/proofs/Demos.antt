@@ -1,5 +1,5 @@
 -- What a demo says.
-use Rattle.std.proofs.Common.{◌≡◌, ◌⊎◌, ◌≤◌, ℕ, true, List, [], inl, inr, refl, sym, ap, ◌∙◌, subst}
+use Rattle.std.proofs.Common.{◌≡◌, ◌⊎◌, ◌≤◌, ℕ, true, List, [], inl, inr, refl, sym, ◌∙◌, subst}
 use Rattle.std.specs.Prelude.{Option, Result, Ok, Err, IfOk, string_bytes}
 use Rattle.std.specs.FinMap as fin
 use Rattle.pie_base.specs.declared.memory.OutOfMemory.{OutOfMemory}
@@ -10,8 +10,6 @@ use Rattle.pie_demo.specs.Rounds.{IsDemo}
 use Rattle.pie_demo.specs.declared.whole.Summary.{Summary}
 use Rattle.pie_files.specs.Directory.{Directory}
 use Rattle.pie_value.specs.declared.task.Task.{Task}
-use Rattle.pie_words.specs.declared.command.Command.{Command}
-use Rattle.pie_words.specs.declared.command.Command.TheVariants as commands
 use Rattle.pie_cli.specs.declared.told.CommandResult.{CommandResult}
 use Rattle.pie_cli.specs.Demo.{summary_text, IsDemoText, SaysDemo}
 use Rattle.pie_cli.specs.Run.{is_told, Ends, GainsPrefix, Shows}
@@ -34,22 +32,6 @@ demo_text seed size first after runs_first runs clean_first clean s (Ok told) no
   same = same;
   told = text;
 }
-
--- a command has one seed and one number of files
-seed_in : Command → ℕ
-seed_in (commands.Demo seed size) = seed
-seed_in other = 0
-
-size_in : Command → ℕ
-size_in (commands.Demo seed size) = size
-size_in other = 0
-
-pub at_demo : (P : ℕ → ℕ → Type 0) (command : Command) (seed size other number : ℕ) → command ≡ commands.Demo seed size
-    → command ≡ commands.Demo other number → P seed size → P other number
-unfolding seed_in size_in
-at_demo P command seed size other number first second p =
-    let both : commands.Demo seed size ≡ commands.Demo other number = sym first ∙ second in
-    subst (λ s. P s number) (ap seed_in both) (subst (P seed) (ap size_in both) p)
 
 -- there was no memory for it
 pub says_memory : (seed size : ℕ) (held : Option (List ℕ)) → SaysDemo seed size held held status.Memory

@@ -13,8 +13,6 @@ use Rattle.pie_value.specs.declared.task.Task.{Task}
 use Rattle.pie_project.specs.Fronts.{Front, ProjectSays}
 use Rattle.pie_project.specs.Refusals.{Refusal}
 use Rattle.pie_report.specs.declared.report.Report.{Report}
-use Rattle.pie_words.specs.declared.command.Command.{Command}
-use Rattle.pie_words.specs.declared.command.Command.TheVariants as commands
 use Rattle.pie_report.specs.Refused.{refusal_line}
 use Rattle.pie_clean_laws.specs.inner.Told.{TellTheSame}
 use Rattle.pie_clean_laws.proofs.OneProject.{one_project}
@@ -98,9 +96,3 @@ printed None after json text told ended Failed held gained says gains = tt
 printed (Some d) after json text told ended Failed held gained says gains =
     let some : GainsSome (IsFreshText d json after) Failed held gained = inl (text, (told, says), gains) in
     record { prefix = inl some; cut = λ is. some }
-
--- a command has one flag
-pub at_flag : (P : Bool → Type 0) (command : Command) (a b : Bool) → command ≡ commands.Fresh a → command ≡ commands.Fresh b → P a → P b
-at_flag P command a b first second p =
-    let both : commands.Fresh a ≡ commands.Fresh b = sym first ∙ second in
-    let same : a ≡ b = cc in subst P same p

@@ -1,5 +1,6 @@
 pub mod Checking
 pub mod Demos
+pub mod Doing
 pub mod Ending
 pub mod Fresh
 pub mod Gaining

@@ -1,5 +1,5 @@
 -- What a command says that reads a list of paths, by its input.
-use Rattle.std.proofs.Common.{◌≡◌, ◌⊎◌, ℕ, Bool, true, List, Option, None, Some, inl, inr, refl, sym, ◌∙◌, subst, arith, rules}
+use Rattle.std.proofs.Common.{◌≡◌, ◌⊎◌, ℕ, true, List, Option, None, Some, inl, inr, refl, sym, ◌∙◌, subst, arith, rules}
 use Rattle.std.specs.Prelude.{IfSome, Vec, Err}
 use Rattle.std.proofs.lemmas.Bool.{false≢true}
 use Rattle.std.specs.declared.alloc.Global.{Global}
@@ -13,8 +13,6 @@ use Rattle.pie_input.specs.declared.lines.LinesError.{LinesError}
 use Rattle.pie_input.specs.declared.lines.LinesError.TheVariants.{Bad}
 use Rattle.pie_report.specs.Refused.{bad_input_text}
 use Rattle.pie_script.specs.declared.fault.InputFault.{InputFault}
-use Rattle.pie_words.specs.declared.command.Command.{Command}
-use Rattle.pie_words.specs.declared.command.Command.TheVariants as commands
 use Rattle.pie_cli.specs.Listed.{IsListText, IsRead, ListSays, RunsByList, RunsSaying}
 use Rattle.pie_files.proofs.Reading.{none_before}
 use Rattle.pie_cli.specs.declared.listed.ByList.{ByList}
@@ -22,7 +20,7 @@ use Rattle.pie_cli.specs.declared.listed.ByList.TheVariants.{Auto, Build, Scan}
 use Rattle.pie_auto.proofs.Finding.{outside_same}
 use Rattle.pie_build.proofs.Crashing.{rests_none}
 use Rattle.pie_cli.proofs.Rest.{keeps_same}
-use Rattle.pie_cli.specs.inner.ByList.{ChangesNone, EndsRead, EndsWith, KeepsBy, LeavesRead, LeavesWith, RestsBy}
+use Rattle.pie_cli.specs.inner.ByList.{ChangesNone, EndsRead, EndsWith, KeepsBy, LeavesRead, LeavesWith, RestsBy, StopsRead}
 use Rattle.pie_cli.specs.Run.{is_answer, input_fault_text, GainsAtMost, GainsPrefix, GainsSome, Shows}
 use Rattle.pie_cli.proofs.Statuses.{answer_is_told, memory_is_no_answer}
 
@@ -128,7 +126,7 @@ none_changed holds moment left_since images Auto old = tt {0}
 none_changed holds moment left_since images Scan old = (refl, none_before holds moment left_since images old)
 
 -- what a crash leaves where nothing was asked of the files
-pub none_left : {S : Type 0} (holds : S → Option Directory) (moment : S → ℕ) (left_since : S → ℕ → Directory → Type 0) (images : S → Directory → Type 0)
+none_left : {S : Type 0} (holds : S → Option Directory) (moment : S → ℕ) (left_since : S → ℕ → Directory → Type 0) (images : S → Directory → Type 0)
     (which : ByList) (old : S) (left after : Option (List ℕ)) → LeavesRead holds moment left_since images which old old left after
 none_left holds moment left_since images (Build json) old left after = inl refl
 none_left holds moment left_since images Auto old left after = tt {0}
@@ -143,7 +141,7 @@ read_left holds moment left_since images Auto names old new left after read h = 
 read_left holds moment left_since images Scan names old new left after read h = tt {0}
 
 -- what every image has then
-pub none_ended : {S : Type 0} (holds : S → Option Directory) (images : S → Directory → Type 0) (which : ByList) (old : S) (left after : Option (List ℕ))
+none_ended : {S : Type 0} (holds : S → Option Directory) (images : S → Directory → Type 0) (which : ByList) (old : S) (left after : Option (List ℕ))
     → EndsRead holds images which old old left after
 none_ended holds images (Build json) old left after = inl refl
 none_ended holds images Auto old left after = tt {0}
@@ -156,24 +154,21 @@ read_ended holds images Auto names old new left after read h = tt {0}
 read_ended holds images Scan names old new left after read h = tt {0}
 
 -- and nothing is pending
-pub none_rests : {S : Type 0} (holds : S → Option Directory) (moment : S → ℕ) (left_since : S → ℕ → Directory → Type 0) (images : S → Directory → Type 0)
+none_rests : {S : Type 0} (holds : S → Option Directory) (moment : S → ℕ) (left_since : S → ℕ → Directory → Type 0) (images : S → Directory → Type 0)
     (which : ByList) (old : S) → RestsBy holds images which old old
 none_rests holds moment left_since images (Build json) old = rests_none holds moment left_since images old
 none_rests holds moment left_since images Auto old = tt {0}
 none_rests holds moment left_since images Scan old = tt {0}
 
+pub none_stopped : {S : Type 0} (holds : S → Option Directory) (moment : S → ℕ) (left_since : S → ℕ → Directory → Type 0) (images : S → Directory → Type 0)
+    (which : ByList) (old : S) (left after : Option (List ℕ)) (ended : Status) → StopsRead holds moment left_since images which old old left after ended
+none_stopped holds moment left_since images which old left after ended = record {
+  crash = none_left holds moment left_since images which old left after;
+  marked = none_ended holds images which old left after;
+  durable = λ a. none_rests holds moment left_since images which old;
+}
+
 pub none_kept : (which : ByList) (before after : Option Directory) → after ≡ before → KeepsBy which before after
 none_kept (Build json) before after is = keeps_same before after is
 none_kept Scan before after is = keeps_same before after is
 none_kept Auto before after is = outside_same before after is
-
--- a command has one flag
-pub at_build_flag : (P : Bool → Type 0) (command : Command) (a b : Bool) → command ≡ commands.Build a → command ≡ commands.Build b → P a → P b
-at_build_flag P command a b first second p =
-    let both : commands.Build a ≡ commands.Build b = sym first ∙ second in
-    let same : a ≡ b = cc in subst P same p
-
-pub at_topdown_flag : (P : Bool → Type 0) (command : Command) (a b : Bool) → command ≡ commands.Topdown a → command ≡ commands.Topdown b → P a → P b
-at_topdown_flag P command a b first second p =
-    let both : commands.Topdown a ≡ commands.Topdown b = sym first ∙ second in
-    let same : a ≡ b = cc in subst P same p

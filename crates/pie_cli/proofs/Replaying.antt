@@ -18,8 +18,6 @@ use Rattle.pie_script.specs.Reading.{script_lines}
 use Rattle.pie_script.specs.Steps.{Plain, steps}
 use Rattle.pie_script.specs.declared.fault.InputFault.{InputFault}
 use Rattle.pie_script.specs.declared.step.Step.{Step}
-use Rattle.pie_words.specs.declared.command.Command.{Command}
-use Rattle.pie_words.specs.declared.command.Command.TheVariants as commands
 use Rattle.pie_cli.specs.Replay.{HasScript, IsReplayText, RunsReplay, ScriptSays, StepsLeave}
 use Rattle.pie_cli.specs.Run.{is_answer, is_told, input_fault_text, GainsAtMost, GainsPrefix, GainsSome, Shows}
 use Rattle.pie_cli.specs.inner.Played.{Plays, PlaySays}
@@ -162,9 +160,3 @@ module _ {S I : Type 0} (holds : S → Option Directory) (moment : S → ℕ) (l
     rest = none_touched (left input) (holds old);
     crash = inl refl;
   }
-
--- a command has one flag
-pub at_replay_flag : (P : Bool → Type 0) (command : Command) (a b : Bool) → command ≡ commands.Replay a → command ≡ commands.Replay b → P a → P b
-at_replay_flag P command a b first second p =
-    let both : commands.Replay a ≡ commands.Replay b = sym first ∙ second in
-    let same : a ≡ b = cc in subst P same p

@@ -3,6 +3,7 @@ pub mod Build
 pub mod Cached
 pub mod Check
 pub mod Demo
+pub mod Does
 pub mod Fresh
 pub mod Listed
 pub mod Replay

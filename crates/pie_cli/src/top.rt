@@ -1,22 +1,20 @@
 //! The top call.
-ghost use Rattle.std.specs.Prelude.{◌≡◌, ◌≢◌, ◌<◌, ◌≤◌, Bool, ℕ, true, map, string_bytes};
+ghost use Rattle.std.specs.Prelude.{◌≡◌, ◌≢◌, ◌<◌, ◌≤◌, true, map, string_bytes};
 ghost use Rattle.pie_build.specs.Left.{KeepsRest};
 ghost use Rattle.pie_files.specs.Faults.{Rose};
 ghost use Rattle.pie_files.specs.Streams.{StaysInfallible};
 ghost use Rattle.pie_words.specs.Commands.{words_of, texts_of, is_allowed};
-ghost use Rattle.pie_words.specs.declared.command.Command.TheVariants as commands;
-ghost use Rattle.pie_cli.specs.Auto.{RunsAuto};
-ghost use Rattle.pie_cli.specs.Build.{RunsBuild};
+ghost use Rattle.pie_words.specs.declared.command.Command.{Command};
 ghost use Rattle.pie_cli.specs.Cached.{RunsCached};
 ghost use Rattle.pie_cli.specs.Check.{RunsCheck};
-ghost use Rattle.pie_cli.specs.Demo.{RunsDemo, SaysDemo};
+ghost use Rattle.pie_cli.specs.Demo.{SaysDemo};
+ghost use Rattle.pie_cli.specs.Does.{Does};
 ghost use Rattle.pie_cli.specs.Fresh.{RunsFresh};
 ghost use Rattle.pie_cli.specs.Replay.{RunsReplay, StepsLeave};
 ghost use Rattle.pie_cli.specs.Listed.{RunsByList, RunsSaying};
 ghost use Rattle.pie_cli.specs.Run.{is_answer, is_told, Ends, GainsPrefix, IsNoScript, IsUsage, NeedsNoInput, PrintsUsage, Shows, StaysWithin};
-ghost use Rattle.pie_cli.specs.Scan.{RunsScan};
 ghost use Rattle.pie_cli.specs.Topdown.{RunsTopdown};
-ghost use Rattle.pie_cli.specs.inner.ByList.{says_of, ChangesNone, EndsRead, EndsWith, KeepsBy, LeavesRead, LeavesWith, RestsBy};
+ghost use Rattle.pie_cli.specs.inner.ByList.{says_of, ChangesNone, EndsWith, KeepsBy, LeavesWith, RestsBy, StopsRead};
 ghost use Rattle.pie_cli.specs.inner.Played.{ChangesWithin, HasNoInput, HasNoScript, Plays};
 ghost use Rattle.pie_cli.specs.inner.Unread.{EndsUnread};
 ghost use Rattle.pie_replay.specs.Replays.{KeepsOthers};
@@ -51,24 +49,8 @@ pub fn run<F: Files, I: Source, K: Sink>(
     input: &mut I,
     out: &mut K,
 ) -> Status
-    ensures fresh { (json : Bool) → texts_of words.now ≡ words_of (commands.Fresh json)
-        → RunsFresh F.holds F.moment F.left_since F.images F.asked F.faults json files.old files.new (K.held out.old) (K.held out.new) result }
-    ensures check { texts_of words.now ≡ words_of commands.Check
-        → RunsCheck F.holds F.moment F.left_since F.images F.asked F.faults files.old files.new (K.held out.old) (K.held out.new) result }
-    ensures build { (json : Bool) → texts_of words.now ≡ words_of (commands.Build json)
-        → RunsBuild F.holds F.moment F.left_since F.images F.asked F.faults I.left I.faults json files.old files.new input.old input.new (K.held out.old) (K.held out.new) result }
-    ensures replay { (json : Bool) → texts_of words.now ≡ words_of (commands.Replay json)
-        → RunsReplay F.holds F.moment F.left_since F.images F.asked F.faults I.left I.faults json files.old files.new input.old input.new (K.held out.old) (K.held out.new) result }
-    ensures scan { texts_of words.now ≡ words_of commands.Scan
-        → RunsScan F.holds F.moment F.left_since F.images F.faults I.left I.faults files.old files.new input.old input.new (K.held out.old) (K.held out.new) result }
-    ensures auto { texts_of words.now ≡ words_of commands.Auto
-        → RunsAuto F.holds F.faults I.left I.faults files.old files.new input.old input.new (K.held out.old) (K.held out.new) result }
-    ensures topdown { (json : Bool) → texts_of words.now ≡ words_of (commands.Topdown json)
-        → RunsTopdown F.holds F.moment F.left_since F.images F.faults json files.old files.new (K.held out.old) (K.held out.new) result }
-    ensures cached { texts_of words.now ≡ words_of commands.Cached
-        → RunsCached F.holds F.moment F.left_since F.images F.faults files.old files.new (K.held out.old) (K.held out.new) result }
-    ensures demo { (seed size : ℕ) → is_allowed (commands.Demo seed size) ≡ true → texts_of words.now ≡ words_of (commands.Demo seed size)
-        → RunsDemo seed size files.old files.new (K.held out.old) (K.held out.new) result }
+    ensures does { (command : Command) → is_allowed command ≡ true → texts_of words.now ≡ words_of command
+        → Does F.holds F.moment F.left_since F.images F.asked F.faults I.left I.faults command files.old files.new input.old input.new (K.held out.old) (K.held out.new) result }
     ensures usage { IsUsage (texts_of words.now) → PrintsUsage files.old files.new (K.held out.old) (K.held out.new) result }
     ensures rest { StaysWithin (texts_of words.now) → KeepsRest (F.holds files.old) (F.holds files.new) }
     ensures ends { Ends (IsNoScript (texts_of words.now)) (F.faults files.old) (F.faults files.new) (I.faults input.old) (I.faults input.new) (K.faults out.old) (K.faults out.new) (K.held out.old) (K.held out.new) result }
@@ -93,23 +75,7 @@ fn run_command<F: Files, I: Source, K: Sink>(
     out: &mut K,
 ) -> Status
     requires { is_allowed command ≡ true }
-    ensures fresh { (json : Bool) → command ≡ commands.Fresh json
-        → RunsFresh F.holds F.moment F.left_since F.images F.asked F.faults json files.old files.new (K.held out.old) (K.held out.new) result }
-    ensures check { command ≡ commands.Check
-        → RunsCheck F.holds F.moment F.left_since F.images F.asked F.faults files.old files.new (K.held out.old) (K.held out.new) result }
-    ensures build { (json : Bool) → command ≡ commands.Build json
-        → RunsBuild F.holds F.moment F.left_since F.images F.asked F.faults I.left I.faults json files.old files.new input.old input.new (K.held out.old) (K.held out.new) result }
-    ensures replay { (json : Bool) → command ≡ commands.Replay json
-        → RunsReplay F.holds F.moment F.left_since F.images F.asked F.faults I.left I.faults json files.old files.new input.old input.new (K.held out.old) (K.held out.new) result }
-    ensures scan { command ≡ commands.Scan
-        → RunsScan F.holds F.moment F.left_since F.images F.faults I.left I.faults files.old files.new input.old input.new (K.held out.old) (K.held out.new) result }
-    ensures auto { command ≡ commands.Auto
-        → RunsAuto F.holds F.faults I.left I.faults files.old files.new input.old input.new (K.held out.old) (K.held out.new) result }
-    ensures topdown { (json : Bool) → command ≡ commands.Topdown json
-        → RunsTopdown F.holds F.moment F.left_since F.images F.faults json files.old files.new (K.held out.old) (K.held out.new) result }
-    ensures cached { command ≡ commands.Cached
-        → RunsCached F.holds F.moment F.left_since F.images F.faults files.old files.new (K.held out.old) (K.held out.new) result }
-    ensures demo { (seed size : ℕ) → command ≡ commands.Demo seed size → RunsDemo seed size files.old files.new (K.held out.old) (K.held out.new) result }
+    ensures does { Does F.holds F.moment F.left_since F.images F.asked F.faults I.left I.faults command files.old files.new input.old input.new (K.held out.old) (K.held out.new) result }
     ensures rest { ChangesWithin command → KeepsRest (F.holds files.old) (F.holds files.new) }
     ensures ends { Ends (HasNoScript command) (F.faults files.old) (F.faults files.new) (I.faults input.old) (I.faults input.new) (K.faults out.old) (K.faults out.new) (K.held out.old) (K.held out.new) result }
     ensures infallible { StaysInfallible K.infallible K.faults out.old out.new }
@@ -169,9 +135,7 @@ fn run_by_list<F: Files, I: Source, K: Sink>(
 ) -> Status
     ensures lists { RunsByList (says_of which (F.asked files.old) (F.asked files.new)) F.holds F.faults I.left I.faults files.old files.new input.old input.new (K.held out.old) (K.held out.new) result }
     ensures none { ChangesNone F.holds F.moment F.left_since F.images which files.old files.new }
-    ensures crash { LeavesRead F.holds F.moment F.left_since F.images which files.old files.new (I.left input.old) (I.left input.new) }
-    ensures marked { EndsRead F.holds F.images which files.old files.new (I.left input.old) (I.left input.new) }
-    ensures durable { is_answer result ≡ true → RestsBy F.holds F.images which files.old files.new }
+    ensures stops { StopsRead F.holds F.moment F.left_since F.images which files.old files.new (I.left input.old) (I.left input.new) result }
     ensures rest { KeepsBy which (F.holds files.old) (F.holds files.new) }
     ensures ends { Ends (Unit {0}) (F.faults files.old) (F.faults files.new) (I.faults input.old) (I.faults input.new) (K.faults out.old) (K.faults out.new) (K.held out.old) (K.held out.new) result }
     ensures infallible { StaysInfallible K.infallible K.faults out.old out.new }

@@ -1,5 +1,5 @@
 -- What commands say that read a list of paths.
-use Rattle.std.specs.Prelude.{◌≡◌, ℕ, List, Option}
+use Rattle.std.specs.Prelude.{◌≡◌, ℕ, true, List, Option}
 use Rattle.pie_base.specs.declared.status.Status.{Status}
 use Rattle.pie_files.specs.Directory.{Directory}
 use Rattle.pie_files.specs.declared.files.Call.{Call}
@@ -14,6 +14,7 @@ use Rattle.pie_incremental.specs.Crashes.{EndsMarked, MayEnd, MayStop}
 use Rattle.pie_cli.specs.Auto.{AutoSays}
 use Rattle.pie_cli.specs.Build.{MakeSays}
 use Rattle.pie_cli.specs.Listed.{ListEnds, ListLeaves}
+use Rattle.pie_cli.specs.Run.{is_answer}
 use Rattle.pie_cli.specs.Scan.{ScanSays}
 
 -- what a command says of its paths, before and after which these calls had been made
@@ -59,6 +60,13 @@ abbrev pub RestsBy : {S : Type 0} → (S → Option Directory) → (S → Direct
 RestsBy holds images (Build json) old new = StaysAtRest holds images old new
 RestsBy holds images Scan old new = Unit {0}
 RestsBy holds images Auto old new = Unit {0}
+
+-- what a crash leaves of a command with the paths of its input, what every image has at its end, and that nothing is pending after an answer
+pub record StopsRead {S : Type 0} (holds : S → Option Directory) (moment : S → ℕ) (left_since : S → ℕ → Directory → Type 0) (images : S → Directory → Type 0)
+    (which : ByList) (old new : S) (left after : Option (List ℕ)) (ended : Status) : Type 0 where
+  pub crash : LeavesRead holds moment left_since images which old new left after
+  pub marked : EndsRead holds images which old new left after
+  pub durable : is_answer ended ≡ true → RestsBy holds images which old new
 
 -- the paths that have the files that they had
 abbrev pub KeepsBy : ByList → Option Directory → Option Directory → Type 0

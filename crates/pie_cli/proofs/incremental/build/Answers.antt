@@ -9,7 +9,7 @@ returns-in-Ok-clause-says g c =
     let told = c.in_ok-of_report-in-Ok in
     inr (
       c.in-Ok.report,
-      record { treated = c.in-Ok.ensures.names; few = c.in-Ok.ensures.most; clean = c.in-Ok.ensures.clean; asks = c.in-Ok.ensures.asks },
+      record { treated = c.in-Ok.ensures.names; few = c.in-Ok.ensures.runs.most; clean = c.in-Ok.ensures.clean; asks = c.in-Ok.ensures.asks },
       told.ensures.text,
       told.ensures.status,
     )
@@ -18,10 +18,22 @@ pub returns-in-Err-Pipeline-clause-says : goal.returns-in-Err-Pipeline-clause-sa
 returns-in-Err-Pipeline-clause-says g c =
     let told = c.in_ok-bad_pipeline-in-Err-Pipeline in
     let e = c.in-Err-Pipeline in
-    inl (OfPipeline (plain e.fault), pipeline_says Report (g.F.Files.holds c.args.files.now) e.field-0 e.fault e.field-0-is e.ensures.says, e.ensures.refused (pipeline_refused e.field-0 e.fault e.field-0-is), told.ensures.text, told.ensures.status)
+    inl (
+      OfPipeline (plain e.fault),
+      pipeline_says Report (g.F.Files.holds c.args.files.now) e.field-0 e.fault e.field-0-is e.ensures.refuses.says,
+      e.ensures.refuses.refused (pipeline_refused e.field-0 e.fault e.field-0-is),
+      told.ensures.text,
+      told.ensures.status,
+    )
 
 pub returns-in-Err-Roots-clause-says : goal.returns-in-Err-Roots-clause-says
 returns-in-Err-Roots-clause-says g c =
     let told = c.in_ok-bad_roots-in-Err-Roots in
     let e = c.in-Err-Roots in
-    inl (OfRoots e.reason, roots_say Report (g.F.Files.holds c.args.files.now) e.field-0 e.reason e.field-0-is e.ensures.says, e.ensures.refused (roots_refused e.field-0 e.reason e.field-0-is), told.ensures.text, told.ensures.status)
+    inl (
+      OfRoots e.reason,
+      roots_say Report (g.F.Files.holds c.args.files.now) e.field-0 e.reason e.field-0-is e.ensures.refuses.says,
+      e.ensures.refuses.refused (roots_refused e.field-0 e.reason e.field-0-is),
+      told.ensures.text,
+      told.ensures.status,
+    )

@@ -4,7 +4,7 @@ use Rattle.pie_report.specs.Refused.{bad_input_text}
 use Rattle.pie_cli.specs.Listed.{IsRead}
 use Rattle.pie_cli.specs.Run.{GainsPrefix, Shows}
 use Rattle.pie_cli.specs.inner.ByList.{says_of}
-use Rattle.pie_cli.proofs.Listing.{bad_read, bad_told, none_changed, none_kept, none_ended, none_left, none_rests, read_ended, read_left, runs_bad, runs_failed, runs_made, runs_memory}
+use Rattle.pie_cli.proofs.Listing.{bad_read, bad_told, none_changed, none_kept, none_stopped, read_ended, read_left, runs_bad, runs_failed, runs_made, runs_memory}
 use Rattle.pie_cli.proofs.Ending.{ends_failed, ends_memory, ends_shown, ends_unread}
 use Rattle.pie_cli.proofs.top.run_by_list.Goals as goal
 
@@ -15,6 +15,18 @@ returns-in-Ok-clause-lists g c =
     c.read_names.new.input c.as_slice.result.now (g.K.Sink.held c.args.out.now) (g.K.Sink.held c.do_by_list.new.out) c.do_by_list.result
     (subst (λ (names : List (List ℕ)). IsRead names (g.I.Source.left c.args.input.now) (g.I.Source.left c.read_names.new.input)) (sym c.as_slice.ensures.value)
     c.in-Ok.ensures.read) c.do_by_list.ensures.says c.do_by_list.ensures.ends.no_input
+
+pub returns-in-Ok-clause-stops : goal.returns-in-Ok-clause-stops
+returns-in-Ok-clause-stops g c =
+    let read = subst (λ (names : List (List ℕ)). IsRead names (g.I.Source.left c.args.input.now) (g.I.Source.left c.read_names.new.input))
+    (sym c.as_slice.ensures.value) c.in-Ok.ensures.read in
+    record {
+      crash = read_left g.F.Files.holds g.F.Files.moment g.F.Files.left_since g.F.Files.images c.args.which c.as_slice.result.now c.args.files.now
+          c.do_by_list.new.files (g.I.Source.left c.args.input.now) (g.I.Source.left c.read_names.new.input) read c.do_by_list.ensures.crash;
+      marked = read_ended g.F.Files.holds g.F.Files.images c.args.which c.as_slice.result.now c.args.files.now c.do_by_list.new.files
+          (g.I.Source.left c.args.input.now) (g.I.Source.left c.read_names.new.input) read c.do_by_list.ensures.marked;
+      durable = c.do_by_list.ensures.durable;
+    }
 
 pub returns-in-Ok-clause-ends : goal.returns-in-Ok-clause-ends
 returns-in-Ok-clause-ends g c =
@@ -33,6 +45,17 @@ returns-in-Err-Bad-clause-lists g c =
     c.in-Err-Bad.ensures.read) (subst (λ f. Shows held gained (bad_input_text f) status.BadInput c.show_bad.result) told c.show_bad.ensures.shown)
     (subst (λ f. GainsPrefix held gained (bad_input_text f)) told c.show_bad.ensures.prefix)
 
+pub returns-in-Err-Bad-clause-none : goal.returns-in-Err-Bad-clause-none
+returns-in-Err-Bad-clause-none g c = none_changed g.F.Files.holds g.F.Files.moment g.F.Files.left_since g.F.Files.images c.args.which c.args.files.now
+
+pub returns-in-Err-Bad-clause-stops : goal.returns-in-Err-Bad-clause-stops
+returns-in-Err-Bad-clause-stops g c =
+    none_stopped g.F.Files.holds g.F.Files.moment g.F.Files.left_since g.F.Files.images c.args.which c.args.files.now
+    (g.I.Source.left c.args.input.now) (g.I.Source.left c.read_names.new.input) c.show_bad.result
+
+pub returns-in-Err-Bad-clause-rest : goal.returns-in-Err-Bad-clause-rest
+returns-in-Err-Bad-clause-rest g c = none_kept c.args.which (g.F.Files.holds c.args.files.now) (g.F.Files.holds c.args.files.now) refl
+
 pub returns-in-Err-Bad-clause-ends : goal.returns-in-Err-Bad-clause-ends
 returns-in-Err-Bad-clause-ends g c =
     ends_shown (Unit {0}) _ (g.I.Source.faults c.args.input.now) (g.I.Source.faults c.read_names.new.input) (g.K.Sink.faults c.args.out.now)
@@ -49,6 +72,17 @@ returns-in-Err-Failed-clause-lists g c =
     c.read_names.new.input (g.K.Sink.held c.args.out.now) (g.K.Sink.held c.show.new.out) c.show.result
     (c.in-Err-Failed.ensures.told.cause (ap Err c.in-Err-Failed.field-0-is)) c.show.ensures.shown c.show.ensures.prefix
 
+pub returns-in-Err-Failed-clause-none : goal.returns-in-Err-Failed-clause-none
+returns-in-Err-Failed-clause-none g c = none_changed g.F.Files.holds g.F.Files.moment g.F.Files.left_since g.F.Files.images c.args.which c.args.files.now
+
+pub returns-in-Err-Failed-clause-stops : goal.returns-in-Err-Failed-clause-stops
+returns-in-Err-Failed-clause-stops g c =
+    none_stopped g.F.Files.holds g.F.Files.moment g.F.Files.left_since g.F.Files.images c.args.which c.args.files.now
+    (g.I.Source.left c.args.input.now) (g.I.Source.left c.read_names.new.input) c.show.result
+
+pub returns-in-Err-Failed-clause-rest : goal.returns-in-Err-Failed-clause-rest
+returns-in-Err-Failed-clause-rest g c = none_kept c.args.which (g.F.Files.holds c.args.files.now) (g.F.Files.holds c.args.files.now) refl
+
 pub returns-in-Err-Failed-clause-ends : goal.returns-in-Err-Failed-clause-ends
 returns-in-Err-Failed-clause-ends g c =
     ends_failed (Unit {0}) _ (g.I.Source.faults c.args.input.now) (g.I.Source.faults c.read_names.new.input) (g.K.Sink.faults c.args.out.now)
@@ -61,78 +95,18 @@ returns-in-Err-OutOfMemory-clause-lists g c =
     g.F.Files.holds g.F.Files.faults g.I.Source.left g.I.Source.faults c.args.files.now c.args.input.now
     c.read_names.new.input (g.K.Sink.held c.args.out.now)
 
-pub returns-in-Err-OutOfMemory-clause-ends : goal.returns-in-Err-OutOfMemory-clause-ends
-returns-in-Err-OutOfMemory-clause-ends g c =
-    ends_memory (Unit {0}) _ (g.I.Source.faults c.args.input.now) (g.I.Source.faults c.read_names.new.input) (g.K.Sink.faults c.args.out.now)
-    (g.K.Sink.held c.args.out.now) (g.K.Sink.held c.args.out.now)
-
-pub returns-in-Err-Bad-clause-none : goal.returns-in-Err-Bad-clause-none
-returns-in-Err-Bad-clause-none g c = none_changed g.F.Files.holds g.F.Files.moment g.F.Files.left_since g.F.Files.images c.args.which c.args.files.now
-
-pub returns-in-Err-Failed-clause-none : goal.returns-in-Err-Failed-clause-none
-returns-in-Err-Failed-clause-none g c = none_changed g.F.Files.holds g.F.Files.moment g.F.Files.left_since g.F.Files.images c.args.which c.args.files.now
-
 pub returns-in-Err-OutOfMemory-clause-none : goal.returns-in-Err-OutOfMemory-clause-none
 returns-in-Err-OutOfMemory-clause-none g c = none_changed g.F.Files.holds g.F.Files.moment g.F.Files.left_since g.F.Files.images c.args.which c.args.files.now
 
-pub returns-in-Err-Bad-clause-rest : goal.returns-in-Err-Bad-clause-rest
-returns-in-Err-Bad-clause-rest g c = none_kept c.args.which (g.F.Files.holds c.args.files.now) (g.F.Files.holds c.args.files.now) refl
-
-pub returns-in-Err-Failed-clause-rest : goal.returns-in-Err-Failed-clause-rest
-returns-in-Err-Failed-clause-rest g c = none_kept c.args.which (g.F.Files.holds c.args.files.now) (g.F.Files.holds c.args.files.now) refl
+pub returns-in-Err-OutOfMemory-clause-stops : goal.returns-in-Err-OutOfMemory-clause-stops
+returns-in-Err-OutOfMemory-clause-stops g c =
+    none_stopped g.F.Files.holds g.F.Files.moment g.F.Files.left_since g.F.Files.images c.args.which c.args.files.now
+    (g.I.Source.left c.args.input.now) (g.I.Source.left c.read_names.new.input) status.Memory
 
 pub returns-in-Err-OutOfMemory-clause-rest : goal.returns-in-Err-OutOfMemory-clause-rest
 returns-in-Err-OutOfMemory-clause-rest g c = none_kept c.args.which (g.F.Files.holds c.args.files.now) (g.F.Files.holds c.args.files.now) refl
 
-pub returns-in-Ok-clause-crash : goal.returns-in-Ok-clause-crash
-returns-in-Ok-clause-crash g c =
-    read_left g.F.Files.holds g.F.Files.moment g.F.Files.left_since g.F.Files.images c.args.which c.as_slice.result.now c.args.files.now c.do_by_list.new.files
-    (g.I.Source.left c.args.input.now) (g.I.Source.left c.read_names.new.input)
-    (subst (λ (names : List (List ℕ)). IsRead names (g.I.Source.left c.args.input.now) (g.I.Source.left c.read_names.new.input)) (sym c.as_slice.ensures.value)
-    c.in-Ok.ensures.read) c.do_by_list.ensures.crash
-
-pub returns-in-Err-Bad-clause-crash : goal.returns-in-Err-Bad-clause-crash
-returns-in-Err-Bad-clause-crash g c = none_left g.F.Files.holds g.F.Files.moment g.F.Files.left_since g.F.Files.images c.args.which c.args.files.now
-    (g.I.Source.left c.args.input.now) (g.I.Source.left c.read_names.new.input)
-
-pub returns-in-Err-Failed-clause-crash : goal.returns-in-Err-Failed-clause-crash
-returns-in-Err-Failed-clause-crash g c = none_left g.F.Files.holds g.F.Files.moment g.F.Files.left_since g.F.Files.images c.args.which c.args.files.now
-    (g.I.Source.left c.args.input.now) (g.I.Source.left c.read_names.new.input)
-
-pub returns-in-Err-OutOfMemory-clause-crash : goal.returns-in-Err-OutOfMemory-clause-crash
-returns-in-Err-OutOfMemory-clause-crash g c = none_left g.F.Files.holds g.F.Files.moment g.F.Files.left_since g.F.Files.images c.args.which c.args.files.now
-    (g.I.Source.left c.args.input.now) (g.I.Source.left c.read_names.new.input)
-
-pub returns-in-Ok-clause-marked : goal.returns-in-Ok-clause-marked
-returns-in-Ok-clause-marked g c =
-    read_ended g.F.Files.holds g.F.Files.images c.args.which c.as_slice.result.now c.args.files.now c.do_by_list.new.files
-    (g.I.Source.left c.args.input.now) (g.I.Source.left c.read_names.new.input)
-    (subst (λ (names : List (List ℕ)). IsRead names (g.I.Source.left c.args.input.now) (g.I.Source.left c.read_names.new.input)) (sym c.as_slice.ensures.value)
-    c.in-Ok.ensures.read) c.do_by_list.ensures.marked
-
-pub returns-in-Err-Bad-clause-marked : goal.returns-in-Err-Bad-clause-marked
-returns-in-Err-Bad-clause-marked g c =
-    none_ended g.F.Files.holds g.F.Files.images c.args.which c.args.files.now (g.I.Source.left c.args.input.now)
-    (g.I.Source.left c.read_names.new.input)
-
-pub returns-in-Err-Bad-clause-durable : goal.returns-in-Err-Bad-clause-durable
-returns-in-Err-Bad-clause-durable g c =
-    λ a. none_rests g.F.Files.holds g.F.Files.moment g.F.Files.left_since g.F.Files.images c.args.which c.args.files.now
-
-pub returns-in-Err-Failed-clause-marked : goal.returns-in-Err-Failed-clause-marked
-returns-in-Err-Failed-clause-marked g c =
-    none_ended g.F.Files.holds g.F.Files.images c.args.which c.args.files.now (g.I.Source.left c.args.input.now)
-    (g.I.Source.left c.read_names.new.input)
-
-pub returns-in-Err-Failed-clause-durable : goal.returns-in-Err-Failed-clause-durable
-returns-in-Err-Failed-clause-durable g c =
-    λ a. none_rests g.F.Files.holds g.F.Files.moment g.F.Files.left_since g.F.Files.images c.args.which c.args.files.now
-
-pub returns-in-Err-OutOfMemory-clause-marked : goal.returns-in-Err-OutOfMemory-clause-marked
-returns-in-Err-OutOfMemory-clause-marked g c =
-    none_ended g.F.Files.holds g.F.Files.images c.args.which c.args.files.now (g.I.Source.left c.args.input.now)
-    (g.I.Source.left c.read_names.new.input)
-
-pub returns-in-Err-OutOfMemory-clause-durable : goal.returns-in-Err-OutOfMemory-clause-durable
-returns-in-Err-OutOfMemory-clause-durable g c =
-    λ a. none_rests g.F.Files.holds g.F.Files.moment g.F.Files.left_since g.F.Files.images c.args.which c.args.files.now
+pub returns-in-Err-OutOfMemory-clause-ends : goal.returns-in-Err-OutOfMemory-clause-ends
+returns-in-Err-OutOfMemory-clause-ends g c =
+    ends_memory (Unit {0}) _ (g.I.Source.faults c.args.input.now) (g.I.Source.faults c.read_names.new.input) (g.K.Sink.faults c.args.out.now)
+    (g.K.Sink.held c.args.out.now) (g.K.Sink.held c.args.out.now)
