@@ -8,7 +8,7 @@ use Rattle.pie_base.specs.Path.{same_text}
 use Rattle.pie_commit.proofs.Bringing.{get_without}
 use Rattle.pie_commit.proofs.Standing.{removal_apart, same_path}
 use Rattle.pie_commit.specs.Outcomes.{HasBrought, IsAtRest, IsEnding, LeavesFromRest}
-use Rattle.pie_commit.specs.inner.Plans.{Same, Gone, Meets, Wanted, later, at, removed}
+use Rattle.pie_commit.specs.inner.Plans.{Same, Gone, Meets, later, at, removed}
 use Rattle.pie_files.proofs.Reading.{if_each, if_two, in_turn, one_call, starts, weaker}
 use Rattle.pie_files.specs.Directory.{Directory, file_at, files_under, without_file}
 use Rattle.pie_files.specs.Images.{Elapses, MayLeave, Only, Stays}

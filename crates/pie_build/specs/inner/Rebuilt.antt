@@ -39,8 +39,8 @@ IsRefusal (Err (errors.Roots r)) = Unit {0}
 IsRefusal (Err errors.Files) = ⊥
 IsRefusal (Err errors.OutOfMemory) = ⊥
 
--- a build of an observable directory leaves what its report says; whatever was answered, the directory changed only where the model accepts its project, and only
--- at paths that a build may change
+-- a build of an observable directory leaves what its report says; whatever was answered, the directory changed only where the model accepts its project, and
+-- only at paths that a build may change
 pub record LeavesOfProject (before after : Option Directory) (result : Result Report BuildError) : Type 0 where
   pub left : IfSome before (λ d. IfOk result (λ r. Leaves d r after))
   pub changed : IfSome before (λ d. ChangesIfAccepted d after)
