@@ -2,7 +2,8 @@
 ghost use Rattle.std.specs.Prelude.{◌≤◌, length, IfOk};
 
 use crate::disk::{Disk, MOST, is_absent};
-use crate::seen::Seen;
+use crate::listings::Listings;
+use crate::seen::Look;
 use pie_base::{OutOfMemory, Path};
 use pie_files::{FilesError, Found, Within};
 use sha2::{Digest, Sha256};
@@ -14,8 +15,8 @@ const PIECE: usize = 65_536;
 
 impl Disk {
     /// The file at a path. One that is too long is a fault by its size, before it is read.
-    pub(crate) fn read(&self, path: &Path) -> Result<Option<Found>, FilesError> {
-        match self.read_within(path, MOST)? {
+    pub(crate) fn read(&self, listed: &Listings, path: &Path) -> Result<Option<Found>, FilesError> {
+        match self.read_within(listed, path, MOST)? {
             Within::Absent => Ok(None),
             Within::Whole(found) => Ok(Some(found)),
             Within::Long => Err(self.too_long(path)?),
@@ -23,8 +24,13 @@ impl Disk {
     }
 
     /// The file at a path, where it has at most so many bytes. A longer one isn't opened.
-    pub(crate) fn read_within(&self, path: &Path, most: usize) -> Result<Within, FilesError> {
-        let Some(seen) = self.file_at(path)? else {
+    pub(crate) fn read_within(
+        &self,
+        listed: &Listings,
+        path: &Path,
+        most: usize,
+    ) -> Result<Within, FilesError> {
+        let Some(seen) = self.file_at(listed, path)? else {
             return Ok(Within::Absent);
         };
         if seen.len > most as u64 {
@@ -37,13 +43,17 @@ impl Disk {
     }
 
     /// Whether a file is at a path. It isn't opened.
-    pub(crate) fn exists(&self, path: &Path) -> Result<bool, FilesError> {
-        Ok(self.file_at(path)?.is_some())
+    pub(crate) fn exists(&self, listed: &Listings, path: &Path) -> Result<bool, FilesError> {
+        Ok(self.file_at(listed, path)?.is_some())
     }
 
     /// The SHA-256 of the file at a path. A piece of it is in memory at a time.
-    pub(crate) fn digest(&self, path: &Path) -> Result<Option<[u8; 32]>, FilesError> {
-        let Some(seen) = self.file_at(path)? else {
+    pub(crate) fn digest(
+        &self,
+        listed: &Listings,
+        path: &Path,
+    ) -> Result<Option<[u8; 32]>, FilesError> {
+        let Some(seen) = self.file_at(listed, path)? else {
             return Ok(None);
         };
         let place = self.place(path)?;
@@ -58,17 +68,21 @@ impl Disk {
     }
 
     /// The mark of the file at a path. It isn't opened.
-    pub(crate) fn mark(&self, path: &Path) -> Result<Option<u64>, FilesError> {
-        match self.file_at(path)? {
+    pub(crate) fn mark(&self, listed: &Listings, path: &Path) -> Result<Option<u64>, FilesError> {
+        match self.file_at(listed, path)? {
             Some(seen) => Ok(Some(seen.mark)),
             None => Ok(None),
         }
     }
 
-    // The file at a path: a directory, a pipe, a socket, a device or a link that isn't followed is none.
-    fn file_at(&self, path: &Path) -> Result<Option<Seen>, FilesError> {
+    // The file at a path: a directory, a pipe, a socket, a device or a link that isn't followed is none. Where its directory was
+    // listed, that found it.
+    fn file_at(&self, listed: &Listings, path: &Path) -> Result<Option<Look>, FilesError> {
+        if let Some(found) = listed.file(path) {
+            return Ok(Some(found));
+        }
         let seen = self.look("read", path)?;
-        Ok(seen.filter(|s| s.is_file()))
+        Ok(seen.and_then(|s| s.file()))
     }
 
     fn too_long(&self, path: &Path) -> Result<FilesError, OutOfMemory> {
@@ -86,7 +100,7 @@ impl Disk {
     }
 
     // The bytes and the mark of a file, where it has at most so many bytes when it is read.
-    fn load(&self, path: &Path, seen: &Seen, most: usize) -> Result<Within, FilesError> {
+    fn load(&self, path: &Path, seen: &Look, most: usize) -> Result<Within, FilesError> {
         let place = self.place(path)?;
         let mut bytes = vec![in self.alloc(); 0u8; room_for(seen.len)]?;
         let Some(mut file) = self.open(place.as_str())? else {

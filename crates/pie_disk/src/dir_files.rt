@@ -4,7 +4,7 @@ ghost use Rattle.pie_files.specs.Faults.{Rose};
 ghost use Rattle.pie_disk.specs.Locks.{MayCall};
 
 use crate::disk::Disk;
-use crate::listings::{Listings, copies};
+use crate::listings::{Listings, paths_of};
 use crate::lock::Lock;
 use pie_base::{OutOfMemory, Path};
 use pie_files::{Files, FilesError, Found, Within};
@@ -121,43 +121,44 @@ impl Files for DirFiles {
 
     fn read(&mut self, path: &Path) -> Result<Option<Found>, FilesError> {
         self.enter()?;
-        let answer = self.disk.read(path);
+        let answer = self.disk.read(&self.listed, path);
         self.counted(answer)
     }
 
     fn read_within(&mut self, path: &Path, most: usize) -> Result<Within, FilesError> {
         self.enter()?;
-        let answer = self.disk.read_within(path, most);
+        let answer = self.disk.read_within(&self.listed, path, most);
         self.counted(answer)
     }
 
     fn exists(&mut self, path: &Path) -> Result<bool, FilesError> {
         self.enter()?;
-        let answer = self.disk.exists(path);
+        let answer = self.disk.exists(&self.listed, path);
         self.counted(answer)
     }
 
     fn digest(&mut self, path: &Path) -> Result<Option<[u8; 32]>, FilesError> {
         self.enter()?;
-        let answer = self.disk.digest(path);
+        let answer = self.disk.digest(&self.listed, path);
         self.counted(answer)
     }
 
     fn mark(&mut self, path: &Path) -> Result<Option<u64>, FilesError> {
         self.enter()?;
-        let answer = self.disk.mark(path);
+        let answer = self.disk.mark(&self.listed, path);
         self.counted(answer)
     }
 
     fn names(&mut self, dir: &Path) -> Result<Vec<Path>, FilesError> {
         self.enter()?;
         let alloc = self.disk.alloc();
-        if let Some(names) = self.listed.get(dir) {
-            return Ok(copies(alloc, names)?);
+        if let Some(entries) = self.listed.get(dir) {
+            return Ok(paths_of(alloc, entries)?);
         }
-        let answer = self.disk.names(&self.listed, dir);
-        let names = self.counted(answer)?;
-        self.listed.keep(alloc, dir, names.as_slice())?;
+        let answer = self.disk.entries_of(&mut self.listed, dir);
+        let entries = self.counted(answer)?;
+        let names = paths_of(alloc, entries.as_slice())?;
+        self.listed.keep(alloc, dir, entries)?;
         Ok(names)
     }
 

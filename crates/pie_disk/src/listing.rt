@@ -1,46 +1,120 @@
 //! Listings: the entries of a directory, and the files below it.
 
 use crate::disk::{Disk, MOST, dir_at, is_absent, is_own};
-use crate::listings::Listings;
-use crate::seen::{Kind, Seen};
+use crate::listings::{Listed, Listings};
+use crate::seen::{Look, Seen};
 use pie_base::{OutOfMemory, Path, PathError};
 use pie_files::FilesError;
 use std::alloc::Global;
 use std::collections::BTreeSet;
-use std::fs::{self, ReadDir};
+use std::fs::{self, DirEntry, ReadDir};
 use std::io::ErrorKind;
 
-// An entry of a directory.
+// How many names of a directory are read ahead.
+const FEW: usize = 128;
+
+// An entry of a directory: a file with what a look found there, or none below `out` and `.pie`.
 #[derive(Drop)]
 enum Entry {
-    File(Path),
+    File(Path, Option<Look>),
     Dir(Path),
 }
 
 impl Disk {
-    /// The entries of a directory at which or below which a file is. Into directories that were listed it looks no more.
-    pub(crate) fn names(&self, listed: &Listings, dir: &Path) -> Result<Vec<Path>, FilesError> {
-        let mut names = Vec::new(self.alloc());
-        for entry in self.entries(dir)? {
+    /// The entries of a directory at which or below which a file is, in order. Into directories that were listed it looks no more, and
+    /// the names in those that it looks into are kept.
+    pub(crate) fn entries_of(
+        &self,
+        listed: &mut Listings,
+        dir: &Path,
+    ) -> Result<Vec<Listed>, FilesError> {
+        let mut found = Vec::new(self.alloc());
+        for entry in self.entries_now(listed, dir)? {
             match entry {
-                Entry::File(path) => names.push(path)?,
+                Entry::File(path, file) => found.push(Listed { path, file })?,
                 Entry::Dir(path) => {
                     if self.counts(listed, &path)? {
-                        names.push(path)?;
+                        found.push(Listed { path, file: None })?;
                     }
                 }
             }
         }
-        names.sort()?;
-        Ok(names)
+        found.sort_by(|a, b| a.path.cmp(&b.path))?;
+        Ok(found)
+    }
+
+    // The entries of a directory that count, by its names where these are known.
+    fn entries_now(&self, listed: &Listings, dir: &Path) -> Result<Vec<Entry>, FilesError> {
+        match listed.names_ahead(dir) {
+            Some(names) => self.entries_named(dir, names),
+            None => self.entries(dir),
+        }
+    }
+
+    // The entries with these names that count.
+    fn entries_named(&self, dir: &Path, names: &str) -> Result<Vec<Entry>, FilesError> {
+        let mut entries = Vec::new(self.alloc());
+        for name in names.split('/') {
+            if let Some(entry) = self.entry(dir, name)? {
+                entries.push(entry)?;
+            }
+        }
+        Ok(entries)
     }
 
     // Whether a directory that stands there counts: a file is below it.
-    fn counts(&self, listed: &Listings, dir: &Path) -> Result<bool, FilesError> {
+    fn counts(&self, listed: &mut Listings, dir: &Path) -> Result<bool, FilesError> {
         match listed.get(dir) {
-            Some(names) => Ok(!names.is_empty()),
-            None => self.holds_file(dir),
+            Some(entries) => Ok(!entries.is_empty()),
+            None if is_own(dir) => self.holds_file(dir),
+            None => self.counts_ahead(listed, dir),
         }
+    }
+
+    // The same of a directory among the sources that wasn't listed. Where it has few names they are kept, so that a listing of it needn't
+    // read them again.
+    fn counts_ahead(&self, listed: &mut Listings, dir: &Path) -> Result<bool, FilesError> {
+        let Some(names) = self.few_names(dir)? else {
+            return self.holds_file(dir);
+        };
+        let mut dirs = Vec::new(self.alloc());
+        let found = self.has_named(dir, names.as_str(), &mut dirs)?;
+        listed.keep_ahead(self.alloc(), dir, names)?;
+        if found {
+            return Ok(true);
+        }
+        self.hold_file(dirs)
+    }
+
+    // All names in a directory, each ended by a slash, or none where these are many.
+    fn few_names(&self, dir: &Path) -> Result<Option<String>, FilesError> {
+        let mut names = String::new(self.alloc());
+        let Some(mut listing) = self.listing(dir)? else {
+            return Ok(Some(names));
+        };
+        for _ in 0..FEW {
+            match self.next_name(dir, &mut listing)? {
+                None => return Ok(Some(names)),
+                Some(None) => {}
+                Some(Some(entry)) => {
+                    names.push_str(entry.file_name())?;
+                    names.push('/')?;
+                }
+            }
+        }
+        Ok(None)
+    }
+
+    // Whether a file is right below a directory with these names; if not, adds the directories below it.
+    fn has_named(&self, dir: &Path, names: &str, dirs: &mut Vec<Path>) -> Result<bool, FilesError> {
+        for name in names.split('/') {
+            match self.entry(dir, name)? {
+                None => {}
+                Some(Entry::File(_, _)) => return Ok(true),
+                Some(Entry::Dir(path)) => dirs.push(path)?,
+            }
+        }
+        Ok(false)
     }
 
     /// The files below a directory. Below `out` and `.pie` each entry that is no directory counts.
@@ -101,7 +175,7 @@ impl Disk {
             match self.next_entry(dir, &mut listing)? {
                 None => break,
                 Some(None) => {}
-                Some(Some(Entry::File(_))) => return Ok(true),
+                Some(Some(Entry::File(_, _))) => return Ok(true),
                 Some(Some(Entry::Dir(path))) => dirs.push(path)?,
             }
         }
@@ -149,9 +223,22 @@ impl Disk {
         dir: &Path,
         listing: &mut ReadDir,
     ) -> Result<Option<Option<Entry>>, FilesError> {
+        match self.next_name(dir, listing)? {
+            None => Ok(None),
+            Some(None) => Ok(Some(None)),
+            Some(Some(entry)) => Ok(Some(self.entry(dir, entry.file_name())?)),
+        }
+    }
+
+    // The next name in a directory, where there is one: none inside is one that no path has.
+    fn next_name(
+        &self,
+        dir: &Path,
+        listing: &mut ReadDir,
+    ) -> Result<Option<Option<DirEntry>>, FilesError> {
         match listing.next() {
             None => Ok(None),
-            Some(Ok(entry)) => Ok(Some(self.entry(dir, entry.file_name())?)),
+            Some(Ok(entry)) => Ok(Some(Some(entry))),
             Some(Err(e)) if e.kind() == ErrorKind::InvalidFilename => Ok(Some(None)),
             Some(Err(e)) => {
                 let place = self.place(dir)?;
@@ -221,17 +308,17 @@ fn own_entry(path: Path, seen: &Seen) -> Entry {
     if seen.is_dir() {
         Entry::Dir(path)
     } else {
-        Entry::File(path)
+        Entry::File(path, None)
     }
 }
 
 // An entry elsewhere, where it is a directory or a file.
 fn source_entry(path: Path, seen: &Seen) -> Option<Entry> {
-    match seen.kind {
-        Kind::Dir => Some(Entry::Dir(path)),
-        Kind::File => Some(Entry::File(path)),
-        _ => None,
+    if seen.is_dir() {
+        return Some(Entry::Dir(path));
     }
+    let file = seen.file()?;
+    Some(Entry::File(path, Some(file)))
 }
 
 // The path of a directory's entry, or none where its name spells no path.
@@ -252,7 +339,7 @@ fn sort_out(
 ) -> Result<(), OutOfMemory> {
     for entry in entries {
         match entry {
-            Entry::File(path) => files.push(path)?,
+            Entry::File(path, _) => files.push(path)?,
             Entry::Dir(path) => dirs.push(path)?,
         }
     }

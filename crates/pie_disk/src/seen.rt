@@ -32,6 +32,14 @@ pub(crate) struct Seen {
     pub(crate) identity: (u64, u64),
 }
 
+/// What is known of a file that isn't opened.
+#[derive(Clone, Copy)]
+pub(crate) struct Look {
+    pub(crate) len: u64,
+    /// As that of `Seen`.
+    pub(crate) mark: u64,
+}
+
 impl Seen {
     fn of(found: &Metadata) -> Seen {
         Seen {
@@ -49,6 +57,17 @@ impl Seen {
 
     pub(crate) fn is_file(&self) -> bool {
         self.kind == Kind::File
+    }
+
+    /// The file that was found, unless it is another entry.
+    pub(crate) fn file(&self) -> Option<Look> {
+        if !self.is_file() {
+            return None;
+        }
+        Some(Look {
+            len: self.len,
+            mark: self.mark,
+        })
     }
 
     pub(crate) fn is_link(&self) -> bool {

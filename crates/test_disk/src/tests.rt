@@ -252,6 +252,95 @@ fn list_once(rt: HostRuntime, root: &str, files: &mut DirFiles) -> Result<String
     Ok(format!(in rt.alloc(); "{first}{second}")?)
 }
 
+// The names in a directory below one that was listed are those that were found then.
+fn look_ahead(rt: HostRuntime, root: &str, files: &mut DirFiles) -> Result<String, Fail> {
+    make(rt, root, &["a/b/c", "a/b/d/e"])?;
+    let first = wrong(rt, root, files, &[(Call::Names, "a", "a/b ")])?;
+    make(rt, root, &["a/b/f"])?;
+    let again = [
+        (Call::Names, "a/b", "a/b/c a/b/d "),
+        (Call::Names, "a/b/d", "a/b/d/e "),
+        (Call::Write("x"), "out/g", "done"),
+        (Call::Names, "a/b", "a/b/c a/b/d a/b/f "),
+    ];
+    let second = wrong(rt, root, files, again.as_slice())?;
+    Ok(format!(in rt.alloc(); "{first}{second}")?)
+}
+
+#[test]
+fn names_that_were_read_ahead_are_those_of_a_listing(rt: HostRuntime) -> Result<(), Fail> {
+    let root = scratch(rt, "ahead")?;
+    let mut files = DirFiles::under(rt, root.as_str())?;
+    let wrong = look_ahead(rt, root.as_str(), &mut files)?;
+    fs::remove_dir_all(&rt, root.as_str())?;
+    assert!(rt; wrong.as_str() == "");
+    Ok(())
+}
+
+// A directory of more names than are read ahead, and its listing.
+fn make_wide(rt: HostRuntime, root: &str) -> Result<String, Fail> {
+    let alloc = rt.alloc();
+    let mut wanted = String::new(alloc);
+    for n in 100..400 {
+        let name = format!(in alloc; "a/b/{n}")?;
+        make(rt, root, &[name.as_str()])?;
+        wanted.push_str(name.as_str())?;
+        wanted.push_str(" ")?;
+    }
+    Ok(wanted)
+}
+
+#[test]
+fn a_directory_of_many_names_is_listed_whole(rt: HostRuntime) -> Result<(), Fail> {
+    let root = scratch(rt, "wide")?;
+    let wanted = make_wide(rt, root.as_str())?;
+    let calls = [
+        (Call::Names, "a", "a/b "),
+        (Call::Names, "a/b", wanted.as_str()),
+    ];
+    let wrong = wrong_in(rt, root.as_str(), calls.as_slice())?;
+    fs::remove_dir_all(&rt, root.as_str())?;
+    assert!(rt; wrong.as_str() == "");
+    Ok(())
+}
+
+// Puts this text into a file, past the adapter.
+fn put(rt: HostRuntime, root: &str, name: &str, text: &str) -> Result<(), Fail> {
+    fs::write(&rt, format!(in rt.alloc(); "{root}/{name}")?.as_str(), text)?;
+    Ok(())
+}
+
+fn read_changed(rt: HostRuntime, root: &str, files: &mut DirFiles) -> Result<String, Fail> {
+    make(rt, root, &["a/b"])?;
+    let listed = wrong(rt, root, files, &[(Call::Names, "a", "a/b ")])?;
+    put(rt, root, "a/b", "a longer text")?;
+    let longer = [
+        (Call::Read, "a/b", "a longer text"),
+        (Call::Within(12), "a/b", "long"),
+        (Call::Within(13), "a/b", "whole"),
+    ];
+    let longer = wrong(rt, root, files, longer.as_slice())?;
+    put(rt, root, "a/b", "x")?;
+    let shorter = wrong(rt, root, files, &[(Call::Read, "a/b", "x")])?;
+    put(rt, root, "a/b", "abc")?;
+    let other = wrong(rt, root, files, &[(Call::Digest, "a/b", "of abc")])?;
+    fs::remove_file(&rt, format!(in rt.alloc(); "{root}/a/b")?.as_str())?;
+    let gone = wrong(rt, root, files, &[(Call::Read, "a/b", "none")])?;
+    Ok(format!(in rt.alloc(); "{listed}{longer}{shorter}{other}{gone}")?)
+}
+
+#[test]
+fn a_file_is_read_whole_that_changes_after_its_directory_was_listed(
+    rt: HostRuntime,
+) -> Result<(), Fail> {
+    let root = scratch(rt, "changed")?;
+    let mut files = DirFiles::under(rt, root.as_str())?;
+    let wrong = read_changed(rt, root.as_str(), &mut files)?;
+    fs::remove_dir_all(&rt, root.as_str())?;
+    assert!(rt; wrong.as_str() == "");
+    Ok(())
+}
+
 #[test]
 fn a_directory_is_listed_once_until_something_is_written(rt: HostRuntime) -> Result<(), Fail> {
     let root = scratch(rt, "once")?;
