@@ -155,7 +155,7 @@ impl Files for DirFiles {
         if let Some(entries) = self.listed.get(dir) {
             return Ok(paths_of(alloc, entries)?);
         }
-        let answer = self.disk.entries_of(&mut self.listed, dir);
+        let answer = self.disk.entries_of(&self.listed, dir);
         let entries = self.counted(answer)?;
         let names = paths_of(alloc, entries.as_slice())?;
         self.listed.keep(alloc, dir, entries)?;

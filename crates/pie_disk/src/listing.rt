@@ -7,11 +7,8 @@ use pie_base::{OutOfMemory, Path, PathError};
 use pie_files::FilesError;
 use std::alloc::Global;
 use std::collections::BTreeSet;
-use std::fs::{self, DirEntry, ReadDir};
+use std::fs::{self, ReadDir};
 use std::io::ErrorKind;
-
-// How many names of a directory are read ahead.
-const FEW: usize = 128;
 
 // An entry of a directory: a file with what a look found there, or none below `out` and `.pie`.
 #[derive(Drop)]
@@ -21,11 +18,10 @@ enum Entry {
 }
 
 impl Disk {
-    /// The entries of a directory at which or below which a file is, in order. Into directories that were listed it looks no more, and
-    /// the names in those that it looks into are kept.
+    /// The entries of a directory at which or below which a file is, in order. Into directories that were listed it looks no more.
     pub(crate) fn entries_of(
         &self,
-        listed: &mut Listings,
+        listed: &Listings,
         dir: &Path,
     ) -> Result<Vec<Listed>, FilesError> {
         let mut found = Vec::new(self.alloc());
@@ -43,78 +39,20 @@ impl Disk {
         Ok(found)
     }
 
-    // The entries of a directory that count, by its names where these are known.
+    // The entries of a directory that count, in the disk's order. One among the sources that was listed itself takes no look.
     fn entries_now(&self, listed: &Listings, dir: &Path) -> Result<Vec<Entry>, FilesError> {
-        match listed.names_ahead(dir) {
-            Some(names) => self.entries_named(dir, names),
-            None => self.entries(dir),
+        match listed.entry(dir) {
+            Some(entry) if entry.file.is_none() && !is_own(dir) => self.entries_in(dir),
+            _ => self.entries(dir),
         }
-    }
-
-    // The entries with these names that count.
-    fn entries_named(&self, dir: &Path, names: &str) -> Result<Vec<Entry>, FilesError> {
-        let mut entries = Vec::new(self.alloc());
-        for name in names.split('/') {
-            if let Some(entry) = self.entry(dir, name)? {
-                entries.push(entry)?;
-            }
-        }
-        Ok(entries)
     }
 
     // Whether a directory that stands there counts: a file is below it.
-    fn counts(&self, listed: &mut Listings, dir: &Path) -> Result<bool, FilesError> {
+    fn counts(&self, listed: &Listings, dir: &Path) -> Result<bool, FilesError> {
         match listed.get(dir) {
             Some(entries) => Ok(!entries.is_empty()),
-            None if is_own(dir) => self.holds_file(dir),
-            None => self.counts_ahead(listed, dir),
+            None => self.holds_file(dir),
         }
-    }
-
-    // The same of a directory among the sources that wasn't listed. Where it has few names they are kept, so that a listing of it needn't
-    // read them again.
-    fn counts_ahead(&self, listed: &mut Listings, dir: &Path) -> Result<bool, FilesError> {
-        let Some(names) = self.few_names(dir)? else {
-            return self.holds_file(dir);
-        };
-        let mut dirs = Vec::new(self.alloc());
-        let found = self.has_named(dir, names.as_str(), &mut dirs)?;
-        listed.keep_ahead(self.alloc(), dir, names)?;
-        if found {
-            return Ok(true);
-        }
-        self.hold_file(dirs)
-    }
-
-    // All names in a directory, each ended by a slash, or none where these are many.
-    fn few_names(&self, dir: &Path) -> Result<Option<String>, FilesError> {
-        let mut names = String::new(self.alloc());
-        let Some(mut listing) = self.listing(dir)? else {
-            return Ok(Some(names));
-        };
-        for _ in 0..FEW {
-            match self.next_name(dir, &mut listing)? {
-                None => return Ok(Some(names)),
-                Some(None) => {}
-                Some(Some(entry)) => {
-                    names.push_str(entry.file_name())?;
-                    names.push('/')?;
-                }
-            }
-        }
-        Ok(None)
-    }
-
-    // Whether a file is right below a directory with these names; if not, adds the directories below it.
-    fn has_named(&self, dir: &Path, names: &str, dirs: &mut Vec<Path>) -> Result<bool, FilesError> {
-        for name in names.split('/') {
-            match self.entry(dir, name)? {
-                None => {}
-                Some(Entry::File(_, _)) => return Ok(true),
-                Some(Entry::Dir(path)) => dirs.push(path)?,
-            }
-        }
-        Ok(false)
     }
 
     /// The files below a directory. Below `out` and `.pie` each entry that is no directory counts.
@@ -182,10 +120,19 @@ impl Disk {
         Ok(false)
     }
 
-    // The entries of a directory that count, in the disk's order.
+    // The entries of a directory that count, in the disk's order; none where it is no directory.
     fn entries(&self, dir: &Path) -> Result<Vec<Entry>, FilesError> {
+        let seen = self.look("list", dir)?;
+        if seen.is_some_and(|s| s.is_dir()) {
+            return self.entries_in(dir);
+        }
+        Ok(Vec::new(self.alloc()))
+    }
+
+    // The same of a directory that was looked at.
+    fn entries_in(&self, dir: &Path) -> Result<Vec<Entry>, FilesError> {
         let mut entries = Vec::new(self.alloc());
-        let Some(mut listing) = self.opened(dir)? else {
+        let Some(mut listing) = self.listing(dir)? else {
             return Ok(entries);
         };
         for _ in 0..u64::MAX {
@@ -196,15 +143,6 @@ impl Disk {
             }
         }
         Ok(entries)
-    }
-
-    // Opens a directory, where there is one.
-    fn opened(&self, dir: &Path) -> Result<Option<ReadDir>, FilesError> {
-        let seen = self.look("list", dir)?;
-        if !seen.is_some_and(|s| s.is_dir()) {
-            return Ok(None);
-        }
-        self.listing(dir)
     }
 
     // Opens a directory that was looked at, unless it has gone meanwhile.
@@ -223,22 +161,9 @@ impl Disk {
         dir: &Path,
         listing: &mut ReadDir,
     ) -> Result<Option<Option<Entry>>, FilesError> {
-        match self.next_name(dir, listing)? {
-            None => Ok(None),
-            Some(None) => Ok(Some(None)),
-            Some(Some(entry)) => Ok(Some(self.entry(dir, entry.file_name())?)),
-        }
-    }
-
-    // The next name in a directory, where there is one: none inside is one that no path has.
-    fn next_name(
-        &self,
-        dir: &Path,
-        listing: &mut ReadDir,
-    ) -> Result<Option<Option<DirEntry>>, FilesError> {
         match listing.next() {
             None => Ok(None),
-            Some(Ok(entry)) => Ok(Some(Some(entry))),
+            Some(Ok(entry)) => Ok(Some(self.entry(dir, entry.file_name())?)),
             Some(Err(e)) if e.kind() == ErrorKind::InvalidFilename => Ok(Some(None)),
             Some(Err(e)) => {
                 let place = self.place(dir)?;

@@ -5,10 +5,8 @@ use pie_base::{OutOfMemory, Path};
 use std::alloc::Global;
 use std::collections::BTreeMap;
 
-// How many entries are kept, and how many bytes of names that were read ahead. What is beyond is looked for anew each time.
+// How many entries are kept. Listings beyond are made anew each time.
 const MOST_KEPT: usize = 65_536;
-
-const MOST_AHEAD: usize = 4_194_304;
 
 /// An entry of a directory that was listed, with what a look found where it is a file among the sources.
 #[derive(Drop)]
@@ -24,10 +22,6 @@ pub(crate) struct Listings {
     given: BTreeMap<String, Vec<Listed>>,
     // How many entries these have together.
     entries: usize,
-    // All names in a directory that was only looked into, each ended by a slash.
-    ahead: BTreeMap<String, String>,
-    // How many bytes were read ahead.
-    bytes: usize,
 }
 
 impl Listings {
@@ -35,8 +29,6 @@ impl Listings {
         Listings {
             given: BTreeMap::new(alloc),
             entries: 0,
-            ahead: BTreeMap::new(alloc),
-            bytes: 0,
         }
     }
 
@@ -50,11 +42,16 @@ impl Listings {
 
     /// What a look found at the file of a source whose directory was listed.
     pub(crate) fn file(&self, path: &Path) -> Option<Look> {
+        self.entry(path)?.file
+    }
+
+    /// The entry that was listed at a path.
+    pub(crate) fn entry(&self, path: &Path) -> Option<&Listed> {
         let (dir, _) = path.as_str().rsplit_once('/')?;
         let entries = self.given.get(dir)?.as_slice();
         let place = entries.binary_search_by(|entry| entry.path.cmp(path));
         match place {
-            Ok(place) => entries.get(place)?.file,
+            Ok(place) => entries.get(place),
             Err(_) => None,
         }
     }
@@ -66,34 +63,11 @@ impl Listings {
         dir: &Path,
         entries: Vec<Listed>,
     ) -> Result<(), OutOfMemory> {
-        let _names = self.ahead.remove(dir.as_str());
         let many = self.entries.saturating_add(entries.len());
         if many <= MOST_KEPT {
-            self.given.insert(named(alloc, dir)?, entries)?;
+            let dir = String::from_str(alloc, dir.as_str())?;
+            self.given.insert(dir, entries)?;
             self.entries = many;
-        }
-        Ok(())
-    }
-
-    /// All names in a directory that was looked into, each ended by a slash.
-    pub(crate) fn names_ahead(&self, dir: &Path) -> Option<&str> {
-        match self.ahead.get(dir.as_str()) {
-            Some(names) => Some(names.as_str()),
-            None => None,
-        }
-    }
-
-    /// Keeps all names in a directory, where there is room.
-    pub(crate) fn keep_ahead(
-        &mut self,
-        alloc: Global,
-        dir: &Path,
-        names: String,
-    ) -> Result<(), OutOfMemory> {
-        let many = self.bytes.saturating_add(names.len());
-        if many <= MOST_AHEAD {
-            self.ahead.insert(named(alloc, dir)?, names)?;
-            self.bytes = many;
         }
         Ok(())
     }
@@ -102,13 +76,7 @@ impl Listings {
     pub(crate) fn clear(&mut self) {
         self.given.clear();
         self.entries = 0;
-        self.ahead.clear();
-        self.bytes = 0;
     }
-}
-
-fn named(alloc: Global, dir: &Path) -> Result<String, OutOfMemory> {
-    Ok(String::from_str(alloc, dir.as_str())?)
 }
 
 /// Copies of the paths of some entries, in a list of their own.

@@ -252,32 +252,7 @@ fn list_once(rt: HostRuntime, root: &str, files: &mut DirFiles) -> Result<String
     Ok(format!(in rt.alloc(); "{first}{second}")?)
 }
 
-// The names in a directory below one that was listed are those that were found then.
-fn look_ahead(rt: HostRuntime, root: &str, files: &mut DirFiles) -> Result<String, Fail> {
-    make(rt, root, &["a/b/c", "a/b/d/e"])?;
-    let first = wrong(rt, root, files, &[(Call::Names, "a", "a/b ")])?;
-    make(rt, root, &["a/b/f"])?;
-    let again = [
-        (Call::Names, "a/b", "a/b/c a/b/d "),
-        (Call::Names, "a/b/d", "a/b/d/e "),
-        (Call::Write("x"), "out/g", "done"),
-        (Call::Names, "a/b", "a/b/c a/b/d a/b/f "),
-    ];
-    let second = wrong(rt, root, files, again.as_slice())?;
-    Ok(format!(in rt.alloc(); "{first}{second}")?)
-}
-
-#[test]
-fn names_that_were_read_ahead_are_those_of_a_listing(rt: HostRuntime) -> Result<(), Fail> {
-    let root = scratch(rt, "ahead")?;
-    let mut files = DirFiles::under(rt, root.as_str())?;
-    let wrong = look_ahead(rt, root.as_str(), &mut files)?;
-    fs::remove_dir_all(&rt, root.as_str())?;
-    assert!(rt; wrong.as_str() == "");
-    Ok(())
-}
-
-// A directory of more names than are read ahead, and its listing.
+// A directory of more names than the system tells at once, and its listing.
 fn make_wide(rt: HostRuntime, root: &str) -> Result<String, Fail> {
     let alloc = rt.alloc();
     let mut wanted = String::new(alloc);
@@ -327,6 +302,27 @@ fn read_changed(rt: HostRuntime, root: &str, files: &mut DirFiles) -> Result<Str
     fs::remove_file(&rt, format!(in rt.alloc(); "{root}/a/b")?.as_str())?;
     let gone = wrong(rt, root, files, &[(Call::Read, "a/b", "none")])?;
     Ok(format!(in rt.alloc(); "{listed}{longer}{shorter}{other}{gone}")?)
+}
+
+// A directory that was listed gives way to a file.
+fn list_replaced(rt: HostRuntime, root: &str, files: &mut DirFiles) -> Result<String, Fail> {
+    make(rt, root, &["a/b/c"])?;
+    let listed = wrong(rt, root, files, &[(Call::Names, "a", "a/b ")])?;
+    fs::remove_dir_all(&rt, format!(in rt.alloc(); "{root}/a/b")?.as_str())?;
+    make(rt, root, &["a/b"])?;
+    let after = [(Call::Names, "a/b", ""), (Call::Read, "a/b", "a/b")];
+    let after = wrong(rt, root, files, after.as_slice())?;
+    Ok(format!(in rt.alloc(); "{listed}{after}")?)
+}
+
+#[test]
+fn a_directory_that_gave_way_to_a_file_lists_nothing(rt: HostRuntime) -> Result<(), Fail> {
+    let root = scratch(rt, "replaced")?;
+    let mut files = DirFiles::under(rt, root.as_str())?;
+    let wrong = list_replaced(rt, root.as_str(), &mut files)?;
+    fs::remove_dir_all(&rt, root.as_str())?;
+    assert!(rt; wrong.as_str() == "");
+    Ok(())
 }
 
 #[test]
