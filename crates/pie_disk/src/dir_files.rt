@@ -6,9 +6,9 @@ ghost use Rattle.pie_disk.specs.Locks.{MayCall};
 use crate::disk::Disk;
 use crate::listings::{Listings, paths_of};
 use crate::lock::Lock;
+use crate::syncing::Unsynced;
 use pie_base::{OutOfMemory, Path};
 use pie_files::{Files, FilesError, Found, Within};
-use std::collections::BTreeSet;
 
 /// The files of a directory on a disk. It tells no contents: that the directory holds what was
 /// written, and that a sync makes it last, is trusted.
@@ -17,8 +17,7 @@ use std::collections::BTreeSet;
 pub struct DirFiles {
     disk: Disk,
     lock: Lock,
-    // The names of files and directories that the next sync is to make last.
-    unsynced: BTreeSet<String>,
+    unsynced: Unsynced,
     listed: Listings,
     faults: u64,
 }
@@ -49,7 +48,7 @@ impl DirFiles {
         DirFiles {
             disk,
             lock,
-            unsynced: BTreeSet::new(rt.alloc()),
+            unsynced: Unsynced::new(rt.alloc()),
             listed: Listings::new(rt.alloc()),
             faults: 0,
         }
@@ -171,7 +170,8 @@ impl Files for DirFiles {
     fn write(&mut self, path: &Path, bytes: &[u8]) -> Result<(), FilesError> {
         self.enter()?;
         self.listed.clear();
-        self.disk.note_unsynced(&mut self.unsynced, path)?;
+        let noted = self.disk.note_unsynced(&mut self.unsynced, path);
+        self.counted(noted)?;
         let answer = self.disk.write(&self.lock, path, bytes);
         self.counted(answer)
     }
@@ -179,16 +179,20 @@ impl Files for DirFiles {
     fn remove(&mut self, path: &Path) -> Result<(), FilesError> {
         self.enter()?;
         self.listed.clear();
-        self.disk.note_unsynced(&mut self.unsynced, path)?;
+        let noted = self.disk.note_unsynced(&mut self.unsynced, path);
+        self.counted(noted)?;
         let answer = self.disk.remove(&self.lock, path);
-        self.counted(answer)
+        self.counted(answer)?;
+        let gone = self.disk.note_gone(&mut self.unsynced, path);
+        self.counted(gone)
     }
 
     fn sync(&mut self) -> Result<(), FilesError> {
         self.enter()?;
+        let alloc = self.disk.alloc();
         let answer = self.disk.sync(&self.unsynced);
         if answer.is_ok() {
-            self.unsynced.clear();
+            self.unsynced.settle(alloc);
         }
         self.counted(answer)
     }
