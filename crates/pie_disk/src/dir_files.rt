@@ -3,7 +3,7 @@ ghost use Rattle.std.specs.Prelude.{◌≡◌, ◌≤◌, OnOk, IsErrOf};
 ghost use Rattle.pie_files.specs.Faults.{Rose};
 ghost use Rattle.pie_disk.specs.Locks.{MayCall};
 
-use crate::disk::Disk;
+use crate::disk::{Disk, is_own};
 use crate::listings::{Listings, paths_of};
 use crate::lock::Lock;
 use crate::syncing::Unsynced;
@@ -163,8 +163,14 @@ impl Files for DirFiles {
 
     fn all_under(&mut self, dir: &Path) -> Result<Vec<Path>, FilesError> {
         self.enter()?;
+        let alloc = self.disk.alloc();
         let answer = self.disk.all_under(dir);
-        self.counted(answer)
+        let files = self.counted(answer)?;
+        let paths = paths_of(alloc, files.as_slice())?;
+        if !is_own(dir) {
+            self.listed.keep_below(alloc, dir, files)?;
+        }
+        Ok(paths)
     }
 
     fn write(&mut self, path: &Path, bytes: &[u8]) -> Result<(), FilesError> {

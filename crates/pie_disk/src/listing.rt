@@ -55,8 +55,8 @@ impl Disk {
         }
     }
 
-    /// The files below a directory. Below `out` and `.pie` each entry that is no directory counts.
-    pub(crate) fn all_under(&self, dir: &Path) -> Result<Vec<Path>, FilesError> {
+    /// The files below a directory, in order. Below `out` and `.pie` each entry that is no directory counts.
+    pub(crate) fn all_under(&self, dir: &Path) -> Result<Vec<Listed>, FilesError> {
         let mut files = Vec::new(self.alloc());
         let mut dirs = Vec::new(self.alloc());
         dirs.push(dir.copy()?)?;
@@ -69,7 +69,7 @@ impl Disk {
                 return Err(self.refused("list", dir.as_str(), "too many files"));
             }
         }
-        files.sort()?;
+        files.sort_by(|a, b| a.path.cmp(&b.path))?;
         Ok(files)
     }
 
@@ -259,12 +259,12 @@ fn child(alloc: Global, dir: &Path, name: &str) -> Result<Option<Path>, OutOfMem
 // Parts entries into files and directories.
 fn sort_out(
     entries: Vec<Entry>,
-    files: &mut Vec<Path>,
+    files: &mut Vec<Listed>,
     dirs: &mut Vec<Path>,
 ) -> Result<(), OutOfMemory> {
     for entry in entries {
         match entry {
-            Entry::File(path, _) => files.push(path)?,
+            Entry::File(path, file) => files.push(Listed { path, file })?,
             Entry::Dir(path) => dirs.push(path)?,
         }
     }

@@ -285,9 +285,11 @@ fn put(rt: HostRuntime, root: &str, name: &str, text: &str) -> Result<(), Fail> 
     Ok(())
 }
 
-fn read_changed(rt: HostRuntime, root: &str, files: &mut DirFiles) -> Result<String, Fail> {
+// Reads a file that changes after it was listed by this call.
+fn read_changed(rt: HostRuntime, root: &str, call: Call) -> Result<String, Fail> {
     make(rt, root, &["a/b"])?;
-    let listed = wrong(rt, root, files, &[(Call::Names, "a", "a/b ")])?;
+    let files = &mut DirFiles::under(rt, root)?;
+    let listed = wrong(rt, root, files, &[(call, "a", "a/b ")])?;
     put(rt, root, "a/b", "a longer text")?;
     let longer = [
         (Call::Read, "a/b", "a longer text"),
@@ -330,10 +332,11 @@ fn a_file_is_read_whole_that_changes_after_its_directory_was_listed(
     rt: HostRuntime,
 ) -> Result<(), Fail> {
     let root = scratch(rt, "changed")?;
-    let mut files = DirFiles::under(rt, root.as_str())?;
-    let wrong = read_changed(rt, root.as_str(), &mut files)?;
+    let beside = read_changed(rt, root.as_str(), Call::Names)?;
+    let below = read_changed(rt, root.as_str(), Call::AllUnder)?;
     fs::remove_dir_all(&rt, root.as_str())?;
-    assert!(rt; wrong.as_str() == "");
+    assert!(rt; beside.as_str() == "");
+    assert!(rt; below.as_str() == "");
     Ok(())
 }
 
