@@ -80,3 +80,25 @@ index_set rows n new edge now held fresh stale l r f s h =
           ∙ replaced_there (has (row_at rows edge.1) u)
           ∙ ap (λ (row : Row). has row u) (sym (get_or-set_other rows n edge.1 new no_edges e.1))
     ]
+
+-- an edge of the row that is replaced stands in the index
+pub held_old : (rows : List Row) (n : ℕ) (edge : Use × ℕ) (held stale : Bool) → stale ≡ is_of (row_at rows n) n edge → held ≡ has (row_at rows edge.1) edge.0
+    → stale ≡ true → held ≡ true
+held_old rows n edge held stale s h is =
+    let u = edge.0 in
+    elim (eqb_tells edge.1 n) [
+      | inl e ↦
+          h ∙ ap (λ (m : ℕ). has (row_at rows m) u) e.1 ∙ sym (ap (λ b. b && has (row_at rows n) u) e.0) ∙ sym s ∙ is
+      | inr e ↦ let none : false ≡ true = sym (ap (λ b. b && has (row_at rows n) u) e.0) ∙ sym s ∙ is in absurd (cc)
+    ]
+
+-- a new edge that stands in the index already is one of the row that is replaced
+pub fresh_old : (rows : List Row) (n : ℕ) (new : Row) (edge : Use × ℕ) (held fresh stale : Bool) → fresh ≡ is_of new n edge
+    → stale ≡ is_of (row_at rows n) n edge → held ≡ has (row_at rows edge.1) edge.0 → fresh ≡ true → held ≡ true → stale ≡ true
+fresh_old rows n new edge held fresh stale f s h is there =
+    let u = edge.0 in
+    elim (eqb_tells edge.1 n) [
+      | inl e ↦
+          s ∙ ap (λ b. b && has (row_at rows n) u) e.0 ∙ sym (ap (λ (m : ℕ). has (row_at rows m) u) e.1) ∙ sym h ∙ there
+      | inr e ↦ let none : false ≡ true = sym (ap (λ b. b && has new u) e.0) ∙ sym f ∙ is in absurd (cc)
+    ]

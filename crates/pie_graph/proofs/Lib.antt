@@ -6,3 +6,4 @@ pub mod EdgeSteps
 pub mod HasUse
 pub mod MarkedNumbers
 pub mod RowLemmas
+pub mod RowsWritten

@@ -1,78 +1,32 @@
-//! An index of edges: pairs of what is used and the number of the user, in one order.
+//! An index of uses: pairs of what is used and the number of the user, in one order.
 ghost use Rattle.std.specs.Prelude.{◌≡◌, ◌≤◌, ℕ, ◌&&◌, ◌||◌, ◌==◌, not, true, false, length, map, List, IfOk, OnOk, OnErr};
 ghost use Rattle.pie_graph.specs.declared.uses.Use.{Use};
 ghost use Rattle.pie_graph.specs.Index.{edge_cmp, holds, is_of, IsIndex};
 ghost use Rattle.std.specs.Ordering.{is_eq};
-ghost use Rattle.pie_graph.specs.Alone.{used, calls_alone, paths_alone};
+ghost use Rattle.pie_graph.specs.Alone.{writes_alone};
 ghost use Rattle.pie_graph.specs.Numbers.{numbers, Exactly};
-ghost use Rattle.pie_graph.specs.Rows.{Row, row_of, row_at, no_edges};
+ghost use Rattle.pie_graph.specs.Rows.{Row, row_at, no_edges};
 ghost use Rattle.pie_graph.specs.Uses.{has, Has};
 
-use crate::{Edges, TaskNo, Use};
+use crate::{TaskNo, Use};
 use pie_base::{MAX_TASKS, OutOfMemory, Path};
 use std::alloc::Global;
 use std::collections::BTreeSet;
 
-/// The edges of one row, each with the number of the row.
-pub(crate) fn edges_of(
+/// The writes of these paths, each with the number of the writer.
+pub(crate) fn writes_of(
     alloc: Global,
-    edges: &Edges,
-    no: u32,
-) -> Result<BTreeSet<(Use, u32)>, OutOfMemory>
-    ensures { IfOk result (λ index. (edge : Use × ℕ) → holds index edge ≡ is_of (row_of edges.now) no edge) }
-{
-    let mut index = BTreeSet::new(alloc);
-    add_calls(&mut index, edges.needs.as_slice(), no)?;
-    add_paths(&mut index, Kind::Reads, edges.reads.as_slice(), no)?;
-    add_paths(&mut index, Kind::Lists, edges.lists.as_slice(), no)?;
-    add_paths(&mut index, Kind::Writes, edges.writes.as_slice(), no)?;
-    Ok(index)
-}
-
-// Which of the uses of a path.
-#[derive(Clone, Copy)]
-enum Kind {
-    Reads,
-    Lists,
-    Writes,
-}
-
-fn use_of(kind: Kind, path: Path) -> Use
-    ensures { result ≡ used kind path }
-{
-    match kind {
-        Kind::Reads => Use::Reads(path),
-        Kind::Lists => Use::Lists(path),
-        Kind::Writes => Use::Writes(path),
-    }
-}
-
-fn add_calls(
-    index: &mut BTreeSet<(Use, u32)>,
-    callees: &[TaskNo],
-    no: u32,
-) -> Result<(), OutOfMemory>
-    ensures { OnOk result ((edge : Use × ℕ) → holds index.new edge ≡ (holds index.old edge || is_of (calls_alone (numbers callees.now)) no edge)) }
-{
-    for callee in callees {
-        index.insert((Use::Calls(*callee), no))?;
-    }
-    Ok(())
-}
-
-fn add_paths(
-    index: &mut BTreeSet<(Use, u32)>,
-    kind: Kind,
     paths: &[Path],
     no: u32,
-) -> Result<(), OutOfMemory>
-    ensures { OnOk result ((edge : Use × ℕ) → holds index.new edge ≡ (holds index.old edge || is_of (paths_alone kind paths.now) no edge)) }
+) -> Result<BTreeSet<(Use, u32)>, OutOfMemory>
+    ensures { IfOk result (λ index. (edge : Use × ℕ) → holds index edge ≡ is_of (writes_alone paths.now) no edge) }
 {
+    let mut index = BTreeSet::new(alloc);
     for path in paths {
         let copy = path.copy()?;
-        index.insert((use_of(kind, copy), no))?;
+        index.insert((Use::Writes(copy), no))?;
     }
-    Ok(())
+    Ok(index)
 }
 
 /// Puts new edges in the place of old ones. Where memory is wanting, the index stays as it was.

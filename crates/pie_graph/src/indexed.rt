@@ -1,17 +1,18 @@
-//! Rows with an index: each question looks only at its answers.
+//! Rows with an index of writers: who wrote a path is told without a walk, and each other question walks over all rows.
 ghost use Rattle.std.specs.Prelude.{◌≡◌, [], IfOk};
 ghost use Rattle.pie_graph.specs.Numbers.{numbers, Exactly};
 ghost use Rattle.pie_graph.specs.Rows.{Row, row_of, row_at};
 ghost use Rattle.pie_graph.specs.Uses.{Has};
 
-use crate::index::{edges_of, replace_all, users_of};
+use crate::index::{replace_all, users_of, writes_of};
+use crate::uses::using;
 use crate::{Edges, TaskNo, TaskRows, Use};
 use pie_base::{OutOfMemory, Path};
 use std::alloc::Global;
 use std::collections::BTreeSet;
 use std::marker::Model;
 
-/// Rows with an index from each task and path to the tasks that use it.
+/// Rows with an index from each path to the tasks that wrote it.
 #[derive(Drop)]
 pub struct IndexedRows {
     rows: Vec<Edges>,
@@ -21,6 +22,7 @@ pub struct IndexedRows {
 impl Model for IndexedRows {
     ghost use Rattle.std.specs.Prelude.{List, map, length, ◌≤◌};
     ghost use Rattle.pie_graph.specs.Rows.{Row, row_of, NeedsBelow};
+    ghost use Rattle.pie_graph.specs.Alone.{written};
 
     ghost Value = { List Row };
 
@@ -28,7 +30,7 @@ impl Model for IndexedRows {
 
     ghost view = { λ r. map row_of r.rows.items };
 
-    ghost invariant = { λ r. (length r.rows.items ≤ 50000) × NeedsBelow (map row_of r.rows.items) × IsIndex r.index (map row_of r.rows.items) };
+    ghost invariant = { λ r. (length r.rows.items ≤ 50000) × NeedsBelow (map row_of r.rows.items) × IsIndex r.index (map written (map row_of r.rows.items)) };
 }
 
 impl IndexedRows {
@@ -42,11 +44,11 @@ impl IndexedRows {
         }
     }
 
-    // The tasks with an edge that leads there.
-    fn users(&self, what: Use) -> Result<Vec<TaskNo>, OutOfMemory>
-        ensures { IfOk result (λ found. Exactly (λ k. Has (row_at self.now k) what) (numbers found.items)) }
+    // The tasks with an edge that leads there, by a walk over all rows.
+    fn users(&self, what: &Use) -> Result<Vec<TaskNo>, OutOfMemory>
+        ensures { IfOk result (λ found. Exactly (λ k. Has (row_at self.now k) what.now) (numbers found.items)) }
     {
-        let found = users_of(*self.rows.allocator(), &self.index, what)?;
+        let found = using(*self.rows.allocator(), self.rows.as_slice(), what)?;
         Ok(found)
     }
 }
@@ -68,8 +70,8 @@ impl TaskRows for IndexedRows {
     fn set_edges(&mut self, no: TaskNo, edges: Edges) -> Result<(), OutOfMemory> {
         let alloc = *self.rows.allocator();
         let row = &self.rows[no.0 as usize];
-        let old = edges_of(alloc, row, no.0)?;
-        let new = edges_of(alloc, &edges, no.0)?;
+        let old = writes_of(alloc, row.writes.as_slice(), no.0)?;
+        let new = writes_of(alloc, edges.writes.as_slice(), no.0)?;
         replace_all(&mut self.index, &old, &new)?;
         self.rows[no.0 as usize] = edges;
         Ok(())
@@ -80,18 +82,20 @@ impl TaskRows for IndexedRows {
     }
 
     fn callers(&self, no: TaskNo) -> Result<Vec<TaskNo>, OutOfMemory> {
-        self.users(Use::Calls(no))
+        self.users(&Use::Calls(no))
     }
 
     fn readers_of(&self, path: &Path) -> Result<Vec<TaskNo>, OutOfMemory> {
-        self.users(Use::Reads(path.copy()?))
+        self.users(&Use::Reads(path.copy()?))
     }
 
     fn listers_of(&self, dir: &Path) -> Result<Vec<TaskNo>, OutOfMemory> {
-        self.users(Use::Lists(dir.copy()?))
+        self.users(&Use::Lists(dir.copy()?))
     }
 
     fn writers_of(&self, path: &Path) -> Result<Vec<TaskNo>, OutOfMemory> {
-        self.users(Use::Writes(path.copy()?))
+        let what = Use::Writes(path.copy()?);
+        let found = users_of(*self.rows.allocator(), &self.index, what)?;
+        Ok(found)
     }
 }

@@ -1,10 +1,11 @@
 //! Rows as a list alone: each question walks over all of them.
-ghost use Rattle.std.specs.Prelude.{◌≡◌, IfOk, map, []};
+ghost use Rattle.std.specs.Prelude.{◌≡◌, IfOk, []};
 ghost use Rattle.pie_graph.specs.Numbers.{numbers, Exactly};
-ghost use Rattle.pie_graph.specs.Rows.{Row, row_of, row_at};
-ghost use Rattle.pie_graph.specs.Uses.{has, Has};
+ghost use Rattle.pie_graph.specs.Rows.{Row, row_at};
+ghost use Rattle.pie_graph.specs.Uses.{Has};
 
-use crate::{Edges, TaskNo, TaskRows, Use, marked};
+use crate::uses::using;
+use crate::{Edges, TaskNo, TaskRows, Use};
 use pie_base::{OutOfMemory, Path};
 use std::alloc::Global;
 use std::marker::Model;
@@ -42,9 +43,8 @@ impl PlainRows {
     fn users(&self, what: &Use) -> Result<Vec<TaskNo>, OutOfMemory>
         ensures { IfOk result (λ found. Exactly (λ k. Has (row_at self.now k) what.now) (numbers found.items)) }
     {
-        let alloc = *self.rows.allocator();
-        let marks = using(alloc, self.rows.as_slice(), what)?;
-        marked(alloc, &marks)
+        let found = using(*self.rows.allocator(), self.rows.as_slice(), what)?;
+        Ok(found)
     }
 }
 
@@ -86,11 +86,4 @@ impl TaskRows for PlainRows {
     fn writers_of(&self, path: &Path) -> Result<Vec<TaskNo>, OutOfMemory> {
         self.users(&Use::Writes(path.copy()?))
     }
-}
-
-// Which rows have an edge that leads there.
-fn using(alloc: Global, rows: &[Edges], what: &Use) -> Result<Vec<bool>, OutOfMemory>
-    ensures { IfOk result (λ marks. marks.items ≡ map (λ row. has (row_of row) what.now) rows.now) }
-{
-    Ok(rows.iter().map(|row| row.has(what)).collect(alloc)?)
 }

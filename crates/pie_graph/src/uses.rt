@@ -1,10 +1,12 @@
 //! What an edge of a task leads to.
-ghost use Rattle.std.specs.Prelude.{◌≡◌, IfOk};
-ghost use Rattle.pie_graph.specs.Rows.{row_of};
-ghost use Rattle.pie_graph.specs.Uses.{has};
+ghost use Rattle.std.specs.Prelude.{◌≡◌, ◌≤◌, map, length, IfOk};
+ghost use Rattle.pie_graph.specs.Numbers.{numbers, Exactly};
+ghost use Rattle.pie_graph.specs.Rows.{row_at, row_of};
+ghost use Rattle.pie_graph.specs.Uses.{has, Has};
 
-use crate::{Edges, TaskNo};
-use pie_base::{OutOfMemory, Path};
+use crate::{Edges, TaskNo, marked};
+use pie_base::{MAX_TASKS, OutOfMemory, Path};
+use std::alloc::Global;
 
 /// What an edge of a task leads to.
 #[derive(PartialEq, Eq, PartialOrd, Ord, Drop)]
@@ -45,4 +47,25 @@ impl Edges {
             Use::Writes(path) => self.writes.contains(path),
         }
     }
+}
+
+/// The numbers of the rows with an edge that leads there, by a walk over all of them.
+pub(crate) fn using(
+    alloc: Global,
+    rows: &[Edges],
+    what: &Use,
+) -> Result<Vec<TaskNo>, OutOfMemory>
+    requires { length rows.now ≤ MAX_TASKS }
+    ensures { IfOk result (λ found. Exactly (λ k. Has (row_at (map row_of rows.now) k) what.now) (numbers found.items)) }
+{
+    let marks = marks_of(alloc, rows, what)?;
+    let found = marked(alloc, &marks)?;
+    Ok(found)
+}
+
+// Which rows have an edge that leads there.
+fn marks_of(alloc: Global, rows: &[Edges], what: &Use) -> Result<Vec<bool>, OutOfMemory>
+    ensures { IfOk result (λ marks. marks.items ≡ map (λ row. has (row_of row) what.now) rows.now) }
+{
+    Ok(rows.iter().map(|row| row.has(what)).collect(alloc)?)
 }

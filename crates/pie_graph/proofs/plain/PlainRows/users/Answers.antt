@@ -1,14 +1,10 @@
-use Rattle.std.proofs.Common.{ap, ◌∙◌, map}
-use Rattle.std.proofs.lemmas.Result.{IfOk-weaker}
-use Rattle.pie_graph.specs.declared.edges.Edges.{Edges}
-use Rattle.pie_graph.specs.Numbers.{numbers}
-use Rattle.pie_graph.specs.Rows.{row_of}
-use Rattle.pie_graph.specs.Uses.{has}
-use Rattle.pie_graph.proofs.HasUse.{users_of}
+use Rattle.std.proofs.Common.{◌∙◌, ap, map, subst, List}
+use Rattle.pie_graph.specs.Numbers.{numbers, Exactly}
+use Rattle.pie_graph.specs.Rows.{Row, row_of, row_at}
+use Rattle.pie_graph.specs.Uses.{Has}
 use Rattle.pie_graph.proofs.plain.PlainRows.users.Goals as goal
 
 pub returns : goal.returns
-returns c = IfOk-weaker c.marked.result _ _
-    (λ found x. users_of c.self.inside.rows.items c.args.self.now c.args.what.now c.deref.result.now (numbers found.items) c.self.view_is
-    (c.deref.ensures.value ∙ c.in_ok-marks.ensures ∙ ap (map (λ (e : Edges). has (row_of e) c.args.what.now)) c.as_slice.ensures.value) x)
-    c.marked.ensures
+returns c =
+    subst (λ (rows : List Row). Exactly (λ k. Has (row_at rows k) c.args.what.now) (numbers c.in_ok-found.found.items))
+    (ap (map row_of) c.as_slice.ensures.value ∙ c.self.view_is) c.in_ok-found.ensures
