@@ -1,5 +1,5 @@
 -- Rows of what was written alone.
-use Rattle.std.proofs.Common.{◌≡◌, ℕ, List, map, sym, ap, subst}
+use Rattle.std.proofs.Common.{◌≡◌, ℕ, List, map, sym, subst}
 use Rattle.std.proofs.Math.ListN as at
 use Rattle.pie_graph.specs.Numbers.{Exactly}
 use Rattle.pie_graph.specs.Alone.{written}

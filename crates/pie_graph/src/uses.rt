@@ -50,11 +50,7 @@ impl Edges {
 }
 
 /// The numbers of the rows with an edge that leads there, by a walk over all of them.
-pub(crate) fn using(
-    alloc: Global,
-    rows: &[Edges],
-    what: &Use,
-) -> Result<Vec<TaskNo>, OutOfMemory>
+pub(crate) fn using(alloc: Global, rows: &[Edges], what: &Use) -> Result<Vec<TaskNo>, OutOfMemory>
     requires { length rows.now ≤ MAX_TASKS }
     ensures { IfOk result (λ found. Exactly (λ k. Has (row_at (map row_of rows.now) k) what.now) (numbers found.items)) }
 {

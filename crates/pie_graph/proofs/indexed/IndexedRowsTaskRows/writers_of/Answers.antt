@@ -1,4 +1,4 @@
-use Rattle.std.proofs.Common.{◌≡◌, ◌∙◌, ℕ, List, length, map, ap, sym, subst, arith}
+use Rattle.std.proofs.Common.{ℕ, List, map, subst, arith}
 use Rattle.std.proofs.lemmas.List.{length-map}
 use Rattle.pie_graph.specs.Alone.{written}
 use Rattle.pie_graph.specs.Numbers.{numbers, Exactly}
