@@ -11,11 +11,11 @@ ghost use Rattle.pie_fresh.specs.inner.Collected.{output_at};
 ghost use Rattle.pie_fresh.specs.inner.Ledgers.{EndsTask, EntersTask, IsHigh, IsLedger, IsNew, IsPlaced, IsUnfinished, KeepsEnded};
 
 use pie_base::{OutOfMemory, Path};
-use pie_graph::{Edges, IndexedRows, TaskNo, TaskRows};
+use pie_graph::{Edges, TaskNo, TaskRows};
 use pie_record::{Deps, Outcome, Records, TaskNames, TaskRecord, Writes};
 use pie_running::{Done, NoteParts, Notes};
 use pie_value::{Task, Value};
-use pie_view::Stage;
+use pie_view::{EnteredRows, Stage};
 use std::alloc::Global;
 
 /// The tasks that were entered, in order. Those that are done have a record.
@@ -23,7 +23,7 @@ use std::alloc::Global;
 pub(crate) struct Ledger {
     pub(crate) alloc: Global,
     pub(crate) names: TaskNames,
-    pub(crate) rows: IndexedRows,
+    pub(crate) rows: EnteredRows,
     pub(crate) records: Records,
     pub(crate) heights: Vec<u32>,
     pub(crate) stage: Stage,
@@ -44,7 +44,7 @@ impl Ledger {
         Ledger {
             alloc,
             names: TaskNames::new(alloc),
-            rows: IndexedRows::new(alloc),
+            rows: EnteredRows::new(alloc),
             records: Records::new(alloc),
             heights: Vec::new(alloc),
             stage: Stage::new(alloc),

@@ -10,7 +10,7 @@ ghost use Rattle.pie_fresh.specs.inner.Sights.{SeesOut, SeesOthers, sight_by};
 use crate::ledger::Ledger;
 use pie_base::{OutOfMemory, Path};
 use pie_running::{Notes, Provided, Shows};
-use pie_view::{Seen, view};
+use pie_view::Seen;
 
 impl Shows for Ledger {
     ghost use Rattle.std.specs.Prelude.{length};
@@ -47,8 +47,7 @@ impl Ledger {
         requires { AllBelow (length self.now.rows) notes.now.needs }
         ensures sees { IfOk result (λ p. SeesOthers self.now.stage self.now.rows notes.now.needs path.now (provided_sight p)) }
     {
-        let needs = notes.needs();
-        let seen = view(self.alloc, &self.rows, notes.no(), &[], needs, path)?;
+        let seen = self.rows.seen(self.alloc, notes.needs(), path)?;
         Ok(self.content_seen(seen, path))
     }
 

@@ -1,3 +1,4 @@
 pub mod Content
 pub mod Seen
 pub mod Shown
+pub mod inner

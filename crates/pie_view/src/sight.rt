@@ -44,8 +44,8 @@ fn wrote(own: &[(Path, [u8; 32])], path: &Path) -> bool
     own.iter().any(|write| write.0 == *path)
 }
 
-// What is seen of these writers.
-fn seen_of<R: TaskRows>(
+/// What is seen of these writers.
+pub(crate) fn seen_of<R: TaskRows>(
     alloc: Global,
     rows: &R,
     required: &[TaskNo],

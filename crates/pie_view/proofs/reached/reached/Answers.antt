@@ -1,4 +1,6 @@
+use Rattle.std.proofs.Common.{refl}
 use Rattle.pie_graph.specs.Numbers.{numbers}
+use Rattle.pie_reach.specs.inner.Reaches.Leads.{itself}
 use Rattle.pie_view.proofs.Meeting.{met_is}
 use Rattle.pie_view.proofs.reached.reached.Goals as goal
 
@@ -11,3 +13,6 @@ returns-then-not-branch g c =
 
 pub loop-alloc-preserved : goal.loop-alloc-preserved
 loop-alloc-preserved g c = c.in_ok-step.ensures.kept (numbers c.args.required.now) c.loop-alloc.invariant
+
+pub returns-then-is_direct : goal.returns-then-is_direct
+returns-then-is_direct g c = (λ _. (c.args.to.0, c.is_direct.ensures c.if-is_direct.true, itself), λ _. refl)
