@@ -1,5 +1,5 @@
 -- What a task sees is what is visible to it in the model.
-use Rattle.std.proofs.Common.{◌≡◌, ℕ, Bool, true, false, Option, Some, None, List, [], refl, sym, ap, ◌∙◌, arith}
+use Rattle.std.proofs.Common.{◌≡◌, ℕ, Bool, true, false, Option, Some, None, List, refl, sym, ap, ◌∙◌}
 use Rattle.pie_base.specs.Path.{is_out, is_source}
 use Rattle.pie_view.specs.Content.{Staged, content}
 use Rattle.pie_files.specs.Directory.{file_at}
@@ -7,7 +7,6 @@ use Rattle.pie_code.specs.declared.code.Code.{Code}
 use Rattle.pie_vm.specs.Machines.{Standing}
 use Rattle.pie_view.specs.declared.seen.Seen.{Seen}
 use Rattle.pie_view.specs.declared.seen.Seen.TheVariants.{Absent, By, Clash}
-use Rattle.pie_view.specs.Seen.{IsOwn}
 use Rattle.pie_model.specs.declared.words.Seen.{Seen as ModelSeen}
 use Rattle.pie_model.specs.declared.words.Seen.TheVariants.{Clashing}
 use Rattle.pie_model.specs.Seen.{first_write, provided, seen_file, visible_at}
@@ -23,10 +22,6 @@ use Rattle.pie_running.specs.inner.Noted.{Noted}
 use Rattle.pie_running.specs.inner.Sights.{Sighted, Sees}
 use Rattle.pie_fresh.specs.inner.Sights.{sight_by, SeesOthers, OwnFirst, SeesOut}
 use Rattle.pie_fresh.specs.inner.Means.{Site, project_of, Means}
-
--- without writes of its own a task has written no path
-pub none_own : (path : List ℕ) → ¬ (IsOwn [] path)
-none_own path own = absurd (omega (arith, own.1.1))
 
 -- what is seen, in the words of the model
 abbrev pub seen_by : Sighted → ModelSeen

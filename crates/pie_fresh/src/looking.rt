@@ -47,7 +47,8 @@ impl Ledger {
         requires { AllBelow (length self.now.rows) notes.now.needs }
         ensures sees { IfOk result (λ p. SeesOthers self.now.stage self.now.rows notes.now.needs path.now (provided_sight p)) }
     {
-        let seen = self.rows.seen(self.alloc, notes.needs(), path)?;
+        let needs = notes.needs();
+        let seen = self.rows.seen(self.alloc, needs, path)?;
         Ok(self.content_seen(seen, path))
     }
 

@@ -20,7 +20,7 @@ use Rattle.pie_graph.proofs.Among.{contains_cases}
 use Rattle.pie_record.specs.declared.task_record.TaskRecord.{TaskRecord}
 use Rattle.pie_record.specs.inner.Records.{record_of as kept_of}
 use Rattle.pie_view.specs.Content.{Staged, content, is_pair, Puts}
-use Rattle.pie_view.specs.Seen.{Visible, IsOnly, IsOwn}
+use Rattle.pie_view.specs.Seen.{Visible, IsOnly}
 use Rattle.pie_view.specs.declared.seen.Seen.{Seen}
 use Rattle.pie_view.specs.declared.seen.Seen.TheVariants.{Absent, By, Clash}
 use Rattle.pie_walk.specs.Marks.{IsSettled}
@@ -284,10 +284,6 @@ others_seen rows staged n needs path Absent none has own one only = absurd (none
 others_seen rows staged n needs path (By writer) is has own one only =
     subst (λ (k : ℕ). IsStaged staged k path) (only.1 writer.0 is.0) (has writer refl)
 others_seen rows staged n needs path Clash two has own one only = absurd (two.4 (only.1 two.0 two.2 ∙ sym (only.1 two.1 two.3)))
-
--- nothing was written by nobody
-pub none_own : (path : List ℕ) → IsOwn [] path → ⊥
-none_own path own = omega (arith, own.1.1)
 
 -- ---- a task is about to look
 

@@ -12,10 +12,11 @@ ghost use Rattle.pie_topdown.specs.inner.Handed.{MayEndWith};
 ghost use Rattle.pie_topdown.specs.inner.Places.{IsNew};
 
 use pie_base::{MAX_TASKS, OutOfMemory, Path};
-use pie_graph::{Edges, IndexedRows, TaskNo, TaskRows};
+use pie_graph::{Edges, TaskNo, TaskRows};
 use pie_record::{Outcome, Records, TaskNames, TaskRecord};
 use pie_tables::Tables;
 use pie_value::Task;
+use pie_view::EnteredRows;
 use std::alloc::Global;
 
 /// The tasks that were entered, with the records of those that have ended. A call that runs out of memory leaves them of no use.
@@ -24,7 +25,7 @@ pub(crate) struct Ledger {
     pub(crate) alloc: Global,
     pub(crate) tables: Tables,
     /// What each task that is done requires and wrote.
-    pub(crate) rows: IndexedRows,
+    pub(crate) rows: EnteredRows,
     /// At which place of the order each task ended.
     pub(crate) places: Vec<usize>,
     /// The tasks that have ended, in order.
@@ -42,7 +43,7 @@ impl Ledger {
         Ok(Ledger {
             alloc,
             tables,
-            rows: IndexedRows::new(alloc),
+            rows: EnteredRows::new(alloc),
             places: Vec::new(alloc),
             order: Vec::new(alloc),
         })

@@ -14,16 +14,16 @@ ghost use Rattle.pie_topdown.specs.inner.Sights.{Lacks, SeenIsStaged, ShowsOther
 use crate::builder::Builder;
 use pie_base::{OutOfMemory, Path};
 use pie_files::{Files, FilesError};
-use pie_graph::{IndexedRows, TaskNo};
+use pie_graph::TaskNo;
 use pie_running::{Notes, Provided, Shows};
-use pie_view::{Seen, Stage, view};
+use pie_view::{EnteredRows, Seen, Stage};
 use std::alloc::Global;
 
 /// What tasks see under `out/`.
 #[derive(Drop)]
 pub(crate) struct OutSight<'b> {
     alloc: Global,
-    rows: &'b IndexedRows,
+    rows: &'b EnteredRows,
     stage: &'b Stage,
 }
 
@@ -79,7 +79,7 @@ impl<'b> OutSight<'b> {
         ensures { IfOk result (IsOnly (Visible self.now.rows.now notes.now.needs path.now)) }
     {
         let needs = notes.needs();
-        let seen = view(self.alloc, self.rows, notes.no(), &[], needs, path)?;
+        let seen = self.rows.seen(self.alloc, needs, path)?;
         Ok(seen)
     }
 

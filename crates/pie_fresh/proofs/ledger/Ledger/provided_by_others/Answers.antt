@@ -1,6 +1,5 @@
 use Rattle.std.proofs.Common.{subst}
 use Rattle.pie_view.specs.Seen.{Visible, IsOnly}
-use Rattle.pie_fresh.proofs.Seeing.{none_own}
 use Rattle.pie_fresh.proofs.ledger.Ledger.provided_by_others.Goals as goal
 
 pub returns : goal.returns
@@ -8,8 +7,7 @@ returns c = record {
   sees = record {
     seen = c.in_ok-seen.seen;
     only = subst (λ ns. IsOnly (Visible c.args.self.now.rows ns c.args.path.now) c.in_ok-seen.seen)
-        c.needs-needs.ensures
-        (c.in_ok-seen.ensures.others (none_own c.args.path.now));
+        c.needs-needs.ensures c.in_ok-seen.ensures;
     is = c.content_seen.ensures;
   };
 }
