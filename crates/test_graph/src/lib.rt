@@ -6,6 +6,8 @@ mod collect_tests;
 #[cfg(test)]
 mod drawn;
 #[cfg(test)]
+mod entered_tests;
+#[cfg(test)]
 mod order_tests;
 #[cfg(test)]
 mod queue_tests;

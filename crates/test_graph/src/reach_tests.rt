@@ -6,6 +6,7 @@ use crate::rows::{grow, push_below};
 use pie_base::{MAX_TASKS, OutOfMemory};
 use pie_graph::{Edges, IndexedRows, PlainRows, TaskNo, TaskRows};
 use pie_reach::{heights, is_acyclic, lowest, reaches, upstream};
+use pie_union::UnionRows;
 use std::alloc::Global;
 use std::process::Abort;
 use std::test::Fail;
@@ -77,10 +78,10 @@ fn heights_are<R: TaskRows>(
 }
 
 // The greatest height of rows without a cycle, which their first one has, is this.
-fn first_height_is(
+fn first_height_is<R: TaskRows>(
     rt: &impl Abort,
     alloc: Global,
-    rows: &IndexedRows,
+    rows: &R,
     wanted: u32,
 ) -> Result<(), Fail> {
     let acyclic = is_acyclic(alloc, rows)?;
@@ -141,7 +142,7 @@ fn a_cycle_is_seen(rt: HostRuntime) -> Result<(), Fail> {
     ring(&rt, alloc, &mut IndexedRows::new(alloc))
 }
 
-fn long_chain(rt: &impl Abort, alloc: Global, rows: &mut IndexedRows) -> Result<(), Fail> {
+fn long_chain(rt: &impl Abort, alloc: Global, rows: &mut UnionRows) -> Result<(), Fail> {
     chain(alloc, rows, MAX_TASKS)?;
     first_height_is(rt, alloc, &*rows, 49_999)?;
     assert_eq!(rt; rows.count(), 50_000);
@@ -161,6 +162,6 @@ fn wide_fan(rt: &impl Abort, alloc: Global, rows: &mut IndexedRows) -> Result<()
 #[test]
 fn a_long_chain_and_a_wide_fan_are_walked(rt: HostRuntime) -> Result<(), Fail> {
     let alloc = rt.alloc();
-    long_chain(&rt, alloc, &mut IndexedRows::new(alloc))?;
+    long_chain(&rt, alloc, &mut UnionRows::new(alloc))?;
     wide_fan(&rt, alloc, &mut IndexedRows::new(alloc))
 }
