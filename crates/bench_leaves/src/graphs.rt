@@ -5,9 +5,10 @@ ghost use Rattle.pie_order.specs.Places.{PlacesAgree};
 
 use crate::job::Shape;
 use pie_base::{MAX_TASKS, OutOfMemory};
-use pie_graph::{Edges, IndexedRows, TaskNo, TaskRows};
+use pie_graph::{Edges, TaskNo, TaskRows};
 use pie_order::Order;
 use pie_reach::{heights, is_acyclic, live};
+use pie_union::UnionRows;
 use std::alloc::Global;
 
 /// How many tasks have a height.
@@ -47,7 +48,7 @@ pub(crate) fn inserted_count(alloc: Global, count: u32, agrees: bool) -> Result<
 
 fn insert_all(
     alloc: Global,
-    rows: &mut IndexedRows,
+    rows: &mut UnionRows,
     order: &mut Order,
     agrees: bool,
 ) -> Result<usize, OutOfMemory>
@@ -67,7 +68,7 @@ fn insert_all(
 // An edge goes into the order, and then into the rows.
 fn insert(
     alloc: Global,
-    rows: &mut IndexedRows,
+    rows: &mut UnionRows,
     order: &mut Order,
     from: u32,
     to: u32,
@@ -95,7 +96,7 @@ fn one_edge(alloc: Global, to: u32) -> Result<Edges, OutOfMemory>
 }
 
 // So many tasks of this shape.
-fn shaped(alloc: Global, shape: Shape, count: u32) -> Result<IndexedRows, OutOfMemory>
+fn shaped(alloc: Global, shape: Shape, count: u32) -> Result<UnionRows, OutOfMemory>
     requires { count ≤ MAX_TASKS }
 {
     let mut rows = alone(alloc, count)?;
@@ -107,17 +108,17 @@ fn shaped(alloc: Global, shape: Shape, count: u32) -> Result<IndexedRows, OutOfM
 }
 
 // So many tasks without edges.
-fn alone(alloc: Global, count: u32) -> Result<IndexedRows, OutOfMemory>
+fn alone(alloc: Global, count: u32) -> Result<UnionRows, OutOfMemory>
     requires { count ≤ MAX_TASKS }
 {
-    let mut rows = IndexedRows::new(alloc);
+    let mut rows = UnionRows::new(alloc);
     for _ in 0..count {
         rows.add()?;
     }
     Ok(rows)
 }
 
-fn chain(alloc: Global, rows: &mut IndexedRows) -> Result<(), OutOfMemory> {
+fn chain(alloc: Global, rows: &mut UnionRows) -> Result<(), OutOfMemory> {
     for i in 1..rows.count() {
         let edges = edges_to(alloc, i - 1, i)?;
         rows.set_edges(TaskNo(i), edges)?;
@@ -125,7 +126,7 @@ fn chain(alloc: Global, rows: &mut IndexedRows) -> Result<(), OutOfMemory> {
     Ok(())
 }
 
-fn fan(alloc: Global, rows: &mut IndexedRows) -> Result<(), OutOfMemory> {
+fn fan(alloc: Global, rows: &mut UnionRows) -> Result<(), OutOfMemory> {
     let count = rows.count();
     if count > 0 {
         let edges = edges_to(alloc, 0, count - 1)?;
