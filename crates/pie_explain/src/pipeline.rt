@@ -1,11 +1,14 @@
 //! What is told of a pipeline that is refused.
+ghost use Rattle.std.specs.Prelude.{◌≤◌, ℕ, List, length, codes, string_bytes, IfOk};
+ghost use Rattle.pie_project.specs.Refusals.{plain};
+ghost use Rattle.pie_explain.specs.Places.{BeginsWith, lex_place, parse_place, pipeline_place, place_text};
 
 use crate::expected::{hint as hint_expected, tokens_around};
 use crate::going::{Going, found_at, going_on};
 use crate::lexical::hint_of_char;
-use crate::place::place_of;
+use crate::place::{put, told_at};
 use crate::types::{hint as hint_types, said as said_of_types};
-use pie_base::OutOfMemory;
+use pie_base::{MAX_PIPELINE_BYTES, OutOfMemory};
 use pie_lexer::{LexError, Token, lex};
 use pie_parser::ParseError;
 use pie_project::PipelineFault;
@@ -20,7 +23,9 @@ pub fn explain_pipeline(
     alloc: Global,
     text: &str,
     fault: &PipelineFault,
-) -> Result<String, OutOfMemory> {
+) -> Result<String, OutOfMemory>
+    ensures { length text.now ≤ MAX_PIPELINE_BYTES → IfOk result (λ told. BeginsWith (pipeline_place text.now (plain fault.now)) (string_bytes told)) }
+{
     match fault {
         PipelineFault::Absent => whole(
             alloc,
@@ -56,18 +61,30 @@ fn at(
     at: usize,
     said: &str,
     hint: Option<&str>,
-) -> Result<String, OutOfMemory> {
-    let place = place_of(alloc, text, at)?;
-    let mut told = place.told(alloc, FILE, said)?;
-    if let Some(hint) = hint {
-        told.push_str("hint: ")?;
-        told.push_str(hint)?;
-        told.push_str("\n")?;
+) -> Result<String, OutOfMemory>
+    ensures { length text.now ≤ MAX_PIPELINE_BYTES → IfOk result (λ told. BeginsWith (place_text (codes "pie.pipeline") text.now at) (string_bytes told)) }
+{
+    let told = told_at(alloc, FILE, text, at, said)?;
+    match hint {
+        Some(hint) => with_hint(told, hint),
+        None => Ok(told),
     }
-    Ok(told)
 }
 
-fn explain_lex(alloc: Global, text: &str, error: LexError) -> Result<String, OutOfMemory> {
+// What is told, with a hint behind it.
+fn with_hint(told: String, hint: &str) -> Result<String, OutOfMemory>
+    ensures { IfOk result (λ all. (front : List ℕ) → BeginsWith front (string_bytes told) → BeginsWith front (string_bytes all)) }
+{
+    let mut all = told;
+    put(&mut all, "hint: ")?;
+    put(&mut all, hint)?;
+    put(&mut all, "\n")?;
+    Ok(all)
+}
+
+fn explain_lex(alloc: Global, text: &str, error: LexError) -> Result<String, OutOfMemory>
+    ensures { length text.now ≤ MAX_PIPELINE_BYTES → IfOk result (λ told. BeginsWith (lex_place text.now error) (string_bytes told)) }
+{
     match error {
         LexError::BadChar(place) => at(
             alloc,
@@ -101,7 +118,9 @@ fn explain_lex(alloc: Global, text: &str, error: LexError) -> Result<String, Out
     }
 }
 
-fn explain_parse(alloc: Global, text: &str, error: ParseError) -> Result<String, OutOfMemory> {
+fn explain_parse(alloc: Global, text: &str, error: ParseError) -> Result<String, OutOfMemory>
+    ensures { length text.now ≤ MAX_PIPELINE_BYTES → IfOk result (λ told. BeginsWith (parse_place text.now error) (string_bytes told)) }
+{
     match error {
         ParseError::Expected(place) => explain_expected(alloc, text, place),
         ParseError::TooDeep(place) => at(
@@ -115,7 +134,9 @@ fn explain_parse(alloc: Global, text: &str, error: ParseError) -> Result<String,
     }
 }
 
-fn explain_expected(alloc: Global, text: &str, place: usize) -> Result<String, OutOfMemory> {
+fn explain_expected(alloc: Global, text: &str, place: usize) -> Result<String, OutOfMemory>
+    ensures { length text.now ≤ MAX_PIPELINE_BYTES → IfOk result (λ told. BeginsWith (place_text (codes "pie.pipeline") text.now place) (string_bytes told)) }
+{
     let tokens = tokens_of(alloc, text)?;
     let going = going_on(alloc, text, tokens.as_slice(), place)?;
     let found = found_at(alloc, text, tokens.as_slice(), place)?;
@@ -152,7 +173,9 @@ fn begins_line(text: &str, place: usize) -> bool {
     }
 }
 
-fn explain_types(alloc: Global, text: &str, fault: &TypeFault) -> Result<String, OutOfMemory> {
+fn explain_types(alloc: Global, text: &str, fault: &TypeFault) -> Result<String, OutOfMemory>
+    ensures { length text.now ≤ MAX_PIPELINE_BYTES → IfOk result (λ told. BeginsWith (place_text (codes "pie.pipeline") text.now fault.now.at) (string_bytes told)) }
+{
     let tokens = tokens_of(alloc, text)?;
     let said = said_of_types(alloc, fault)?;
     let hint = hint_types(alloc, tokens.as_slice(), fault)?;

@@ -1,8 +1,11 @@
 //! What is told of roots that are refused.
+ghost use Rattle.std.specs.Prelude.{◌≡◌, string_bytes, IfOk};
+ghost use Rattle.pie_explain.specs.Places.{BeginsWith, line_place, roots_place};
 
 use crate::heading::{Heading, headings};
 use crate::line::{Cause, cause_of};
 use crate::naming::nearest_of;
+use crate::place::put;
 use pie_base::OutOfMemory;
 use pie_project::RootsReason;
 use std::alloc::Global;
@@ -14,7 +17,9 @@ pub fn explain_roots(
     text: &str,
     pipeline: &str,
     reason: RootsReason,
-) -> Result<String, OutOfMemory> {
+) -> Result<String, OutOfMemory>
+    ensures { IfOk result (λ told. BeginsWith (roots_place reason) (string_bytes told)) }
+{
     match reason {
         RootsReason::Absent => whole(
             alloc,
@@ -48,13 +53,35 @@ fn explain_line(
     shown: &str,
     line: u32,
     pipeline: &str,
-) -> Result<String, OutOfMemory> {
+) -> Result<String, OutOfMemory>
+    ensures { IfOk result (λ told. BeginsWith (line_place line) (string_bytes told)) }
+{
     let known = headings(alloc, pipeline)?;
     let cause = cause_of(alloc, shown, known.as_slice())?;
     let said = said_of(alloc, &cause, known.as_slice())?;
     let hint = hint_of(alloc, &cause, known.as_slice())?;
-    let mut told = format!(in alloc; "pie.roots:{line}: {said}\n    {shown}\nhint: {hint}\n")?;
-    put_functions(alloc, &mut told, known.as_slice())?;
+    let said = format!(in alloc; "{said}\n    {shown}\nhint: {hint}\n")?;
+    let functions = functions_told(alloc, known.as_slice())?;
+    let told = line_told(alloc, line, said.as_str(), functions.as_str())?;
+    Ok(told)
+}
+
+// What is told of a line: what is said of it, and the functions.
+fn line_told(alloc: Global, line: u32, said: &str, functions: &str) -> Result<String, OutOfMemory>
+    ensures { IfOk result (λ told. BeginsWith (line_place line) (string_bytes told)) }
+{
+    let mut told = line_begun(alloc, line)?;
+    put(&mut told, said)?;
+    put(&mut told, functions)?;
+    Ok(told)
+}
+
+// A line, as it stands before what is said of it.
+#[tactic(auto, unfolding(crate::specs::Places::line_place))]
+fn line_begun(alloc: Global, line: u32) -> Result<String, OutOfMemory>
+    ensures { IfOk result (λ told. string_bytes told ≡ line_place line) }
+{
+    let told = format!(in alloc; "pie.roots:{line}: ")?;
     Ok(told)
 }
 
@@ -120,8 +147,8 @@ fn plain(alloc: Global, hint: &str) -> Result<String, OutOfMemory> {
 // How many functions are told.
 const MOST: usize = 30;
 
-fn put_functions(alloc: Global, out: &mut String, known: &[Heading]) -> Result<(), OutOfMemory> {
-    out.push_str("the functions of the pipeline:\n")?;
+fn functions_told(alloc: Global, known: &[Heading]) -> Result<String, OutOfMemory> {
+    let mut out = format!(in alloc; "the functions of the pipeline:\n")?;
     for heading in known.iter().take(MOST) {
         let line = format!(in alloc; "    {}\n", heading.shape)?;
         out.push_str(line.as_str())?;
@@ -131,7 +158,7 @@ fn put_functions(alloc: Global, out: &mut String, known: &[Heading]) -> Result<(
         let line = format!(in alloc; "    and {left} more\n")?;
         out.push_str(line.as_str())?;
     }
-    Ok(())
+    Ok(out)
 }
 
 // A line of a text, counted from 1. Control characters but tabs are shown as `?`.

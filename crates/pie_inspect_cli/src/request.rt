@@ -1,4 +1,7 @@
 //! What the words ask for.
+ghost use Rattle.std.specs.Prelude.{◌≡◌, Some, codes, map, string_bytes};
+ghost use Rattle.pie_inspect_cli.specs.Checked.{check_words};
+ghost use Rattle.pie_inspect_cli.specs.declared.request.Request.TheVariants.{Check};
 
 use crate::help::help_of;
 
@@ -30,7 +33,9 @@ pub(crate) enum Request<'a> {
 }
 
 /// What these words ask for, if they ask for something.
-pub(crate) fn request_of(words: &[String]) -> Option<Request<'_>> {
+pub(crate) fn request_of(words: &[String]) -> Option<Request<'_>>
+    ensures check { map string_bytes words.now ≡ check_words → result ≡ Some Check }
+{
     match words.len() {
         1 => of_word(words[0].as_str()),
         2 => of_words(words[0].as_str(), words[1].as_str()),
@@ -38,7 +43,9 @@ pub(crate) fn request_of(words: &[String]) -> Option<Request<'_>> {
     }
 }
 
-fn of_word<'a>(word: &str) -> Option<Request<'a>> {
+fn of_word<'a>(word: &str) -> Option<Request<'a>>
+    ensures check { word.now ≡ codes "check" → result ≡ Some Check }
+{
     match word {
         "check" => Some(Request::Check),
         "tasks" => Some(Request::Tasks("")),

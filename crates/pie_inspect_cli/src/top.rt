@@ -1,5 +1,7 @@
 //! The top call.
-ghost use Rattle.std.specs.Prelude.{◌≡◌};
+ghost use Rattle.std.specs.Prelude.{◌≡◌, true, map, string_bytes, IfSome, OnOk};
+ghost use Rattle.pie_inspect_cli.specs.Checked.{Gains, HasChecked, check_words, is_answer};
+ghost use Rattle.pie_inspect_cli.specs.inner.Told.{Shows};
 
 use crate::checking::{Told, checked};
 use crate::looking::{Lookup, looked_up};
@@ -42,6 +44,7 @@ const VERSION: &str = "pie-inspect 0\n";
 
 /// Does what the words ask for, with these files, these looks at the folder, this input and this output, and answers the status that the program ends with. It changes no
 /// file: the looks are lent by a shared reference, and none of their calls changes anything. The input is read by `why` alone. Rule: docs/INSPECT.md.
+#[tactic(auto, using(crate::proofs::FirstRefusal::has_checked))]
 pub fn run<F: Files, L: Look, I: Source, K: Sink>(
     alloc: Global,
     words: &[String],
@@ -50,6 +53,7 @@ pub fn run<F: Files, L: Look, I: Source, K: Sink>(
     input: &mut I,
     out: &mut K,
 ) -> Status
+    ensures checked { map string_bytes words.now ≡ check_words → is_answer result ≡ true → IfSome (F.holds files.old) (λ d. HasChecked d (K.held out.old) (K.held out.new) result) }
     ensures same { F.holds files.new ≡ F.holds files.old }
 {
     match request_of(words) {
@@ -123,7 +127,9 @@ fn show_bad<K: Sink>(alloc: Global, out: &mut K, fault: InputFault) -> Status {
 }
 
 // Prints what is told, or that a file can't be read.
-fn show_told<K: Sink>(out: &mut K, told: Result<Told, FilesError>) -> Status {
+fn show_told<K: Sink>(out: &mut K, told: Result<Told, FilesError>) -> Status
+    ensures { is_answer result ≡ true → Shows (K.held out.old) (K.held out.new) told result }
+{
     match told {
         Ok(told) => show(out, told.text.as_str(), told.status),
         Err(FilesError::Failed) => show(out, "a file can't be read\n", Status::Files),
@@ -132,7 +138,10 @@ fn show_told<K: Sink>(out: &mut K, told: Result<Told, FilesError>) -> Status {
 }
 
 // Prints a text, and answers a status, or that the output failed.
-fn show<K: Sink>(out: &mut K, text: &str, status: Status) -> Status {
+fn show<K: Sink>(out: &mut K, text: &str, status: Status) -> Status
+    ensures shown { is_answer result ≡ true → Gains (K.held out.old) (K.held out.new) text.now }
+    ensures status { is_answer result ≡ true → result ≡ status }
+{
     match put_all(out, text.as_bytes()) {
         Ok(()) => status,
         Err(SinkError::Failed) => Status::Output,
@@ -140,12 +149,14 @@ fn show<K: Sink>(out: &mut K, text: &str, status: Status) -> Status {
     }
 }
 
-fn put_all<K: Sink>(out: &mut K, text: &[u8]) -> Result<(), SinkError> {
-    let mut done = 0;
-    while done < text.len() {
-        let (_, rest) = text.split_at(done);
-        let n = out.put(rest)?;
-        done += n;
+#[tactic(auto, using(crate::proofs::Printing::begun, crate::proofs::Printing::more, crate::proofs::Printing::ended))]
+fn put_all<K: Sink>(out: &mut K, text: &[u8]) -> Result<(), SinkError>
+    ensures { OnOk result (Gains (K.held out.old) (K.held out.new) text.now) }
+{
+    let mut left = text;
+    'pieces: while !left.is_empty() {
+        let n = out.put(left)?;
+        left = &left[n..];
     }
     Ok(())
 }

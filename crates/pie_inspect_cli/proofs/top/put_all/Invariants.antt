@@ -1,8 +1,9 @@
-use Rattle.std.proofs.Common.{length, ◌-◌, ◌≤◌}
+use Rattle.std.proofs.Common.{length}
+use Rattle.pie_inspect_cli.proofs.Printing.{Printed}
 use Rattle.pie_inspect_cli.proofs.top.put_all.Given as goal
 
-abbrev pub invariant-loop-done : goal.invariant-loop-done
-invariant-loop-done g l = l.done ≤ length l.text
+abbrev pub invariant-pieces : goal.invariant-pieces
+invariant-pieces g l = Printed (g.K.Sink.held l.fn.out) (g.K.Sink.held l.out) l.text l.left
 
-abbrev pub decreases-loop-done : goal.decreases-loop-done
-decreases-loop-done g l = length l.text - l.done
+abbrev pub decreases-pieces : goal.decreases-pieces
+decreases-pieces g l = length l.left
